@@ -1,0 +1,2 @@
+pub mod Game
+pub mod Rays

@@ -1,0 +1,55 @@
+-- The table of rays: the ways that the men of each kind go, in order.
+use Rattle.std.specs.Prelude.{◌≡◌, ℕ, zero, suc, ◌≤◌, Bool, true, false, List, [], ◌∷◌, ℤ, pos, negsuc, Option, slice_get}
+use Rattle.game_rules.specs.Game.{forward, after_steps}
+use Rattle.game_rules.specs.declared.men.Kind.{Kind}
+use Rattle.game_rules.specs.declared.men.Kind.TheVariants.{King, Queen, Rook, Bishop, Knight, Pawn}
+use Rattle.game_rules.specs.declared.men.Side.{Side}
+use Rattle.game_rules.specs.declared.men.Square.{Square}
+use Rattle.game_rules.specs.declared.men.Ray.{Ray}
+
+abbrev pub leap : ℤ → ℤ → Ray
+leap dx dy = record { dx = dx; dy = dy; far = false }
+
+abbrev pub slide : ℤ → ℤ → Ray
+slide dx dy = record { dx = dx; dy = dy; far = true }
+
+-- the rays of a kind; of the sides' men only the pawns differ
+abbrev pub rays_of : Kind → Side → List Ray
+rays_of King s =
+    leap (pos 1) (pos 0) ∷ leap (pos 1) (pos 1) ∷ leap (pos 0) (pos 1) ∷ leap (negsuc 0) (pos 1)
+    ∷ leap (negsuc 0) (pos 0) ∷ leap (negsuc 0) (negsuc 0) ∷ leap (pos 0) (negsuc 0) ∷ leap (pos 1) (negsuc 0) ∷ []
+rays_of Queen s =
+    slide (pos 1) (pos 0) ∷ slide (pos 1) (pos 1) ∷ slide (pos 0) (pos 1) ∷ slide (negsuc 0) (pos 1)
+    ∷ slide (negsuc 0) (pos 0) ∷ slide (negsuc 0) (negsuc 0) ∷ slide (pos 0) (negsuc 0) ∷ slide (pos 1) (negsuc 0) ∷ []
+rays_of Rook s = slide (pos 1) (pos 0) ∷ slide (pos 0) (pos 1) ∷ slide (negsuc 0) (pos 0) ∷ slide (pos 0) (negsuc 0) ∷ []
+rays_of Bishop s = slide (pos 1) (pos 1) ∷ slide (negsuc 0) (pos 1) ∷ slide (negsuc 0) (negsuc 0) ∷ slide (pos 1) (negsuc 0) ∷ []
+rays_of Knight s =
+    leap (pos 2) (pos 1) ∷ leap (pos 1) (pos 2) ∷ leap (negsuc 0) (pos 2) ∷ leap (negsuc 1) (pos 1)
+    ∷ leap (negsuc 1) (negsuc 0) ∷ leap (negsuc 0) (negsuc 1) ∷ leap (pos 1) (negsuc 1) ∷ leap (pos 2) (negsuc 0) ∷ []
+rays_of Pawn s = leap (pos 0) (forward s) ∷ leap (negsuc 0) (forward s) ∷ leap (pos 1) (forward s) ∷ []
+
+-- the ray of this number, counted from 0
+abbrev pub ray_of : Kind → Side → ℕ → Option Ray
+ray_of kind side n = slice_get (rays_of kind side) n
+
+-- the ray serves moves onto an empty square: of a pawn's three only the first does
+abbrev pub serves_moves : Kind → ℕ → Bool
+serves_moves Pawn zero = true
+serves_moves Pawn (suc n) = false
+serves_moves _ n = true
+
+-- the ray serves captures, and the man bears along it: of a pawn's three all but the first do
+abbrev pub serves_captures : Kind → ℕ → Bool
+serves_captures Pawn zero = false
+serves_captures Pawn (suc n) = true
+serves_captures _ n = true
+
+-- this many steps along the ray lead from a to b; only a far ray has more than one
+pub record IsAt (r : Ray) (k : ℕ) (a b : Square) : Type 0 where
+  pub begun : 1 ≤ k
+  pub one : r.far ≡ false → k ≡ 1
+  pub leads : b ≡ after_steps a k r.dx r.dy
+
+-- the ray leads from a to b
+abbrev pub IsAlong : Ray → Square → Square → Type 0
+IsAlong r a b = (k : ℕ) × IsAt r k a b

@@ -1,0 +1,50 @@
+//! Men, places and squares.
+
+/// One of the two players.
+#[derive(Clone, Copy, Debug, PartialEq, Eq)]
+pub enum Side {
+    White,
+    Black,
+}
+
+/// What a man is (FIDE Laws, Article 2.2).
+#[derive(Clone, Copy, Debug, PartialEq, Eq)]
+pub enum Kind {
+    King,
+    Queen,
+    Rook,
+    Bishop,
+    Knight,
+    Pawn,
+}
+
+/// Where a man is. White's pawns go toward greater `y`.
+#[derive(Clone, Copy, Debug, PartialEq, Eq)]
+pub enum Place {
+    /// Captured.
+    Gone,
+    At { x: i64, y: i64 },
+}
+
+/// One man of a position.
+#[derive(Clone, Copy, Debug, PartialEq, Eq)]
+pub struct Man {
+    pub side: Side,
+    pub kind: Kind,
+    pub place: Place,
+}
+
+/// A square of the board, which has no edge: its numbers may pass those of a [`Place`].
+#[derive(Clone, Copy, Debug, PartialEq, Eq)]
+pub struct Square {
+    pub x: i128,
+    pub y: i128,
+}
+
+/// One way that a man goes: a step, and whether he may repeat it over empty squares.
+#[derive(Clone, Copy, Debug, PartialEq, Eq)]
+pub struct Ray {
+    pub dx: i8,
+    pub dy: i8,
+    pub far: bool,
+}
