@@ -1,77 +1,46 @@
-ghost use Rattle.std.specs.Prelude.{◌≡◌, ◌≢◌, ℕ, ◌+◌, ◌-◌, ◌^◌, ◌<◌, ◌≤◌, ◌↔◌, List, [], ◌∷◌, ◌++◌, length, take, drop, IsTrue, IfOk, IfErr, OnOk, OnErr};
+ghost use Rattle.std.specs.Prelude.{◌≡◌, ℕ, ◌+◌, ◌<◌, ◌≤◌, List, [], ◌++◌, length, take, drop, IsTrue, IfOk, OnErr};
 ghost use Rattle.desk_base.specs.Faults.{HasRisen};
-ghost use Rattle.desk_base.specs.Found.{Finds};
 
 use crate::source::{Failed, Source};
 use std::marker::Model;
 
-const LF: u8 = b'\n';
+/// How many bytes a buffer can hold.
+const BUFFER_SIZE: usize = 256;
 
-pub const LINE_LIMIT: usize = 200;
-
-pub const BUFFER_SIZE: usize = 256;
-
-/// What stands in front of some bytes.
-#[derive(Clone, Copy)]
-pub enum Found {
-    Whole(usize),
-    Long,
-    Part,
-}
-
-/// Finds the line in front.
-pub fn find_line(bytes: &[u8]) -> Found
-    ensures { Finds bytes.now result }
-{
-    for (i, byte) in bytes.iter().enumerate() {
-        if *byte == LF {
-            return Found::Whole(i);
-        }
-        if i == LINE_LIMIT {
-            return Found::Long;
-        }
-    }
-    Found::Part
-}
-
-/// At most N bytes.
+/// Bytes that were taken from a source and not used yet. They are used from the front, and join others at the end.
 #[derive(Drop)]
-pub struct Bytes<const N: usize> {
-    items: [u8; N],
-    len: usize,
+pub struct Buffer {
+    items: [u8; BUFFER_SIZE],
+    start: usize,
+    end: usize,
 }
 
-impl<const N: usize> Model for Bytes<N> {
+impl Model for Buffer {
+    ghost use Rattle.std.specs.Prelude.{ℕ, List, ◌≤◌, take, drop};
+
     ghost Value = { List ℕ };
 
-    ghost view = { λ b. take b.len b.items };
+    ghost view = { λ b. drop b.start (take b.end b.items) };
 
-    ghost invariant = { λ b. b.len ≤ N };
+    ghost invariant = { λ b. (b.start ≤ b.end) × (b.end ≤ 256) };
 }
 
-impl<const N: usize> Bytes<N> {
+impl Buffer {
     pub fn new() -> Self
         ensures { result ≡ [] }
     {
-        Bytes {
-            items: [0; N],
-            len: 0,
+        Buffer {
+            items: [0; BUFFER_SIZE],
+            start: 0,
+            end: 0,
         }
     }
 
     pub fn as_slice(&self) -> &[u8]
-        ensures { result.now ≡ self.now }
+        ensures bytes { result.now ≡ self.now }
+        ensures within { length self.now ≤ 256 }
     {
-        &self.items[..self.len]
-    }
-
-    /// Puts these bytes in the place of those that were there.
-    pub fn set(&mut self, bytes: &[u8])
-        requires { length bytes.now ≤ N }
-        ensures { self.new ≡ bytes.now }
-    {
-        self.items[..bytes.len()].copy_from_slice(bytes);
-        self.len = bytes.len();
+        &self.items[self.start..self.end]
     }
 
     /// Drops the first bytes.
@@ -79,24 +48,39 @@ impl<const N: usize> Bytes<N> {
         requires { count ≤ length self.old }
         ensures { self.new ≡ drop count self.old }
     {
-        self.items.copy_within(count..self.len, 0);
-        self.len -= count;
+        self.start += count;
     }
 
-    /// Takes more bytes of the source, and says how many.
+    /// Takes more bytes of the source, and says how many. 0 is the end of the input.
     pub fn fill<S: Source>(&mut self, source: &mut S) -> Result<usize, Failed>
-        requires { length self.old < N }
+        requires { length self.old < 256 }
         ensures most { IfOk result (λ k. length self.new ≡ length self.old + k) }
-        ensures fits { length self.new ≤ N }
-        ensures told { IfOk result (λ k. IsTrue S.told → (S.left source.old ≡ take k (S.left source.old) ++ S.left source.new) × (self.new ≡ self.old ++ take k (S.left source.old))) }
+        ensures within { length self.new ≤ 256 }
+        ensures front { take (length self.old) self.new ≡ self.old }
+        ensures taken { IfOk result (λ k. IsTrue S.told → (S.left source.old ≡ take k (S.left source.old) ++ S.left source.new) × (self.new ≡ self.old ++ take k (S.left source.old))) }
         ensures end { result ≡ Ok 0 → (self.new ≡ self.old) × (IsTrue S.told → (S.left source.old ≡ []) × (S.left source.new ≡ [])) }
         ensures err { OnErr result ((self.new ≡ self.old) × (IsTrue S.told → S.left source.new ≡ S.left source.old)) }
         ensures failed { OnErr result (HasRisen (S.faults source.old) (S.faults source.new)) }
         ensures never_falls { S.faults source.old ≤ S.faults source.new }
     {
+        self.end = move_to_front(&mut self.items[..], self.start, self.end);
+        self.start = 0;
         let items = &mut self.items[..];
-        let count = source.take(&mut items[self.len..])?;
-        self.len += count;
+        let count = source.take(&mut items[self.end..])?;
+        self.end += count;
         Ok(count)
     }
+}
+
+/// Moves the items from `start` to `end` to the front, and says how many they are.
+fn move_to_front(items: &mut [u8], start: usize, end: usize) -> usize
+    requires order { start ≤ end }
+    requires within { end ≤ length items.old }
+    ensures count { result + start ≡ end }
+    ensures front { take result items.new ≡ drop start (take end items.old) }
+{
+    if start > 0 {
+        items.copy_within(start..end, 0);
+    }
+    end - start
 }

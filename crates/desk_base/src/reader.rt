@@ -2,16 +2,16 @@ ghost use Rattle.std.specs.Prelude.{◌≡◌, ◌≢◌, ℕ, ◌+◌, ◌-◌,
 ghost use Rattle.desk_base.specs.Faults.{HasRisen};
 ghost use Rattle.desk_base.specs.Reading.{Reading, Takes, KeepsLine, stop_after};
 
-use crate::buffer::{BUFFER_SIZE, Bytes, Found, LINE_LIMIT, find_line};
-use crate::line::{Line, LineError};
+use crate::buffer::Buffer;
+use crate::line::{Found, Line, LineBytes, LineError, find_line};
 use crate::source::Source;
 use std::marker::Model;
 
 /// Reads lines of at most 200 bytes, in a fixed buffer.
 #[derive(Drop)]
 pub struct LineReader {
-    held: Bytes<BUFFER_SIZE>,
-    line: Bytes<LINE_LIMIT>,
+    held: Buffer,
+    line: LineBytes,
     stopped: Option<Result<Line, LineError>>,
 }
 
@@ -22,6 +22,8 @@ impl Model for LineReader {
     ghost Value = { Reading };
 
     ghost view = { λ r. record { line = r.line; pending = r.held; stopped = r.stopped } };
+
+    ghost invariant = { λ r. length r.held ≤ 256 };
 }
 
 impl LineReader {
@@ -29,8 +31,8 @@ impl LineReader {
         ensures { result ≡ record { line = []; pending = []; stopped = None } }
     {
         LineReader {
-            held: Bytes::new(),
-            line: Bytes::new(),
+            held: Buffer::new(),
+            line: LineBytes::new(),
             stopped: None,
         }
     }
@@ -49,6 +51,7 @@ impl LineReader {
         ensures stops { self.old.stopped ≡ None → self.new.stopped ≡ stop_after result }
         // Where the source tells its bytes, these are its lines, in order.
         ensures lines { self.old.stopped ≡ None → IsTrue S.told → Takes result self.old.pending self.new.line self.new.pending (S.left source.old) (S.left source.new) }
+        ensures within { length self.new.pending ≤ 256 }
         ensures failed { self.old.stopped ≡ None → IsErrOf result LineError.Read → HasRisen (S.faults source.old) (S.faults source.new) }
         ensures never_falls { S.faults source.old ≤ S.faults source.new }
     {
@@ -66,32 +69,37 @@ impl LineReader {
 
 /// Reads the next line into `line`; `held` has what was taken past it.
 fn read_line<S: Source>(
-    held: &mut Bytes<BUFFER_SIZE>,
-    line: &mut Bytes<LINE_LIMIT>,
+    held: &mut Buffer,
+    line: &mut LineBytes,
     source: &mut S,
 ) -> Result<Line, LineError>
     ensures line { KeepsLine result line.old line.new }
     ensures lines { IsTrue S.told → Takes result held.old line.new held.new (S.left source.old) (S.left source.new) }
+    ensures within { length held.new ≤ 256 }
     ensures failed { IsErrOf result LineError.Read → HasRisen (S.faults source.old) (S.faults source.new) }
     ensures never_falls { S.faults source.old ≤ S.faults source.new }
 {
+    let mut scanned = 0;
     loop {
-        match find_line(held.as_slice()) {
+        match find_line(held.as_slice(), scanned) {
             Found::Whole(len) => {
                 line.set(&held.as_slice()[..len]);
                 held.advance(len + 1);
                 return Ok(Line::Full(len));
             }
             Found::Long => return Err(LineError::TooLong),
-            Found::Part => match held.fill(source) {
-                Err(_) => return Err(LineError::Read),
-                Ok(0) => return if held.as_slice().is_empty() {
-                    Ok(Line::End)
-                } else {
-                    Err(LineError::Cut)
-                },
-                Ok(_) => {}
-            },
+            Found::Part => {
+                scanned = held.as_slice().len();
+                match held.fill(source) {
+                    Err(_) => return Err(LineError::Read),
+                    Ok(0) => return if scanned == 0 {
+                        Ok(Line::End)
+                    } else {
+                        Err(LineError::Cut)
+                    },
+                    Ok(_) => {}
+                }
+            }
         }
     }
 }
