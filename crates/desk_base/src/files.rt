@@ -1,8 +1,6 @@
 ghost use Rattle.std.specs.Prelude.{◌≡◌, ◌≢◌, ℕ, ◌<◌, ◌≤◌, Bool, List, length, IsTrue, IfOk, OnOk, IsErrOf, IfSome, IsSomeAnd};
-ghost use Rattle.std.specs.Ordering.{nat_cmp};
-ghost use Rattle.std.specs.Cmp.Lexicographic.{slice_cmp};
 ghost use Rattle.std.specs.FinMap as map;
-ghost use Rattle.desk_base.specs.Files.{contents};
+ghost use Rattle.desk_base.specs.Files.{Files, contents};
 ghost use Rattle.desk_base.specs.Faults.{HasRisen};
 
 use std::alloc::Global;
@@ -39,7 +37,7 @@ pub trait Shelf {
     ghost told: { Bool };
 
     /// The files, by the bytes of their names.
-    ghost files: { Self → map.FinMap (slice_cmp nat_cmp) (List ℕ) };
+    ghost files: { Self → Files };
 
     /// How often it has failed. The count never falls, and stands still at 2^64 - 1.
     ghost faults: { Self → ℕ };

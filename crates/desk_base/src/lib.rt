@@ -8,6 +8,7 @@ mod bare;
 mod buffer;
 mod calls;
 mod files;
+pub mod laws;
 mod line;
 mod mem_sink;
 mod mem_source;
