@@ -1,6 +1,7 @@
 ghost use Rattle.std.specs.Prelude.{◌≡◌, ℕ, ◌+◌, ◌<◌, ◌≤◌, List, [], ◌++◌, length, take, drop, IsTrue, IfOk, OnErr};
 ghost use Rattle.desk_base.specs.Faults.{HasRisen};
 
+use crate::line::LINE_LIMIT;
 use crate::source::{Failed, Source};
 use std::marker::Model;
 
@@ -83,4 +84,47 @@ fn move_to_front(items: &mut [u8], start: usize, end: usize) -> usize
         items.copy_within(start..end, 0);
     }
     end - start
+}
+
+/// The bytes of a line.
+#[derive(Drop)]
+pub struct LineBytes {
+    items: [u8; LINE_LIMIT],
+    len: usize,
+}
+
+impl Model for LineBytes {
+    ghost use Rattle.std.specs.Prelude.{ℕ, List, ◌≤◌, take};
+
+    ghost Value = { List ℕ };
+
+    ghost view = { λ b. take b.len b.items };
+
+    ghost invariant = { λ b. b.len ≤ 200 };
+}
+
+impl LineBytes {
+    pub fn new() -> Self
+        ensures { result ≡ [] }
+    {
+        LineBytes {
+            items: [0; LINE_LIMIT],
+            len: 0,
+        }
+    }
+
+    pub fn as_slice(&self) -> &[u8]
+        ensures { result.now ≡ self.now }
+    {
+        &self.items[..self.len]
+    }
+
+    /// Puts these bytes in the place of those that were there.
+    pub fn set(&mut self, bytes: &[u8])
+        requires { length bytes.now ≤ 200 }
+        ensures { self.new ≡ bytes.now }
+    {
+        self.items[..bytes.len()].copy_from_slice(bytes);
+        self.len = bytes.len();
+    }
 }

@@ -13,8 +13,11 @@ mod line;
 mod mem_sink;
 mod mem_source;
 mod reader;
+mod scan;
 mod sink;
 mod source;
+#[cfg(test)]
+mod tests;
 
 pub use bare::BareShelf;
 pub use files::{FetchError, KeepError, Shelf};

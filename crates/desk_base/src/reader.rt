@@ -2,12 +2,14 @@ ghost use Rattle.std.specs.Prelude.{◌≡◌, ◌≢◌, ℕ, ◌+◌, ◌-◌,
 ghost use Rattle.desk_base.specs.Faults.{HasRisen};
 ghost use Rattle.desk_base.specs.Reading.{Reading, Takes, KeepsLine, stop_after};
 
-use crate::buffer::Buffer;
-use crate::line::{Found, Line, LineBytes, LineError, find_line};
+use crate::buffer::{Buffer, LineBytes};
+use crate::line::{Line, LineError};
+use crate::scan::{Found, find_line};
 use crate::source::Source;
 use std::marker::Model;
 
-/// Reads lines of at most 200 bytes, in a fixed buffer.
+/// Reads the lines of a source, of at most 200 bytes each, in a fixed buffer of 256. Contracts see the last whole line, the bytes that were
+/// taken past it, and the answer that is given for good.
 #[derive(Drop)]
 pub struct LineReader {
     held: Buffer,
@@ -37,14 +39,15 @@ impl LineReader {
         }
     }
 
-    /// The last whole line, without its LF.
+    /// The last whole line, without its LF; empty before the first.
     pub fn line(&self) -> &[u8]
         ensures { result.now ≡ self.now.line }
     {
         self.line.as_slice()
     }
 
-    /// Reads the next line. After any other answer it gives that answer for good, and takes nothing more.
+    /// Reads the next line. After any other answer than a whole line it gives that answer for good, and takes nothing more. It may take up
+    /// to 256 bytes past the line, which it keeps for the next call.
     pub fn next_line<S: Source>(&mut self, source: &mut S) -> Result<Line, LineError>
         ensures stopped { IfSome self.old.stopped (λ answer. (result ≡ answer) × (self.new ≡ self.old) × (source.new ≡ source.old)) }
         ensures line { self.old.stopped ≡ None → KeepsLine result self.old.line self.new.line }

@@ -10,8 +10,7 @@ returns-clause-taken g c = λ told.
     let fits : moving.result ≤ length moving.new.items = omega (arith, moving.ensures.count, c.self.invariant, c.self.told, moving.auto.items) in
     let enough : k ≤ length c.take.new.buffer = omega (arith, c.take.auto.buffer, c.in_ok-count.ensures.most) in
     let left = g.S.Source.left c.args.source.now in
-    let moved = c.in_ok-count.ensures.moved told in
-    (
+    let moved = c.in_ok-count.ensures.moved told in (
       sym (take-append-drop k left) ∙ ap (λ rest. take k left ++ rest) (sym moved.rest),
       filled moving.result k moving.new.items c.take.new.buffer _ fits enough
           ∙ ap (λ held. held ++ take k c.take.new.buffer) (moving.ensures.front ∙ c.self.view_is)
