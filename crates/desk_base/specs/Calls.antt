@@ -1,5 +1,5 @@
 -- Calls that are to fail.
-use Rattle.std.specs.Prelude.{◌≡◌, ℕ, ◌+◌, ◌-◌, ◌^◌, ◌<◌, List, min, Contains}
+use Rattle.std.specs.Prelude.{ℕ, ◌+◌, ◌-◌, ◌^◌, ◌<◌, List, min, Contains}
 
 -- the calls so far, the numbers of those that are to fail, counted from 1, and the count of faults
 pub record Calls : Type 0 where
