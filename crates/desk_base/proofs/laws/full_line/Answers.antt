@@ -1,0 +1,5 @@
+use Rattle.desk_base.proofs.LinesOf.{line_first}
+use Rattle.desk_base.proofs.laws.full_line.Goals as goal
+
+pub returns : goal.returns
+returns c = line_first

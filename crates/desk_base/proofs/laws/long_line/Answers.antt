@@ -1,0 +1,5 @@
+use Rattle.desk_base.proofs.LinesOf.{long_first}
+use Rattle.desk_base.proofs.laws.long_line.Goals as goal
+
+pub returns : goal.returns
+returns c = long_first

@@ -1,0 +1,5 @@
+use Rattle.desk_base.proofs.LinesOf.{part_only}
+use Rattle.desk_base.proofs.laws.part_of_line.Goals as goal
+
+pub returns : goal.returns
+returns c = part_only

@@ -1,0 +1,130 @@
+ghost use Rattle.std.specs.Prelude.{◌≡◌, ℕ, ◌+◌, ◌<◌, ◌≤◌, List, [], ◌++◌, length, take, drop, IsTrue, IfOk, OnErr};
+ghost use Rattle.desk_base.specs.Faults.{HasRisen};
+
+use crate::line::LINE_LIMIT;
+use crate::source::{Failed, Source};
+use std::marker::Model;
+
+/// How many bytes a buffer can hold.
+const BUFFER_SIZE: usize = 256;
+
+/// Bytes that were taken from a source and not used yet. They are used from the front, and join others at the end.
+#[derive(Drop)]
+pub struct Buffer {
+    items: [u8; BUFFER_SIZE],
+    start: usize,
+    end: usize,
+}
+
+impl Model for Buffer {
+    ghost use Rattle.std.specs.Prelude.{ℕ, List, ◌≤◌, take, drop};
+
+    ghost Value = { List ℕ };
+
+    ghost view = { λ b. drop b.start (take b.end b.items) };
+
+    ghost invariant = { λ b. (b.start ≤ b.end) × (b.end ≤ 256) };
+}
+
+impl Buffer {
+    pub fn new() -> Self
+        ensures { result ≡ [] }
+    {
+        Buffer {
+            items: [0; BUFFER_SIZE],
+            start: 0,
+            end: 0,
+        }
+    }
+
+    pub fn as_slice(&self) -> &[u8]
+        ensures bytes { result.now ≡ self.now }
+        ensures within { length self.now ≤ 256 }
+    {
+        &self.items[self.start..self.end]
+    }
+
+    /// Drops the first bytes.
+    pub fn advance(&mut self, count: usize)
+        requires { count ≤ length self.old }
+        ensures { self.new ≡ drop count self.old }
+    {
+        self.start += count;
+    }
+
+    /// Takes more bytes of the source, and says how many. 0 is the end of the input.
+    pub fn fill<S: Source>(&mut self, source: &mut S) -> Result<usize, Failed>
+        requires { length self.old < 256 }
+        ensures most { IfOk result (λ k. length self.new ≡ length self.old + k) }
+        ensures within { length self.new ≤ 256 }
+        ensures front { take (length self.old) self.new ≡ self.old }
+        ensures taken { IfOk result (λ k. IsTrue S.told → (S.left source.old ≡ take k (S.left source.old) ++ S.left source.new) × (self.new ≡ self.old ++ take k (S.left source.old))) }
+        ensures end { result ≡ Ok 0 → (self.new ≡ self.old) × (IsTrue S.told → (S.left source.old ≡ []) × (S.left source.new ≡ [])) }
+        ensures err { OnErr result ((self.new ≡ self.old) × (IsTrue S.told → S.left source.new ≡ S.left source.old)) }
+        ensures failed { OnErr result (HasRisen (S.faults source.old) (S.faults source.new)) }
+        ensures never_falls { S.faults source.old ≤ S.faults source.new }
+    {
+        self.end = move_to_front(&mut self.items[..], self.start, self.end);
+        self.start = 0;
+        let items = &mut self.items[..];
+        let count = source.take(&mut items[self.end..])?;
+        self.end += count;
+        Ok(count)
+    }
+}
+
+/// Moves the items from `start` to `end` to the front, and says how many they are.
+fn move_to_front(items: &mut [u8], start: usize, end: usize) -> usize
+    requires order { start ≤ end }
+    requires within { end ≤ length items.old }
+    ensures count { result + start ≡ end }
+    ensures front { take result items.new ≡ drop start (take end items.old) }
+{
+    if start > 0 {
+        items.copy_within(start..end, 0);
+    }
+    end - start
+}
+
+/// The bytes of a line.
+#[derive(Drop)]
+pub struct LineBytes {
+    items: [u8; LINE_LIMIT],
+    len: usize,
+}
+
+impl Model for LineBytes {
+    ghost use Rattle.std.specs.Prelude.{ℕ, List, ◌≤◌, take};
+
+    ghost Value = { List ℕ };
+
+    ghost view = { λ b. take b.len b.items };
+
+    ghost invariant = { λ b. b.len ≤ 200 };
+}
+
+impl LineBytes {
+    pub fn new() -> Self
+        ensures { result ≡ [] }
+    {
+        LineBytes {
+            items: [0; LINE_LIMIT],
+            len: 0,
+        }
+    }
+
+    pub fn as_slice(&self) -> &[u8]
+        ensures { result.now ≡ self.now }
+    {
+        &self.items[..self.len]
+    }
+
+    /// Puts these bytes in the place of those that were there.
+    pub fn set(&mut self, bytes: &[u8])
+        requires { length bytes.now ≤ 200 }
+        ensures { self.new ≡ bytes.now }
+    {
+        self.items[..bytes.len()].copy_from_slice(bytes);
+        self.len = bytes.len();
+    }
+}

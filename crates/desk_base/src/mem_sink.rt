@@ -1,0 +1,88 @@
+ghost use Rattle.std.specs.Prelude.{◌≡◌, ◌↔◌, ◌⊎◌, ℕ, ◌-◌, ◌<◌, ◌≤◌, [], length, true, ◌++◌, take, min, IfOk, OnErr, IsErr};
+ghost use Rattle.desk_base.specs.Calls.{IsListed, no_calls, one_more, one_more_failed};
+ghost use Rattle.desk_base.specs.Faults.{HasRisen};
+
+use crate::calls::CallCount;
+use crate::sink::Sink;
+use crate::source::Failed;
+use std::alloc::{AllocError, Global};
+use std::marker::Model;
+
+/// A sink in memory. Its room is reserved when it is made, and writing takes no memory.
+#[derive(Drop)]
+pub struct MemSink {
+    bytes: Vec<u8>,
+    most: usize,
+    room: usize,
+    calls: CallCount,
+}
+
+impl Model for MemSink {
+    ghost use Rattle.std.specs.Prelude.{vec_len, vec_capacity, ◌≤◌, ◌<◌};
+    ghost use Rattle.desk_base.specs.Memory.{Output};
+
+    ghost Value = { Output };
+
+    ghost view = { λ s. record { written = s.bytes.items; most = s.most; room = s.room; calls = s.calls } };
+
+    ghost invariant = { λ s. (vec_len s.bytes ≤ s.room) × (s.room ≤ vec_capacity s.bytes) × (0 < s.most) };
+}
+
+impl MemSink {
+    /// A sink that can hold `room` bytes, of which a call writes at most `most`. The calls whose numbers are in `fail`, counted from 1,
+    /// are to fail; calls after the one of number 2^32 - 1 have no number.
+    pub fn new(alloc: Global, fail: Vec<u32>, most: usize, room: usize) -> Result<Self, AllocError>
+        requires { 0 < most }
+        ensures { IfOk result (λ sink. sink ≡ record { written = []; most = most; room = room; calls = no_calls fail.items }) }
+    {
+        Ok(MemSink {
+            bytes: Vec::with_capacity(alloc, room)?,
+            most,
+            room,
+            calls: CallCount::new(fail),
+        })
+    }
+
+    /// What was written.
+    pub fn bytes(&self) -> &[u8]
+        ensures written { result.now ≡ self.now.written }
+        ensures within { length self.now.written ≤ self.now.room }
+    {
+        &self.bytes
+    }
+}
+
+impl Sink for MemSink {
+    ghost told = { true };
+
+    ghost written = { λ s. s.written };
+
+    ghost faults = { λ s. s.calls.faults };
+
+    /// Writes as many bytes of the piece as there is room for, and as a call may write.
+    fn put(&mut self, piece: &[u8]) -> Result<usize, Failed>
+        ensures most { IfOk result (λ k. k ≤ length piece.now) }
+        ensures some { 0 < length piece.now → IfOk result (λ k. 0 < k) }
+        ensures appended { IfOk result (λ k. self.new.written ≡ self.old.written ++ take k piece.now) }
+        ensures failed { OnErr result (HasRisen self.old.calls.faults self.new.calls.faults) }
+        ensures never_falls { self.old.calls.faults ≤ self.new.calls.faults }
+
+        // It fails exactly at the calls that are to fail, and where its room is full and the piece is not empty.
+        ensures fails { IsErr result ↔ (IsListed self.old.calls ⊎ ((length self.old.written ≡ self.old.room) × (0 < length piece.now))) }
+        ensures count { IfOk result (λ k. k ≡ min (min (length piece.now) self.old.most) (self.old.room - length self.old.written)) }
+        ensures ok { IfOk result (λ k. self.new ≡ record { written = self.old.written ++ take k piece.now; most = self.old.most; room = self.old.room; calls = one_more self.old.calls }) }
+        ensures err { OnErr result (self.new ≡ record self.old { calls = one_more_failed self.old.calls }) }
+        ensures within { length self.new.written ≤ self.new.room }
+    {
+        if self.calls.fails() {
+            return Err(Failed);
+        }
+        let count = piece.len().min(self.most).min(self.room - self.bytes.len());
+        if count == 0 && !piece.is_empty() {
+            self.calls.add_fault();
+            return Err(Failed);
+        }
+        self.bytes.extend_from_slice(&piece[..count]).unwrap();
+        Ok(count)
+    }
+}

@@ -1,0 +1,76 @@
+ghost use Rattle.std.specs.Prelude.{◌≡◌, ◌↔◌, ℕ, ◌<◌, ◌≤◌, [], length, drop, min, true, IfOk, OnErr, IsErr};
+ghost use Rattle.desk_base.specs.Calls.{IsListed, no_calls, one_more, one_more_failed};
+ghost use Rattle.desk_base.specs.Faults.{HasRisen};
+ghost use Rattle.desk_base.specs.Moves.{Moved};
+
+use crate::calls::CallCount;
+use crate::source::{Failed, Source};
+use std::marker::Model;
+
+/// A source over bytes in memory.
+#[derive(Drop)]
+pub struct MemSource {
+    bytes: Vec<u8>,
+    at: usize,
+    most: usize,
+    calls: CallCount,
+}
+
+impl Model for MemSource {
+    ghost use Rattle.std.specs.Prelude.{drop, vec_len, ◌≤◌, ◌<◌};
+    ghost use Rattle.desk_base.specs.Memory.{Input};
+
+    ghost Value = { Input };
+
+    ghost view = { λ s. record { left = drop s.at s.bytes.items; most = s.most; calls = s.calls } };
+
+    ghost invariant = { λ s. (s.at ≤ vec_len s.bytes) × (0 < s.most) };
+}
+
+impl MemSource {
+    /// A source of these bytes, of which a call moves at most `most`. The calls whose numbers are in `fail`, counted from 1, are to
+    /// fail; calls after the one of number 2^32 - 1 have no number.
+    pub fn new(bytes: Vec<u8>, fail: Vec<u32>, most: usize) -> Self
+        requires { 0 < most }
+        ensures { result ≡ record { left = bytes.items; most = most; calls = no_calls fail.items } }
+    {
+        MemSource {
+            bytes,
+            at: 0,
+            most,
+            calls: CallCount::new(fail),
+        }
+    }
+}
+
+impl Source for MemSource {
+    ghost told = { true };
+
+    ghost left = { λ s. s.left };
+
+    ghost faults = { λ s. s.calls.faults };
+
+    /// Moves as many bytes as there are, as fit, and as a call may move.
+    fn take(&mut self, buffer: &mut [u8]) -> Result<usize, Failed>
+        ensures most { IfOk result (λ k. k ≤ length buffer.old) }
+        ensures moved { IfOk result (λ k. Moved k self.old.left self.new.left buffer.new) }
+        ensures end { 0 < length buffer.old → result ≡ Ok 0 → self.old.left ≡ [] }
+        ensures failed { OnErr result (HasRisen self.old.calls.faults self.new.calls.faults) }
+        ensures never_falls { self.old.calls.faults ≤ self.new.calls.faults }
+
+        // It fails exactly at the calls that are to fail, and counts no other fault.
+        ensures listed { IsErr result ↔ IsListed self.old.calls }
+        ensures count { IfOk result (λ k. k ≡ min (min (length self.old.left) (length buffer.old)) self.old.most) }
+        ensures ok { IfOk result (λ k. self.new ≡ record { left = drop k self.old.left; most = self.old.most; calls = one_more self.old.calls }) }
+        ensures err { OnErr result (self.new ≡ record self.old { calls = one_more_failed self.old.calls }) }
+    {
+        if self.calls.fails() {
+            return Err(Failed);
+        }
+        let rest = &self.bytes[self.at..];
+        let count = rest.len().min(buffer.len()).min(self.most);
+        buffer[..count].copy_from_slice(&rest[..count]);
+        self.at += count;
+        Ok(count)
+    }
+}

@@ -1,0 +1,108 @@
+ghost use Rattle.std.specs.Prelude.{◌≡◌, ◌≢◌, ℕ, ◌+◌, ◌-◌, ◌^◌, ◌<◌, ◌≤◌, ◌↔◌, List, [], ◌∷◌, ◌++◌, length, IsTrue, IsNone, IfSome, None, IsErrOf};
+ghost use Rattle.desk_base.specs.Faults.{HasRisen};
+ghost use Rattle.desk_base.specs.Reading.{Reading, Takes, KeepsLine, stop_after};
+
+use crate::buffer::{Buffer, LineBytes};
+use crate::line::{Line, LineError};
+use crate::scan::{Found, find_line};
+use crate::source::Source;
+use std::marker::Model;
+
+/// Reads the lines of a source, of at most 200 bytes each, in a fixed buffer of 256. Contracts see the last whole line, the bytes that were
+/// taken past it, and the answer that is given for good.
+#[derive(Drop)]
+pub struct LineReader {
+    held: Buffer,
+    line: LineBytes,
+    stopped: Option<Result<Line, LineError>>,
+}
+
+impl Model for LineReader {
+    ghost use Rattle.std.specs.Prelude.{◌≤◌, length};
+    ghost use Rattle.desk_base.specs.Reading.{Reading};
+
+    ghost Value = { Reading };
+
+    ghost view = { λ r. record { line = r.line; pending = r.held; stopped = r.stopped } };
+
+    ghost invariant = { λ r. length r.held ≤ 256 };
+}
+
+impl LineReader {
+    pub fn new() -> Self
+        ensures { result ≡ record { line = []; pending = []; stopped = None } }
+    {
+        LineReader {
+            held: Buffer::new(),
+            line: LineBytes::new(),
+            stopped: None,
+        }
+    }
+
+    /// The last whole line, without its LF; empty before the first.
+    pub fn line(&self) -> &[u8]
+        ensures { result.now ≡ self.now.line }
+    {
+        self.line.as_slice()
+    }
+
+    /// Reads the next line. After any other answer than a whole line it gives that answer for good, and takes nothing more. It may take up
+    /// to 256 bytes past the line, which it keeps for the next call.
+    pub fn next_line<S: Source>(&mut self, source: &mut S) -> Result<Line, LineError>
+        ensures stopped { IfSome self.old.stopped (λ answer. (result ≡ answer) × (self.new ≡ self.old) × (source.new ≡ source.old)) }
+        ensures line { self.old.stopped ≡ None → KeepsLine result self.old.line self.new.line }
+        ensures stops { self.old.stopped ≡ None → self.new.stopped ≡ stop_after result }
+        // Where the source tells its bytes, these are its lines, in order.
+        ensures lines { self.old.stopped ≡ None → IsTrue S.told → Takes result self.old.pending self.new.line self.new.pending (S.left source.old) (S.left source.new) }
+        ensures within { length self.new.pending ≤ 256 }
+        ensures failed { self.old.stopped ≡ None → IsErrOf result LineError.Read → HasRisen (S.faults source.old) (S.faults source.new) }
+        ensures never_falls { S.faults source.old ≤ S.faults source.new }
+    {
+        if let Some(answer) = self.stopped {
+            return answer;
+        }
+        let answer = read_line(&mut self.held, &mut self.line, source);
+        if let Ok(Line::Full(_)) = answer {
+            return answer;
+        }
+        self.stopped = Some(answer);
+        answer
+    }
+}
+
+/// Reads the next line into `line`; `held` has what was taken past it.
+fn read_line<S: Source>(
+    held: &mut Buffer,
+    line: &mut LineBytes,
+    source: &mut S,
+) -> Result<Line, LineError>
+    ensures line { KeepsLine result line.old line.new }
+    ensures lines { IsTrue S.told → Takes result held.old line.new held.new (S.left source.old) (S.left source.new) }
+    ensures within { length held.new ≤ 256 }
+    ensures failed { IsErrOf result LineError.Read → HasRisen (S.faults source.old) (S.faults source.new) }
+    ensures never_falls { S.faults source.old ≤ S.faults source.new }
+{
+    let mut scanned = 0;
+    loop {
+        match find_line(held.as_slice(), scanned) {
+            Found::Whole(len) => {
+                line.set(&held.as_slice()[..len]);
+                held.advance(len + 1);
+                return Ok(Line::Full(len));
+            }
+            Found::Long => return Err(LineError::TooLong),
+            Found::Part => {
+                scanned = held.as_slice().len();
+                match held.fill(source) {
+                    Err(_) => return Err(LineError::Read),
+                    Ok(0) => return if scanned == 0 {
+                        Ok(Line::End)
+                    } else {
+                        Err(LineError::Cut)
+                    },
+                    Ok(_) => {}
+                }
+            }
+        }
+    }
+}

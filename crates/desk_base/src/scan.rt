@@ -1,0 +1,37 @@
+ghost use Rattle.std.specs.Prelude.{◌≤◌, length, take};
+ghost use Rattle.desk_base.specs.Found.{Finds};
+ghost use Rattle.desk_base.specs.Lines.{HasNoLf};
+
+use crate::line::LINE_LIMIT;
+
+/// The byte that ends a line.
+const LF: u8 = b'\n';
+
+/// What stands in front of some bytes.
+#[derive(Clone, Copy)]
+pub enum Found {
+    /// A line of this many bytes, and its LF.
+    Whole(usize),
+    /// 201 bytes without LF.
+    Long,
+    /// At most 200 bytes, without LF.
+    Part,
+}
+
+/// Finds the line in front of the bytes, of which the first `scanned` have no LF.
+pub fn find_line(bytes: &[u8], scanned: usize) -> Found
+    requires within { scanned ≤ length bytes.now }
+    requires short { scanned ≤ 200 }
+    requires free { HasNoLf (take scanned bytes.now) }
+    ensures { Finds bytes.now result }
+{
+    for i in scanned..bytes.len() {
+        if bytes[i] == LF {
+            return Found::Whole(i);
+        }
+        if i == LINE_LIMIT {
+            return Found::Long;
+        }
+    }
+    Found::Part
+}
