@@ -1,0 +1,6 @@
+pub mod StepLemmas
+pub mod OffsetLemmas
+pub mod MoveLemmas
+pub mod RefusalLemmas
+pub mod MateLemmas
+pub mod FaultLemmas

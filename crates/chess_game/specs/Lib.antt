@@ -1,0 +1,10 @@
+pub mod Near
+pub mod Piece
+pub mod Storage
+pub mod Offsets
+pub mod Refusal
+pub mod Steps
+pub mod LoneKing
+pub mod Fault
+pub use Rattle.game_rules.specs.Game
+pub use Rattle.game_rules.specs.Rays

@@ -1,0 +1,16 @@
+//! Chess on an unbounded board: positions, which squares are attacked, which moves are legal, and mate of a king alone.
+#![tactic(auto)]
+
+mod attack;
+mod board;
+mod faults;
+mod geometry;
+mod mate;
+mod moves;
+mod piece;
+mod position;
+
+pub use faults::Unsound;
+pub use game_rules::{Kind, Man, Place, Ray, Side};
+pub use moves::{Illegal, Move};
+pub use position::{Position, attacked, in_check, lone_king_mated, soundness, try_move};
