@@ -1,8 +1,10 @@
 //! Positions whose men may stand a step past the squares that an i64 can name.
 
-ghost use Rattle.std.specs.Prelude.{◌≡◌, ◌≢◌, ◌+◌, ◌<◌, ◌≤◌, ℕ, length, slice_get, slice_index_or, Some};
-ghost use Rattle.game_rules.specs.Game.{IsAfter, IsLeftBy, man_at, other};
+ghost use Rattle.std.specs.Int.{bit_at};
+ghost use Rattle.std.specs.Prelude.{◌≡◌, ◌≢◌, ◌↔◌, ◌+◌, ◌^◌, ◌<◌, ◌≤◌, ℕ, length, slice_get, slice_index_or, Some};
+ghost use Rattle.game_rules.specs.Game.{IsAfter, IsLeftBy, IsMaskOf, man_at, other};
 ghost use Rattle.game_rules.specs.declared.men.Man.{Man};
+ghost use Rattle.chess_game.specs.Mask.{IsMaskBelow};
 ghost use Rattle.chess_game.specs.Near.{IsNarrowMan, IsNarrowPosition, IsNear};
 ghost use Rattle.std.specs.List.{All};
 
@@ -80,7 +82,8 @@ impl Board {
 
     /// The men, in the order of their numbers.
     pub(crate) fn men(&self) -> &[Piece]
-        ensures { result.now ≡ self.now.men }
+        ensures men { result.now ≡ self.now.men }
+        ensures few { length result.now ≤ 8 }
     {
         &self.men[..self.count]
     }
@@ -93,6 +96,13 @@ impl Board {
             return None;
         }
         self.men().get(number - 1).copied()
+    }
+
+    /// The set of the live men.
+    pub(crate) fn mask(&self) -> u8
+        ensures { IsMaskOf self.now result }
+    {
+        mask_of(self.men())
     }
 
     /// The position after the man of this number has gone to the square.
@@ -109,6 +119,43 @@ impl Board {
             count: self.count,
             turn: other_side(self.turn),
         }
+    }
+}
+
+/// The mask with one more bit.
+fn with_bit(mask: u8, index: usize) -> u8
+    requires { index < 8 }
+    ensures set { bit_at result index ≡ 1 }
+    ensures others { (k : ℕ) → k ≢ index → bit_at result k ≡ bit_at mask k }
+    ensures bound { (n : ℕ) → index < n → mask < 2 ^ n → result < 2 ^ n }
+{
+    mask | (1 << index)
+}
+
+/// The mask whose bits are 1 at the live men.
+fn mask_of(men: &[Piece]) -> u8
+    requires { length men.now ≤ 8 }
+    ensures live { (k : ℕ) (m : Man) → slice_get men.now k ≡ Some m → (bit_at result k ≡ 1) ↔ (m.place ≢ Place.Gone) }
+    ensures bound { result < 2 ^ length men.now }
+{
+    let mut mask = 0;
+    for index in 0..men.len() {
+        mask = marked(men, index, mask);
+    }
+    mask
+}
+
+/// The mask with the bit of the man at the index, if he is live.
+fn marked(men: &[Piece], index: usize, mask: u8) -> u8
+    requires few { length men.now ≤ 8 }
+    requires within { index < length men.now }
+    requires mask { IsMaskBelow men.now index mask }
+    ensures { IsMaskBelow men.now (index + 1) result }
+{
+    if men[index].is_live() {
+        with_bit(mask, index)
+    } else {
+        mask
     }
 }
 

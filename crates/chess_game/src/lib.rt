@@ -9,8 +9,12 @@ mod mate;
 mod moves;
 mod piece;
 mod position;
+mod rays;
+mod way;
 
 pub use faults::Unsound;
 pub use game_rules::{Kind, Man, Place, Ray, Side};
 pub use moves::{Illegal, Move};
-pub use position::{Position, attacked, in_check, lone_king_mated, soundness, try_move};
+pub use position::{Position, attacked, free_way, in_check, lone_king_mated, soundness, try_move};
+pub use rays::ray;
+pub use way::{Frame, Way};

@@ -1,6 +1,6 @@
 //! Men on squares that may lie a step past those that an i64 can name.
 
-ghost use Rattle.std.specs.Prelude.{◌≡◌, IfSome};
+ghost use Rattle.std.specs.Prelude.{◌≡◌, ◌≢◌, ◌↔◌, IfSome, IsTrue};
 ghost use Rattle.game_rules.specs.Game.{square_of};
 ghost use Rattle.chess_game.specs.Near.{IsNarrow, IsNarrowMan, IsNear};
 
@@ -73,6 +73,12 @@ impl Piece {
         ensures { result ≡ self.now.kind }
     {
         self.kind
+    }
+
+    pub(crate) fn is_live(&self) -> bool
+        ensures { IsTrue result ↔ (self.now.place ≢ Place.Gone) }
+    {
+        self.square.is_some()
     }
 
     /// His square, if he is live.

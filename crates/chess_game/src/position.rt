@@ -1,8 +1,10 @@
 //! Positions, and what is asked of them.
 
-ghost use Rattle.std.specs.Prelude.{◌≡◌, ◌↔◌, ◌≤◌, length, IfErr, IfOk, IfSome, IsOk, IsSome, IsTrue, OnErr, Some};
+ghost use Rattle.std.specs.Prelude.{◌≡◌, ◌≢◌, ◌↔◌, ◌≤◌, ◌^◌, ℕ, length, IfErr, IfNone, IfOk, IfSome, IsOk, IsSome, IsSomeAnd, IsTrue, OnErr, Some};
 ghost use Rattle.game_rules.specs.Game.{Attacked, InCheck, IsMaskOf, Legal, Mate, Sound, man_at};
-ghost use Rattle.chess_game.specs.Fault.{IsFirstFault};
+ghost use Rattle.chess_game.specs.Fault.{IsFirstFault, StandsAt};
+ghost use Rattle.chess_game.specs.Near.{IsNarrow};
+ghost use Rattle.chess_game.specs.Way.{IsFree, IsHit, IsRayOf};
 ghost use Rattle.chess_game.specs.LoneKing.{IsAlone};
 ghost use Rattle.chess_game.specs.Refusal.{IsRefusal};
 
@@ -12,7 +14,8 @@ use crate::faults::{Unsound, check_board};
 use crate::mate::is_lone_king_mated;
 use crate::moves::{Illegal, Move, try_step};
 use crate::piece::square_at;
-use game_rules::{Man, Side};
+use crate::way::{Frame, Way, way_from};
+use game_rules::{Man, Place, Ray, Side, Square};
 use std::marker::Model;
 
 /// Two to eight men, numbered from 1, and the side to move.
@@ -70,6 +73,13 @@ impl Position {
     {
         self.board.men()[number as usize - 1].man()
     }
+
+    /// The set of the live men: bit `i - 1` is 1 exactly where man `i` is live.
+    pub fn mask(&self) -> u8
+        ensures { IsMaskOf self.now result }
+    {
+        self.board.mask()
+    }
 }
 
 /// Whether some live man of the side bears on the square (x, y).
@@ -118,4 +128,31 @@ pub fn soundness(p: &Position) -> Result<(), Unsound>
     ensures fault { IfErr result (IsFirstFault p.now) }
 {
     check_board(&p.board)
+}
+
+/// The square of a live man.
+fn square_of_man(p: &Position, number: u8) -> Square
+    requires { IsSomeAnd (man_at p.now number) (λ m. m.place ≢ Place.Gone) }
+    ensures stands { StandsAt p.now number result }
+    ensures narrow { IsNarrow result }
+{
+    match p.man(number).place {
+        Place::At { x, y } => square_at(x, y),
+        Place::Gone => unreachable!(),
+    }
+}
+
+/// How far the man may go along a ray of his kind, inside the frame, over squares that are empty. `hits` is the
+/// first man whom he meets there, of his own side or the other; on a ray that is not far, only one at distance 1.
+/// Where several men stand on one square, it is the one with the least number.
+pub fn free_way(p: &Position, man: u8, ray: Ray, frame: Frame) -> Way
+    requires { IsSomeAnd (man_at p.now man) (λ m. (m.place ≢ Place.Gone) × IsRayOf m ray) }
+    ensures distances { (t : ℕ) → ((result.near ≤ t) × (t ≤ result.far)) ↔ IsFree p.now man ray frame t }
+    ensures none { ((t : ℕ) → IsFree p.now man ray frame t → ⊥) → (result.near ≡ 1) × (result.far ≡ 0) }
+    ensures bound { result.far ≤ 2 ^ 64 }
+    ensures hit { IfSome result.hits (IsHit p.now man ray frame) }
+    ensures no_hit { IfNone result.hits ((i : ℕ) → IsHit p.now man ray frame i → ⊥) }
+{
+    let from = square_of_man(p, man);
+    way_from(&p.board, from, ray, frame)
 }
