@@ -1,0 +1,123 @@
+-- Lemmas on offsets and on equal steps.
+use Rattle.std.proofs.Common.{◌≡◌, ◌⊎◌, inl, inr, ℕ, ◌<◌, ◌≤◌, max, ℤ, pos, negsuc, ◌+ℤ◌, ◌*ℤ◌, unsigned_abs, ◌-ℤ◌, ap, subst, sym, ◌∙◌, arith}
+use Rattle.std.specs.Int.{int_signum}
+use Rattle.std.proofs.lemmas.Int.{ints}
+use Rattle.game_rules.specs.Game.{IsBetween, IsDirection, after_steps}
+use Rattle.game_rules.specs.declared.men.Square.{Square}
+use Rattle.chess_game.specs.Offsets.{IsPart, IsTimes}
+use Rattle.chess_game.proofs.StepLemmas.{square_is}
+
+pub unit_cases : (d : ℤ) → unsigned_abs d ≤ 1 → (d ≡ negsuc 0) ⊎ ((d ≡ pos 0) ⊎ (d ≡ pos 1))
+unit_cases d h = grind (arith, ints)
+
+-- how far a multiple of a step of at most one is
+pub abs_multiple : (t : ℕ) (d o : ℤ) → unsigned_abs d ≤ 1 → o ≡ pos t *ℤ d → ((unsigned_abs d ≡ 0) × (unsigned_abs o ≡ 0)) ⊎ ((unsigned_abs d ≡ 1) × (unsigned_abs o ≡ t))
+abs_multiple t d o small is =
+    elim (unit_cases d small) [
+      | inl e ↦ let f : o ≡ pos t *ℤ negsuc 0 = subst (λ u. o ≡ pos t *ℤ u) e is in grind (arith, ints)
+      | inr e ↦ elim e [
+        | inl e ↦ let f : o ≡ pos t *ℤ pos 0 = subst (λ u. o ≡ pos t *ℤ u) e is in grind (arith, ints)
+        | inr e ↦ let f : o ≡ pos t *ℤ pos 1 = subst (λ u. o ≡ pos t *ℤ u) e is in grind (arith, ints)
+      ]
+    ]
+
+-- which way a multiple of a step leads
+pub signum_multiple : (t : ℕ) (d o : ℤ) → 0 < t → unsigned_abs d ≤ 1 → o ≡ pos t *ℤ d → int_signum o ≡ d
+signum_multiple t d o some small is =
+    elim (unit_cases d small) [
+      | inl e ↦ let f : o ≡ pos t *ℤ negsuc 0 = subst (λ u. o ≡ pos t *ℤ u) e is in grind (arith, ints)
+      | inr e ↦ elim e [
+        | inl e ↦ let f : o ≡ pos t *ℤ pos 0 = subst (λ u. o ≡ pos t *ℤ u) e is in grind (arith, ints)
+        | inr e ↦ let f : o ≡ pos t *ℤ pos 1 = subst (λ u. o ≡ pos t *ℤ u) e is in grind (arith, ints)
+      ]
+    ]
+
+pub multiple_far : (t : ℕ) (dx dy ox oy : ℤ) → max (unsigned_abs dx) (unsigned_abs dy) ≡ 1 → ox ≡ pos t *ℤ dx → oy ≡ pos t *ℤ dy → max (unsigned_abs ox) (unsigned_abs oy) ≡ t
+multiple_far t dx dy ox oy unit x y =
+    let hx = abs_multiple t dx ox (omega arith) x in
+    let hy = abs_multiple t dy oy (omega arith) y in
+    grind arith
+
+pub times_is : (dx dy ox oy : ℤ) (t : ℕ) → IsDirection dx dy → IsTimes dx dy ox oy t → t ≡ max (unsigned_abs ox) (unsigned_abs oy)
+times_is dx dy ox oy t unit is = sym (multiple_far t dx dy ox oy unit is.right is.up)
+
+pub no_times : (dx dy ox oy : ℤ) (m t : ℕ) → IsTimes dx dy ox oy t → IsDirection dx dy → m ≡ max (unsigned_abs ox) (unsigned_abs oy) → (IsTimes dx dy ox oy m → ⊥) → ⊥
+no_times dx dy ox oy m t h unit is off =
+    off (subst (IsTimes dx dy ox oy) (times_is dx dy ox oy t unit h ∙ sym is) h)
+
+signum_direction : (ox oy : ℤ) → 0 < max (unsigned_abs ox) (unsigned_abs oy) → IsDirection (int_signum ox) (int_signum oy)
+signum_direction ox oy some = grind arith
+
+-- the two tests with the first step toward the whole tell of a part
+pub part_from : (ox oy ex ey ux uy : ℤ) (s t : ℕ) → ux ≡ int_signum ox → uy ≡ int_signum oy → s ≡ max (unsigned_abs ox) (unsigned_abs oy) → t < s → IsTimes ux uy ox oy s → IsTimes ux uy ex ey t → IsPart ox oy ex ey
+part_from ox oy ex ey ux uy s t is_x is_y is fewer whole part =
+    record {
+      dx = ux;
+      dy = uy;
+      direction = rw (is_x, is_y) (signum_direction ox oy (omega arith));
+      whole = s;
+      part = t;
+      fewer = fewer;
+      to_whole = whole;
+      to_part = part;
+    }
+
+-- a part passes the two tests
+pub part_unit : (ox oy ex ey ux uy : ℤ) (s t : ℕ) → ux ≡ int_signum ox → uy ≡ int_signum oy → s ≡ max (unsigned_abs ox) (unsigned_abs oy) → t ≡ max (unsigned_abs ex) (unsigned_abs ey) → IsPart ox oy ex ey → (t < s) × IsTimes ux uy ox oy s × IsTimes ux uy ex ey t
+part_unit ox oy ex ey ux uy s t is_x is_y is_s is_t h =
+    let direction : max (unsigned_abs h.dx) (unsigned_abs h.dy) ≡ 1 = h.direction in
+    let same_x : h.dx ≡ ux = sym (signum_multiple h.whole h.dx ox h.to_whole.positive (omega arith) h.to_whole.right) ∙ sym is_x in
+    let same_y : h.dy ≡ uy = sym (signum_multiple h.whole h.dy oy h.to_whole.positive (omega arith) h.to_whole.up) ∙ sym is_y in
+    let same_s : h.whole ≡ s = times_is h.dx h.dy ox oy h.whole h.direction h.to_whole ∙ sym is_s in
+    let same_t : h.part ≡ t = times_is h.dx h.dy ex ey h.part h.direction h.to_part ∙ sym is_t in
+    let whole : IsTimes ux uy ox oy s =
+    subst (λ n. IsTimes ux uy ox oy n) same_s (subst (λ d. IsTimes ux d ox oy h.whole) same_y (subst (λ d. IsTimes d h.dy ox oy h.whole) same_x h.to_whole)) in
+    let part : IsTimes ux uy ex ey t =
+    subst (λ n. IsTimes ux uy ex ey n) same_t (subst (λ d. IsTimes ux d ex ey h.part) same_y (subst (λ d. IsTimes d h.dy ex ey h.part) same_x h.to_part)) in
+    let fewer : h.part < h.whole = h.fewer in
+    (omega arith, whole, part)
+
+pub z_from : (o z a : ℤ) (t : ℕ) (d : ℤ) → o ≡ z -ℤ a → o ≡ pos t *ℤ d → z ≡ a +ℤ (pos t *ℤ d)
+z_from o z a t d is times = rw (← times) (omega (arith, ints))
+
+pub z_to : (o z a : ℤ) (t : ℕ) (d : ℤ) → o ≡ z -ℤ a → z ≡ a +ℤ (pos t *ℤ d) → o ≡ pos t *ℤ d
+z_to o z a t d is times = let m : ℤ = pos t *ℤ d in let far : z ≡ a +ℤ m = times in let goal : o ≡ m = omega (arith, ints) in goal
+
+-- so many steps lead to the square where the offset is so many times the step
+pub times_to : (a z : Square) (dx dy ox oy : ℤ) (t : ℕ) → ox ≡ z.x -ℤ a.x → oy ≡ z.y -ℤ a.y → 0 < t → z ≡ after_steps a t dx dy → IsTimes dx dy ox oy t
+times_to a z dx dy ox oy t x y positive same =
+    record { positive = positive; right = z_to ox z.x a.x t dx x (ap (λ b. b.x) same); up = z_to oy z.y a.y t dy y (ap (λ b. b.y) same) }
+
+pub times_from : (a z : Square) (dx dy ox oy : ℤ) (t : ℕ) → ox ≡ z.x -ℤ a.x → oy ≡ z.y -ℤ a.y → IsTimes dx dy ox oy t → z ≡ after_steps a t dx dy
+times_from a z dx dy ox oy t x y h =
+    square_is z (a.x +ℤ (pos t *ℤ dx)) (a.y +ℤ (pos t *ℤ dy)) (z_from ox z.x a.x t dx x h.right) (z_from oy z.y a.y t dy y h.up)
+
+-- between, by offsets
+pub between_part : (a b z : Square) (ox oy ex ey : ℤ) → ox ≡ b.x -ℤ a.x → oy ≡ b.y -ℤ a.y → ex ≡ z.x -ℤ a.x → ey ≡ z.y -ℤ a.y → IsBetween a b z → IsPart ox oy ex ey
+between_part a b z ox oy ex ey is_ox is_oy is_ex is_ey h =
+    let begun : 0 < h.part = h.begun in
+    let fewer : h.part < h.whole = h.fewer in
+    record {
+      dx = h.dx;
+      dy = h.dy;
+      direction = h.direction;
+      whole = h.whole;
+      part = h.part;
+      fewer = h.fewer;
+      to_whole = times_to a b h.dx h.dy ox oy h.whole is_ox is_oy (omega arith) h.to_b;
+      to_part = times_to a z h.dx h.dy ex ey h.part is_ex is_ey h.begun h.to_z;
+    }
+
+pub part_between : (a b z : Square) (ox oy ex ey : ℤ) → ox ≡ b.x -ℤ a.x → oy ≡ b.y -ℤ a.y → ex ≡ z.x -ℤ a.x → ey ≡ z.y -ℤ a.y → IsPart ox oy ex ey → IsBetween a b z
+part_between a b z ox oy ex ey is_ox is_oy is_ex is_ey h =
+    record {
+      dx = h.dx;
+      dy = h.dy;
+      direction = h.direction;
+      whole = h.whole;
+      part = h.part;
+      begun = h.to_part.positive;
+      fewer = h.fewer;
+      to_b = times_from a b h.dx h.dy ox oy h.whole is_ox is_oy h.to_whole;
+      to_z = times_from a z h.dx h.dy ex ey h.part is_ex is_ey h.to_part;
+    }

@@ -1,0 +1,14 @@
+pub mod Near
+pub mod Piece
+pub mod Storage
+pub mod Mask
+pub mod Offsets
+pub mod Refusal
+pub mod Steps
+pub mod RayTable
+pub mod LoneKing
+pub mod Fault
+pub mod Way
+pub mod Along
+pub use Rattle.game_rules.specs.Game
+pub use Rattle.game_rules.specs.Rays

@@ -1,0 +1,82 @@
+//! Which squares are attacked.
+
+ghost use Rattle.std.specs.Prelude.{◌≡◌, ◌↔◌, IsTrue};
+ghost use Rattle.game_rules.specs.Game.{Attacked, Bears, InCheck, other, IsBetween, IsLiveAnd, IsOpen};
+ghost use Rattle.chess_game.specs.Near.{IsNear};
+
+use crate::board::{Board, other_side};
+use crate::geometry::{is_between, is_slider, offset_between, reaches};
+use crate::piece::Piece;
+use game_rules::{Kind, Side, Square};
+
+/// Whether the man is live and strictly between the two squares.
+fn stands_between(man: &Piece, from: Square, to: Square) -> bool
+    requires from { IsNear from }
+    requires to { IsNear to }
+    ensures { IsTrue result ↔ IsLiveAnd man.now (IsBetween from to) }
+{
+    match man.square() {
+        None => false,
+        Some(square) => is_between(from, to, square),
+    }
+}
+
+/// Whether no live man is strictly between the two squares.
+fn is_open(p: &Board, from: Square, to: Square) -> bool
+    requires from { IsNear from }
+    requires to { IsNear to }
+    ensures { IsTrue result ↔ IsOpen p.now from to }
+{
+    !p.men().iter().any(|man| stands_between(man, from, to))
+}
+
+/// Whether the man is live and bears on the square.
+pub(crate) fn bears(p: &Board, man: &Piece, to: Square) -> bool
+    requires { IsNear to }
+    ensures { IsTrue result ↔ Bears p.now man.now to }
+{
+    let Some(from) = man.square() else {
+        return false;
+    };
+    reaches(man.side(), man.kind(), offset_between(from, to))
+        && (!is_slider(man.kind()) || is_open(p, from, to))
+}
+
+/// Whether the man is of the side, live, and bears on the square.
+fn attacks(p: &Board, man: &Piece, by: Side, square: Square) -> bool
+    requires { IsNear square }
+    ensures { IsTrue result ↔ ((man.now.side ≡ by) × Bears p.now man.now square) }
+{
+    man.side() == by && bears(p, man, square)
+}
+
+/// Whether some live man of the side bears on the square.
+pub(crate) fn is_attacked(p: &Board, by: Side, square: Square) -> bool
+    requires { IsNear square }
+    ensures { IsTrue result ↔ Attacked p.now by square }
+{
+    p.men().iter().any(|man| attacks(p, man, by, square))
+}
+
+/// Whether the man is the king of the side, and attacked by the other side.
+fn is_king_attacked(board: &Board, man: &Piece, side: Side) -> bool
+    ensures { IsTrue result ↔ ((man.now.side ≡ side) × (man.now.kind ≡ Kind.King) × IsLiveAnd man.now (Attacked board.now (other side))) }
+{
+    if man.side() != side || man.kind() != Kind::King {
+        return false;
+    }
+    match man.square() {
+        None => false,
+        Some(square) => is_attacked(board, other_side(side), square),
+    }
+}
+
+/// Whether the king of the side is attacked by the other side.
+pub(crate) fn in_check(board: &Board, side: Side) -> bool
+    ensures { IsTrue result ↔ InCheck board.now side }
+{
+    board
+        .men()
+        .iter()
+        .any(|man| is_king_attacked(board, man, side))
+}

@@ -1,0 +1,161 @@
+//! Positions, and what is asked of them.
+
+ghost use Rattle.std.specs.Prelude.{◌≡◌, ◌≢◌, ◌↔◌, ◌≤◌, ◌^◌, ℕ, length, IfErr, IfNone, IfOk, IfSome, IsOk, IsSome, IsSomeAnd, IsTrue, OnErr, Some};
+ghost use Rattle.game_rules.specs.Game.{Attacked, InCheck, IsMaskOf, Legal, Mate, Sound, man_at};
+ghost use Rattle.chess_game.specs.Fault.{IsFirstFault, StandsAt};
+ghost use Rattle.chess_game.specs.Near.{IsNarrow};
+ghost use Rattle.chess_game.specs.Way.{IsFree, IsHit, IsRayOf};
+ghost use Rattle.chess_game.specs.LoneKing.{IsAlone};
+ghost use Rattle.chess_game.specs.Refusal.{IsRefusal};
+
+use crate::attack::{self, is_attacked};
+use crate::board::Board;
+use crate::faults::{Unsound, check_board};
+use crate::mate::is_lone_king_mated;
+use crate::moves::{Illegal, Move, try_step};
+use crate::piece::square_at;
+use crate::way::{Frame, Way, way_from};
+use game_rules::{Man, Place, Ray, Side, Square};
+use std::marker::Model;
+
+/// Two to eight men, numbered from 1, and the side to move.
+#[derive(Clone, Copy)]
+pub struct Position {
+    board: Board,
+}
+
+impl Model for Position {
+    ghost use Rattle.game_rules.specs.Game.{Position as Board};
+    ghost use Rattle.chess_game.specs.Near.{IsNarrowPosition};
+
+    ghost Value = { Board };
+
+    ghost view = { λ a. a.board };
+
+    ghost invariant = { λ a. IsNarrowPosition a.board };
+
+    ghost inverse = { λ p. record { board = p } };
+}
+
+impl Position {
+    /// The position with these men, if there are two to eight of them.
+    pub fn new(men: &[Man], turn: Side) -> Option<Position>
+        ensures holds { IsSome result ↔ ((2 ≤ length men.now) × (length men.now ≤ 8)) }
+        ensures position { IfSome result (λ p. p ≡ record { men = men.now; turn = turn }) }
+    {
+        if men.len() < 2 || men.len() > 8 {
+            return None;
+        }
+        Some(Position {
+            board: Board::new(men, turn),
+        })
+    }
+
+    /// How many men there are, captured ones included.
+    pub fn count(&self) -> u8
+        ensures { result ≡ length self.now.men }
+    {
+        self.board.count()
+    }
+
+    /// The side to move.
+    pub fn turn(&self) -> Side
+        ensures { result ≡ self.now.turn }
+    {
+        self.board.turn()
+    }
+
+    /// The man of this number, counted from 1.
+    pub fn man(&self, number: u8) -> Man
+        requires first { 1 ≤ number }
+        requires last { number ≤ length self.now.men }
+        ensures { man_at self.now number ≡ Some result }
+    {
+        self.board.men()[number as usize - 1].man()
+    }
+
+    /// The set of the live men: bit `i - 1` is 1 exactly where man `i` is live.
+    pub fn mask(&self) -> u8
+        ensures { IsMaskOf self.now result }
+    {
+        self.board.mask()
+    }
+}
+
+/// Whether some live man of the side bears on the square (x, y).
+pub fn attacked(p: &Position, by: Side, x: i64, y: i64) -> bool
+    ensures { IsTrue result ↔ Attacked p.now by (record { x = x; y = y }) }
+{
+    is_attacked(&p.board, by, square_at(x, y))
+}
+
+/// Whether the king of the side to move is attacked.
+pub fn in_check(p: &Position) -> bool
+    requires { Sound p.now }
+    ensures { IsTrue result ↔ InCheck p.now p.now.turn }
+{
+    attack::in_check(&p.board, p.board.turn())
+}
+
+/// The position after the move, or the first reason why it is not legal.
+pub fn try_move(p: &Position, mv: Move) -> Result<Position, Illegal>
+    requires { Sound p.now }
+    ensures legal { IfOk result (Legal p.now mv.man (record { x = mv.x; y = mv.y })) }
+    ensures reason { IfErr result (IsRefusal p.now mv.man (record { x = mv.x; y = mv.y })) }
+    ensures illegal { OnErr result ((q : Position) → Legal p.now mv.man (record { x = mv.x; y = mv.y }) q → ⊥) }
+{
+    match try_step(&p.board, mv.man as usize, square_at(mv.x, mv.y)) {
+        Ok(board) => Ok(Position { board }),
+        Err(reason) => Err(reason),
+    }
+}
+
+/// Whether Black, to move with his king alone, is mated. The king's eight steps are tried, also those whose
+/// square no i64 can name.
+pub fn lone_king_mated(p: &Position) -> bool
+    requires sound { Sound p.now }
+    requires turn { p.now.turn ≡ Side.Black }
+    requires alone { IsAlone p.now Side.Black }
+    ensures { IsTrue result ↔ Mate p.now }
+{
+    is_lone_king_mated(&p.board)
+}
+
+/// Whether the position is sound; and if not, the first reason.
+#[tactic(auto, using(crate::proofs::FaultLemmas::fault_unsound))]
+pub fn soundness(p: &Position) -> Result<(), Unsound>
+    ensures ok { IsOk result ↔ Sound p.now }
+    ensures fault { IfErr result (IsFirstFault p.now) }
+{
+    check_board(&p.board)
+}
+
+/// The square of a live man.
+fn square_of_man(p: &Position, number: u8) -> Square
+    requires { IsSomeAnd (man_at p.now number) (λ m. m.place ≢ Place.Gone) }
+    ensures stands { StandsAt p.now number result }
+    ensures narrow { IsNarrow result }
+{
+    match p.man(number).place {
+        Place::At { x, y } => square_at(x, y),
+        Place::Gone => unreachable!(),
+    }
+}
+
+/// How far the man may go along a ray of his kind, inside the frame, over squares that are empty. `hits` is the
+/// first man whom he meets there, of his own side or the other; on a ray that is not far, only one at distance 1.
+/// Where several men stand on one square, it is the one with the least number.
+pub fn free_way(p: &Position, man: u8, ray: Ray, frame: Frame) -> Way
+    requires { IsSomeAnd (man_at p.now man) (λ m. (m.place ≢ Place.Gone) × IsRayOf m ray) }
+    ensures distances { (t : ℕ) → ((result.near ≤ t) × (t ≤ result.far)) ↔ IsFree p.now man ray frame t }
+    ensures none { ((t : ℕ) → IsFree p.now man ray frame t → ⊥) → (result.near ≡ 1) × (result.far ≡ 0) }
+    ensures bound { result.far ≤ 2 ^ 64 }
+    ensures hit { IfSome result.hits (IsHit p.now man ray frame) }
+    ensures no_hit { IfNone result.hits ((i : ℕ) → IsHit p.now man ray frame i → ⊥) }
+{
+    let from = square_of_man(p, man);
+    way_from(&p.board, from, ray, frame)
+}
+
+#[cfg(test)]
+mod tests;
