@@ -1,0 +1,4 @@
+pub mod Blanks
+pub mod Signed
+pub mod Spellings
+pub mod TextLemmas
