@@ -2,6 +2,7 @@
 #![tactic(auto)]
 
 mod fields;
+pub mod laws;
 pub mod line_buffer;
 mod man_line;
 mod reader;
