@@ -1,4 +1,5 @@
 pub mod Blanks
+pub mod PositionLemmas
 pub mod ReplyLemmas
 pub mod Signed
 pub mod Spellings

@@ -111,6 +111,7 @@ kind_of n =
     else (if n == 81 then Queen else (if n == 82 then Rook else (if n == 66 then Bishop else (if n == 78 then Knight else Pawn))))
 
 kind_again : (k : Kind) → kind_of (kind_letter k) ≡ k
+unfolding kind_of
 kind_again King = refl
 kind_again Queen = refl
 kind_again Rook = refl

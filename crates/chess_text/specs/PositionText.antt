@@ -73,14 +73,14 @@ turnout (Err reason) next = refused reason
 abbrev pub with_man : Position → Man → Position
 with_man p m = record { men = p.men ++ m ∷ []; turn = p.turn }
 
--- what a man line makes of the position so far
+-- what a line other than the end makes of the position so far, which has fewer men than a text may have
 abbrev pub FeedsMan : Position → List ℕ → Turnout → Type 0
-FeedsMan p line (more next) = (m : Man) × IsManLine line m × IsServed m × (next ≡ stage.Men (with_man p m))
-FeedsMan p line (whole q) = ⊥
-FeedsMan p line (refused why.NotYet) = (m : Man) × IsManLine line m × (IsServed m → ⊥)
-FeedsMan p line (refused reason) = IsManRefusal line reason
+FeedsMan p line turnout =
+    ((m : Man) × IsManLine line m × IsServed m × (turnout ≡ more (stage.Men (with_man p m))))
+    ⊎ ((m : Man) × IsManLine line m × (IsServed m → ⊥) × (turnout ≡ refused why.NotYet))
+    ⊎ ((reason : TextWhy) × IsManRefusal line reason × (turnout ≡ refused reason))
 
--- what a line makes of the position so far, which has fewer men than a text may have
+-- what a line makes of the position so far
 abbrev pub FeedsMen : Position → List ℕ → Turnout → Type 0
 FeedsMen p line turnout =
     ((length p.men < 2) × (line ≡ end_line) × (turnout ≡ refused why.TooFew))
