@@ -19,6 +19,11 @@ line_due stage.Header = 1
 line_due stage.Turn = 2
 line_due (stage.Men p) = length p.men + 3
 
+-- the position of a whole text
+abbrev pub position_of : Fed → Option Position
+position_of More = None
+position_of (Whole p) = Some p
+
 abbrev pub fed_of : Result Position TextError → Result Fed TextError
 fed_of (Ok p) = Ok (Whole p)
 fed_of (Err error) = Err error

@@ -2,7 +2,7 @@
 
 ghost use Rattle.std.specs.Prelude.{◌≡◌, ◌↔◌, ◌+◌, ◌<◌, ◌≤◌, [], ◌∷◌, ◌++◌, length, take, IfSome, IfNone, None, Some, IsTrue};
 ghost use Rattle.chess_text.specs.PositionText.{Feeds, FeedsMen, IsServed, turnout, with_man};
-ghost use Rattle.chess_text.specs.Reading.{ReadsLine, fed_of, line_due};
+ghost use Rattle.chess_text.specs.Reading.{ReadsLine, fed_of, line_due, position_of};
 
 use crate::man_line::{TextWhy, read_man_line, read_turn_line};
 use chess_game::{Kind, Man, Place, Position, Side};
@@ -25,6 +25,18 @@ pub enum Fed {
     More,
     /// The line was the last of the text of this position.
     Whole(Position),
+}
+
+impl Fed {
+    /// The position of a whole text.
+    pub fn position(self) -> Option<Position>
+        ensures { result ≡ position_of self }
+    {
+        match self {
+            Fed::More => None,
+            Fed::Whole(position) => Some(position),
+        }
+    }
 }
 
 /// The side to move, and the men so far.

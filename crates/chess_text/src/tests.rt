@@ -22,6 +22,13 @@ fn refusal(lines: &[&str]) -> Option<(u32, TextWhy)> {
     }
 }
 
+fn whole(lines: &[&str]) -> Option<Position> {
+    match fed(lines) {
+        Ok(fed) => fed.position(),
+        Err(_) => None,
+    }
+}
+
 #[test]
 fn first_wrong_line_and_its_reason(rt: HostRuntime) -> Result<(), Fail> {
     let cases: [(&[&str], u32, TextWhy); 24] = [
@@ -154,10 +161,9 @@ fn text_of_a_position_both_ways(rt: HostRuntime) -> Result<(), Fail> {
         "B K 10 0",
         "end",
     ];
-    let Ok(Fed::Whole(position)) = fed(&lines) else {
-        return Err("text".into());
-    };
-    assert!(rt; position.count() == 4 && position.turn() == Side::Black);
+    let position = whole(&lines).ok_or("text")?;
+    assert!(rt; position.count() == 4);
+    assert!(rt; position.turn() == Side::Black);
     assert!(rt; position.man(1) == man(Side::White, Kind::King, 0, -2));
     assert!(rt; position.man(2).place == Place::Gone);
     assert!(rt; position.man(3) == man(Side::White, Kind::Knight, i64::MIN, i64::MAX));
