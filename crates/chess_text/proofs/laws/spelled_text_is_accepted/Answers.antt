@@ -1,0 +1,5 @@
+use Rattle.chess_text.proofs.PositionLemmas.{spelled_is_accepted}
+use Rattle.chess_text.proofs.laws.spelled_text_is_accepted.Goals as goal
+
+pub returns : goal.returns
+returns c = spelled_is_accepted

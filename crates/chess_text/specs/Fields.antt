@@ -1,0 +1,51 @@
+-- Fields of a line, and numbers in them.
+use Rattle.std.specs.Prelude.{◌≡◌, ◌≢◌, ◌⊎◌, ℕ, List, [], ◌∷◌, ◌++◌, ℤ, FitsSigned}
+use Rattle.std.specs.List.{All}
+use Rattle.std.specs.Int.{w64}
+use Rattle.std.specs.Fmt.{signed_decimal}
+use Rattle.chess_text.specs.declared.fields.PairWhy.{PairWhy}
+use Rattle.chess_text.specs.declared.fields.PairWhy.TheVariants.{Shape, Number}
+
+abbrev pub HasNoBlank : List ℕ → Type 0
+HasNoBlank text = All (λ byte. byte ≢ 32) text
+
+-- a field has a byte, and no blank
+pub record IsField (text : List ℕ) : Type 0 where
+  pub some : text ≢ []
+  pub no_blank : HasNoBlank text
+
+-- two fields, with one blank between them
+abbrev pub two_fields : List ℕ → List ℕ → List ℕ
+two_fields first second = first ++ 32 ∷ second
+
+-- the text is a number of 64 bits in its one spelling: no plus, no leading zero, and no minus before zero
+pub record IsNumber (text : List ℕ) : Type 0 where
+  pub number : ℤ
+  pub fits : FitsSigned w64 number
+  pub spelled : text ≡ signed_decimal number
+
+-- two numbers, with one blank between them
+abbrev pub pair_text : ℤ → ℤ → List ℕ
+pair_text x y = two_fields (signed_decimal x) (signed_decimal y)
+
+-- the text has the shape of two fields
+pub record HasTwoFields (text : List ℕ) : Type 0 where
+  pub first : List ℕ
+  pub second : List ℕ
+  pub is_first : IsField first
+  pub is_second : IsField second
+  pub joined : text ≡ two_fields first second
+
+-- the text has the shape of two fields, and one of them is no number
+pub record HasNoNumber (text : List ℕ) : Type 0 where
+  pub first : List ℕ
+  pub second : List ℕ
+  pub is_first : IsField first
+  pub is_second : IsField second
+  pub joined : text ≡ two_fields first second
+  pub no_number : (IsNumber first → ⊥) ⊎ (IsNumber second → ⊥)
+
+-- this is the first reason why the text is no pair of numbers
+abbrev pub IsPairRefusal : List ℕ → PairWhy → Type 0
+IsPairRefusal text Shape = HasTwoFields text → ⊥
+IsPairRefusal text Number = HasNoNumber text

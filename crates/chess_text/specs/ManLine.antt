@@ -1,0 +1,76 @@
+-- The lines of a position text that name a man or the side to move.
+use Rattle.std.specs.Prelude.{◌≡◌, ◌⊎◌, ℕ, List, [], ◌∷◌, ◌++◌, codes}
+use Rattle.std.specs.Fmt.{signed_decimal}
+use Rattle.game_rules.specs.declared.men.Side.{Side}
+use Rattle.game_rules.specs.declared.men.Side.TheVariants.{White, Black}
+use Rattle.game_rules.specs.declared.men.Kind.{Kind}
+use Rattle.game_rules.specs.declared.men.Kind.TheVariants.{King, Queen, Rook, Bishop, Knight, Pawn}
+use Rattle.game_rules.specs.declared.men.Place.{Place}
+use Rattle.game_rules.specs.declared.men.Place.TheVariants.{Gone, At}
+use Rattle.game_rules.specs.declared.men.Man.{Man}
+use Rattle.chess_text.specs.Fields.{HasTwoFields, HasNoNumber, pair_text}
+use Rattle.chess_text.specs.declared.fields.PairWhy.{PairWhy}
+use Rattle.chess_text.specs.declared.fields.PairWhy.TheVariants as pair_why
+use Rattle.chess_text.specs.declared.man_line.TextWhy.{TextWhy}
+use Rattle.chess_text.specs.declared.man_line.TextWhy.TheVariants as why
+
+-- the letter of a side
+abbrev pub side_letter : Side → ℕ
+side_letter White = 87
+side_letter Black = 66
+
+-- the letter of a kind
+abbrev pub kind_letter : Kind → ℕ
+kind_letter King = 75
+kind_letter Queen = 81
+kind_letter Rook = 82
+kind_letter Bishop = 66
+kind_letter Knight = 78
+kind_letter Pawn = 80
+
+abbrev pub place_text : Place → List ℕ
+place_text Gone = codes "gone"
+place_text (At x y) = pair_text x y
+
+-- the letters of a side and a kind, and what comes after them
+abbrev pub behind_letters : Side → Kind → List ℕ → List ℕ
+behind_letters s k rest = side_letter s ∷ 32 ∷ kind_letter k ∷ 32 ∷ rest
+
+-- the line of a man
+abbrev pub man_text : Man → List ℕ
+man_text m = behind_letters m.side m.kind (place_text m.place)
+
+-- the line of the side to move
+abbrev pub turn_text : Side → List ℕ
+turn_text s = codes "turn " ++ side_letter s ∷ []
+
+-- a captured man's place, or two fields
+abbrev pub HasPlaceShape : List ℕ → Type 0
+HasPlaceShape rest = (rest ≡ codes "gone") ⊎ HasTwoFields rest
+
+-- this is the first reason why the text is no place
+abbrev pub IsPlaceRefusal : List ℕ → PairWhy → Type 0
+IsPlaceRefusal rest pair_why.Shape = HasPlaceShape rest → ⊥
+IsPlaceRefusal rest pair_why.Number = HasNoNumber rest
+
+-- the line has one of the two shapes of a man line
+pub record HasManShape (line : List ℕ) : Type 0 where
+  pub side : Side
+  pub kind : Kind
+  pub rest : List ℕ
+  pub letters : line ≡ behind_letters side kind rest
+  pub shape : HasPlaceShape rest
+
+-- the line has two fields behind the letters, and one of them is no number
+pub record HasManFault (line : List ℕ) : Type 0 where
+  pub side : Side
+  pub kind : Kind
+  pub rest : List ℕ
+  pub letters : line ≡ behind_letters side kind rest
+  pub no_number : HasNoNumber rest
+
+-- this is the first reason why the line names no man
+abbrev pub IsManRefusal : List ℕ → TextWhy → Type 0
+IsManRefusal line why.ManLine = HasManShape line → ⊥
+IsManRefusal line why.Number = HasManFault line
+IsManRefusal line _ = ⊥

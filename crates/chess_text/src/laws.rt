@@ -1,0 +1,28 @@
+//! Laws of the texts, each the contract of a function that does nothing.
+
+ghost use Rattle.chess_text.specs.Laws.{AcceptedIsSpelled, FeedsOnce, ReplyOnce, SpelledIsAccepted, SpelledMoveIsReply};
+
+/// Lines that are read as a position are the lines of its text.
+pub fn accepted_text_is_spelled()
+    ensures { AcceptedIsSpelled }
+{}
+
+/// The lines of the text of a position are read as that position.
+pub fn spelled_text_is_accepted()
+    ensures { SpelledIsAccepted }
+{}
+
+/// A line makes one thing of a text: it goes on, or is whole, or the line is refused for one reason.
+pub fn line_has_one_turnout()
+    ensures { FeedsOnce }
+{}
+
+/// The spelling of a move is a reply, which is that move.
+pub fn spelled_move_is_reply()
+    ensures { SpelledMoveIsReply }
+{}
+
+/// A line is at most one reply, and one that is a reply is not refused.
+pub fn line_is_one_reply()
+    ensures { ReplyOnce }
+{}

@@ -1,0 +1,102 @@
+//! The lines of men and of the side to move.
+
+ghost use Rattle.std.specs.Prelude.{◌≡◌, ◌≢◌, IfOk, IfErr, OnErr, IfSome, IfNone, ℕ};
+ghost use Rattle.chess_text.specs.ManLine.{turn_text, place_text, side_letter, kind_letter, IsManRefusal, IsPlaceRefusal};
+ghost use Rattle.chess_text.specs.PositionText.{IsManLine};
+ghost use Rattle.game_rules.specs.declared.men.Side.{Side};
+ghost use Rattle.game_rules.specs.declared.men.Kind.{Kind};
+
+use crate::fields::{PairWhy, read_pair};
+use chess_game::{Kind, Man, Place, Side};
+
+/// Why a line may not stand where it stands in a position text.
+#[derive(Clone, Copy, Debug, PartialEq, Eq)]
+pub enum TextWhy {
+    /// The first line is not the header.
+    Header,
+    /// The second line does not name the side to move.
+    Turn,
+    /// A line has none of the shapes of a man line.
+    ManLine,
+    /// A coordinate is no number of 64 bits.
+    Number,
+    /// The text ends with fewer than two men.
+    TooFew,
+    /// A line other than the end follows the last man that a text may have.
+    TooMany,
+    /// A Black man other than a king, whom no command serves yet.
+    NotYet,
+}
+
+/// The side of a letter.
+fn side_of(letter: u8) -> Option<Side>
+    ensures some { IfSome result (λ s. letter ≡ side_letter s) }
+    ensures none { IfNone result ((s : Side) → letter ≢ side_letter s) }
+{
+    match letter {
+        b'W' => Some(Side::White),
+        b'B' => Some(Side::Black),
+        _ => None,
+    }
+}
+
+/// The kind of a letter.
+fn kind_of(letter: u8) -> Option<Kind>
+    ensures some { IfSome result (λ k. letter ≡ kind_letter k) }
+    ensures none { IfNone result ((k : Kind) → letter ≢ kind_letter k) }
+{
+    match letter {
+        b'K' => Some(Kind::King),
+        b'Q' => Some(Kind::Queen),
+        b'R' => Some(Kind::Rook),
+        b'B' => Some(Kind::Bishop),
+        b'N' => Some(Kind::Knight),
+        b'P' => Some(Kind::Pawn),
+        _ => None,
+    }
+}
+
+/// The place behind the two letters of a man line.
+fn read_place(text: &[u8]) -> Result<Place, PairWhy>
+    ensures place { IfOk result (λ p. text.now ≡ place_text p) }
+    ensures refused { IfErr result (IsPlaceRefusal text.now) }
+{
+    if text == b"gone".as_slice() {
+        return Ok(Place::Gone);
+    }
+    let (x, y) = read_pair(text)?;
+    Ok(Place::At { x, y })
+}
+
+/// Reads a man line: a letter for the side, one for the kind, and two coordinates or the word `gone`.
+pub fn read_man_line(line: &[u8]) -> Result<Man, TextWhy>
+    ensures man { IfOk result (IsManLine line.now) }
+    ensures refused { IfErr result (IsManRefusal line.now) }
+{
+    let [side, b' ', kind, b' ', rest @ ..] = line else {
+        return Err(TextWhy::ManLine);
+    };
+    let (Some(side), Some(kind)) = (side_of(*side), kind_of(*kind)) else {
+        return Err(TextWhy::ManLine);
+    };
+    match read_place(rest) {
+        Ok(place) => Ok(Man { side, kind, place }),
+        Err(PairWhy::Shape) => Err(TextWhy::ManLine),
+        Err(PairWhy::Number) => Err(TextWhy::Number),
+    }
+}
+
+/// Reads the line of the side to move.
+pub fn read_turn_line(line: &[u8]) -> Result<Side, TextWhy>
+    ensures side { IfOk result (λ s. line.now ≡ turn_text s) }
+    ensures refused { IfErr result (λ why. why ≡ TextWhy.Turn) }
+    ensures no_side { OnErr result ((s : Side) → line.now ≢ turn_text s) }
+{
+    if line == b"turn W".as_slice() {
+        Ok(Side::White)
+    } else if line == b"turn B".as_slice() {
+        Ok(Side::Black)
+    } else {
+        Err(TextWhy::Turn)
+    }
+}

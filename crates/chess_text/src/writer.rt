@@ -1,0 +1,91 @@
+//! Writing the text of a position.
+
+ghost use Rattle.std.specs.Prelude.{◌≡◌, ◌≤◌, ◌+◌, ◌∷◌, [], ◌++◌, ℕ, length, map, IfOk, OnOk};
+ghost use Rattle.chess_text.specs.ManLine.{man_text, turn_text};
+ghost use Rattle.chess_text.specs.PositionText.{position_text, text_of_lines};
+ghost use Rattle.chess_text.specs.ManLine as letters;
+
+use crate::line_buffer::LineBuffer;
+use chess_game::{Kind, Man, Place, Position, Side};
+use std::alloc::{AllocError, Global};
+
+fn side_letter(side: Side) -> u8
+    ensures { result ≡ letters.side_letter side }
+{
+    match side {
+        Side::White => b'W',
+        Side::Black => b'B',
+    }
+}
+
+fn kind_letter(kind: Kind) -> u8
+    ensures { result ≡ letters.kind_letter kind }
+{
+    match kind {
+        Kind::King => b'K',
+        Kind::Queen => b'Q',
+        Kind::Rook => b'R',
+        Kind::Bishop => b'B',
+        Kind::Knight => b'N',
+        Kind::Pawn => b'P',
+    }
+}
+
+/// The line of a man.
+fn man_line(man: Man) -> LineBuffer
+    ensures { result ≡ man_text man }
+{
+    let mut line = LineBuffer::new();
+    line.push(&[side_letter(man.side), b' ', kind_letter(man.kind), b' ']);
+    match man.place {
+        Place::Gone => line.push(b"gone"),
+        Place::At { x, y } => {
+            line.push_number(x);
+            line.push(b" ");
+            line.push_number(y);
+        }
+    }
+    line
+}
+
+/// The line of the side to move.
+fn turn_line(turn: Side) -> &'static [u8]
+    ensures { result.now ≡ turn_text turn }
+{
+    match turn {
+        Side::White => b"turn W",
+        Side::Black => b"turn B",
+    }
+}
+
+/// Adds the line and its LF.
+fn push_line(text: &mut Vec<u8>, line: &[u8]) -> Result<(), AllocError>
+    ensures { OnOk result (text.new.items ≡ text.old.items ++ (line.now ++ 10 ∷ [])) }
+{
+    text.extend_from_slice(line)?;
+    text.push(b'\n')?;
+    Ok(())
+}
+
+/// Adds the lines of the men.
+fn push_men(text: &mut Vec<u8>, p: &Position) -> Result<(), AllocError>
+    ensures { OnOk result (text.new.items ≡ text.old.items ++ text_of_lines (map man_text p.now.men)) }
+{
+    for index in 0..p.count() {
+        push_line(text, man_line(p.man(index + 1)).as_slice())?;
+    }
+    Ok(())
+}
+
+/// The one text of the position.
+pub fn position_bytes(alloc: Global, p: &Position) -> Result<Vec<u8>, AllocError>
+    requires { length p.now.men ≤ 5 }
+    ensures { IfOk result (λ text. text.items ≡ position_text p.now) }
+{
+    let mut text = Vec::new(alloc);
+    push_line(&mut text, b"infinite chess 1")?;
+    push_line(&mut text, turn_line(p.turn()))?;
+    push_men(&mut text, p)?;
+    push_line(&mut text, b"end")?;
+    Ok(text)
+}
