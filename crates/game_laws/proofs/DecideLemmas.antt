@@ -274,13 +274,12 @@ module _ (p : Position) (j : ℕ) (z : Square) (m : Man) (is : slice_get p.men j
   Parts = (m.side ≡ p.turn) × (Holds p p.turn z → ⊥) × Goes p m z × (InCheck (position_after p j z) p.turn → ⊥)
 
   parts_of : CanGo p (suc j) z → Parts
-  parts_of (q, l) =
-      (
-        subst (λ n. n.side ≡ p.turn) (his_man q l) l.step.his_turn,
-        l.step.not_own,
-        subst (λ n. Goes p n z) (his_man q l) l.step.goes,
-        subst (λ r. InCheck r p.turn → ⊥) (same_after p (suc j) z q (position_after p j z) l.step.after (is_after p j z)) l.safe,
-      )
+  parts_of (q, l) = (
+    subst (λ n. n.side ≡ p.turn) (his_man q l) l.step.his_turn,
+    l.step.not_own,
+    subst (λ n. Goes p n z) (his_man q l) l.step.goes,
+    subst (λ r. InCheck r p.turn → ⊥) (same_after p (suc j) z q (position_after p j z) l.step.after (is_after p j z)) l.safe,
+  )
 
   of_parts : Parts → CanGo p (suc j) z
   of_parts h =

@@ -100,8 +100,8 @@ module _ (p : Position) (c : IsChecked p) (i : ℕ) (z : Square) (q : Position) 
   stays_open : (a k : Square) → IsOpen p a k → (IsBetween a k z → ⊥) → IsOpen q a k
   stays_open a k clear off =
       λ j d within.
-          let before : j < length p.men = omega (arith, within, l.step.after.same_count) in
-          after_each p i z q l.step.after j d before (λ m. IsLiveAnd m (IsBetween a k) → ⊥) (λ e. off) (λ ne s h. h) (λ ne s. clear j d before)
+      let before : j < length p.men = omega (arith, within, l.step.after.same_count) in
+      after_each p i z q l.step.after j d before (λ m. IsLiveAnd m (IsBetween a k) → ⊥) (λ e. off) (λ ne s h. h) (λ ne s. clear j d before)
 
   -- a legal move of another man than the king is to the checker's square or between
   pub not_elsewhere : i ≢ c.king_number → z ≢ c.square → (IsSlider c.checker.kind → IsBetween c.square c.king_square z → ⊥) → ⊥

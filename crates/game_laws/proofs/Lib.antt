@@ -5,3 +5,5 @@ pub mod KeyLemmas
 pub mod DecideLemmas
 pub mod LawLemmas
 pub mod ValueLemmas
+pub mod TableLemmas
+pub mod RayLemmas

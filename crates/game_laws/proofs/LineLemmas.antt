@@ -44,7 +44,6 @@ sign_none t = let e : pos t *ℤ pos 0 ≡ pos 0 = omega (arith, ints) in ap sig
 pub sign_steps : (d : ℤ) → unsigned_abs d ≤ 1 → (t : ℕ) → 0 < t → sign (pos t *ℤ d) ≡ d
 sign_steps d small t low = each_unit (λ d. sign (pos t *ℤ d) ≡ d) (sign_minus t low) (sign_none t) (sign_plus t low) d small
 
-
 pub direction_small_x : (dx dy : ℤ) → IsDirection dx dy → unsigned_abs dx ≤ 1
 direction_small_x dx dy h = omega (arith, h)
 
@@ -132,16 +131,16 @@ sign_abs (negsuc n) h = absurd (cc)
 pub toward_direction : (a b : Square) → 0 < distance a b → IsDirection (toward_x a b) (toward_y a b)
 toward_direction a b far = sign_direction (b.x -ℤ a.x) (b.y -ℤ a.y) far
   where
-  sign_direction : (x y : ℤ) → 0 < max (unsigned_abs x) (unsigned_abs y) → IsDirection (sign x) (sign y)
-  sign_direction (pos zero) (pos zero) h = absurd (omega (arith, h))
-  sign_direction (pos zero) (pos (suc n)) h = refl
-  sign_direction (pos zero) (negsuc n) h = refl
-  sign_direction (pos (suc m)) (pos zero) h = refl
-  sign_direction (pos (suc m)) (pos (suc n)) h = refl
-  sign_direction (pos (suc m)) (negsuc n) h = refl
-  sign_direction (negsuc m) (pos zero) h = refl
-  sign_direction (negsuc m) (pos (suc n)) h = refl
-  sign_direction (negsuc m) (negsuc n) h = refl
+    sign_direction : (x y : ℤ) → 0 < max (unsigned_abs x) (unsigned_abs y) → IsDirection (sign x) (sign y)
+    sign_direction (pos zero) (pos zero) h = absurd (omega (arith, h))
+    sign_direction (pos zero) (pos (suc n)) h = refl
+    sign_direction (pos zero) (negsuc n) h = refl
+    sign_direction (pos (suc m)) (pos zero) h = refl
+    sign_direction (pos (suc m)) (pos (suc n)) h = refl
+    sign_direction (pos (suc m)) (negsuc n) h = refl
+    sign_direction (negsuc m) (pos zero) h = refl
+    sign_direction (negsuc m) (pos (suc n)) h = refl
+    sign_direction (negsuc m) (negsuc n) h = refl
 
 pub way_between : (a b z : Square) → IsAligned a b → IsOnWay a b z → IsBetween a b z
 way_between a b z line h =
