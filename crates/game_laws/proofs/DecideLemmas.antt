@@ -1,7 +1,7 @@
 -- Each statement on one move of a position is true or false.
-use Rattle.std.proofs.Common.{◌≡◌, ◌≢◌, ◌⊎◌, inl, inr, ℕ, zero, suc, ◌<◌, ◌≤◌, max, ℤ, pos, ◌+ℤ◌, ◌-ℤ◌, ◌*ℤ◌, unsigned_abs, List, [], ◌∷◌, length, get_or, map, Option, Some, None, sym, ap, subst, ◌∙◌, arith, refl}
+use Rattle.std.proofs.Common.{◌≡◌, ◌≢◌, ◌⊎◌, inl, inr, ℕ, zero, suc, ◌<◌, max, ℤ, pos, ◌-ℤ◌, unsigned_abs, List, [], ◌∷◌, length, get_or, map, Option, Some, None, sym, ap, subst, ◌∙◌, arith, refl}
 use Rattle.std.specs.Prelude.{IsSomeAnd}
-use Rattle.std.proofs.lemmas.Option.{slice_get-get_or, get_or_from_slice_get, slice_get-map, same_Some}
+use Rattle.std.proofs.lemmas.Option.{slice_get-get_or, get_or_from_slice_get, same_Some}
 use Rattle.std.proofs.lemmas.Bool.Decides.{eqb_tells}
 use Rattle.std.specs.List.{All, Any, slice_get}
 use Rattle.game_rules.specs.Game.{Position, Attacked, Bears, Goes, GoesAs, HasReach, Holds, InCheck, IsAfter, IsBetween, IsDiagonal, IsEmptySquare, IsLeftBy, IsLiveAnd, IsOpen, IsSlider, IsStraight, Legal, StandsOn, forward, man_at, other, square_of}
@@ -12,12 +12,9 @@ use Rattle.game_rules.specs.declared.men.Place.TheVariants.{At, Gone}
 use Rattle.game_rules.specs.declared.men.Side.{Side}
 use Rattle.game_rules.specs.declared.men.Side.TheVariants.{White, Black}
 use Rattle.game_rules.specs.declared.men.Square.{Square}
-use Rattle.game_laws.proofs.LineLemmas.{IsAligned, IsOnWay, aligned, distance, on_way, toward, way_between}
+use Rattle.game_laws.specs.Answer.{CanGo, distance}
+use Rattle.game_laws.proofs.LineLemmas.{IsAligned, IsOnWay, aligned, on_way, toward, way_between}
 use Rattle.game_laws.proofs.MoveLemmas.{same_after, same_or_not, square_or_not, stands_or_not}
-
--- man i has a legal move to z
-abbrev pub CanGo : Position → ℕ → Square → Type 0
-CanGo p i z = (q : Position) × Legal p i z q
 
 abbrev pub Decided : Type 0 → Type 0
 Decided P = P ⊎ (P → ⊥)

@@ -1,17 +1,13 @@
 -- Squares in one row, column or diagonal.
-use Rattle.std.proofs.Common.{◌≡◌, ◌≢◌, ◌⊎◌, inl, inr, ℕ, zero, suc, ◌<◌, ◌≤◌, ◌+◌, ◌-◌, max, ℤ, pos, negsuc, ◌+ℤ◌, ◌-ℤ◌, ◌*ℤ◌, unsigned_abs, sym, ap, subst, ◌∙◌, arith, refl, lit<, List, [], ◌∷◌}
+use Rattle.std.proofs.Common.{◌≡◌, ◌⊎◌, inl, inr, ℕ, zero, suc, ◌<◌, ◌≤◌, max, ℤ, pos, negsuc, ◌+ℤ◌, ◌-ℤ◌, ◌*ℤ◌, unsigned_abs, sym, ap, subst, ◌∙◌, arith, refl, lit<, List, [], ◌∷◌}
 use Rattle.std.specs.List.{Any}
 use Rattle.std.proofs.lemmas.Int.{ints}
 use Rattle.game_rules.specs.Game.{IsBetween, IsDirection, after_steps}
 use Rattle.game_rules.specs.declared.men.Square.{Square}
+use Rattle.game_laws.specs.Answer.{distance, sign, toward_x, toward_y}
 
 pub square_is : (a : Square) (x y : ℤ) → a.x ≡ x → a.y ≡ y → a ≡ record { x = x; y = y }
 square_is a x y ex ey = ap (λ b. record { x = b; y = a.y }) ex ∙ ap (λ b. record { x = x; y = b }) ey
-
-abbrev pub sign : ℤ → ℤ
-sign (pos zero) = pos 0
-sign (pos (suc n)) = pos 1
-sign (negsuc n) = negsuc 0
 
 pub unit_cases : (d : ℤ) → unsigned_abs d ≤ 1 → (d ≡ negsuc 0) ⊎ ((d ≡ pos 0) ⊎ (d ≡ pos 1))
 unit_cases d h = grind (arith, ints)
@@ -23,11 +19,6 @@ each_unit P minus none plus d small =
       | inl e ↦ subst P (sym e) minus
       | inr e ↦ elim e [ inl e ↦ subst P (sym e) none | inr e ↦ subst P (sym e) plus ]
     ]
-
-pub sign_small : (d : ℤ) → unsigned_abs (sign d) ≤ 1
-sign_small (pos zero) = omega arith
-sign_small (pos (suc n)) = omega arith
-sign_small (negsuc n) = omega arith
 
 sign_plus : (t : ℕ) → 0 < t → sign (pos t *ℤ pos 1) ≡ pos 1
 sign_plus zero low = absurd (omega arith)
@@ -61,16 +52,6 @@ far_steps dx dy h t =
 
 pub offset_of : (a b m : ℤ) → b ≡ a +ℤ m → b -ℤ a ≡ m
 offset_of a b m h = omega (arith, ints)
-
--- the direction from a square toward another
-abbrev pub toward_x : Square → Square → ℤ
-toward_x a b = sign (b.x -ℤ a.x)
-
-abbrev pub toward_y : Square → Square → ℤ
-toward_y a b = sign (b.y -ℤ a.y)
-
-abbrev pub distance : Square → Square → ℕ
-distance a b = max (unsigned_abs (b.x -ℤ a.x)) (unsigned_abs (b.y -ℤ a.y))
 
 -- so many steps from a toward b
 abbrev pub toward : Square → Square → ℕ → Square
@@ -121,11 +102,6 @@ aligned a b z h =
     h.to_b
     ∙ steps_toward a b h.dx h.dy h.direction h.whole h.to_b (omega (arith, h.begun, h.fewer)) h.whole
     ∙ ap (toward a b) (sym (steps_distance a b h.dx h.dy h.direction h.whole h.to_b))
-
-sign_abs : (d : ℤ) → unsigned_abs (sign d) ≡ 0 → d ≡ pos 0
-sign_abs (pos zero) h = refl
-sign_abs (pos (suc n)) h = absurd (cc)
-sign_abs (negsuc n) h = absurd (cc)
 
 -- the direction toward another square
 pub toward_direction : (a b : Square) → 0 < distance a b → IsDirection (toward_x a b) (toward_y a b)

@@ -1,5 +1,5 @@
 -- Lemmas on what becomes of the men.
-use Rattle.std.proofs.Common.{◌≡◌, ◌≢◌, ◌⊎◌, inl, inr, ℕ, suc, ◌+◌, ◌<◌, true, false, List, length, get_or, set, Option, Some, None, refl, sym, ap, subst, ◌∙◌, arith, ℤ, get_or-set_other, get_or-set_same, below_more}
+use Rattle.std.proofs.Common.{◌≡◌, ◌≢◌, ◌⊎◌, inl, inr, ℕ, suc, ◌<◌, true, false, length, get_or, Option, Some, None, refl, sym, ap, subst, ◌∙◌, arith, ℤ}
 use Rattle.std.proofs.lemmas.List.{same_lists}
 use Rattle.std.proofs.lemmas.Option.{get_or_from_slice_get, slice_get-get_or}
 use Rattle.std.proofs.lemmas.Bool.Decides.{Decides-int_eq, eqb_tells}
@@ -8,13 +8,6 @@ use Rattle.game_rules.specs.Game.{Position, IsLeftBy, IsAfter, StandsOn, man_at,
 use Rattle.game_rules.specs.declared.men.Man.{Man}
 use Rattle.game_rules.specs.declared.men.Place.TheVariants.{Gone, At}
 use Rattle.game_rules.specs.declared.men.Square.{Square}
-
--- one more man has met his fate
-pub left_more : (z : Square) (old new : List Man) (i : ℕ) (r : Man) → i < length new → ((k : ℕ) (d : Man) → k < i → IsLeftBy z (get_or old k d) (get_or new k d)) → ((d : Man) → IsLeftBy z (get_or old i d) r) → (k : ℕ) → k < i + 1 → (d : Man) → IsLeftBy z (get_or old k d) (get_or (set new i r) k d)
-left_more z old new i r within left here =
-    below_more (λ k. (d : Man) → IsLeftBy z (get_or old k d) (get_or (set new i r) k d)) i
-    (λ k h d. let ne : k ≢ i = omega arith in rw get_or-set_other (left k d h))
-    (λ d. rw get_or-set_same (here d))
 
 -- two integers are the same or not
 pub same_or_not : (a b : ℤ) → (a ≡ b) ⊎ (a ≢ b)

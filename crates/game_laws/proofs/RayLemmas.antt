@@ -1,8 +1,7 @@
 -- Each step lies on one ray of the table, and men bear along rays.
-use Rattle.std.proofs.Common.{◌≡◌, ◌↔◌, ◌⊎◌, ℕ, zero, suc, ◌<◌, ◌≤◌, ℤ, pos, negsuc, ◌+ℤ◌, ◌-ℤ◌, ◌*ℤ◌, Bool, true, false, Option, Some, None, inl, inr, get_or, refl, subst, sym, ap, ◌∙◌, arith}
-use Rattle.std.specs.Prelude.{slice_get, IsSomeAnd, IsTrue}
+use Rattle.std.proofs.Common.{◌≡◌, ◌⊎◌, ℕ, ℤ, pos, ◌+ℤ◌, ◌-ℤ◌, ◌*ℤ◌, Bool, true, false, Some, inl, inr, refl, subst, sym, ap, ◌∙◌, arith}
+use Rattle.std.specs.Prelude.{IsTrue}
 use Rattle.std.proofs.lemmas.Int.{ints}
-use Rattle.std.specs.List.{All, Any}
 use Rattle.game_rules.specs.declared.men.Kind.{Kind}
 use Rattle.game_rules.specs.declared.men.Kind.TheVariants.{King, Queen, Rook, Bishop, Knight, Pawn}
 use Rattle.game_rules.specs.declared.men.Man.{Man}
@@ -10,14 +9,14 @@ use Rattle.game_rules.specs.declared.men.Ray.{Ray}
 use Rattle.game_rules.specs.declared.men.Side.{Side}
 use Rattle.game_rules.specs.declared.men.Square.{Square}
 use Rattle.game_rules.specs.Game.{Position, Bears, GoesAs, HasReach, Holds, IsEmptySquare, IsLiveAnd, IsOpen, IsSlider, StandsOn, Step, after_steps, forward, other, square_of}
-use Rattle.game_rules.specs.Rays.{IsAlong, IsAt, leap, ray_of, serves_captures, serves_moves}
+use Rattle.game_rules.specs.Rays.{IsAt, leap, ray_of, serves_captures, serves_moves}
 use Rattle.game_laws.specs.OnRay.{IsBorneAlong, IsOnOneRay, IsOnRay}
-use Rattle.game_laws.proofs.LineLemmas.{distance, offset_of, square_is, steps_distance, steps_toward_x, steps_toward_y, toward_x, toward_y}
-use Rattle.game_laws.proofs.TableLemmas.{IsRayOf, IsReached, one_number, ray_is, reached}
+use Rattle.game_laws.proofs.LineLemmas.{offset_of, square_is, steps_distance, steps_toward_x, steps_toward_y}
+use Rattle.game_laws.proofs.TableLemmas.{IsReached, one_number, ray_is, reached}
 use Rattle.game_laws.proofs.SoundLemmas.{live_at}
-use Rattle.game_laws.proofs.KeyLemmas.{some_and}
+use Rattle.game_laws.proofs.CheckLemmas.{some_and}
 
-true_or_not : (b : Bool) → (b ≡ true) ⊎ (b ≡ false)
+pub true_or_not : (b : Bool) → (b ≡ true) ⊎ (b ≡ false)
 true_or_not true = inl refl
 true_or_not false = inr refl
 

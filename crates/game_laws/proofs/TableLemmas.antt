@@ -1,5 +1,5 @@
 -- The table of rays, kind by kind: what each ray reaches, and which ray reaches what a man bears on.
-use Rattle.std.proofs.Common.{◌≡◌, ◌⊎◌, ℕ, zero, suc, ◌+◌, ◌<◌, ◌≤◌, max, ℤ, pos, negsuc, ◌+ℤ◌, ◌*ℤ◌, ◌-ℤ◌, unsigned_abs, Bool, true, false, cond, List, [], ◌∷◌, Option, Some, None, inl, inr, refl, subst, sym, ap, ◌∙◌, arith}
+use Rattle.std.proofs.Common.{◌≡◌, ◌⊎◌, ℕ, zero, suc, ◌+◌, ◌≤◌, max, ℤ, pos, negsuc, ◌*ℤ◌, unsigned_abs, Bool, true, false, cond, List, [], ◌∷◌, Some, inl, inr, refl, subst, sym, ap, ◌∙◌, arith}
 use Rattle.std.specs.Prelude.{slice_get, IsTrue}
 use Rattle.std.proofs.lemmas.Int.{ints}
 use Rattle.std.proofs.lemmas.Bool.Decides.{Decides-int_eq}
@@ -9,7 +9,7 @@ use Rattle.game_rules.specs.declared.men.Kind.TheVariants.{King, Queen, Rook, Bi
 use Rattle.game_rules.specs.declared.men.Ray.{Ray}
 use Rattle.game_rules.specs.declared.men.Side.{Side}
 use Rattle.game_rules.specs.declared.men.Side.TheVariants.{White, Black}
-use Rattle.game_rules.specs.Game.{forward, HasReach, IsDiagonal, IsDirection, IsSlider, IsStraight}
+use Rattle.game_rules.specs.Game.{HasReach, IsDiagonal, IsDirection, IsSlider, IsStraight}
 use Rattle.game_rules.specs.Rays.{leap, ray_of, rays_of, serves_captures, slide}
 use Rattle.game_laws.proofs.LineLemmas.{unit_cases}
 

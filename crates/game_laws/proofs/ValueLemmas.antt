@@ -1,10 +1,9 @@
 -- More moves lose nothing, and the flat form of Lost.
-use Rattle.std.proofs.Common.{◌≡◌, ◌↔◌, ◌⊎◌, inl, inr, ℕ, zero, suc, ◌≤◌, arith, subst, sym}
-use Rattle.game_rules.specs.Game.{Position, HasMove, InCheck, Legal, Lost, LostInto, Mate, Sound, Win, other}
+use Rattle.std.proofs.Common.{inl, inr, ℕ, zero, suc, ◌≤◌, arith}
+use Rattle.game_rules.specs.Game.{Position, Lost, LostInto, Sound, Win}
 use Rattle.game_rules.specs.declared.men.Side.{Side}
-use Rattle.game_rules.specs.declared.men.Square.{Square}
-use Rattle.game_laws.specs.Lost.{FlatLost, FlatLostInto}
-use Rattle.game_laws.proofs.LawLemmas.{mate_or_move}
+use Rattle.game_laws.specs.Lost.{FlatLostInto}
+use Rattle.game_laws.proofs.MateLemmas.{mate_or_move}
 
 pub lost_into : (winner : Side) (V W : Position → Type 0) → ((r : Position) → V r → W r) → (q : Position) → LostInto winner V q → LostInto winner W q
 lost_into winner V W f q (turn, inl mate) = (turn, inl mate)

@@ -5,6 +5,7 @@ use Rattle.game_rules.specs.declared.men.Kind.TheVariants.{King}
 use Rattle.game_rules.specs.declared.men.Man.{Man}
 use Rattle.game_rules.specs.declared.men.Side.{Side}
 use Rattle.game_rules.specs.declared.men.Square.{Square}
+use Rattle.game_laws.specs.Answer.{HasAnswer, IsCheckFrom}
 use Rattle.game_laws.specs.Lost.{FlatLost}
 use Rattle.game_laws.specs.OnRay.{IsBorneAlong, IsOnOneRay}
 
@@ -48,3 +49,8 @@ MateOrMove = (p : Position) → Sound p → InCheck p p.turn → Mate p ⊎ HasM
 -- at a sound position both forms of Lost are one
 abbrev pub LostIsFlat : Type 0
 LostIsFlat = (winner : Side) (n : ℕ) (q : Position) → Sound q → Lost winner n q ↔ FlatLost winner n q
+
+-- in check from a man at a, it is mate where no man has a legal move to one of the few squares, and only there
+abbrev pub MateByRays : Type 0
+MateByRays =
+    (p : Position) (a k : Square) → Sound p → IsCheckFrom p a k → Mate p ↔ ((i : ℕ) → HasAnswer p a k i → ⊥)

@@ -1,3 +1,4 @@
 pub mod Lost
 pub mod OnRay
+pub mod Answer
 pub mod Laws

@@ -1,6 +1,6 @@
 //! The laws of the game (FIDE Laws of Chess, Articles 3 and 5).
 
-ghost use Rattle.game_laws.specs.Laws.{BearsAlongRays, KeepsSound, LosesMonotonically, LostIsFlat, MateOrMove, SparesKings, StepsOnOneRay, WinsMonotonically};
+ghost use Rattle.game_laws.specs.Laws.{BearsAlongRays, KeepsSound, LosesMonotonically, LostIsFlat, MateByRays, MateOrMove, SparesKings, StepsOnOneRay, WinsMonotonically};
 
 /// From a sound position no step takes a king.
 pub fn kings_are_spared()
@@ -36,4 +36,10 @@ pub fn mate_or_move()
 /// To be mate, or to have a legal move and lose with each, is one with to be in check or to have a legal move, and to lose with each.
 pub fn lost_is_flat()
     ensures { LostIsFlat }
+{}
+
+/// In check from a man, only his square and those between him and the king can answer, and each ray of a man leads to one of
+/// them at most, unless it goes along the line: so it is mate where no man has a legal move to one square on each of his rays.
+pub fn mate_by_rays()
+    ensures { MateByRays }
 {}

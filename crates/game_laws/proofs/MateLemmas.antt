@@ -1,17 +1,17 @@
 -- Whoever is in check is mated or has a legal move.
-use Rattle.std.proofs.Common.{◌≡◌, ◌≢◌, ◌⊎◌, inl, inr, ℕ, zero, suc, ◌<◌, ◌≤◌, max, pos, ◌+ℤ◌, ◌-ℤ◌, ◌*ℤ◌, unsigned_abs, length, List, ℤ, Option, Some, None, sym, subst, ◌∙◌, arith, refl}
+use Rattle.std.proofs.Common.{◌≡◌, ◌≢◌, ◌⊎◌, inl, inr, ℕ, zero, suc, ◌<◌, ◌-ℤ◌, length, Some, sym, subst, ◌∙◌, arith}
 use Rattle.std.proofs.lemmas.Option.{slice_get_within, same_Some}
 use Rattle.std.proofs.lemmas.Bool.Decides.{eqb_tells}
 use Rattle.std.specs.List.{Any}
 use Rattle.std.specs.Prelude.{IsSomeAnd}
-use Rattle.std.proofs.lemmas.Int.{ints}
-use Rattle.game_rules.specs.Game.{Position, GoesAs, HasMove, HasReach, InCheck, IsBetween, IsOpen, IsSlider, Legal, Mate, Sound, StandsOn, man_at, square_of}
+use Rattle.game_rules.specs.Game.{Position, GoesAs, HasMove, HasReach, InCheck, IsBetween, IsOpen, IsSlider, Legal, Mate, Sound, StandsOn, man_at}
 use Rattle.game_rules.specs.declared.men.Kind.TheVariants.{King}
 use Rattle.game_rules.specs.declared.men.Man.{Man}
 use Rattle.game_rules.specs.declared.men.Square.{Square}
-use Rattle.game_laws.proofs.LineLemmas.{around, around_has, distance, on_way, toward}
-use Rattle.game_laws.proofs.KeyLemmas.{IsChecked, checked, not_elsewhere}
-use Rattle.game_laws.proofs.DecideLemmas.{CanGo, Decided, square_same, any_decided, below, between, both, can_go, either, implied, is_slider, map_decided}
+use Rattle.game_laws.specs.Answer.{CanGo, distance}
+use Rattle.game_laws.proofs.LineLemmas.{around, around_has, on_way, toward}
+use Rattle.game_laws.proofs.CheckLemmas.{IsChecked, checked, not_elsewhere}
+use Rattle.game_laws.proofs.DecideLemmas.{Decided, square_same, any_decided, below, between, both, can_go, either, is_slider}
 
 -- the checker's square, or one between
 abbrev pub Answers : (p : Position) → IsChecked p → Square → Type 0
