@@ -1,10 +1,11 @@
 -- Squares in one row, column or diagonal.
 use Rattle.std.proofs.Common.{◌≡◌, ◌⊎◌, inl, inr, ℕ, zero, suc, ◌<◌, ◌≤◌, max, ℤ, pos, negsuc, ◌+ℤ◌, ◌-ℤ◌, ◌*ℤ◌, unsigned_abs, sym, ap, subst, ◌∙◌, arith, refl, lit<, List, [], ◌∷◌}
+use Rattle.std.specs.Int.{int_signum}
 use Rattle.std.specs.List.{Any}
 use Rattle.std.proofs.lemmas.Int.{ints}
 use Rattle.game_rules.specs.Game.{IsBetween, IsDirection, after_steps}
 use Rattle.game_rules.specs.declared.men.Square.{Square}
-use Rattle.game_laws.specs.Answer.{distance, sign, toward_x, toward_y}
+use Rattle.game_laws.specs.Answer.{distance, toward_x, toward_y}
 
 pub square_is : (a : Square) (x y : ℤ) → a.x ≡ x → a.y ≡ y → a ≡ record { x = x; y = y }
 square_is a x y ex ey = ap (λ b. record { x = b; y = a.y }) ex ∙ ap (λ b. record { x = x; y = b }) ey
@@ -20,20 +21,20 @@ each_unit P minus none plus d small =
       | inr e ↦ elim e [ inl e ↦ subst P (sym e) none | inr e ↦ subst P (sym e) plus ]
     ]
 
-sign_plus : (t : ℕ) → 0 < t → sign (pos t *ℤ pos 1) ≡ pos 1
+sign_plus : (t : ℕ) → 0 < t → int_signum (pos t *ℤ pos 1) ≡ pos 1
 sign_plus zero low = absurd (omega arith)
-sign_plus (suc t) low = let e : pos (suc t) *ℤ pos 1 ≡ pos (suc t) = omega (arith, ints) in ap sign e
+sign_plus (suc t) low = let e : pos (suc t) *ℤ pos 1 ≡ pos (suc t) = omega (arith, ints) in ap int_signum e ∙ ap pos (omega arith)
 
-sign_minus : (t : ℕ) → 0 < t → sign (pos t *ℤ negsuc 0) ≡ negsuc 0
+sign_minus : (t : ℕ) → 0 < t → int_signum (pos t *ℤ negsuc 0) ≡ negsuc 0
 sign_minus zero low = absurd (omega arith)
-sign_minus (suc t) low = let e : pos (suc t) *ℤ negsuc 0 ≡ negsuc t = omega (arith, ints) in ap sign e
+sign_minus (suc t) low = let e : pos (suc t) *ℤ negsuc 0 ≡ negsuc t = omega (arith, ints) in ap int_signum e
 
-sign_none : (t : ℕ) → sign (pos t *ℤ pos 0) ≡ pos 0
-sign_none t = let e : pos t *ℤ pos 0 ≡ pos 0 = omega (arith, ints) in ap sign e
+sign_none : (t : ℕ) → int_signum (pos t *ℤ pos 0) ≡ pos 0
+sign_none t = let e : pos t *ℤ pos 0 ≡ pos 0 = omega (arith, ints) in ap int_signum e
 
 -- the sign of some steps of a unit
-pub sign_steps : (d : ℤ) → unsigned_abs d ≤ 1 → (t : ℕ) → 0 < t → sign (pos t *ℤ d) ≡ d
-sign_steps d small t low = each_unit (λ d. sign (pos t *ℤ d) ≡ d) (sign_minus t low) (sign_none t) (sign_plus t low) d small
+pub sign_steps : (d : ℤ) → unsigned_abs d ≤ 1 → (t : ℕ) → 0 < t → int_signum (pos t *ℤ d) ≡ d
+sign_steps d small t low = each_unit (λ d. int_signum (pos t *ℤ d) ≡ d) (sign_minus t low) (sign_none t) (sign_plus t low) d small
 
 pub direction_small_x : (dx dy : ℤ) → IsDirection dx dy → unsigned_abs dx ≤ 1
 direction_small_x dx dy h = omega (arith, h)
@@ -69,10 +70,10 @@ module _ (a b : Square) (dx dy : ℤ) (direction : IsDirection dx dy) (t : ℕ) 
   steps_distance = rw (steps_x, steps_y) (far_steps dx dy direction t)
 
   pub steps_toward_x : 0 < t → toward_x a b ≡ dx
-  steps_toward_x low = ap sign steps_x ∙ sign_steps dx (direction_small_x dx dy direction) t low
+  steps_toward_x low = ap int_signum steps_x ∙ sign_steps dx (direction_small_x dx dy direction) t low
 
   pub steps_toward_y : 0 < t → toward_y a b ≡ dy
-  steps_toward_y low = ap sign steps_y ∙ sign_steps dy (direction_small_y dx dy direction) t low
+  steps_toward_y low = ap int_signum steps_y ∙ sign_steps dy (direction_small_y dx dy direction) t low
 
   pub steps_toward : 0 < t → (j : ℕ) → after_steps a j dx dy ≡ toward a b j
   steps_toward low j = sym (ap (λ d. after_steps a j d (toward_y a b)) (steps_toward_x low) ∙ ap (λ d. after_steps a j dx d) (steps_toward_y low))
@@ -107,16 +108,16 @@ aligned a b z h =
 pub toward_direction : (a b : Square) → 0 < distance a b → IsDirection (toward_x a b) (toward_y a b)
 toward_direction a b far = sign_direction (b.x -ℤ a.x) (b.y -ℤ a.y) far
   where
-    sign_direction : (x y : ℤ) → 0 < max (unsigned_abs x) (unsigned_abs y) → IsDirection (sign x) (sign y)
+    sign_direction : (x y : ℤ) → 0 < max (unsigned_abs x) (unsigned_abs y) → IsDirection (int_signum x) (int_signum y)
     sign_direction (pos zero) (pos zero) h = absurd (omega (arith, h))
-    sign_direction (pos zero) (pos (suc n)) h = refl
-    sign_direction (pos zero) (negsuc n) h = refl
-    sign_direction (pos (suc m)) (pos zero) h = refl
-    sign_direction (pos (suc m)) (pos (suc n)) h = refl
-    sign_direction (pos (suc m)) (negsuc n) h = refl
-    sign_direction (negsuc m) (pos zero) h = refl
-    sign_direction (negsuc m) (pos (suc n)) h = refl
-    sign_direction (negsuc m) (negsuc n) h = refl
+    sign_direction (pos zero) (pos (suc n)) h = omega arith
+    sign_direction (pos zero) (negsuc n) h = omega arith
+    sign_direction (pos (suc m)) (pos zero) h = omega arith
+    sign_direction (pos (suc m)) (pos (suc n)) h = omega arith
+    sign_direction (pos (suc m)) (negsuc n) h = omega arith
+    sign_direction (negsuc m) (pos zero) h = omega arith
+    sign_direction (negsuc m) (pos (suc n)) h = omega arith
+    sign_direction (negsuc m) (negsuc n) h = omega arith
 
 pub way_between : (a b z : Square) → IsAligned a b → IsOnWay a b z → IsBetween a b z
 way_between a b z line h =

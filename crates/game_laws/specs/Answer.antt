@@ -1,5 +1,6 @@
 -- The squares to which a man may go in answer to a check: at most one on each of his rays.
-use Rattle.std.specs.Prelude.{◌≡◌, ℕ, zero, suc, ◌/◌, max, Bool, true, false, ℤ, pos, negsuc, ◌-ℤ◌, ◌*ℤ◌, unsigned_abs, IsSomeAnd}
+use Rattle.std.specs.Prelude.{◌≡◌, ℕ, zero, suc, ◌/◌, max, Bool, true, false, ℤ, ◌-ℤ◌, ◌*ℤ◌, unsigned_abs, IsSomeAnd}
+use Rattle.std.specs.Int.{int_signum}
 use Rattle.std.specs.List.{Any}
 use Rattle.game_rules.specs.Game.{Position, Bears, IsLiveAnd, Legal, StandsOn, after_steps, man_at, other}
 use Rattle.game_rules.specs.Rays.{rays_of}
@@ -7,17 +8,12 @@ use Rattle.game_rules.specs.declared.men.Kind.TheVariants.{King}
 use Rattle.game_rules.specs.declared.men.Ray.{Ray}
 use Rattle.game_rules.specs.declared.men.Square.{Square}
 
-abbrev pub sign : ℤ → ℤ
-sign (pos zero) = pos 0
-sign (pos (suc n)) = pos 1
-sign (negsuc n) = negsuc 0
-
 -- the step that leads from a toward b
 abbrev pub toward_x : Square → Square → ℤ
-toward_x a b = sign (b.x -ℤ a.x)
+toward_x a b = int_signum (b.x -ℤ a.x)
 
 abbrev pub toward_y : Square → Square → ℤ
-toward_y a b = sign (b.y -ℤ a.y)
+toward_y a b = int_signum (b.y -ℤ a.y)
 
 -- how many steps of a king lie between two squares
 abbrev pub distance : Square → Square → ℕ
