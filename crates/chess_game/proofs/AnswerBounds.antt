@@ -12,7 +12,7 @@ use Rattle.game_rules.specs.declared.men.Side.{Side}
 use Rattle.game_rules.specs.declared.men.Side.TheVariants.{White, Black}
 use Rattle.game_rules.specs.Rays.{ray_of, rays_of}
 use Rattle.game_laws.specs.Answer.{steps_to}
-use Rattle.chess_game.specs.Check.{IsStepwise}
+use Rattle.chess_game.specs.Along.{IsStepwise}
 use Rattle.game_laws.proofs.TableLemmas.{ray_is}
 use Rattle.game_laws.proofs.LineLemmas.{each_unit}
 

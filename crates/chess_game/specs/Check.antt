@@ -1,10 +1,9 @@
 -- A check, and the rays along which it may be answered.
-use Rattle.std.specs.Prelude.{◌≡◌, ◌≤◌, ◌^◌, ℕ, true, unsigned_abs}
-use Rattle.game_rules.specs.Game.{Position, Bears, IsDirection, StandsOn, other}
+use Rattle.std.specs.Prelude.{◌≡◌, ◌≤◌, ◌^◌, ℕ, unsigned_abs}
+use Rattle.game_rules.specs.Game.{Position, Bears, StandsOn, other}
 use Rattle.game_rules.specs.declared.men.Kind.TheVariants.{King}
 use Rattle.game_rules.specs.declared.men.Man.{Man}
 use Rattle.game_rules.specs.declared.men.Side.{Side}
-use Rattle.game_rules.specs.declared.men.Ray.{Ray}
 use Rattle.game_rules.specs.declared.men.Square.{Square}
 use Rattle.game_laws.specs.Answer.{HasAnswer}
 use Rattle.chess_game.specs.declared.answers.Check.{Check}
@@ -18,10 +17,6 @@ pub record IsClose (z : Square) : Type 0 where
 pub record IsCloseCheck (check : Check) : Type 0 where
   pub from : IsClose check.from
   pub king : IsClose check.king
-
--- a far ray goes by steps of a king
-abbrev pub IsStepwise : Ray → Type 0
-IsStepwise r = r.far ≡ true → IsDirection r.dx r.dy
 
 -- no man can answer the check from a of the king at k
 abbrev pub IsHeld : Position → Square → Square → Type 0

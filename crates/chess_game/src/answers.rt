@@ -5,8 +5,9 @@ ghost use Rattle.std.specs.List.{Any};
 ghost use Rattle.game_rules.specs.Game.{Attacked, InCheck, Mate, Sound, other};
 ghost use Rattle.game_rules.specs.Rays.{ray_of, rays_of};
 ghost use Rattle.game_laws.specs.Answer.{CanGo, HasAnswer, IsCheckFrom, answer_square, answer_steps, cross, distance, off_line, steps_to, toward_x, toward_y};
+ghost use Rattle.chess_game.specs.Along.{IsStepwise};
 ghost use Rattle.chess_game.specs.Near.{IsNarrowPosition, IsNear};
-ghost use Rattle.chess_game.specs.Check.{IsClose, IsCloseCheck, IsCheckerOn, IsHeld, IsKingOn, IsStepwise};
+ghost use Rattle.chess_game.specs.Check.{IsClose, IsCloseCheck, IsCheckerOn, IsHeld, IsKingOn};
 
 use crate::attack::attacks;
 use crate::board::{Board, other_side};
