@@ -58,10 +58,10 @@ rays_few Pawn Black = lit≤ tt
 pub some_ray : (k : Kind) (s : Side) (n : ℕ) (P : Ray → Type 0) → IsSomeAnd (ray_of k s n) P → Any P (rays_of k s)
 some_ray k s n P h = some_in (rays_of k s) n P h
   where
-  some_in : (rs : List Ray) (n : ℕ) (P : Ray → Type 0) → IsSomeAnd (slice_get rs n) P → Any P rs
-  some_in [] n P h = absurd h
-  some_in (r ∷ rs) zero P h = (zero, r, omega arith, refl, h)
-  some_in (r ∷ rs) (suc n) P h = let w = some_in rs n P h in (suc w.0, w.1, omega (arith, w.2), w.3, w.4)
+    some_in : (rs : List Ray) (n : ℕ) (P : Ray → Type 0) → IsSomeAnd (slice_get rs n) P → Any P rs
+    some_in [] n P h = absurd h
+    some_in (r ∷ rs) zero P h = (zero, r, omega arith, refl, h)
+    some_in (r ∷ rs) (suc n) P h = let w = some_in rs n P h in (suc w.0, w.1, omega (arith, w.2), w.3, w.4)
 
 pub no_ray : (k : Kind) (s : Side) (P : Ray → Type 0) → ((n : ℕ) → n < 8 → IsSomeAnd (ray_of k s n) P → ⊥) → Any P (rays_of k s) → ⊥
 no_ray k s P none (n, r, within, is, h) =

@@ -134,12 +134,20 @@ fn answers_along(board: &Board, number: usize, check: Check, from: Square, ray: 
     requires ray { IsStepwise ray }
     ensures { IsTrue result ↔ CanGo board.now number (answer_square check.from check.king from ray) }
 {
-    can_go(board, number, square_to_answer(check, from, ray))
+    let to = square_to_answer(check, from, ray);
+    can_go(board, number, to)
 }
 
 /// Whether the man, who stands at the square, can answer the check along his ray of this number, if he has one.
 #[tactic(auto, using(crate::proofs::AnswerBounds::ray_stepwise))]
-fn answers_along_nth(board: &Board, number: usize, check: Check, man: &Piece, from: Square, index: u8) -> bool
+fn answers_along_nth(
+    board: &Board,
+    number: usize,
+    check: Check,
+    man: &Piece,
+    from: Square,
+    index: u8,
+) -> bool
     requires check { IsCloseCheck check }
     requires from { IsClose from }
     ensures { IsTrue result ↔ IsSomeAnd (ray_of man.now.kind man.now.side index) (λ r. CanGo board.now number (answer_square check.from check.king from r)) }

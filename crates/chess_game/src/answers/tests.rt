@@ -7,6 +7,7 @@ use game_rules::{Kind, Man, Place, Side};
 use std::process::Abort;
 
 const LEAST: i64 = i64::MIN;
+
 const MOST: i64 = i64::MAX;
 
 fn white(kind: Kind, x: i64, y: i64) -> Man {
@@ -500,5 +501,8 @@ fn agrees_with_a_plain_reading(rt: HostRuntime) {
             others = others.saturating_add(1);
         }
     }
-    assert!(rt; mates >= 10 && others >= 300, "{mates} mates and {others} others");
+    assert!(rt;
+        mates >= 10 && others >= 300,
+        "{mates} mates and {others} others"
+    );
 }

@@ -15,8 +15,7 @@ loop-index-preserved c =
 
 pub returns : goal.returns
 returns c =
-    let Goes : Ray → Type 0 = λ r. CanGo c.args.board.now c.args.number (answer_square c.args.check.from c.args.check.king c.args.from r) in
-    (
+    let Goes : Ray → Type 0 = λ r. CanGo c.args.board.now c.args.number (answer_square c.args.check.from c.args.check.king c.args.from r) in (
       λ t. absurd (cc),
       λ any. absurd (no_ray c.args.man.now.kind c.args.man.now.side Goes (λ n low. c.loop-index.invariant n (omega (arith, low, c.loop-index-test.false))) any),
     )

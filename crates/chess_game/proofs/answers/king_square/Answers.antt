@@ -13,7 +13,7 @@ pub returns-then-is_king_of : goal.returns-then-is_king_of
 returns-then-is_king_of c =
     let king = c.is_king_of.ensures.0 c.if-is_king_of.true in
     let here : man_at c.args.board.now (suc c.loop-man.man-index) ≡ Some c.man-item.result =
-    ap (λ ms. slice_get ms c.loop-man.man-index) (sym c.men-man-items.ensures)
+    ap (λ ms. slice_get ms c.loop-man.man-index) (sym c.men-man-items.ensures.men)
     ∙ slice_get-get_or c.men-man-items.result.now c.loop-man.man-index c.man-item.result c.loop-man-test.true
     ∙ ap (λ m. Some m) (sym c.man-item.is) in
     subst (λ o. IsSomeAnd o (λ k. Any (IsKingOn c.args.board.now.turn k) c.args.board.now.men)) (sym c.square.ensures.square)
@@ -22,5 +22,5 @@ returns-then-is_king_of c =
 pub returns : goal.returns
 returns c =
     none_any (λ m. (m.side ≡ c.args.board.now.turn) × (m.kind ≡ King)) c.args.board.now.men
-    (λ k d within. c.loop-man.invariant k d (omega (arith, within, c.loop-man-test.false, ap length c.men-man-items.ensures)))
+    (λ k d within. c.loop-man.invariant k d (omega (arith, within, c.loop-man-test.false, ap length c.men-man-items.ensures.men)))
     (some_king c.args.board.now c.requires)
