@@ -6,3 +6,5 @@ pub mod RefusalLemmas
 pub mod MateLemmas
 pub mod FaultLemmas
 pub mod MaskLemmas
+pub mod AnswerBounds
+pub mod MatedLemmas

@@ -10,5 +10,6 @@ pub mod LoneKing
 pub mod Fault
 pub mod Way
 pub mod Along
+pub mod Check
 pub use Rattle.game_rules.specs.Game
 pub use Rattle.game_rules.specs.Rays

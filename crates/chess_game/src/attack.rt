@@ -43,7 +43,7 @@ pub(crate) fn bears(p: &Board, man: &Piece, to: Square) -> bool
 }
 
 /// Whether the man is of the side, live, and bears on the square.
-fn attacks(p: &Board, man: &Piece, by: Side, square: Square) -> bool
+pub(crate) fn attacks(p: &Board, man: &Piece, by: Side, square: Square) -> bool
     requires { IsNear square }
     ensures { IsTrue result ↔ ((man.now.side ≡ by) × Bears p.now man.now square) }
 {

@@ -1,6 +1,7 @@
-//! Chess on an unbounded board: positions, which squares are attacked, which moves are legal, and mate of a king alone.
+//! Chess on an unbounded board: positions, which squares are attacked, which moves are legal, mate, and mate of a king alone.
 #![tactic(auto)]
 
+mod answers;
 mod attack;
 mod board;
 mod faults;
@@ -15,6 +16,8 @@ mod way;
 pub use faults::Unsound;
 pub use game_rules::{Kind, Man, Place, Ray, Side};
 pub use moves::{Illegal, Move};
-pub use position::{Position, attacked, free_way, in_check, lone_king_mated, soundness, try_move};
+pub use position::{
+    Position, attacked, free_way, in_check, lone_king_mated, mated, soundness, try_move,
+};
 pub use rays::ray;
 pub use way::{Frame, Way};

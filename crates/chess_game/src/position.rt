@@ -8,6 +8,7 @@ ghost use Rattle.chess_game.specs.Way.{IsFree, IsHit, IsRayOf};
 ghost use Rattle.chess_game.specs.LoneKing.{IsAlone};
 ghost use Rattle.chess_game.specs.Refusal.{IsRefusal};
 
+use crate::answers::is_mated;
 use crate::attack::{self, is_attacked};
 use crate::board::Board;
 use crate::faults::{Unsound, check_board};
@@ -119,6 +120,18 @@ pub fn lone_king_mated(p: &Position) -> bool
     ensures { IsTrue result ↔ Mate p.now }
 {
     is_lone_king_mated(&p.board)
+}
+
+/// Whether the side to move is mated, on the unbounded board: the steps past the squares that an i64 can name are tried too.
+///
+/// A check is ended by a move of the king, or by another man on the checking man's square or between him and the king,
+/// and each ray of that man leads to one of these squares at most. So at most one move is tried for each ray of each man, 56
+/// in all. A move tried costs a look at each man for each man, as does the search for the checking man.
+pub fn mated(p: &Position) -> bool
+    requires { Sound p.now }
+    ensures { IsTrue result ↔ Mate p.now }
+{
+    is_mated(&p.board)
 }
 
 /// Whether the position is sound; and if not, the first reason.

@@ -1,0 +1,31 @@
+-- A check, and the rays along which it may be answered.
+use Rattle.std.specs.Prelude.{◌≡◌, ◌≤◌, ◌^◌, ℕ, unsigned_abs}
+use Rattle.game_rules.specs.Game.{Position, Bears, StandsOn, other}
+use Rattle.game_rules.specs.declared.men.Kind.TheVariants.{King}
+use Rattle.game_rules.specs.declared.men.Man.{Man}
+use Rattle.game_rules.specs.declared.men.Side.{Side}
+use Rattle.game_rules.specs.declared.men.Square.{Square}
+use Rattle.game_laws.specs.Answer.{HasAnswer}
+use Rattle.chess_game.specs.declared.answers.Check.{Check}
+
+-- a square no farther from the middle of the board than those that an i64 can name
+pub record IsClose (z : Square) : Type 0 where
+  pub x : unsigned_abs z.x ≤ 2 ^ 63
+  pub y : unsigned_abs z.y ≤ 2 ^ 63
+
+-- both squares of the check are such
+pub record IsCloseCheck (check : Check) : Type 0 where
+  pub from : IsClose check.from
+  pub king : IsClose check.king
+
+-- no man can answer the check from a of the king at k
+abbrev pub IsHeld : Position → Square → Square → Type 0
+IsHeld p a k = (i : ℕ) → HasAnswer p a k i → ⊥
+
+-- he is the king of the side, on this square
+abbrev pub IsKingOn : Side → Square → Man → Type 0
+IsKingOn s k m = (m.side ≡ s) × (m.kind ≡ King) × StandsOn m k
+
+-- he is of the side that is not to move, on the square a, and bears on the square k
+abbrev pub IsCheckerOn : Position → Square → Square → Man → Type 0
+IsCheckerOn p k a m = (m.side ≡ other p.turn) × StandsOn m a × Bears p m k

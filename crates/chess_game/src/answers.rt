@@ -1,0 +1,261 @@
+//! Mate: whether some move answers a check.
+
+ghost use Rattle.std.specs.Prelude.{◌≡◌, ◌↔◌, ◌≤◌, ◌<◌, ◌*◌, ◌+◌, ◌+ℤ◌, ◌*ℤ◌, ◌-ℤ◌, ◌^◌, pos, unsigned_abs, IsSomeAnd, IsTrue, MatchOption, ℕ};
+ghost use Rattle.std.specs.List.{Any};
+ghost use Rattle.game_rules.specs.Game.{Attacked, InCheck, Mate, Sound, other};
+ghost use Rattle.game_rules.specs.Rays.{ray_of, rays_of};
+ghost use Rattle.game_laws.specs.Answer.{CanGo, HasAnswer, IsCheckFrom, answer_square, answer_steps, cross, distance, off_line, steps_to, toward_x, toward_y};
+ghost use Rattle.chess_game.specs.Along.{IsStepwise};
+ghost use Rattle.chess_game.specs.Near.{IsNarrowPosition, IsNear};
+ghost use Rattle.chess_game.specs.Check.{IsClose, IsCloseCheck, IsCheckerOn, IsHeld, IsKingOn};
+
+use crate::attack::attacks;
+use crate::board::{Board, other_side};
+use crate::geometry::{Offset, offset_between, steps_of};
+use crate::mate::can_go;
+use crate::piece::Piece;
+use crate::rays::ray;
+use game_rules::{Kind, Ray, Side, Square};
+
+/// A check: a man at `from` bears on the king.
+#[derive(Clone, Copy, Debug, PartialEq, Eq)]
+pub(crate) struct Check {
+    pub(crate) from: Square,
+    pub(crate) king: Square,
+}
+
+/// The most rays that a man has.
+const MOST_RAYS: u8 = 8;
+
+/// The step of a king from one square toward another.
+fn step_toward(from: Square, to: Square) -> Offset
+    requires from { IsClose from }
+    requires to { IsClose to }
+    ensures right { result.x ≡ toward_x from to }
+    ensures up { result.y ≡ toward_y from to }
+    ensures small_x { unsigned_abs result.x ≤ 1 }
+    ensures small_y { unsigned_abs result.y ≤ 1 }
+{
+    let offset = offset_between(from, to);
+    Offset {
+        x: offset.x.signum(),
+        y: offset.y.signum(),
+    }
+}
+
+/// A number times a step of a king.
+#[tactic(auto, using(crate::proofs::AnswerBounds::unit_product))]
+fn scaled(number: i128, by: i128) -> i128
+    requires number { unsigned_abs number ≤ 2 ^ 64 }
+    requires by { unsigned_abs by ≤ 1 }
+    ensures product { result ≡ number *ℤ by }
+    ensures bound { unsigned_abs result ≤ 2 ^ 64 }
+{
+    number * by
+}
+
+/// How far an offset leads off a line in this direction.
+fn off_by(offset: Offset, direction: Offset) -> u128
+    requires x { unsigned_abs offset.x ≤ 2 ^ 64 }
+    requires y { unsigned_abs offset.y ≤ 2 ^ 64 }
+    requires direction_x { unsigned_abs direction.x ≤ 1 }
+    requires direction_y { unsigned_abs direction.y ≤ 1 }
+    ensures far { result ≡ unsigned_abs (cross offset.x offset.y direction.x direction.y) }
+    ensures bound { result ≤ 2 ^ 65 }
+{
+    scaled(offset.x, direction.y).abs_diff(scaled(offset.y, direction.x))
+}
+
+/// After how many steps a ray meets a line that it leads to by `each`, from `off` away; `direct` of them where it goes along it.
+fn steps_until(far: bool, each: u128, off: u128, direct: u128) -> u128
+    ensures { result ≡ steps_to far each off direct }
+{
+    if !far {
+        return 1;
+    }
+    if each == 0 {
+        return direct;
+    }
+    off / each
+}
+
+/// After how many steps along the ray a man at the square may answer the check.
+fn steps_to_answer(check: Check, from: Square, ray: Ray) -> u128
+    requires check { IsCloseCheck check }
+    requires from { IsClose from }
+    requires ray { IsStepwise ray }
+    ensures steps { result ≡ answer_steps ray from check.from check.king }
+    ensures bound { result ≤ 2 ^ 65 }
+    ensures across { result * unsigned_abs ray.dx ≤ 2 ^ 65 }
+    ensures along { result * unsigned_abs ray.dy ≤ 2 ^ 65 }
+{
+    let direction = step_toward(check.from, check.king);
+    let step = Offset {
+        x: i128::from(ray.dx),
+        y: i128::from(ray.dy),
+    };
+    let each = off_by(step, direction);
+    let off = off_by(offset_between(check.from, from), direction);
+    let direct = steps_of(offset_between(from, check.from));
+    steps_until(ray.far, each, off, direct)
+}
+
+/// The number after so many steps from another.
+#[tactic(auto, using(crate::proofs::AnswerBounds::times_abs))]
+fn advanced(from: i128, steps: u128, step: i128) -> i128
+    requires from { unsigned_abs from ≤ 2 ^ 63 }
+    requires steps { steps ≤ 2 ^ 65 }
+    requires way { steps * unsigned_abs step ≤ 2 ^ 65 }
+    ensures number { result ≡ from +ℤ (pos steps *ℤ step) }
+    ensures near { unsigned_abs result ≤ 2 ^ 66 }
+{
+    from + steps as i128 * step
+}
+
+/// The one square on the ray where a man at the square may answer the check.
+fn square_to_answer(check: Check, from: Square, ray: Ray) -> Square
+    requires check { IsCloseCheck check }
+    requires from { IsClose from }
+    requires ray { IsStepwise ray }
+    ensures square { result ≡ answer_square check.from check.king from ray }
+    ensures near { IsNear result }
+{
+    let steps = steps_to_answer(check, from, ray);
+    Square {
+        x: advanced(from.x, steps, i128::from(ray.dx)),
+        y: advanced(from.y, steps, i128::from(ray.dy)),
+    }
+}
+
+/// Whether the man at the square can answer the check along the ray.
+fn answers_along(board: &Board, number: usize, check: Check, from: Square, ray: Ray) -> bool
+    requires check { IsCloseCheck check }
+    requires from { IsClose from }
+    requires ray { IsStepwise ray }
+    ensures { IsTrue result ↔ CanGo board.now number (answer_square check.from check.king from ray) }
+{
+    let to = square_to_answer(check, from, ray);
+    can_go(board, number, to)
+}
+
+/// Whether the man, who stands at the square, can answer the check along his ray of this number, if he has one.
+#[tactic(auto, using(crate::proofs::AnswerBounds::ray_stepwise))]
+fn answers_along_nth(
+    board: &Board,
+    number: usize,
+    check: Check,
+    man: &Piece,
+    from: Square,
+    index: u8,
+) -> bool
+    requires check { IsCloseCheck check }
+    requires from { IsClose from }
+    ensures { IsTrue result ↔ IsSomeAnd (ray_of man.now.kind man.now.side index) (λ r. CanGo board.now number (answer_square check.from check.king from r)) }
+{
+    match ray(man.kind(), man.side(), index) {
+        None => false,
+        Some(ray) => answers_along(board, number, check, from, ray),
+    }
+}
+
+/// Whether the man, who stands at the square, can answer the check along one of his rays.
+fn answers_along_one(board: &Board, number: usize, check: Check, man: &Piece, from: Square) -> bool
+    requires check { IsCloseCheck check }
+    requires from { IsClose from }
+    ensures { IsTrue result ↔ Any (λ r. CanGo board.now number (answer_square check.from check.king from r)) (rays_of man.now.kind man.now.side) }
+{
+    for index in 0..MOST_RAYS {
+        if answers_along_nth(board, number, check, man, from, index) {
+            return true;
+        }
+    }
+    false
+}
+
+/// Whether the man of this number can answer the check.
+fn has_answer(board: &Board, number: usize, check: Check) -> bool
+    requires narrow { IsNarrowPosition board.now }
+    requires check { IsCloseCheck check }
+    ensures { IsTrue result ↔ HasAnswer board.now check.from check.king number }
+{
+    let Some(man) = board.man(number) else {
+        return false;
+    };
+    match man.square() {
+        None => false,
+        Some(square) => answers_along_one(board, number, check, &man, square),
+    }
+}
+
+/// Whether no man can answer the check.
+fn is_held(board: &Board, check: Check) -> bool
+    requires narrow { IsNarrowPosition board.now }
+    requires check { IsCloseCheck check }
+    ensures { IsTrue result ↔ IsHeld board.now check.from check.king }
+{
+    for number in 1..=board.count() as usize {
+        if has_answer(board, number, check) {
+            return false;
+        }
+    }
+    true
+}
+
+/// Whether the man is a king of the side.
+fn is_king_of(man: &Piece, side: Side) -> bool
+    ensures { IsTrue result ↔ ((man.now.side ≡ side) × (man.now.kind ≡ Kind.King)) }
+{
+    man.side() == side && man.kind() == Kind::King
+}
+
+/// The square of the king of the side to move.
+fn king_square(board: &Board) -> Option<Square>
+    requires { Sound board.now }
+    ensures { IsSomeAnd result (λ k. Any (IsKingOn board.now.turn k) board.now.men) }
+{
+    for man in board.men() {
+        if is_king_of(man, board.turn()) {
+            return man.square();
+        }
+    }
+    None
+}
+
+/// The square of the first man who bears on the king of the side to move.
+fn checker_square(board: &Board, king: Square) -> Option<Square>
+    requires { IsNear king }
+    ensures { MatchOption result (Attacked board.now (other board.now.turn) king → ⊥) (λ a. Any (IsCheckerOn board.now king a) board.now.men) }
+{
+    for man in board.men() {
+        if attacks(board, man, other_side(board.turn()), king) {
+            return man.square();
+        }
+    }
+    None
+}
+
+/// The check of the king of the side to move, if he is in check.
+fn check_of(board: &Board) -> Option<Check>
+    requires narrow { IsNarrowPosition board.now }
+    requires sound { Sound board.now }
+    ensures { MatchOption result (InCheck board.now board.now.turn → ⊥) (λ c. IsCloseCheck c × IsCheckFrom board.now c.from c.king) }
+{
+    let king = king_square(board)?;
+    let from = checker_square(board, king)?;
+    Some(Check { from, king })
+}
+
+/// Whether the side to move is mated.
+pub(crate) fn is_mated(board: &Board) -> bool
+    requires narrow { IsNarrowPosition board.now }
+    requires sound { Sound board.now }
+    ensures { IsTrue result ↔ Mate board.now }
+{
+    match check_of(board) {
+        None => false,
+        Some(check) => is_held(board, check),
+    }
+}
+
+#[cfg(test)]
+mod tests;

@@ -1,0 +1,11 @@
+pub mod MoveLemmas
+pub mod SoundLemmas
+pub mod LineLemmas
+pub mod CheckLemmas
+pub mod DecideLemmas
+pub mod MateLemmas
+pub mod ValueLemmas
+pub mod TableLemmas
+pub mod RayLemmas
+pub mod CrossLemmas
+pub mod AnswerLemmas

@@ -1,0 +1,56 @@
+-- The squares to which a man may go in answer to a check: at most one on each of his rays.
+use Rattle.std.specs.Prelude.{◌≡◌, ℕ, zero, suc, ◌/◌, max, Bool, true, false, ℤ, ◌-ℤ◌, ◌*ℤ◌, unsigned_abs, IsSomeAnd}
+use Rattle.std.specs.Int.{int_signum}
+use Rattle.std.specs.List.{Any}
+use Rattle.game_rules.specs.Game.{Position, Bears, IsLiveAnd, Legal, StandsOn, after_steps, man_at, other}
+use Rattle.game_rules.specs.Rays.{rays_of}
+use Rattle.game_rules.specs.declared.men.Kind.TheVariants.{King}
+use Rattle.game_rules.specs.declared.men.Ray.{Ray}
+use Rattle.game_rules.specs.declared.men.Square.{Square}
+
+-- the step that leads from a toward b
+abbrev pub toward_x : Square → Square → ℤ
+toward_x a b = int_signum (b.x -ℤ a.x)
+
+abbrev pub toward_y : Square → Square → ℤ
+toward_y a b = int_signum (b.y -ℤ a.y)
+
+-- how many steps of a king lie between two squares
+abbrev pub distance : Square → Square → ℕ
+distance a b = max (unsigned_abs (b.x -ℤ a.x)) (unsigned_abs (b.y -ℤ a.y))
+
+-- the cross product of two offsets, which is 0 where they are parallel
+abbrev pub cross : ℤ → ℤ → ℤ → ℤ → ℤ
+cross x y u v = (x *ℤ v) -ℤ (y *ℤ u)
+
+-- how far an offset leads off the line from a toward k
+abbrev pub off_line : ℤ → ℤ → Square → Square → ℕ
+off_line x y a k = unsigned_abs (cross x y (toward_x a k) (toward_y a k))
+
+-- a near ray has one step; a far one meets the line after as many as fit into the distance off it, or goes along it
+abbrev pub steps_to : (far : Bool) (each off direct : ℕ) → ℕ
+steps_to false each off direct = 1
+steps_to true zero off direct = direct
+steps_to true (suc each) off direct = off / suc each
+
+-- after how many steps along the ray a man at b meets the line from a toward k, or, going along it, a itself
+abbrev pub answer_steps : Ray → Square → Square → Square → ℕ
+answer_steps r b a k = steps_to r.far (off_line r.dx r.dy a k) (off_line (b.x -ℤ a.x) (b.y -ℤ a.y) a k) (distance b a)
+
+-- the only square on the ray where a man at b may answer a check from a of the king at k
+abbrev pub answer_square : Square → Square → Square → Ray → Square
+answer_square a k b r = after_steps b (answer_steps r b a k) r.dx r.dy
+
+-- man i has a legal move to z
+abbrev pub CanGo : Position → ℕ → Square → Type 0
+CanGo p i z = (q : Position) × Legal p i z q
+
+-- man i has a legal move to such a square
+abbrev pub HasAnswer : Position → Square → Square → ℕ → Type 0
+HasAnswer p a k i =
+    IsSomeAnd (man_at p i) (λ m. IsLiveAnd m (λ b. Any (λ r. CanGo p i (answer_square a k b r)) (rays_of m.kind m.side)))
+
+-- a man at a gives check to the king at k
+pub record IsCheckFrom (p : Position) (a k : Square) : Type 0 where
+  pub king : Any (λ m. (m.side ≡ p.turn) × (m.kind ≡ King) × StandsOn m k) p.men
+  pub checker : Any (λ m. (m.side ≡ other p.turn) × StandsOn m a × Bears p m k) p.men

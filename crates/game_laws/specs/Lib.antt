@@ -1,0 +1,4 @@
+pub mod Lost
+pub mod OnRay
+pub mod Answer
+pub mod Laws
