@@ -1,4 +1,7 @@
-//! Chess on an unbounded board: positions, which squares are attacked, which moves are legal, mate, and mate of a king alone.
+//! The referee of infinite chess: positions of two to eight men on squares that an i64 can name, which squares are
+//! attacked, which positions are sound, which moves are legal, how far a man may go along a ray, and mate. Each answer is
+//! exact by the laws in `game_rules`, also where a square that has to be looked at lies past the numbers of an i64.
+//! Nothing here takes memory.
 #![tactic(auto)]
 
 mod answers;

@@ -10,14 +10,20 @@ use crate::board::{Board, other_side};
 use crate::piece::Piece;
 use game_rules::{Kind, Side, Square};
 
-/// Why a move is refused: the first reason that holds.
+/// Why a move is refused: the first reason that holds (FIDE Laws, Articles 3.1 to 3.10).
 #[derive(Clone, Copy, Debug, PartialEq, Eq)]
 pub enum Illegal {
+    /// The number is 0, or past the last man.
     NoSuchMan,
+    /// The man is of the side that is not to move.
     NotYours,
+    /// The man is gone.
     Captured,
+    /// A live man of the mover, himself included, stands on the square.
     OwnMan,
+    /// The man cannot go there.
     NotReached,
+    /// The king of the side that moved would be attacked.
     KingLeft,
 }
 
