@@ -1,4 +1,4 @@
-use Rattle.std.proofs.Common.{ℕ, ◌<◌, arith, below_more, refl}
+use Rattle.std.proofs.Common.{arith, below_more, refl}
 use Rattle.game_rules.specs.declared.men.Ray.{Ray}
 use Rattle.game_laws.specs.Answer.{CanGo, answer_square}
 use Rattle.chess_game.proofs.AnswerBounds.{no_ray, some_ray}

@@ -1,9 +1,8 @@
-use Rattle.std.proofs.Common.{ℕ, suc, ◌<◌, ◌≡◌, ◌∙◌, Some, length, arith, ap, get_or, subst, sym}
+use Rattle.std.proofs.Common.{suc, ◌≡◌, ◌∙◌, Some, length, arith, ap, subst, sym}
 use Rattle.std.specs.Prelude.{IsSomeAnd, slice_get}
 use Rattle.std.specs.List.{Any}
 use Rattle.std.proofs.lemmas.Option.{slice_get-get_or}
 use Rattle.game_rules.specs.declared.men.Kind.TheVariants.{King}
-use Rattle.game_rules.specs.declared.men.Man.{Man}
 use Rattle.game_rules.specs.Game.{man_at}
 use Rattle.chess_game.specs.Check.{IsKingOn}
 use Rattle.chess_game.proofs.MatedLemmas.{king_on, none_any, some_king}

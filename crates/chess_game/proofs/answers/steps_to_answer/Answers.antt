@@ -1,4 +1,4 @@
-use Rattle.std.proofs.Common.{ℕ, ◌≡◌, ◌≤◌, ◌*◌, ◌^◌, unsigned_abs, arith, rules, subst, sym, true, lit≤}
+use Rattle.std.proofs.Common.{◌≤◌, ◌*◌, ◌^◌, unsigned_abs, arith, rules, subst, sym, lit≤}
 use Rattle.std.proofs.lemmas.Int.{ints}
 use Rattle.chess_game.proofs.AnswerBounds.{steps_within, way_within}
 use Rattle.chess_game.proofs.answers.steps_to_answer.Goals as goal
