@@ -69,7 +69,9 @@ impl Board {
     }
 
     pub(crate) fn count(&self) -> u8
-        ensures { result ≡ length self.now.men }
+        ensures count { result ≡ length self.now.men }
+        ensures least { 2 ≤ result }
+        ensures most { result ≤ 8 }
     {
         self.count as u8
     }

@@ -54,7 +54,9 @@ impl Position {
 
     /// How many men there are, captured ones included.
     pub fn count(&self) -> u8
-        ensures { result ≡ length self.now.men }
+        ensures count { result ≡ length self.now.men }
+        ensures least { 2 ≤ result }
+        ensures most { result ≤ 8 }
     {
         self.board.count()
     }
