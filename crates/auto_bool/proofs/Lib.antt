@@ -1,0 +1,7 @@
+pub mod TrackLemmas
+pub mod SideLemmas
+pub mod States
+pub mod PairLemmas
+pub mod Spreads
+pub mod Complements
+pub mod Tables

@@ -1,0 +1,110 @@
+-- Rows that are read over more tracks.
+use Rattle.std.proofs.Common.{◌≡◌, ℕ, suc, ◌<◌, ◌≤◌, ◌+◌, ◌*◌, ◌^◌, List, ◌∷◌, length, map, get_or, slice_get, Some, arith, sym, ap, ◌∙◌, subst}
+use Rattle.std.specs.List.{All}
+use Rattle.std.proofs.lemmas.List.{length-map}
+use Rattle.std.proofs.lemmas.List.Elements.{All-cons, All-from_get_or, All-weaker}
+use Rattle.std.proofs.lemmas.Option.{slice_get-get_or, slice_get_within, get_or_from_slice_get}
+use Rattle.track_word.specs.declared.tracks.Var.{Var}
+use Rattle.track_word.specs.Tracks.{place, restrict}
+use Rattle.letter_diagram.specs.declared.diagrams.Shape.{Shape}
+use Rattle.letter_diagram.specs.Diagram.{map_at, LooksBelow, Grows}
+use Rattle.letter_diagram.specs.Brought.{IsBrought}
+use Rattle.letter_diagram.specs.Relabelled.{relabelled, IsRelabelled}
+use Rattle.letter_diagram.specs.Listed.{EachAnswers}
+use Rattle.auto_core.specs.Automaton.{Automaton, IsAutomaton, width, first_state, next_state}
+use Rattle.auto_core.specs.Rows.{IsOverNodes}
+use Rattle.auto_core.proofs.RowLemmas.{get_or-row_of, get_or-rows_of}
+use Rattle.auto_bool.specs.Sides.{Reads, IsSide, AreAmong}
+use Rattle.auto_bool.proofs.TrackLemmas.{relabelled-places, restrict-below, restrict-same}
+
+pub Reads-kept : (old new : List Shape) (tracks node : ℕ) (value : ℕ → ℕ) → Grows old new → Reads old tracks node value → Reads new tracks node value
+Reads-kept old new tracks node value grows r = record {
+  known = let k = r.known in let g = grows.longer in omega (arith, k, g);
+  narrow = record { same = λ a b h. grows.map node a r.known ∙ r.narrow.same a b h ∙ sym (grows.map node b r.known) };
+  reads = λ letter below. grows.map node letter r.known ∙ r.reads letter below;
+}
+
+pub IsSide-kept : (old new : List Shape) (all : List Var) (a : Automaton) (nodes : List ℕ) → Grows old new → IsSide old all a nodes → IsSide new all a nodes
+IsSide-kept old new all a nodes grows s = record {
+  valid = s.valid;
+  size = s.size;
+  first = λ node at. Reads-kept old new (length all) node (λ letter. first_state a (restrict all a.tracks letter)) grows (s.first node at);
+  rows = λ state node at. Reads-kept old new (length all) node (λ letter. next_state a state (restrict all a.tracks letter)) grows (s.rows state node at);
+}
+
+-- what the nodes of an automaton know
+pub all_known : (a : Automaton) → IsOverNodes a → All (λ node. node < length a.shapes) (a.first_node ∷ a.row_nodes)
+all_known a over = All-cons (λ node. node < length a.shapes) a.first_node a.row_nodes over.nodes.first_known over.nodes.rows_known
+
+all_narrow : (a : Automaton) → IsOverNodes a → All (λ node. LooksBelow a.shapes node (length a.tracks)) (a.first_node ∷ a.row_nodes)
+all_narrow a over = All-cons (λ node. LooksBelow a.shapes node (length a.tracks)) a.first_node a.row_nodes over.nodes.first_narrow over.nodes.rows_narrow
+
+-- what is brought is known and as narrow
+pub brought-known : (from shapes : List Shape) (sources own : List ℕ) → EachAnswers (IsBrought from shapes) sources own → All (λ node. node < length shapes) own
+brought-known from shapes sources own each = All-from_get_or (λ node. node < length shapes) own 0 (λ i h. (each.each i (let s = each.size in omega (arith, s, h))).known)
+
+pub brought-narrow : (a : Automaton) (shapes : List Shape) (all : List Var) (own : List ℕ) → IsOverNodes a → EachAnswers (IsBrought a.shapes shapes) (a.first_node ∷ a.row_nodes) own
+    → All (λ node. LooksBelow shapes node (length (map (place all) a.tracks))) own
+brought-narrow a shapes all own over each = All-from_get_or (λ node. LooksBelow shapes node (length (map (place all) a.tracks))) own 0 (λ i h.
+    let size = each.size in
+    let inside : i < length (a.first_node ∷ a.row_nodes) = omega (arith, size, h) in
+    let b = each.each i inside in
+    let narrow = all_narrow a over i 0 inside in
+    record { same = λ x y agree. b.map x ∙ narrow.same x y (λ k below. agree k (let l = length-map a.tracks (place all) in omega (arith, l, below))) ∙ sym (b.map y) })
+
+pub places-small : (all some : List Var) → length all ≤ 20 → AreAmong all some → All (λ track. track < 20) (map (place all) some)
+places-small all some few among = All-weaker (λ track. track < length all) (λ track. track < 20) (λ track h. omega arith) (map (place all) some) among.within
+
+module _ (a : Automaton) (valid : IsAutomaton a) (over : IsOverNodes a) where
+  first-map : (letter : ℕ) → letter < width a → map_at a.shapes a.first_node letter ≡ first_state a letter
+  first-map letter below = sym (ap (λ l. get_or l letter 0) over.first ∙ get_or-row_of a.shapes (2 ^ length a.tracks) a.first_node letter below)
+
+  row-map : (state letter : ℕ) → state < length a.row_nodes → letter < width a → map_at a.shapes (get_or a.row_nodes state 0) letter ≡ next_state a state letter
+  row-map state letter known below = sym (ap (λ l. get_or l (state * width a + letter) 0) over.next ∙ get_or-rows_of a.shapes (2 ^ length a.tracks) a.row_nodes state letter 0 known below)
+
+  module _ (all : List Var) (mid shapes : List Shape) (own nodes : List ℕ) (among : AreAmong all a.tracks) (grows : Grows mid shapes)
+      (brought : EachAnswers (IsBrought a.shapes mid) (a.first_node ∷ a.row_nodes) own) (each : EachAnswers (IsRelabelled shapes (map (place all) a.tracks)) own nodes) where
+    reads-at : (i node : ℕ) (value : ℕ → ℕ) → slice_get nodes i ≡ Some node → ((letter : ℕ) → letter < width a → map_at a.shapes (get_or (a.first_node ∷ a.row_nodes) i 0) letter ≡ value letter)
+        → Reads shapes (length all) node (λ letter. value (restrict all a.tracks letter))
+    reads-at i node value at says =
+        let within = slice_get_within nodes i node at in
+        let here = get_or_from_slice_get nodes i node 0 at in
+        let nodes_size = each.size in
+        let own_size = brought.size in
+        let in_own : i < length own = omega (arith, nodes_size, within) in
+        let in_source : i < length (a.first_node ∷ a.row_nodes) = omega (arith, own_size, in_own) in
+        let r = each.each i in_own in
+        let b = brought.each i in_source in
+        let narrow = all_narrow a over i 0 in_source in
+        let maps = λ (letter : ℕ). ap (λ n. map_at shapes n letter) (sym here) ∙ r.map letter ∙ grows.map (get_or own i 0) (relabelled (map (place all) a.tracks) letter) b.known
+        ∙ b.map (relabelled (map (place all) a.tracks) letter) ∙ ap (map_at a.shapes (get_or (a.first_node ∷ a.row_nodes) i 0)) (relabelled-places all a.tracks letter) in
+        record {
+          known = subst (λ n. n < length shapes) here r.known;
+          narrow = record { same = λ x y agree. maps x ∙ ap (map_at a.shapes (get_or (a.first_node ∷ a.row_nodes) i 0)) (restrict-same all a.tracks x y among agree) ∙ sym (maps y) };
+          reads = λ letter below. maps letter ∙ says (restrict all a.tracks letter) (restrict-below all a.tracks letter);
+        }
+
+    pub IsSide-made : IsSide shapes all a nodes
+    IsSide-made =
+        let rows_size = over.nodes.rows_size in
+        let own_size = brought.size in
+        let nodes_size = each.size in
+        record {
+          valid = valid;
+          size = omega (arith, rows_size, own_size, nodes_size);
+          first = λ node at. reads-at 0 node (first_state a) at first-map;
+          rows = λ state node at.
+              let within = slice_get_within nodes (state + 1) node at in
+              let known : state < length a.row_nodes = omega (arith, own_size, nodes_size, within) in
+              let e : state + 1 ≡ suc state = omega arith in
+              reads-at (state + 1) node (next_state a state) at (λ letter below.
+              ap (λ i. map_at a.shapes (get_or (a.first_node ∷ a.row_nodes) i 0) letter) e ∙ row-map state letter known below);
+        }
+
+-- nodes that are read from a side
+pub first-reads : (shapes : List Shape) (all : List Var) (a : Automaton) (nodes : List ℕ) (node : ℕ) → IsSide shapes all a nodes → node ≡ get_or nodes 0 node → Reads shapes (length all) node (λ letter. first_state a (restrict all a.tracks letter))
+first-reads shapes all a nodes node s is = s.first node (slice_get-get_or nodes 0 node (let size = s.size in omega (arith, size)) ∙ ap Some (sym is))
+
+pub row-reads : (shapes : List Shape) (all : List Var) (a : Automaton) (nodes : List ℕ) (state node : ℕ) → IsSide shapes all a nodes → state < length a.accept → node ≡ get_or nodes (state + 1) node
+    → Reads shapes (length all) node (λ letter. next_state a state (restrict all a.tracks letter))
+row-reads shapes all a nodes state node s known is = s.rows state node (slice_get-get_or nodes (state + 1) node (let size = s.size in omega (arith, size, known)) ∙ ap Some (sym is))

@@ -1,0 +1,197 @@
+-- Tracks of two lists together, and letters over them.
+use Rattle.std.proofs.Common.{◌≡◌, ℕ, zero, suc, ◌<◌, ◌≤◌, ◌+◌, ◌*◌, ◌^◌, List, [], ◌∷◌, ◌++◌, length, map, take, drop, get_or, arith, refl, sym, ap, ◌∙◌, subst, inl, inr, ◌⊎◌, eq-eqb}
+use Rattle.std.specs.List.{All}
+use Rattle.std.specs.Int.{bit_at}
+use Rattle.std.proofs.lemmas.Grind.{common_steps}
+use Rattle.std.proofs.lemmas.Bool.Decides.{nat_tests}
+use Rattle.std.proofs.lemmas.List.Elements.{All-nil, All-cons, All-head, All-tail, All-map}
+use Rattle.std.proofs.lemmas.Nat.Bits.{bit_at-lt}
+use Rattle.std.proofs.lemmas.List.{length-map}
+use Rattle.std.proofs.lemmas.Option.{slice_get-get_or}
+use Rattle.auto_walk.proofs.WalkLemmas.{map-take_more}
+use Rattle.track_word.specs.declared.tracks.Var.{Var}
+use Rattle.track_word.specs.Tracks.{IsAscending, with_var, with_vars, place, restrict}
+use Rattle.letter_diagram.specs.Relabelled.{relabelled}
+use Rattle.auto_bool.specs.Sides.{AreAmong}
+
+-- the three ways of putting a track before, at or after the first of some
+before-is : (x y : Var) (ys : List Var) → x.0 < y.0 → with_var x (y ∷ ys) ≡ x ∷ y ∷ ys
+before-is x y ys h = grind (arith, common_steps, nat_tests)
+
+at-is : (x y : Var) (ys : List Var) → x.0 ≡ y.0 → with_var x (y ∷ ys) ≡ y ∷ ys
+at-is x y ys h = grind (arith, common_steps, nat_tests)
+
+after-is : (x y : Var) (ys : List Var) → y.0 < x.0 → with_var x (y ∷ ys) ≡ y ∷ with_var x ys
+after-is x y ys h = grind (arith, common_steps, nat_tests)
+
+order : (a b : ℕ) → (a < b) ⊎ ((a ≡ b) ⊎ (b < a))
+order a b = grind arith
+
+-- a track that goes to a place is there afterwards, between the tracks before and after
+pub with_var-insert : (x : Var) (ys : List Var) (at : ℕ) → at ≤ length ys → ((k : ℕ) → k < at → (get_or ys k x).0 < x.0) → (at < length ys → x.0 < (get_or ys at x).0) → with_var x ys ≡ take at ys ++ x ∷ drop at ys
+with_var-insert x [] zero within before after = refl
+with_var-insert x [] (suc at) within before after = absurd (omega arith)
+with_var-insert x (y ∷ ys) zero within before after = before-is x y ys (after (omega arith))
+with_var-insert x (y ∷ ys) (suc at) within before after =
+    after-is x y ys (before 0 (omega arith))
+    ∙ ap (λ zs. y ∷ zs) (with_var-insert x ys at (omega arith) (λ k h. before (suc k) (omega arith)) (λ h. after (omega arith)))
+
+pub with_var-there : (x : Var) (ys : List Var) (at : ℕ) → at < length ys → ((k : ℕ) → k < at → (get_or ys k x).0 < x.0) → x.0 ≡ (get_or ys at x).0 → with_var x ys ≡ ys
+with_var-there x [] at within before same = absurd (omega arith)
+with_var-there x (y ∷ ys) zero within before same = at-is x y ys same
+with_var-there x (y ∷ ys) (suc at) within before same =
+    after-is x y ys (before 0 (omega arith)) ∙ ap (λ zs. y ∷ zs) (with_var-there x ys at (omega arith) (λ k h. before (suc k) (omega arith)) same)
+
+pub with_var-last : (x : Var) (ys : List Var) → ((k : ℕ) → k < length ys → (get_or ys k x).0 < x.0) → with_var x ys ≡ ys ++ x ∷ []
+with_var-last x [] before = refl
+with_var-last x (y ∷ ys) before = after-is x y ys (before 0 (omega arith)) ∙ ap (λ zs. y ∷ zs) (with_var-last x ys (λ k h. before (suc k) (omega arith)))
+
+-- ascending tracks from a bound on
+Rising : ℕ → List Var → Type 0
+Rising bound [] = Unit {0}
+Rising bound (y ∷ ys) = (bound ≤ y.0) × Rising (y.0 + 1) ys
+
+rising-with_var : (x : Var) (bound : ℕ) (ys : List Var) → bound ≤ x.0 → Rising bound ys → Rising bound (with_var x ys)
+unfolding Rising
+rising-with_var x bound [] above all = (above, tt)
+rising-with_var x bound (y ∷ ys) above all = elim (order x.0 y.0) [
+  | inl before ↦ subst (Rising bound) (sym (before-is x y ys before)) (above, (omega arith, all.1))
+  | inr (inl at) ↦ subst (Rising bound) (sym (at-is x y ys at)) all
+  | inr (inr after) ↦ subst (Rising bound) (sym (after-is x y ys after)) (all.0, rising-with_var x (y.0 + 1) ys (omega arith) all.1)
+]
+
+rising-with_vars : (xs ys : List Var) → Rising 0 ys → Rising 0 (with_vars xs ys)
+rising-with_vars [] ys all = all
+rising-with_vars (x ∷ xs) ys all = rising-with_var x 0 (with_vars xs ys) (omega arith) (rising-with_vars xs ys all)
+
+one_more : (xs : List ℕ) (y k : ℕ) → get_or (y ∷ xs) (suc k + 1) 0 ≡ get_or xs (k + 1) 0
+one_more xs y k = let e : suc k + 1 ≡ suc (k + 1) = omega arith in ap (λ i. get_or (y ∷ xs) i 0) e
+
+ascending-rising : (bound : ℕ) (ys : List Var) → Rising bound ys → IsAscending ys
+unfolding Rising
+ascending-rising bound [] all k h = absurd (omega arith)
+ascending-rising bound (y ∷ []) all k h = absurd (omega arith)
+ascending-rising bound (y ∷ z ∷ zs) all zero h = let above = all.1.0 in omega arith
+ascending-rising bound (y ∷ z ∷ zs) all (suc k) h =
+    let rest = ascending-rising (y.0 + 1) (z ∷ zs) all.1 k (omega arith) in
+    subst (λ n. get_or (map (λ (v : Var). v.0) (z ∷ zs)) k 0 < n) (sym (one_more (map (λ (v : Var). v.0) (z ∷ zs)) y.0 k)) rest
+
+rising-ascending : (bound : ℕ) (ys : List Var) → (0 < length ys → bound ≤ get_or (map (λ (v : Var). v.0) ys) 0 0) → IsAscending ys → Rising bound ys
+unfolding Rising
+rising-ascending bound [] above all = tt
+rising-ascending bound (y ∷ []) above all = (above (omega arith), tt)
+rising-ascending bound (y ∷ z ∷ zs) above all =
+    let next = all 0 (omega arith) in (
+      above (omega arith),
+      rising-ascending (y.0 + 1) (z ∷ zs) (λ h. omega arith) (λ k h.
+          subst (λ n. get_or (map (λ (v : Var). v.0) (z ∷ zs)) k 0 < n) (one_more (map (λ (v : Var). v.0) (z ∷ zs)) y.0 k) (all (suc k) (omega arith))),
+    )
+
+pub ascending-with_vars : (xs ys : List Var) → IsAscending ys → IsAscending (with_vars xs ys)
+ascending-with_vars xs ys all = ascending-rising 0 (with_vars xs ys) (rising-with_vars xs ys (rising-ascending 0 ys (λ h. omega arith) all))
+
+-- a track of this name stands among others
+Has : List Var → ℕ → Type 0
+Has [] name = ⊥
+Has (y ∷ ys) name = (y.0 ≡ name) ⊎ Has ys name
+
+has-new : (x : Var) (ys : List Var) → Has (with_var x ys) x.0
+unfolding Has
+has-new x [] = inl refl
+has-new x (y ∷ ys) = elim (order x.0 y.0) [
+  | inl before ↦ subst (λ l. Has l x.0) (sym (before-is x y ys before)) (inl refl)
+  | inr (inl at) ↦ subst (λ l. Has l x.0) (sym (at-is x y ys at)) (inl (sym at))
+  | inr (inr after) ↦ subst (λ l. Has l x.0) (sym (after-is x y ys after)) (inr (has-new x ys))
+]
+
+has-old : (x : Var) (ys : List Var) (name : ℕ) → Has ys name → Has (with_var x ys) name
+unfolding Has
+has-old x [] name h = absurd h
+has-old x (y ∷ ys) name h = elim (order x.0 y.0) [
+  | inl before ↦ subst (λ l. Has l name) (sym (before-is x y ys before)) (inr h)
+  | inr (inl at) ↦ subst (λ l. Has l name) (sym (at-is x y ys at)) h
+  | inr (inr after) ↦ subst (λ l. Has l name) (sym (after-is x y ys after)) (elim h [ inl here ↦ inl here | inr later ↦ inr (has-old x ys name later) ])
+]
+
+has-right : (xs ys : List Var) (name : ℕ) → Has ys name → Has (with_vars xs ys) name
+has-right [] ys name h = h
+has-right (x ∷ xs) ys name h = has-old x (with_vars xs ys) name (has-right xs ys name h)
+
+has-left : (xs ys : List Var) (name : ℕ) → Has xs name → Has (with_vars xs ys) name
+unfolding Has
+has-left [] ys name h = absurd h
+has-left (x ∷ xs) ys name (inl here) = subst (Has (with_var x (with_vars xs ys))) here (has-new x (with_vars xs ys))
+has-left (x ∷ xs) ys name (inr later) = has-old x (with_vars xs ys) name (has-left xs ys name later)
+
+place-has : (ys : List Var) (z : Var) → Has ys z.0 → place ys z < length ys
+unfolding Has
+place-has [] z h = absurd h
+place-has (y ∷ ys) z (inl here) = let e = eq-eqb y.0 z.0 here in grind (arith, common_steps, e)
+place-has (y ∷ ys) z (inr later) = let less = place-has ys z later in grind (arith, common_steps, less)
+
+all_within : (all some : List Var) → ((name : ℕ) → Has some name → Has all name) → All (λ v. place all v < length all) some
+unfolding Has
+all_within all [] has = All-nil (λ v. place all v < length all)
+all_within all (v ∷ vs) has = All-cons (λ v. place all v < length all) v vs (place-has all v (has v.0 (inl refl))) (all_within all vs (λ name h. has name (inr h)))
+
+pub AreAmong-left : (xs ys : List Var) → AreAmong (with_vars xs ys) xs
+AreAmong-left xs ys = record { within = All-map (λ track. track < length (with_vars xs ys)) (place (with_vars xs ys)) xs (all_within (with_vars xs ys) xs (has-left xs ys)) }
+
+pub AreAmong-right : (xs ys : List Var) → AreAmong (with_vars xs ys) ys
+AreAmong-right xs ys = record { within = All-map (λ track. track < length (with_vars xs ys)) (place (with_vars xs ys)) ys (all_within (with_vars xs ys) ys (has-right xs ys)) }
+
+pub relabelled-places : (all some : List Var) (letter : ℕ) → relabelled (map (place all) some) letter ≡ restrict all some letter
+relabelled-places all [] letter = refl
+relabelled-places all (v ∷ vs) letter = ap (λ n. bit_at letter (place all v) + 2 * n) (relabelled-places all vs letter)
+
+pub restrict-below : (all some : List Var) (letter : ℕ) → restrict all some letter < 2 ^ length some
+restrict-below all [] letter = omega arith
+restrict-below all (v ∷ vs) letter =
+    let rest = restrict-below all vs letter in
+    let bit = bit_at-lt letter (place all v) in
+    let double : 2 ^ suc (length vs) ≡ 2 * 2 ^ length vs = omega arith in
+    subst (λ n. bit_at letter (place all v) + 2 * restrict all vs letter < n) (sym double) (omega (arith, rest, bit))
+
+-- letters that agree on all tracks agree on some
+restrict-agree : (all some : List Var) (a b : ℕ) → All (λ track. track < length all) (map (place all) some) → ((k : ℕ) → k < length all → bit_at a k ≡ bit_at b k) → restrict all some a ≡ restrict all some b
+restrict-agree all [] a b within agree = refl
+restrict-agree all (v ∷ vs) a b within agree =
+    let bit = agree (place all v) (All-head (λ track. track < length all) (place all v) (map (place all) vs) within) in
+    let rest = restrict-agree all vs a b (All-tail (λ track. track < length all) (place all v) (map (place all) vs) within) agree in
+    ap (λ n. n + 2 * restrict all vs a) bit ∙ ap (λ n. bit_at b (place all v) + 2 * n) rest
+
+pub restrict-same : (all some : List Var) (a b : ℕ) → AreAmong all some → ((k : ℕ) → k < length all → bit_at a k ≡ bit_at b k) → restrict all some a ≡ restrict all some b
+restrict-same all some a b among agree = restrict-agree all some a b among.within agree
+
+get_or-places : (all some : List Var) (i : ℕ) (d : Var) → i < length some → get_or (map (place all) some) i (place all d) ≡ place all (get_or some i d)
+get_or-places all [] i d h = absurd (omega arith)
+get_or-places all (v ∷ vs) zero d h = refl
+get_or-places all (v ∷ vs) (suc i) d h = get_or-places all vs i d (omega arith)
+
+pub place-at : (all some : List Var) (i : ℕ) (d : Var) → AreAmong all some → i < length some → place all (get_or some i d) < length all
+place-at all some i d among h =
+    subst (λ n. n < length all) (get_or-places all some i d h) (among.within i (place all d) (let l = length-map some (place all) in omega (arith, l, h)))
+
+pub places-more : (all some : List Var) (places : List ℕ) (i n : ℕ) (d : Var) → i < length some → places ≡ map (place all) (take i some) → n ≡ place all (get_or some i d) → places ++ n ∷ [] ≡ map (place all) (take (i + 1) some)
+places-more all some places i n d h so_far next =
+    ap (λ l. l ++ n ∷ []) so_far ∙ ap (λ m. map (place all) (take i some) ++ m ∷ []) next ∙ sym (map-take_more (place all) some i (get_or some i d) (slice_get-get_or some i d h))
+
+length-with_var : (x : Var) (ys : List Var) → length (with_var x ys) ≤ length ys + 1
+length-with_var x [] = omega arith
+length-with_var x (y ∷ ys) = elim (order x.0 y.0) [
+  | inl before ↦ let l = ap length (before-is x y ys before) in omega (arith, l)
+  | inr (inl at) ↦ let l = ap length (at-is x y ys at) in omega (arith, l)
+  | inr (inr after) ↦ let l = ap length (after-is x y ys after) in let rest = length-with_var x ys in omega (arith, l, rest)
+]
+
+-- both lists together have at most as many tracks as the one and the other
+pub length-with_vars : (xs ys : List Var) → length (with_vars xs ys) ≤ length xs + length ys
+length-with_vars [] ys = omega arith
+length-with_vars (x ∷ xs) ys = let one = length-with_var x (with_vars xs ys) in let rest = length-with_vars xs ys in omega (arith, one, rest)
+
+-- what a track that is put in its place keeps
+pub ascending-inserted : (x : Var) (old new : List Var) → new ≡ with_var x old → IsAscending old → IsAscending new
+ascending-inserted x old new is all = subst IsAscending (sym is) (ascending-with_vars (x ∷ []) old all)
+
+pub length-inserted : (x : Var) (old new : List Var) (bound : ℕ) → new ≡ with_var x old → length old ≤ bound → length new ≤ bound + 1
+length-inserted x old new bound is few = let one = length-with_var x old in let l = ap length is in omega (arith, one, l, few)

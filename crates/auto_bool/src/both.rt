@@ -1,0 +1,110 @@
+//! The walk over the pairs of states of two automata.
+ghost use Rattle.std.specs.Prelude.{◌≡◌, ◌<◌, ◌≤◌, [], length, IfOk};
+ghost use Rattle.auto_core.specs.Automaton.{IsAutomaton};
+ghost use Rattle.track_word.specs.Tracks.{with_vars};
+ghost use Rattle.auto_walk.specs.Walker.{AreTracks};
+ghost use Rattle.auto_bool.specs.Sides.{IsSide};
+
+use crate::connective::Connective;
+use crate::side::side;
+use crate::tracks::both_tracks;
+use auto_core::Auto;
+use auto_walk::Walk;
+use letter_diagram::{Diagrams, Node, Pairs, Product};
+use std::alloc::{AllocError, Global};
+use track_word::Var;
+
+/// Two automata, with their rows as nodes over the tracks of both. The pairs of states are the pairs of the product.
+#[derive(Drop)]
+pub struct Both<'a> {
+    left: &'a Auto,
+    right: &'a Auto,
+    tracks: Vec<Var>,
+    connective: Connective,
+    product: Product,
+    left_nodes: Vec<Node>,
+    right_nodes: Vec<Node>,
+    ghost are_tracks: { AreTracks tracks.items },
+    ghost left_side: { IsSide product.shapes tracks.items left.now left_nodes.items },
+    ghost right_side: { IsSide product.shapes tracks.items right.now right_nodes.items },
+}
+
+impl<'a> Both<'a> {
+    pub fn new(
+        alloc: Global,
+        left: &'a Auto,
+        right: &'a Auto,
+        connective: Connective,
+    ) -> Result<Self, AllocError>
+        requires { length (with_vars left.now.tracks right.now.tracks) ≤ 20 }
+        ensures left { IfOk result (λ both. both.left.now ≡ left.now) }
+        ensures right { IfOk result (λ both. both.right.now ≡ right.now) }
+        ensures connective { IfOk result (λ both. both.connective ≡ connective) }
+        ensures tracks { IfOk result (λ both. both.tracks.items ≡ with_vars left.now.tracks right.now.tracks) }
+        ensures fresh { IfOk result (λ both. both.product.pairs ≡ []) }
+        ensures left_valid { IsAutomaton left.now }
+        ensures right_valid { IsAutomaton right.now }
+    {
+        let left_tracks = left.tracks();
+        let right_tracks = right.tracks();
+        let tracks = both_tracks(alloc, left_tracks, right_tracks)?;
+        let mut diagrams = Diagrams::new(alloc);
+        let left_nodes = side(alloc, &mut diagrams, tracks.as_slice(), left)?;
+        let right_nodes = side(alloc, &mut diagrams, tracks.as_slice(), right)?;
+        let product = Product::new(diagrams, Pairs::new(alloc));
+        Ok(Both {
+            left,
+            right,
+            tracks,
+            connective,
+            product,
+            left_nodes,
+            right_nodes,
+        })
+    }
+}
+
+impl<'a> Walk for Both<'a> {
+    ghost use Rattle.std.specs.Prelude.{map};
+    ghost use Rattle.auto_bool.specs.Both.{walker_over, place_of_pair};
+
+    ghost walker = { λ s. walker_over s.tracks.items s.left.now s.right.now s.connective };
+
+    ghost places = { λ s. map place_of_pair s.product.pairs };
+
+    ghost shapes = { λ s. s.product.shapes };
+
+    fn tracks(&self) -> &[Var] {
+        self.tracks.as_slice()
+    }
+
+    fn count(&self) -> usize {
+        self.product.pairs().len()
+    }
+
+    fn first_row(&mut self) -> Result<Node, AllocError> {
+        let node = self.product.apply(self.left_nodes[0], self.right_nodes[0])?;
+        let _ = self.product.pairs().len();
+        Ok(node)
+    }
+
+    fn next_row(&mut self, number: u32) -> Result<Node, AllocError> {
+        let (left, right) = self.product.pairs().as_slice()[number as usize];
+        let left_row = self.left_nodes[left as usize + 1];
+        let right_row = self.right_nodes[right as usize + 1];
+        let node = self.product.apply(left_row, right_row)?;
+        let _ = self.product.pairs().len();
+        Ok(node)
+    }
+
+    fn is_final(&self, number: u32) -> bool {
+        let (left, right) = self.product.pairs().as_slice()[number as usize];
+        self.connective
+            .of(self.left.accept_of(left), self.right.accept_of(right))
+    }
+
+    fn into_diagrams(self) -> Diagrams {
+        let (diagrams, _) = self.product.into_parts();
+        diagrams
+    }
+}

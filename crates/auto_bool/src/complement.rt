@@ -1,0 +1,47 @@
+//! The complement of an automaton.
+ghost use Rattle.std.specs.Prelude.{◌≡◌, ◌↔◌, List, ℕ, IfOk, length, map, not as not_bool};
+ghost use Rattle.track_word.specs.Word.{IsWord};
+ghost use Rattle.auto_core.specs.Automaton.{Accepts};
+ghost use Rattle.auto_core.specs.Reduced.{IsReduced};
+ghost use Rattle.auto_core.specs.Rows.{IsOverNodes};
+
+use auto_core::Auto;
+use letter_diagram::Node;
+use std::alloc::{AllocError, Global};
+
+/// The automaton of the nonempty words over the same tracks that `a` does not accept: the same rows, with each flag turned.
+pub fn not(alloc: Global, a: &Auto) -> Result<Auto, AllocError>
+    ensures tracks { IfOk result (λ n. n.tracks ≡ a.now.tracks) }
+    ensures first { IfOk result (λ n. n.first ≡ a.now.first) }
+    ensures next { IfOk result (λ n. n.next ≡ a.now.next) }
+    ensures accept { IfOk result (λ n. n.accept ≡ map not_bool a.now.accept) }
+    ensures words { IfOk result (λ n. (word : List ℕ) → IsWord (length a.now.tracks) word → Accepts n word ↔ (¬ Accepts a.now word)) }
+    ensures reduced { IfOk result (λ n. IsReduced a.now → IsReduced n) }
+{
+    let tracks = a.tracks().to_vec(alloc)?;
+    let rows = row_nodes(alloc, a)?;
+    let accept = turned_flags(alloc, a)?;
+    let diagrams = a.diagrams().copy()?;
+    Ok(Auto::from_diagrams(tracks, diagrams, a.first_node(), rows, accept))
+}
+
+fn row_nodes(alloc: Global, a: &Auto) -> Result<Vec<Node>, AllocError>
+    ensures { IfOk result (λ rows. rows.items ≡ a.now.row_nodes) }
+{
+    let _ = a.diagrams();
+    let mut rows = Vec::new(alloc);
+    for state in 0..a.states() {
+        rows.push(a.row_node(state))?;
+    }
+    Ok(rows)
+}
+
+fn turned_flags(alloc: Global, a: &Auto) -> Result<Vec<bool>, AllocError>
+    ensures { IfOk result (λ flags. flags.items ≡ map not_bool a.now.accept) }
+{
+    let mut flags = Vec::new(alloc);
+    for flag in a.flags() {
+        flags.push(!*flag)?;
+    }
+    Ok(flags)
+}

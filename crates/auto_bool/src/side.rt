@@ -1,0 +1,43 @@
+//! One side of a product: the rows of an automaton, read over the tracks of both.
+ghost use Rattle.std.specs.Prelude.{◌≡◌, ◌<◌, ◌≤◌, ◌∷◌, length, All, IfOk};
+ghost use Rattle.letter_diagram.specs.Diagram.{Grows, LooksBelow};
+ghost use Rattle.auto_core.specs.Rows.{IsOverNodes};
+ghost use Rattle.auto_bool.specs.Sides.{IsSide, AreAmong};
+
+use crate::tracks::places_of;
+use auto_core::Auto;
+use letter_diagram::{Diagrams, Node};
+use std::alloc::{AllocError, Global};
+use track_word::Var;
+
+/// The node of the first row, then the nodes of the states' rows.
+fn all_nodes(alloc: Global, a: &Auto) -> Result<Vec<Node>, AllocError>
+    ensures nodes { IfOk result (λ nodes. nodes.items ≡ a.now.first_node ∷ a.now.row_nodes) }
+    ensures over { IsOverNodes a.now }
+{
+    let _ = a.diagrams();
+    let mut nodes = vec![in alloc; a.first_node()]?;
+    for state in 0..a.states() {
+        nodes.push(a.row_node(state))?;
+    }
+    Ok(nodes)
+}
+
+/// Nodes in `diagrams` that give the rows of an automaton over more tracks: that of the first row, then those of the states.
+pub fn side(
+    alloc: Global,
+    diagrams: &mut Diagrams,
+    all: &[Var],
+    a: &Auto,
+) -> Result<Vec<Node>, AllocError>
+    requires all { length all.now ≤ 20 }
+    requires among { AreAmong all.now a.now.tracks }
+    ensures side { IfOk result (λ nodes. IsSide diagrams.new all.now a.now nodes.items) }
+    ensures grows { Grows diagrams.old diagrams.new }
+{
+    let places = places_of(alloc, all, a.tracks())?;
+    let nodes = all_nodes(alloc, a)?;
+    let own = diagrams.bring(a.diagrams(), nodes.as_slice())?;
+    let nodes = diagrams.relabel_all(own.as_slice(), places.as_slice())?;
+    Ok(nodes)
+}

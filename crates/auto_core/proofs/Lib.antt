@@ -1,0 +1,14 @@
+pub mod RowLemmas
+pub mod Places
+pub mod Denses
+pub mod Products
+pub mod Totals
+pub mod Prefixes
+pub mod Orders
+pub mod Spans
+pub mod SumRows
+pub mod Grown
+pub mod Assembled
+pub mod Ascents
+pub mod Linears
+pub mod Members

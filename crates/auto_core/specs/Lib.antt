@@ -1,0 +1,12 @@
+pub use Rattle.track_word.specs.Word
+pub use Rattle.track_word.specs.Tracks
+pub use Rattle.track_word.specs.Atom
+pub use Rattle.letter_diagram.specs.Diagram
+pub mod Automaton
+pub mod Rows
+pub mod Dense
+pub mod Prefix
+pub mod Sums
+pub mod Reduced
+pub mod Integers
+pub mod Spread

@@ -1,0 +1,21 @@
+-- Automata with no state too many.
+use Rattle.std.specs.Prelude.{◌≡◌, ◌≢◌, ℕ, ◌<◌, List, length, All}
+use Rattle.track_word.specs.Word.{IsWord}
+use Rattle.auto_core.specs.Automaton.{Automaton, width, run, state_of, is_final}
+
+-- letters after which one of two states accepts and the other does not
+pub record ToldApart (a : Automaton) (j k : ℕ) : Type 0 where
+  pub letters : List ℕ
+  pub are_letters : All (λ letter. letter < width a) letters
+  pub differ : is_final a (run a j letters) ≢ is_final a (run a k letters)
+
+-- a word that leads to a state
+pub record IsReachedState (a : Automaton) (state : ℕ) : Type 0 where
+  pub word : List ℕ
+  pub is_word : IsWord (length a.tracks) word
+  pub leads : state_of a word ≡ state
+
+-- each state is reached by a word, and each two are told apart
+pub record IsReduced (a : Automaton) : Type 0 where
+  pub reached : (state : ℕ) → state < length a.accept → IsReachedState a state
+  pub apart : (j k : ℕ) → j < length a.accept → k < length a.accept → j ≢ k → ToldApart a j k

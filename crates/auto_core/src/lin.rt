@@ -1,0 +1,172 @@
+//! Automata that decide linear atoms.
+//!
+//! After each letter the sum comes to twice what it was and the coefficients of the letter's bits, after the sign letter to
+//! minus these (Büchi 1960). A state stands for one value of the sum, the first and the last state also for all values beyond:
+//! from these no further letter leads back.
+ghost use Rattle.std.specs.Prelude.{◌≡◌, ◌↔◌, ◌≤◌, ◌<◌, ◌+◌, ◌≤ℤ◌, ◌<ℤ◌, ℕ, List, pos, negsuc, length, map, neg_ℤ, ◌+ℤ◌, All, IfOk, IsTrue, unsigned_abs};
+ghost use Rattle.std.specs.List.{sum_by};
+ghost use Rattle.track_word.specs.Word.{IsWord};
+ghost use Rattle.track_word.specs.Atom.{IsAtom, AtomHolds, Compares, atom_tracks, term_vars};
+ghost use Rattle.letter_diagram.specs.Diagram.{Grows};
+ghost use Rattle.auto_core.specs.Automaton.{IsAutomaton, Accepts};
+ghost use Rattle.auto_core.specs.Integers.{DecidesIntegers};
+ghost use Rattle.auto_core.specs.Sums.{ordered_terms, IsSmall, IsSumRow, AreSumRows, AreFlagsOf, StandsFor, IsSpan, IsSpanOf, AreWeights, weight_from, total, gain, loss};
+
+use crate::auto::Auto;
+use crate::sums::{Span, row};
+use crate::terms::{coefficients, negated, ordered, variables};
+use letter_diagram::{Diagrams, Node};
+use std::alloc::{AllocError, Global};
+use std::collections::HashMap;
+use track_word::laws::repeating_first_letter_keeps_values;
+use track_word::{Rel, Var};
+
+impl Auto {
+    /// Decides whether the sum of coefficient times variable is at most, or equal to, the bound.
+    pub fn lin(alloc: Global, terms: &[(i8, Var)], rel: Rel, bound: i32) -> Result<Auto, AllocError>
+        requires { IsAtom terms.now bound }
+        ensures tracks { IfOk result (λ a. a.tracks ≡ atom_tracks terms.now) }
+        ensures words { IfOk result (λ a. (word : List ℕ) → IsWord (length (atom_tracks terms.now)) word → Accepts a word ↔ AtomHolds terms.now rel bound word) }
+        ensures few { IfOk result (λ a. length a.accept ≤ sum_by (λ t. unsigned_abs t.0) terms.now + unsigned_abs bound + 3) }
+        ensures integers { IfOk result (λ a. DecidesIntegers a) }
+        ensures valid { IfOk result (λ a. IsAutomaton a) }
+    {
+        repeating_first_letter_keeps_values();
+        let terms = ordered(alloc, terms)?;
+        let tracks = variables(alloc, terms.as_slice())?;
+        let weights = coefficients(alloc, terms.as_slice())?;
+        let sign_weights = negated(alloc, weights.as_slice())?;
+        let decided = sum_automaton(
+            alloc,
+            tracks,
+            weights.as_slice(),
+            sign_weights.as_slice(),
+            rel,
+            bound,
+        )?;
+        Ok(decided)
+    }
+}
+
+/// The automaton that compares what the weights of a word's letters come to with the bound.
+fn sum_automaton(
+    alloc: Global,
+    tracks: Vec<Var>,
+    weights: &[i32],
+    sign_weights: &[i32],
+    rel: Rel,
+    bound: i32,
+) -> Result<Auto, AllocError>
+    requires weights { AreWeights tracks.items weights.now sign_weights.now }
+    requires low { negsuc 999 ≤ℤ bound }
+    requires high { bound ≤ℤ pos 1000 }
+    ensures tracks { IfOk result (λ a. a.tracks ≡ tracks.items) }
+    ensures words { IfOk result (λ a. (word : List ℕ) → IsWord (length tracks.items) word → Accepts a word ↔ Compares rel (total (weight_from 0 weights.now) word) bound) }
+    ensures few { IfOk result (λ a. length a.accept ≤ sum_by gain weights.now + sum_by loss weights.now + unsigned_abs bound + 3) }
+    ensures valid { IfOk result (λ a. IsAutomaton a) }
+{
+    let span = span_of(weights, bound);
+    let mut diagrams = Diagrams::new(alloc);
+    let rows = state_rows(alloc, &mut diagrams, weights, span)?;
+    let mut memo = HashMap::new(alloc);
+    let first = row(&mut diagrams, &mut memo, sign_weights, span, 0, 0)?;
+    let accept = flags(alloc, rel, bound, span)?;
+    let decided = Auto::from_diagrams(tracks, diagrams, first, rows, accept);
+    Ok(decided)
+}
+
+/// The values that states stand for: beyond these the sum only grows away from the bound.
+fn span_of(weights: &[i32], bound: i32) -> Span
+    requires few { length weights.now ≤ 8 }
+    requires small { All IsSmall weights.now }
+    requires low { negsuc 999 ≤ℤ bound }
+    requires high { bound ≤ℤ pos 1000 }
+    ensures { IsSpanOf weights.now bound result }
+{
+    let (most, least) = reach(weights);
+    Span {
+        low: (bound - 1).min(-most),
+        high: (bound + 1).max(least),
+    }
+}
+
+/// The sum of the positive weights, and minus the sum of the negative ones.
+fn reach(weights: &[i32]) -> (i32, i32)
+    requires few { length weights.now ≤ 8 }
+    requires small { All IsSmall weights.now }
+    ensures most { result.0 ≡ pos (sum_by gain weights.now) }
+    ensures least { result.1 ≡ pos (sum_by loss weights.now) }
+    ensures most_small { sum_by gain weights.now ≤ 512 }
+    ensures least_small { sum_by loss weights.now ≤ 512 }
+{
+    let mut most = 0;
+    let mut least = 0;
+    for weight in weights {
+        most += gain_of(*weight);
+        least += loss_of(*weight);
+    }
+    (most, least)
+}
+
+/// What a weight can add.
+fn gain_of(weight: i32) -> i32
+    requires { IsSmall weight }
+    ensures { result ≡ pos (gain weight) }
+{
+    if weight > 0 { weight } else { 0 }
+}
+
+/// What a weight can take away.
+fn loss_of(weight: i32) -> i32
+    requires { IsSmall weight }
+    ensures { result ≡ pos (loss weight) }
+{
+    if weight < 0 { -weight } else { 0 }
+}
+
+/// The rows of the states, in order.
+fn state_rows(
+    alloc: Global,
+    diagrams: &mut Diagrams,
+    weights: &[i32],
+    span: Span,
+) -> Result<Vec<Node>, AllocError>
+    requires few { length weights.now ≤ 8 }
+    requires small { All IsSmall weights.now }
+    requires span { IsSpan span }
+    ensures rows { IfOk result (λ nodes. AreSumRows diagrams.new weights.now span nodes.items) }
+    ensures count { IfOk result (λ nodes. pos (length nodes.items) +ℤ span.low ≡ span.high +ℤ pos 1) }
+    ensures grows { Grows diagrams.old diagrams.new }
+{
+    let mut memo = HashMap::new(alloc);
+    let mut nodes = Vec::new(alloc);
+    for state in 0..span.states() {
+        let sum = span.doubled(state);
+        let node = row(diagrams, &mut memo, weights, span, 0, sum)?;
+        nodes.push(node)?;
+    }
+    Ok(nodes)
+}
+
+/// Whether each state's value compares with the bound.
+fn flags(alloc: Global, rel: Rel, bound: i32, span: Span) -> Result<Vec<bool>, AllocError>
+    requires { IsSpan span }
+    ensures flags { IfOk result (λ flags. AreFlagsOf rel bound span flags.items) }
+    ensures count { IfOk result (λ flags. pos (length flags.items) +ℤ span.low ≡ span.high +ℤ pos 1) }
+{
+    let mut flags = Vec::new(alloc);
+    for state in 0..span.states() {
+        flags.push(compares(rel, span.value_of(state), bound))?;
+    }
+    Ok(flags)
+}
+
+/// Whether a sum compares with a bound.
+fn compares(rel: Rel, sum: i32, bound: i32) -> bool
+    ensures { IsTrue result ↔ Compares rel sum bound }
+{
+    match rel {
+        Rel::Le => sum <= bound,
+        Rel::Eq => sum == bound,
+    }
+}

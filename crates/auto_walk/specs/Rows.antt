@@ -1,0 +1,46 @@
+-- Places in the order in which they were numbered, and nodes whose maps lead letters to the numbers of places.
+use Rattle.std.specs.Prelude.{◌≡◌, ◌≢◌, ℕ, ◌^◌, ◌<◌, ◌≤◌, List, length, All, AllPairs, slice_get, Some}
+use Rattle.letter_diagram.specs.declared.diagrams.Shape.{Shape}
+use Rattle.letter_diagram.specs.Diagram.{map_at, LooksBelow}
+use Rattle.auto_walk.specs.Walker.{Walker, IsReached}
+
+-- different places, to each of which a word leads
+pub record AreNumbered (w : Walker) (places : List (List ℕ)) : Type 0 where
+  pub reached : All (IsReached w) places
+  pub different : AllPairs (λ p q. p ≢ q) places
+
+-- what had a number keeps it
+pub record Extends (old new : List (List ℕ)) : Type 0 where
+  pub kept : (number : ℕ) (place : List ℕ) → slice_get old number ≡ Some place → slice_get new number ≡ Some place
+
+-- a letter that leads to the place of a number
+pub record IsLed (w : Walker) (new : List (List ℕ)) (lead : ℕ → List ℕ) (number : ℕ) : Type 0 where
+  pub letter : ℕ
+  pub below : letter < 2 ^ length w.tracks
+  pub leads : slice_get new number ≡ Some (lead letter)
+
+-- the node's map leads each letter to the number of its place, and what is new among the places is led to
+pub record IsRow (w : Walker) (shapes : List Shape) (old new : List (List ℕ)) (lead : ℕ → List ℕ) (node : ℕ) : Type 0 where
+  pub known : node < length shapes
+  pub narrow : LooksBelow shapes node (length w.tracks)
+  pub leads : (letter : ℕ) → letter < 2 ^ length w.tracks → slice_get new (map_at shapes node letter) ≡ Some (lead letter)
+  pub different : AllPairs (λ p q. p ≢ q) new
+  pub led : (number : ℕ) → length old ≤ number → number < length new → IsLed w new lead number
+
+-- the row of the place of a number
+pub record IsRowOf (w : Walker) (shapes : List Shape) (old new : List (List ℕ)) (number node : ℕ) : Type 0 where
+  pub place : List ℕ
+  pub is : slice_get old number ≡ Some place
+  pub row : IsRow w shapes old new (w.next place) node
+
+-- the node's map leads each letter from the place of one number to the place of another
+pub record LeadsOn (w : Walker) (shapes : List Shape) (places : List (List ℕ)) (number node : ℕ) : Type 0 where
+  pub place : List ℕ
+  pub is : slice_get places number ≡ Some place
+  pub known : node < length shapes
+  pub narrow : LooksBelow shapes node (length w.tracks)
+  pub leads : (letter : ℕ) → letter < 2 ^ length w.tracks → slice_get places (map_at shapes node letter) ≡ Some (w.next place letter)
+
+-- a node for each of the first places, which leads each letter to the number of the next place
+pub record AreRows (w : Walker) (shapes : List Shape) (places : List (List ℕ)) (rows : List ℕ) : Type 0 where
+  pub lead : (number node : ℕ) → slice_get rows number ≡ Some node → LeadsOn w shapes places number node

@@ -1,0 +1,180 @@
+-- Which tracks a map looks at.
+use Rattle.std.proofs.Common.{◌≡◌, ◌≢◌, ℕ, ◌<◌, ◌≤◌, ◌+◌, ◌*◌, ◌%◌, ◌/◌, zero, suc, AllPairs, List, [], ◌∷◌, length, get_or, map, slice_index, slice_get, nat_eq, Some, arith, refl, sym, ap, ◌∙◌, inl, inr, if◌then◌else◌}
+use Rattle.std.specs.Int.{bit_at}
+use Rattle.std.specs.HashMap.{HashMap, Updates}
+use Rattle.std.proofs.lemmas.Bool.{cases_eq, cases_lt}
+use Rattle.std.proofs.lemmas.List.{get_or-map, length-map}
+use Rattle.std.proofs.lemmas.Option.{get_or_from_slice_get, slice_get_within}
+use Rattle.std.proofs.lemmas.Nat.Bits.{bit_at-lt, bit_at-suc, bit_at_lowest}
+use Rattle.letter_diagram.specs.declared.diagrams.Shape.{Shape}
+use Rattle.letter_diagram.specs.declared.diagrams.Shape.TheVariants.{Leaf, Test}
+use Rattle.letter_diagram.specs.Diagram.{map_at, chosen, IsDiagram, IsTest, IsAt, Grows, LooksBelow}
+use Rattle.letter_diagram.specs.Paired.{AreAnswers}
+use Rattle.letter_diagram.specs.Relabelled.{relabelled, pick_of, IsRelabelled, RemembersRelabelled}
+use Rattle.letter_diagram.proofs.Canonical.{flip, bit_at-flip_same, bit_at-flip_other, bit_cases, flipped, low_is, high_is, node-from_map, map_at-agree}
+use Rattle.letter_diagram.proofs.Memos.{answers-insert}
+
+module _ (shapes : List Shape) (is : IsDiagram shapes) (node track low high : ℕ) (at : IsAt shapes node (Test track low high)) (fits : IsTest shapes node track low high) where
+  -- a side's value at a letter is the node's at a letter with that bit
+  pub low_at : (letter : ℕ) → (l : ℕ) × (bit_at l track ≡ 0) × ((k : ℕ) → k ≢ track → bit_at l k ≡ bit_at letter k) × (map_at shapes low letter ≡ map_at shapes node l)
+  low_at letter =
+      let within = at.within in
+      let before = fits.low_before in
+      elim (bit_cases letter track) [
+        | inl z ↦ (letter, z, (λ k ne. refl), sym (low_is shapes is node track low high letter at z))
+        | inr o ↦
+            let z = bit_at-flip_same letter track ∙ ap (λ n. (n + 1) % 2) o in (
+              flip letter track,
+              z,
+              (λ k ne. bit_at-flip_other letter track k ne),
+              flipped shapes is low track letter (omega arith) fits.low_above ∙ sym (low_is shapes is node track low high (flip letter track) at z),
+            )
+      ]
+
+  pub high_at : (letter : ℕ) → (l : ℕ) × (bit_at l track ≡ 1) × ((k : ℕ) → k ≢ track → bit_at l k ≡ bit_at letter k) × (map_at shapes high letter ≡ map_at shapes node l)
+  high_at letter =
+      let within = at.within in
+      let before = fits.high_before in
+      elim (bit_cases letter track) [
+        | inr o ↦ (letter, o, (λ k ne. refl), sym (high_is shapes is node track low high letter at o))
+        | inl z ↦
+            let o = bit_at-flip_same letter track ∙ ap (λ n. (n + 1) % 2) z in (
+              flip letter track,
+              o,
+              (λ k ne. bit_at-flip_other letter track k ne),
+              flipped shapes is high track letter (omega arith) fits.high_above ∙ sym (high_is shapes is node track low high (flip letter track) at o),
+            )
+      ]
+
+  -- the sides look at no other tracks than the node
+  pub LooksBelow-low : (bound : ℕ) → LooksBelow shapes node bound → LooksBelow shapes low bound
+  LooksBelow-low bound narrow = record {
+    same = λ a b agree.
+        let p = low_at a in
+        let q = low_at b in
+        p.3 ∙ narrow.same p.0 q.0 (λ k below. elim (cases_eq k track) [
+          | inl e ↦ ap (λ n. bit_at p.0 n) e ∙ p.1 ∙ sym q.1 ∙ ap (λ n. bit_at q.0 n) (sym e)
+          | inr ne ↦ p.2 k ne ∙ agree k below ∙ sym (q.2 k ne)
+        ]) ∙ sym q.3;
+  }
+
+  pub LooksBelow-high : (bound : ℕ) → LooksBelow shapes node bound → LooksBelow shapes high bound
+  LooksBelow-high bound narrow = record {
+    same = λ a b agree.
+        let p = high_at a in
+        let q = high_at b in
+        p.3 ∙ narrow.same p.0 q.0 (λ k below. elim (cases_eq k track) [
+          | inl e ↦ ap (λ n. bit_at p.0 n) e ∙ p.1 ∙ sym q.1 ∙ ap (λ n. bit_at q.0 n) (sym e)
+          | inr ne ↦ p.2 k ne ∙ agree k below ∙ sym (q.2 k ne)
+        ]) ∙ sym q.3;
+  }
+
+  -- a node looks at the track of its test
+  pub track-below : (bound : ℕ) → LooksBelow shapes node bound → track < bound
+  track-below bound narrow = elim (cases_lt track bound) [
+    | inl lt ↦ lt
+    | inr past ↦
+        let within = at.within in
+        let low_before = fits.low_before in
+        let high_before = fits.high_before in
+        absurd (fits.differ (node-from_map shapes is low high (omega arith) (omega arith) (λ letter.
+        let p = low_at letter in
+        let q = high_at letter in
+        p.3 ∙ narrow.same p.0 q.0 (λ k below. let ne : k ≢ track = omega arith in p.2 k ne ∙ sym (q.2 k ne)) ∙ sym q.3)))
+  ]
+
+-- the bits of a relabelled letter
+pub bit_at-relabelled : (tracks : List ℕ) (letter k d : ℕ) → k < length tracks → bit_at (relabelled tracks letter) k ≡ bit_at letter (get_or tracks k d)
+bit_at-relabelled [] letter k d h = absurd (omega arith)
+bit_at-relabelled (t ∷ tracks) letter zero d h = let small = bit_at-lt letter t in bit_at_lowest (bit_at letter t + 2 * relabelled tracks letter) ∙ grind (arith, small)
+bit_at-relabelled (t ∷ tracks) letter (suc k) d h =
+    let small = bit_at-lt letter t in
+    let half : (bit_at letter t + 2 * relabelled tracks letter) / 2 ≡ relabelled tracks letter = omega (arith, small) in
+    bit_at-suc (bit_at letter t + 2 * relabelled tracks letter) k ∙ ap (λ n. bit_at n k) half ∙ bit_at-relabelled tracks letter k d (omega arith)
+
+pub LooksBelow-grows : (old new : List Shape) (node bound : ℕ) → node < length old → Grows old new → LooksBelow old node bound → LooksBelow new node bound
+LooksBelow-grows old new node bound known grows narrow = record { same = λ a b agree. grows.map node a known ∙ narrow.same a b agree ∙ sym (grows.map node b known) }
+
+pub IsRelabelled-grows : (old new : List Shape) (tracks : List ℕ) (a r : ℕ) → Grows old new → IsRelabelled old tracks a r → IsRelabelled new tracks a r
+IsRelabelled-grows old new tracks a r grows is =
+    let known = is.known in
+    let source_known = is.source_known in
+    let longer = grows.longer in
+    record {
+      known = omega arith;
+      source_known = omega arith;
+      map = λ letter. grows.map r letter is.known ∙ is.map letter ∙ sym (grows.map a (relabelled tracks letter) is.source_known);
+    }
+
+pub RemembersRelabelled-grows : {S : Type 0} (old new : List Shape) (tracks : List ℕ) (memo : HashMap ℕ ℕ S) → Grows old new → RemembersRelabelled old tracks memo → RemembersRelabelled new tracks memo
+RemembersRelabelled-grows old new tracks memo grows all = record { relabelled = λ a r at. IsRelabelled-grows old new tracks a r grows (all.relabelled a r at) }
+
+pub RemembersRelabelled-insert : {S : Type 0} (shapes : List Shape) (tracks : List ℕ) (memo new : HashMap ℕ ℕ S) (a r : ℕ) → RemembersRelabelled shapes tracks memo → Updates nat_eq memo new a (Some r) → IsRelabelled shapes tracks a r → RemembersRelabelled shapes tracks new
+RemembersRelabelled-insert shapes tracks memo new a r all updates is = record { relabelled = answers-insert (IsRelabelled shapes tracks) memo new a r all.relabelled updates is }
+
+-- a test of relabelled sides
+pub IsRelabelled-test : (shapes : List Shape) (tracks : List ℕ) (a r track low high low' high' : ℕ) → a < length shapes → ((letter : ℕ) → map_at shapes a letter ≡ chosen shapes track low high letter)
+    → IsRelabelled shapes tracks low low' → IsRelabelled shapes tracks high high' → r < length shapes → track < length tracks → ((letter : ℕ) → map_at shapes r letter ≡ chosen shapes (get_or tracks track 0) low' high' letter) → IsRelabelled shapes tracks a r
+IsRelabelled-test shapes tracks a r track low high low' high' source_known source_map l h known within map = record {
+  known = known;
+  source_known = source_known;
+  map = λ letter.
+      let bit : bit_at letter (get_or tracks track 0) ≡ bit_at (relabelled tracks letter) track = sym (bit_at-relabelled tracks letter track 0 within) in
+      map letter ∙ (λ i. if nat_eq (bit i) 0 then l.map letter i else h.map letter i) ∙ sym (source_map (relabelled tracks letter));
+}
+
+pub IsRelabelled-leaf : (shapes : List Shape) (tracks : List ℕ) (a value : ℕ) → IsAt shapes a (Leaf value) → IsRelabelled shapes tracks a a
+IsRelabelled-leaf shapes tracks a value at = record { known = at.within; source_known = at.within; map = λ letter. at.map letter ∙ sym (at.map (relabelled tracks letter)) }
+
+-- the value of a bit's test
+pub chosen-bit : (shapes : List Shape) (track low high letter : ℕ) → map_at shapes low letter ≡ 0 → map_at shapes high letter ≡ 1 → chosen shapes track low high letter ≡ bit_at letter track
+chosen-bit shapes track low high letter l h = (λ i. if nat_eq (bit_at letter track) 0 then l i else h i) ∙ elim (bit_cases letter track) [
+  | inl z ↦ ap (λ n. if nat_eq n 0 then 0 else 1) z ∙ sym z
+  | inr o ↦ ap (λ n. if nat_eq n 0 then 0 else 1) o ∙ sym o
+]
+
+-- what a table of picks gives at a letter
+pub pick_of-chosen : (shapes : List Shape) (picks pairs : List (ℕ × ℕ)) (track low high picked both letter : ℕ) → slice_get picks picked ≡ Some (bit_at letter track, both)
+    → slice_get pairs both ≡ Some (map_at shapes low letter, map_at shapes high letter) → slice_index (map (pick_of pairs) picks) picked ≡ chosen shapes track low high letter
+pick_of-chosen shapes picks pairs track low high picked both letter p q =
+    get_or-map (pick_of pairs) picks picked (0, 0) 0 (slice_get_within picks picked (bit_at letter track, both) p)
+    ∙ ap (pick_of pairs) (get_or_from_slice_get picks picked (bit_at letter track, both) (0, 0) p)
+    ∙ (let e = get_or_from_slice_get pairs both (map_at shapes low letter, map_at shapes high letter) (0, 0) q in λ i. if nat_eq (bit_at letter track) 0 then (e i).0 else (e i).1)
+
+-- each pick is of a pair that is there
+pub picks-within : (shapes : List Shape) (picks pairs : List (ℕ × ℕ)) (bit both start : ℕ) (values : ℕ → ℕ × ℕ) → AreAnswers shapes start picks bit both → start ≡ 0
+    → ((letter : ℕ) → slice_get pairs (map_at shapes both letter) ≡ Some (values letter)) → (i : ℕ) (pick : ℕ × ℕ) → slice_get picks i ≡ Some pick → pick.1 < length pairs
+picks-within shapes picks pairs bit both start values answers zero_start at i pick here =
+    let answer = answers.answer i (omega arith) (slice_get_within picks i pick here) in
+    let within = slice_get_within pairs (map_at shapes both answer.0) (values answer.0) (at answer.0) in
+    let same : pick ≡ (map_at shapes bit answer.0, map_at shapes both answer.0) = some_inj (sym here ∙ answer.1) in
+    rw (ap (λ (p : ℕ × ℕ). p.1) same) within
+  where
+    some_inj : {x y : ℕ × ℕ} → Some x ≡ Some y → x ≡ y
+    some_inj e = cc
+
+pub table-within : (picks : List (ℕ × ℕ)) (table : List ℕ) (f : ℕ × ℕ → ℕ) (n : ℕ) (p : ℕ × ℕ) → table ≡ map f picks → slice_get picks n ≡ Some p → n < length table
+table-within picks table f n p e at = let l = ap length e ∙ length-map picks f in let w = slice_get_within picks n p at in omega (arith, l, w)
+
+-- no map looks at a track past the twentieth
+pub LooksBelow-all : (shapes : List Shape) → IsDiagram shapes → (node bound : ℕ) → node < length shapes → 20 ≤ bound → LooksBelow shapes node bound
+LooksBelow-all shapes is node bound known enough = record { same = λ a b agree. map_at-agree shapes is node known a b (λ k from below. agree k (omega arith)) }
+
+number_same : (pairs : List (ℕ × ℕ)) → AllPairs (λ p q. p ≢ q) pairs → (i j : ℕ) (p : ℕ × ℕ) → slice_get pairs i ≡ Some p → slice_get pairs j ≡ Some p → i ≡ j
+number_same pairs unrepeated i j p at_i at_j =
+    let wi = slice_get_within pairs i p at_i in
+    let wj = slice_get_within pairs j p at_j in
+    let ei = get_or_from_slice_get pairs i p p at_i in
+    let ej = get_or_from_slice_get pairs j p p at_j in
+    elim (cases_lt i j) [
+      | inl lt ↦ absurd (unrepeated i j p lt wj (ei ∙ sym ej))
+      | inr ge ↦ elim (cases_lt j i) [ inl lt ↦ absurd (unrepeated j i p lt wi (ej ∙ sym ei)) | inr le ↦ omega arith ]
+    ]
+
+-- the map of pairs of two maps looks at the tracks that these look at
+pub LooksBelow-pairs : (old shapes : List Shape) (pairs : List (ℕ × ℕ)) (a b node bound : ℕ) → AllPairs (λ p q. p ≢ q) pairs
+    → ((letter : ℕ) → slice_get pairs (map_at shapes node letter) ≡ Some (map_at old a letter, map_at old b letter)) → LooksBelow old a bound → LooksBelow old b bound → LooksBelow shapes node bound
+LooksBelow-pairs old shapes pairs a b node bound unrepeated map narrow narrow' = record {
+  same = λ x y agree.
+      number_same pairs unrepeated _ _ (map_at old a y, map_at old b y) (map x ∙ (λ i. Some (narrow.same x y agree i, narrow'.same x y agree i))) (map y);
+}

@@ -1,0 +1,122 @@
+use Rattle.std.proofs.Common.{rules, arith, ◌≡◌, ℕ, sym, ◌∙◌}
+use Rattle.letter_diagram.specs.Paired.{top_of_both}
+use Rattle.letter_diagram.specs.Merged.{IsUnited, RemembersUnited}
+use Rattle.letter_diagram.proofs.Maps.{Grows-trans}
+use Rattle.letter_diagram.proofs.SetNumbers.{SetsKept-refl, SetsKept-trans}
+use Rattle.letter_diagram.proofs.Pairings.{room_for-constant, room_for-grows, room_for-sides, top_of_both-grows, IsSplit-grows, chosen-grows, sides-fall}
+use Rattle.letter_diagram.proofs.Mergings.{HasSets-grows, HasSets-low, HasSets-high, IsUnited-grows, IsUnited-same, IsUnited-sides, RemembersUnited-grows, RemembersUnited-insert, AreUnions-sides}
+use Rattle.letter_diagram.proofs.diagrams.Diagrams.+united.Goals as goal
+use Rattle.letter_diagram.proofs.diagrams.Diagrams.+united.Goals.{united-then-track-eq20+in_ok-node, united-else-track-eq20+in_ok-node-2}
+
+pub united-returns-in-Some-clause-united : goal.united-returns-in-Some-clause-united
+united-returns-in-Some-clause-united t c = c.requires.remembered.united _ _ _ (sym c.in-Some.ensures.value)
+
+pub united-united_leaves-requires-clause-room : goal.united-united_leaves-requires-clause-room
+united-united_leaves-requires-clause-room t c =
+    let both : top_of_both c.args.self.now c.args.a c.args.b ≡ 20 = search rules in
+    let one = room_for-constant _ _ _ both in
+    let room = c.requires.room in
+    omega (arith, one, room)
+
+made : (t : ℕ) (c : goal.united-In_ok-insert t) → IsUnited c.if-track-eq20.self c.if-track-eq20.sets c.args.a c.args.b c.if-track-eq20.node
+made t c = elim c.if-track-eq20.branch [
+  | united-then-track-eq20+in_ok-node w ↦ rw (w.self-is, w.sets-is, w.node-is) w.in_ok-node.ensures.united
+  | united-else-track-eq20+in_ok-node-2 w ↦ rw (w.self-is, w.sets-is, w.node-is) w.in_ok-node-2.ensures.united
+]
+
+pub united-returns-clause-united : goal.united-returns-clause-united
+united-returns-clause-united t c = made t c
+
+pub united-returns-clause-remembered : goal.united-returns-clause-remembered
+united-returns-clause-remembered t c =
+    let before : RemembersUnited c.if-track-eq20.self c.if-track-eq20.sets c.if-track-eq20.memo = elim c.if-track-eq20.branch [
+      | united-then-track-eq20+in_ok-node w ↦ rw (w.self-is, w.sets-is, w.memo-is) (RemembersUnited-grows _ _ _ _ _ w.in_ok-node.ensures.grows w.in_ok-node.ensures.sets c.requires.remembered)
+      | united-else-track-eq20+in_ok-node-2 w ↦ rw (w.self-is, w.sets-is, w.memo-is) w.in_ok-node-2.ensures.remembered
+    ] in
+    RemembersUnited-insert _ _ _ _ _ _ _ before c.in_ok-insert.ensures.updates (made t c)
+
+pub united-returns-clause-room : goal.united-returns-clause-room
+united-returns-clause-room t c =
+    elim c.if-track-eq20.branch [
+      | united-then-track-eq20+in_ok-node w ↦
+          let both : top_of_both c.args.self.now c.args.a c.args.b ≡ 20 = search rules in
+          let one = room_for-constant _ _ _ both in
+          let room = w.in_ok-node.ensures.room in
+          rw w.sets-is (omega (arith, one, room))
+      | united-else-track-eq20+in_ok-node-2 w ↦ rw w.sets-is w.in_ok-node-2.ensures.room
+    ]
+
+pub united-returns-clause-answers : goal.united-returns-clause-answers
+united-returns-clause-answers t c =
+    elim c.if-track-eq20.branch [
+      | united-then-track-eq20+in_ok-node w ↦ rw w.sets-is w.in_ok-node.ensures.answers
+      | united-else-track-eq20+in_ok-node-2 w ↦ rw w.sets-is w.in_ok-node-2.ensures.answers
+    ]
+
+pub united_sides-united-requires : goal.united_sides-united-requires
+united_sides-united-requires t c =
+    let a = c.split-a_low.ensures.sides in
+    let b = c.split-b_low.ensures.sides in
+    let is = c.split-a_low.ensures.diagram in
+    let fall = sides-fall _ _ _ _ _ _ _ c.requires.track a.low_within b.low_within a.low_smaller b.low_smaller in
+    let sides = room_for-sides _ _ _ _ _ _ _ _ c.requires.track_low a b c.requires.track in
+    let room = c.requires.room in
+    (omega arith, (HasSets-low _ is _ _ _ _ _ a c.requires.a_sets, (HasSets-low _ is _ _ _ _ _ b c.requires.b_sets, (omega (arith, sides, room), c.requires.remembered))))
+
+pub united_sides-united-requires-2 : goal.united_sides-united-requires-2
+united_sides-united-requires-2 t c =
+    let a = c.split-a_low.ensures.sides in
+    let b = c.split-b_low.ensures.sides in
+    let is = c.split-a_low.ensures.diagram in
+    let fall = sides-fall _ _ _ _ _ _ _ c.requires.track a.high_within b.high_within a.high_smaller b.high_smaller in
+    let grows = c.in_ok-low.ensures.grows in
+    let kept = c.in_ok-low.ensures.sets in
+    let sides = room_for-sides _ _ _ _ _ _ _ _ c.requires.track_low a b c.requires.track in
+    let same = room_for-grows _ _ c.split-a_low.result.1 c.split-b_low.result.1 grows a.high_known b.high_known in
+    let room = c.requires.room in
+    let used = c.in_ok-low.ensures.room in (
+      omega arith,
+      (HasSets-grows _ _ _ _ _ grows kept (HasSets-high _ is _ _ _ _ _ a c.requires.a_sets), (HasSets-grows _ _ _ _ _ grows kept (HasSets-high _ is _ _ _ _ _ b c.requires.b_sets), (omega (arith, sides, room, same, used), c.in_ok-low.ensures.remembered))),
+    )
+
+pub united_sides-returns-clause-united : goal.united_sides-returns-clause-united
+united_sides-returns-clause-united t c =
+    let a = c.split-a_low.ensures.sides in
+    let b = c.split-b_low.ensures.sides in
+    let from_high = c.in_ok-node.ensures.grows in
+    let from_low = Grows-trans _ _ _ c.in_ok-high.ensures.grows from_high in
+    let grows = Grows-trans _ _ _ c.in_ok-low.ensures.grows from_low in
+    let kept = SetsKept-trans _ _ _ c.in_ok-low.ensures.sets c.in_ok-high.ensures.sets in
+    let longer = grows.longer in
+    let low = c.in_ok-low.ensures.united in
+    let high = c.in_ok-high.ensures.united in
+    let low_known = low.known in
+    let high_longer = c.in_ok-high.ensures.grows.longer in
+    IsUnited-sides _ _ _ _ _ c.args.track _ _ _ _ c.in_ok-low.low c.in_ok-high.high (HasSets-grows _ _ _ _ _ grows kept c.requires.a_sets) (HasSets-grows _ _ _ _ _ grows kept c.requires.b_sets) c.in_ok-node.ensures.known
+    (IsSplit-grows _ _ _ _ _ _ c.requires.a_sets.known grows a) (IsSplit-grows _ _ _ _ _ _ c.requires.b_sets.known grows b)
+    (c.requires.track ∙ sym (top_of_both-grows _ _ _ _ grows c.requires.a_sets.known c.requires.b_sets.known))
+    (IsUnited-grows _ _ _ _ _ _ _ from_low c.in_ok-high.ensures.sets low) (IsUnited-grows _ _ _ _ _ _ _ from_high (SetsKept-refl _) high)
+    (λ letter. c.in_ok-node.ensures.map letter ∙ sym (chosen-grows _ _ c.args.track _ _ letter (omega arith) high.known from_high)) c.in_ok-node.ensures.top
+
+pub united_sides-returns-clause-remembered : goal.united_sides-returns-clause-remembered
+united_sides-returns-clause-remembered t c = RemembersUnited-grows _ _ _ _ _ c.in_ok-node.ensures.grows (SetsKept-refl _) c.in_ok-high.ensures.remembered
+
+pub united_sides-returns-clause-room : goal.united_sides-returns-clause-room
+united_sides-returns-clause-room t c =
+    let a = c.split-a_low.ensures.sides in
+    let b = c.split-b_low.ensures.sides in
+    let sides = room_for-sides _ _ _ _ _ _ _ _ c.requires.track_low a b c.requires.track in
+    let same = room_for-grows _ _ c.split-a_low.result.1 c.split-b_low.result.1 c.in_ok-low.ensures.grows a.high_known b.high_known in
+    let low_used = c.in_ok-low.ensures.room in
+    let high_used = c.in_ok-high.ensures.room in
+    omega (arith, sides, same, low_used, high_used)
+
+pub united_sides-returns-clause-answers : goal.united_sides-returns-clause-answers
+united_sides-returns-clause-answers t c =
+    AreUnions-sides _ _ c.split-a_low.ensures.diagram _ _ _ _ _ c.args.track _ _ _ _ c.in_ok-low.ensures.grows c.in_ok-low.ensures.sets c.in_ok-high.ensures.sets
+    c.split-a_low.ensures.sides c.split-b_low.ensures.sides c.requires.a_sets c.requires.b_sets c.in_ok-low.ensures.answers c.in_ok-high.ensures.answers
+
+pub united-returns-then-eq-clause-united : goal.united-returns-then-eq-clause-united
+united-returns-then-eq-clause-united t c =
+    let equal : c.args.a ≡ c.args.b = search rules in
+    IsUnited-same _ c.top.ensures.diagram _ _ _ equal c.requires.a_sets

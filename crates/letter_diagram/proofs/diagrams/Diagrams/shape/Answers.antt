@@ -1,0 +1,24 @@
+use Rattle.std.proofs.Common.{◌≡◌, ◌<◌, ℕ, List, length, slice_get, Some, subst, refl}
+use Rattle.letter_diagram.specs.declared.diagrams.Shape.{Shape}
+use Rattle.std.proofs.lemmas.Option.{slice_get_read}
+use Rattle.letter_diagram.proofs.Maps.{IsAt-get}
+use Rattle.letter_diagram.proofs.Canonical.{HasChildren-at}
+use Rattle.letter_diagram.proofs.diagrams.Diagrams.shape.Goals as goal
+
+at_node : (c : goal.After-index-as_slice-node) → slice_get c.self.inside.shapes.keys c.args.node ≡ Some c.index-as_slice-node.result
+at_node c =
+    let P : List Shape → ℕ → Type 0 = λ l n. slice_get l n ≡ Some c.index-as_slice-node.result in
+    let within : c.node.inside.0 < length c.as_slice.result.now = rw (c.node.view_is, c.as_slice.ensures.keys, c.self.view_is) c.requires in
+    let there = slice_get_read c.as_slice.result.now _ c.node.inside.0 c.index-as_slice-node.result refl within c.index-as_slice-node.is in
+    subst (λ l. P l c.args.node) c.as_slice.ensures.keys (subst (P c.as_slice.result.now) c.node.view_is there)
+
+pub returns-clause-at : goal.returns-clause-at
+returns-clause-at c = rw (← c.self.view_is) (IsAt-get _ _ _ (at_node c) (c.self.invariant.fits _ _ (at_node c)))
+
+pub returns-clause-fits : goal.returns-clause-fits
+returns-clause-fits c = rw (← c.self.view_is) (c.self.invariant.fits _ _ (at_node c))
+
+pub returns-clause-children : goal.returns-clause-children
+returns-clause-children c =
+    let fits = c.self.invariant.fits _ _ (at_node c) in
+    rw (← c.self.view_is) (HasChildren-at _ c.self.invariant _ _ (IsAt-get _ _ _ (at_node c) fits) fits)

@@ -1,0 +1,14 @@
+pub mod Diagram
+pub mod Numbering
+pub mod Paired
+pub mod Restricted
+pub mod Brought
+pub mod Relabelled
+pub mod Least
+pub mod Values
+pub mod Product
+pub mod Listed
+pub mod Sets
+pub mod Merged
+pub mod Merger
+pub mod Leaves

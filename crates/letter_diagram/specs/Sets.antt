@@ -1,0 +1,20 @@
+-- Numbered sets, each as its elements in ascending order.
+use Rattle.std.specs.Prelude.{◌≡◌, ◌≤◌, ◌<◌, ◌⊎◌, ◌↔◌, ℕ, List, [], ◌∷◌, ◌++◌, length, slice_get, slice_index_or, Some, Contains}
+
+-- the set of a number
+abbrev pub set_at : List (List ℕ) → ℕ → List ℕ
+set_at sets number = slice_index_or sets number []
+
+-- the sets stay, or one that was not there comes last
+abbrev pub NumbersSet : List (List ℕ) → List (List ℕ) → List ℕ → Type 0
+NumbersSet old new set = (new ≡ old) ⊎ ((new ≡ old ++ set ∷ []) × (Contains old set → ⊥))
+
+-- the sets that were known keep their numbers
+pub record SetsKept (old new : List (List ℕ)) : Type 0 where
+  pub longer : length old ≤ length new
+  pub at : (number : ℕ) (set : List ℕ) → slice_get old number ≡ Some set → slice_get new number ≡ Some set
+
+-- a number whose set has just what the sets of two numbers have
+pub record IsUnion (sets : List (List ℕ)) (x y number : ℕ) : Type 0 where
+  pub known : number < length sets
+  pub members : (element : ℕ) → Contains (set_at sets number) element ↔ (Contains (set_at sets x) element ⊎ Contains (set_at sets y) element)

@@ -1,0 +1,204 @@
+//! Nodes, numbered in the order in which they were made.
+ghost use Rattle.std.specs.Prelude.{◌≡◌, ◌<◌, ◌≤◌, ◌^◌, ◌++◌, [], ◌∷◌, List, ℕ, length, slice_get, Some, IfOk, OnErr, IsTrue, ◌↔◌};
+ghost use Rattle.letter_diagram.specs.Diagram.{map_at, top_track, Grows, FitsBelow, IsAt, IsDiagram, HasChildren, chosen};
+ghost use Rattle.letter_diagram.specs.Paired.{IsSplit};
+
+use indexmap::IndexSet;
+use std::alloc::{AllocError, Global};
+use std::marker::Model;
+
+/// A diagram inside a `Diagrams`.
+#[derive(Debug, Clone, Copy, PartialEq, Eq, Hash)]
+pub struct Node(usize);
+
+impl Model for Node {
+    ghost use Rattle.std.specs.Prelude.{ℕ};
+
+    ghost Value = { ℕ };
+
+    ghost view = { λ n. n.0 };
+
+    ghost inverse = { λ i. record { 0 = i } };
+}
+
+/// What a diagram looks at first.
+#[derive(Debug, Clone, Copy, PartialEq, Eq, Hash)]
+pub enum Shape {
+    /// The map is constant.
+    Leaf(u32),
+    /// The least track that the map looks at, and the maps at its bit 0 and bit 1.
+    Test { track: u8, low: Node, high: Node },
+}
+
+/// Diagrams that share their nodes.
+#[derive(Drop)]
+pub struct Diagrams {
+    shapes: IndexSet<Shape>,
+}
+
+impl Model for Diagrams {
+    ghost use Rattle.std.specs.Prelude.{List};
+    ghost use Rattle.letter_diagram.specs.declared.diagrams.Shape.{Shape};
+    ghost use Rattle.letter_diagram.specs.Diagram.{IsDiagram};
+
+    ghost Value = { List Shape };
+
+    ghost view = { λ d. d.shapes.keys };
+
+    ghost invariant = { λ d. IsDiagram d.shapes.keys };
+}
+
+impl Diagrams {
+    pub fn new(alloc: Global) -> Self
+        ensures { result ≡ [] }
+    {
+        Diagrams {
+            shapes: IndexSet::new(alloc),
+        }
+    }
+
+    /// The allocator that the nodes are kept in.
+    pub fn alloc(&self) -> Global {
+        *self.shapes.allocator()
+    }
+
+    /// How many nodes are known.
+    pub fn len(&self) -> usize
+        ensures { result ≡ length self.now }
+    {
+        self.shapes.len()
+    }
+
+    /// Whether no node is known.
+    pub fn is_empty(&self) -> bool
+        ensures { IsTrue result ↔ (self.now ≡ []) }
+    {
+        self.shapes.is_empty()
+    }
+
+    /// Whether a node is of these.
+    pub fn is_node(&self, node: Node) -> bool
+        ensures { IsTrue result ↔ (node < length self.now) }
+    {
+        node.0 < self.shapes.len()
+    }
+
+    /// The same nodes, with the same maps.
+    pub fn copy(&self) -> Result<Diagrams, AllocError>
+        ensures { IfOk result (λ copy. copy ≡ self.now) }
+    {
+        Ok(Diagrams {
+            shapes: self.shapes.clone()?,
+        })
+    }
+
+    /// The node of a constant map.
+    pub fn leaf(&mut self, value: u32) -> Result<Node, AllocError>
+        ensures known { IfOk result (λ node. node < length self.new) }
+        ensures map { IfOk result (λ node. (letter : ℕ) → map_at self.new node letter ≡ value) }
+        ensures top { IfOk result (λ node. top_track self.new node ≡ 20) }
+        ensures grows { Grows self.old self.new }
+    {
+        self.insert(Shape::Leaf(value))
+    }
+
+    /// The node of the map that is `low` where the bit of `track` is 0, else `high`.
+    pub fn node(&mut self, track: u8, low: Node, high: Node) -> Result<Node, AllocError>
+        requires track_low { track < 20 }
+        requires low_known { low < length self.old }
+        requires high_known { high < length self.old }
+        requires low_above { track < top_track self.old low }
+        requires high_above { track < top_track self.old high }
+        ensures known { IfOk result (λ node. node < length self.new) }
+        ensures map { IfOk result (λ node. (letter : ℕ) → map_at self.new node letter ≡ chosen self.old track low high letter) }
+        ensures top { IfOk result (λ node. track ≤ top_track self.new node) }
+        ensures grows { Grows self.old self.new }
+    {
+        if low == high {
+            return Ok(low);
+        }
+        self.insert(Shape::Test { track, low, high })
+    }
+
+    /// What a node looks at first.
+    pub fn shape(&self, node: Node) -> Shape
+        requires { node < length self.now }
+        ensures at { IsAt self.now node result }
+        ensures fits { FitsBelow self.now node result }
+        ensures children { HasChildren self.now node result }
+        ensures diagram { IsDiagram self.now }
+    {
+        self.shapes.as_slice()[node.0]
+    }
+
+    /// The value of a node's map at a letter.
+    pub fn read(&self, node: Node, letter: u32) -> u32
+        requires { node < length self.now }
+        ensures { result ≡ map_at self.now node letter }
+    {
+        match self.shape(node) {
+            Shape::Leaf(value) => value,
+            Shape::Test { track, low, high } => {
+                let next = if (letter >> track) & 1 == 0 {
+                    low
+                } else {
+                    high
+                };
+                self.read(next, letter)
+            }
+        }
+    }
+
+    /// The least track that the node's map looks at, or 20 where it is constant.
+    pub fn top(&self, node: Node) -> u8
+        requires { node < length self.now }
+        ensures top { result ≡ top_track self.now node }
+        ensures small { result ≤ 20 }
+        ensures diagram { IsDiagram self.now }
+        ensures constant { result ≡ 20 → (letter : ℕ) → map_at self.now node letter ≡ map_at self.now node 0 }
+    {
+        match self.shape(node) {
+            Shape::Leaf(_) => 20,
+            Shape::Test { track, .. } => track,
+        }
+    }
+
+    /// The node's map where the bit of a track is 0, and where it is 1.
+    pub fn split(&self, node: Node, track: u8) -> (Node, Node)
+        requires known { node < length self.now }
+        requires track_low { track < 20 }
+        requires below { track ≤ top_track self.now node }
+        ensures sides { IsSplit self.now node track result.0 result.1 }
+        ensures diagram { IsDiagram self.now }
+    {
+        let _ = &self.shapes;
+        match self.shape(node) {
+            Shape::Test {
+                track: own,
+                low,
+                high,
+            } if own == track => (low, high),
+            _ => (node, node),
+        }
+    }
+
+    /// Whether two nodes have one map. That is so exactly where they are equal.
+    pub fn same_map(&self, a: Node, b: Node) -> bool
+        requires a_known { a < length self.now }
+        requires b_known { b < length self.now }
+        ensures equal { IsTrue result ↔ (a ≡ b) }
+        ensures map { IsTrue result ↔ ((letter : ℕ) → letter < 2 ^ 20 → map_at self.now a letter ≡ map_at self.now b letter) }
+    {
+        let _ = &self.shapes;
+        a == b
+    }
+
+    fn insert(&mut self, shape: Shape) -> Result<Node, AllocError>
+        requires { FitsBelow self.old (length self.old) shape }
+        ensures at { IfOk result (λ node. IsAt self.new node shape) }
+        ensures grows { Grows self.old self.new }
+    {
+        let (index, _) = self.shapes.insert_full(shape)?;
+        Ok(Node(index))
+    }
+}

@@ -1,0 +1,26 @@
+//! Shared diagrams: maps from letters to numbers that look at finitely many tracks.
+#![tactic(auto)]
+
+mod apply2;
+mod bring;
+mod diagrams;
+pub mod laws;
+mod least;
+mod leaves;
+mod map_leaves;
+mod merge;
+mod merger;
+mod pairs;
+mod product;
+mod relabel;
+mod restrict;
+mod sets;
+#[cfg(test)]
+mod tests;
+mod values;
+
+pub use diagrams::{Diagrams, Node, Shape};
+pub use merger::Merger;
+pub use pairs::{Pairs, PairsError};
+pub use product::Product;
+pub use sets::Sets;

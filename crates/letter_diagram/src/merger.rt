@@ -1,0 +1,116 @@
+//! Merged maps over one table of nodes, with memos that are kept from call to call.
+ghost use Rattle.std.specs.Prelude.{◌≡◌, ◌<◌, ◌≤◌, ◌+◌, ◌^◌, ℕ, length, IfOk, OnOk};
+ghost use Rattle.letter_diagram.specs.Diagram.{map_at, top_track, Grows};
+ghost use Rattle.letter_diagram.specs.Sets.{SetsKept, IsUnion};
+ghost use Rattle.letter_diagram.specs.Restricted.{IsWithBit};
+ghost use Rattle.letter_diagram.specs.Merged.{IgnoresTrack, AreMerged};
+
+use crate::diagrams::{Diagrams, Node};
+use crate::sets::Sets;
+use std::alloc::AllocError;
+use std::collections::HashMap;
+use std::marker::Model;
+
+/// Diagrams and the sets that their values number, for many calls of `apply` at one track. What two calls have in common is
+/// done once.
+#[derive(Drop)]
+pub struct Merger {
+    diagrams: Diagrams,
+    sets: Sets,
+    track: u8,
+    merged: HashMap<Node, Node>,
+    united: HashMap<(Node, Node), Node>,
+}
+
+impl Model for Merger {
+    ghost use Rattle.std.specs.Prelude.{◌<◌};
+    ghost use Rattle.letter_diagram.specs.Merger.{MergerTables};
+    ghost use Rattle.letter_diagram.specs.Merged.{RemembersUnited, RemembersMerged};
+
+    ghost Value = { MergerTables };
+
+    ghost view = { λ m. record { shapes = m.diagrams; sets = m.sets; track = m.track } };
+
+    ghost invariant = { λ m. (m.track < 20) × RemembersMerged m.diagrams m.sets m.track m.merged × RemembersUnited m.diagrams m.sets m.united };
+}
+
+impl Merger {
+    /// Over nodes and sets that are there already, at a track.
+    pub fn new(diagrams: Diagrams, sets: Sets, track: u8) -> Self
+        requires { track < 20 }
+        ensures shapes { result.shapes ≡ diagrams }
+        ensures sets { result.sets ≡ sets }
+        ensures track { result.track ≡ track }
+    {
+        let merged = HashMap::new(diagrams.alloc());
+        let united = HashMap::new(diagrams.alloc());
+        Merger {
+            diagrams,
+            sets,
+            track,
+            merged,
+            united,
+        }
+    }
+
+    /// The nodes.
+    pub fn diagrams(&self) -> &Diagrams
+        ensures { result.now ≡ self.now.shapes }
+    {
+        &self.diagrams
+    }
+
+    /// The sets that are numbered.
+    pub fn sets(&self) -> &Sets
+        ensures { result.now ≡ self.now.sets }
+    {
+        &self.sets
+    }
+
+    /// The nodes and the sets.
+    pub fn into_parts(self) -> (Diagrams, Sets)
+        ensures shapes { result.0 ≡ self.shapes }
+        ensures sets { result.1 ≡ self.sets }
+    {
+        let Merger {
+            diagrams,
+            sets,
+            track: _,
+            merged: _,
+            united: _,
+        } = self;
+        (diagrams, sets)
+    }
+
+    /// The map from a letter to the number of the union of the two sets at both bits of the track, as `Diagrams::merge_track`
+    /// gives it. Nodes that earlier calls met are not visited again. Want of memory empties the memos.
+    pub fn apply(&mut self, a: Node) -> Result<Node, AllocError>
+        requires known { a < length self.old.shapes }
+        requires leaves { (letter : ℕ) → map_at self.old.shapes a letter < length self.old.sets }
+        requires room { length self.old.sets < 2 ^ 31 }
+        ensures known { IfOk result (λ node. node < length self.new.shapes) }
+        ensures map { IfOk result (λ node. (letter off on : ℕ) → IsWithBit off letter self.old.track 0 → IsWithBit on letter self.old.track 1 → IsUnion self.new.sets (map_at self.old.shapes a off) (map_at self.old.shapes a on) (map_at self.new.shapes node letter)) }
+        ensures ignores { IfOk result (λ node. IgnoresTrack self.new.shapes node self.old.track) }
+        ensures top { IfOk result (λ node. top_track self.old.shapes a ≤ top_track self.new.shapes node) }
+        ensures answers { OnOk result (AreMerged self.old.shapes (length self.old.sets) self.new.sets self.old.track a) }
+        ensures few { OnOk result (length self.new.sets ≤ length self.old.sets + 2 ^ 20) }
+        ensures sets { SetsKept self.old.sets self.new.sets }
+        ensures grows { Grows self.old.shapes self.new.shapes }
+        ensures track { self.new.track ≡ self.old.track }
+    {
+        match self.diagrams.merged(
+            a,
+            self.track,
+            &mut self.sets,
+            &mut self.merged,
+            &mut self.united,
+        ) {
+            Ok(node) => Ok(node),
+            Err(refused) => {
+                self.merged.clear();
+                self.united.clear();
+                Err(refused)
+            }
+        }
+    }
+}

@@ -1,0 +1,95 @@
+//! Maps of pairs over one table of nodes, with a memo that is kept from call to call.
+ghost use Rattle.std.specs.Prelude.{◌≡◌, ◌<◌, ◌≤◌, ◌+◌, ◌^◌, ℕ, length, slice_get, Some, IfOk, OnOk};
+ghost use Rattle.letter_diagram.specs.Diagram.{map_at, top_track, Grows};
+ghost use Rattle.letter_diagram.specs.Numbering.{PairsKept};
+ghost use Rattle.letter_diagram.specs.Paired.{top_of_both, AreAnswers};
+
+use crate::diagrams::{Diagrams, Node};
+use crate::pairs::Pairs;
+use std::alloc::AllocError;
+use std::collections::HashMap;
+use std::marker::Model;
+
+/// Diagrams and the pairs of their values, for many calls of `apply`. What two calls have in common is done once.
+#[derive(Drop)]
+pub struct Product {
+    diagrams: Diagrams,
+    pairs: Pairs,
+    memo: HashMap<(Node, Node), Node>,
+}
+
+impl Model for Product {
+    ghost use Rattle.letter_diagram.specs.Product.{ProductTables};
+    ghost use Rattle.letter_diagram.specs.Paired.{RemembersPaired};
+
+    ghost Value = { ProductTables };
+
+    ghost view = { λ p. record { shapes = p.diagrams; pairs = p.pairs } };
+
+    ghost invariant = { λ p. RemembersPaired p.diagrams p.pairs p.memo };
+}
+
+impl Product {
+    /// Over nodes and pairs that are there already.
+    pub fn new(diagrams: Diagrams, pairs: Pairs) -> Self
+        ensures shapes { result.shapes ≡ diagrams }
+        ensures pairs { result.pairs ≡ pairs }
+    {
+        let memo = HashMap::new(diagrams.alloc());
+        Product {
+            diagrams,
+            pairs,
+            memo,
+        }
+    }
+
+    /// The nodes.
+    pub fn diagrams(&self) -> &Diagrams
+        ensures { result.now ≡ self.now.shapes }
+    {
+        &self.diagrams
+    }
+
+    /// The pairs that are numbered.
+    pub fn pairs(&self) -> &Pairs
+        ensures { result.now ≡ self.now.pairs }
+    {
+        &self.pairs
+    }
+
+    /// The nodes and the pairs.
+    pub fn into_parts(self) -> (Diagrams, Pairs)
+        ensures shapes { result.0 ≡ self.shapes }
+        ensures pairs { result.1 ≡ self.pairs }
+    {
+        let Product {
+            diagrams,
+            pairs,
+            memo: _,
+        } = self;
+        (diagrams, pairs)
+    }
+
+    /// The map from a letter to the number of the pair of both values, as `Diagrams::apply2` gives it. Pairs of nodes that
+    /// earlier calls met are not visited again. Want of memory empties the memo.
+    pub fn apply(&mut self, a: Node, b: Node) -> Result<Node, AllocError>
+        requires a_known { a < length self.old.shapes }
+        requires b_known { b < length self.old.shapes }
+        requires room { length self.old.pairs < 2 ^ 31 }
+        ensures known { IfOk result (λ node. node < length self.new.shapes) }
+        ensures map { IfOk result (λ node. (letter : ℕ) → slice_get self.new.pairs (map_at self.new.shapes node letter) ≡ Some (map_at self.old.shapes a letter, map_at self.old.shapes b letter)) }
+        ensures top { IfOk result (λ node. top_of_both self.old.shapes a b ≤ top_track self.new.shapes node) }
+        ensures answers { OnOk result (AreAnswers self.old.shapes (length self.old.pairs) self.new.pairs a b) }
+        ensures few { OnOk result (length self.new.pairs ≤ length self.old.pairs + 2 ^ 20) }
+        ensures pairs { PairsKept self.old.pairs self.new.pairs }
+        ensures grows { Grows self.old.shapes self.new.shapes }
+    {
+        match self.diagrams.paired(a, b, &mut self.pairs, &mut self.memo) {
+            Ok(node) => Ok(node),
+            Err(refused) => {
+                self.memo.clear();
+                Err(refused)
+            }
+        }
+    }
+}

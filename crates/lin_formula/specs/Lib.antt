@@ -1,0 +1,12 @@
+pub use Rattle.track_word.specs.Word
+pub use Rattle.track_word.specs.Tracks
+pub use Rattle.track_word.specs.Atom
+pub use Rattle.auto_core.specs.Automaton
+pub use Rattle.auto_core.specs.Integers
+pub mod Tree
+pub mod Holds
+pub mod SetOf
+pub mod Free
+pub mod TreeOf
+pub mod Terms
+pub mod Refused

@@ -1,0 +1,7 @@
+-- Which terms a linear comparison may have.
+use Rattle.std.specs.Prelude.{List, ℤ, All}
+use Rattle.track_word.specs.declared.tracks.Var.{Var}
+use Rattle.track_word.specs.Atom.{IsCount, IsCoefficient}
+
+abbrev pub IsTerms : List (ℤ × Var) → Type 0
+IsTerms terms = IsCount terms × All IsCoefficient terms

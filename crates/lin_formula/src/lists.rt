@@ -1,0 +1,89 @@
+//! The lists that stand in formulas.
+ghost use Rattle.std.specs.Prelude.{◌≡◌, ◌↔◌, IsTrue};
+
+use smallvec::SmallVec;
+use std::marker::Model;
+use track_word::Var;
+
+/// The terms of a linear comparison, each a coefficient and a variable.
+#[derive(Drop)]
+pub struct Terms {
+    items: SmallVec<(i8, Var), 4>,
+}
+
+impl Model for Terms {
+    ghost use Rattle.std.specs.Prelude.{List, ℤ};
+    ghost use Rattle.track_word.specs.declared.tracks.Var.{Var};
+    ghost use Rattle.lin_formula.specs.Terms.{IsTerms};
+
+    ghost Value = { List (ℤ × Var) };
+
+    ghost view = { λ t. t.items.items };
+
+    ghost invariant = { λ t. IsTerms t.items.items };
+}
+
+impl Terms {
+    ghost use Rattle.lin_formula.specs.Terms.{IsTerms};
+
+    /// The terms of a list: one to eight, of different variables, with coefficients from -64 to 64 that are not 0.
+    pub fn new(items: SmallVec<(i8, Var), 4>) -> Terms
+        requires { IsTerms items.items }
+        ensures { result ≡ items.items }
+    {
+        Terms { items }
+    }
+
+    /// The terms in order.
+    pub fn as_slice(&self) -> &[(i8, Var)]
+        ensures items { result.now ≡ self.now }
+        ensures made { IsTerms result.now }
+    {
+        self.items.as_slice()
+    }
+
+    /// Whether both are the same terms in the same order.
+    pub fn same(&self, other: &Terms) -> bool
+        ensures { IsTrue result ↔ (self.now ≡ other.now) }
+    {
+        self.as_slice() == other.as_slice()
+    }
+}
+
+/// Some variables, in order.
+#[derive(Drop)]
+pub struct Vars {
+    items: Vec<Var>,
+}
+
+impl Model for Vars {
+    ghost use Rattle.std.specs.Prelude.{List};
+    ghost use Rattle.track_word.specs.declared.tracks.Var.{Var};
+
+    ghost Value = { List Var };
+
+    ghost view = { λ v. v.items.items };
+}
+
+impl Vars {
+    /// The variables of a list.
+    pub fn new(items: Vec<Var>) -> Vars
+        ensures { result ≡ items.items }
+    {
+        Vars { items }
+    }
+
+    /// The variables in order.
+    pub fn as_slice(&self) -> &[Var]
+        ensures { result.now ≡ self.now }
+    {
+        self.items.as_slice()
+    }
+
+    /// Whether both are the same variables in the same order.
+    pub fn same(&self, other: &Vars) -> bool
+        ensures { IsTrue result ↔ (self.now ≡ other.now) }
+    {
+        self.as_slice() == other.as_slice()
+    }
+}

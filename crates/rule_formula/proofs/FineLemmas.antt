@@ -1,0 +1,133 @@
+-- What is known of a formula that is built of small atoms over few variables.
+use Rattle.std.proofs.Common.{◌≡◌, ◌≢◌, ◌⊎◌, ℕ, suc, ◌+◌, ◌<◌, ◌≤◌, ℤ, pos, negsuc, List, [], ◌∷◌, length, nat_lt, ◌==◌, if◌then◌else◌, inl, inr, refl, sym, ap, ◌∙◌, ◌%◌, arith}
+use Rattle.std.specs.List.{All}
+use Rattle.std.proofs.lemmas.Int.{ints}
+use Rattle.std.proofs.lemmas.Bool.Decides.{nat_tests}
+use Rattle.std.proofs.lemmas.List.Elements.{All-nil, All-cons, All-append}
+use Rattle.track_word.specs.declared.tracks.Var.{Var}
+use Rattle.track_word.specs.Tracks.{with_var, with_vars}
+use Rattle.track_word.specs.Atom.{IsAtom, IsBound, IsCoefficient, term_vars}
+use Rattle.lin_formula.specs.Tree.{IsWellMade, Tree, memberships, vars_of}
+use Rattle.lin_formula.specs.Tree as tree
+use Rattle.lin_formula.proofs.FreeVars.{if_cases}
+
+-- each is below eighteen
+abbrev pub IsLow : List Var → Type 0
+IsLow [] = Unit {0}
+IsLow (x ∷ xs) = (x.0 < 18) × IsLow xs
+
+-- its comparisons are small, its variables are low, and its memberships are as wanted
+abbrev pub IsFine : (ℕ × List Var → Type 0) → Tree → Type 0
+IsFine P (tree.Lin terms rel bound) = IsAtom terms bound × IsLow (term_vars terms)
+IsFine P (tree.Value x n) = x.0 < 18
+IsFine P (tree.Among s vars) = P (s, vars) × IsLow vars
+IsFine P (tree.Not f) = IsFine P f
+IsFine P (tree.And f g) = IsFine P f × IsFine P g
+IsFine P (tree.Or f g) = IsFine P f × IsFine P g
+IsFine P (tree.Ex x f) = (x.0 < 18) × IsFine P f
+
+pub fine_made : (P : ℕ × List Var → Type 0) (t : Tree) → IsFine P t → IsWellMade t
+fine_made P (tree.Lin terms rel bound) h = h.0
+fine_made P (tree.Value x n) h = tt
+fine_made P (tree.Among s vars) h = tt
+fine_made P (tree.Not f) h = fine_made P f h
+fine_made P (tree.And f g) h = (fine_made P f h.0, fine_made P g h.1)
+fine_made P (tree.Or f g) h = (fine_made P f h.0, fine_made P g h.1)
+fine_made P (tree.Ex x f) h = fine_made P f h.1
+
+pub fine_names : (P : ℕ × List Var → Type 0) (t : Tree) → IsFine P t → All P (memberships t)
+fine_names P (tree.Lin terms rel bound) h = All-nil P
+fine_names P (tree.Value x n) h = All-nil P
+fine_names P (tree.Among s vars) h = All-cons P (s, vars) [] h.0 (All-nil P)
+fine_names P (tree.Not f) h = fine_names P f h
+fine_names P (tree.And f g) h = All-append P (memberships f) (memberships g) (fine_names P f h.0) (fine_names P g h.1)
+fine_names P (tree.Or f g) h = All-append P (memberships f) (memberships g) (fine_names P f h.0) (fine_names P g h.1)
+fine_names P (tree.Ex x f) h = fine_names P f h.1
+
+-- they ascend from n on, and are below eighteen
+abbrev Climbs : ℕ → List Var → Type 0
+Climbs n [] = Unit {0}
+Climbs n (x ∷ xs) = (n ≤ x.0) × (x.0 < 18) × Climbs (suc x.0) xs
+
+climb_length : (n : ℕ) (xs : List Var) → n ≤ 18 → Climbs n xs → length xs + n ≤ 18
+climb_length n [] low h = omega (arith, low)
+climb_length n (x ∷ xs) low h =
+    let rest = climb_length (suc x.0) xs (omega (arith, h.1)) h.2 in omega (arith, rest, h.0)
+
+climb_with : (n : ℕ) (x : Var) (ys : List Var) → n ≤ x.0 → x.0 < 18 → Climbs n ys → Climbs n (with_var x ys)
+climb_with n x [] from low h = (from, low, tt)
+climb_with n x (y ∷ ys) from low h =
+    if_cases (nat_lt x.0 y.0) (x ∷ y ∷ ys) (if x.0 == y.0 then y ∷ ys else y ∷ with_var x ys) (Climbs n)
+    (λ e. let less : x.0 < y.0 = grind (arith, nat_tests) in (from, low, (omega (arith, less), h.1, h.2)))
+    (λ e. if_cases (x.0 == y.0) (y ∷ ys) (y ∷ with_var x ys) (Climbs n)
+    (λ same. h)
+    (λ other. let above : y.0 < x.0 = grind (arith, nat_tests) in (h.0, h.1, climb_with (suc y.0) x ys (omega (arith, above)) low h.2)))
+
+climb_with_all : (xs ys : List Var) → IsLow xs → Climbs 0 ys → Climbs 0 (with_vars xs ys)
+climb_with_all [] ys low h = h
+climb_with_all (x ∷ xs) ys low h = climb_with 0 x (with_vars xs ys) (omega arith) low.0 (climb_with_all xs ys low.1 h)
+
+climb_low : (n : ℕ) (xs : List Var) → Climbs n xs → IsLow xs
+climb_low n [] h = tt
+climb_low n (x ∷ xs) h = (h.1, climb_low (suc x.0) xs h.2)
+
+fine_climbs : (P : ℕ × List Var → Type 0) (t : Tree) → IsFine P t → Climbs 0 (vars_of t)
+fine_climbs P (tree.Lin terms rel bound) h = climb_with_all (term_vars terms) [] h.1 tt
+fine_climbs P (tree.Value x n) h = (omega arith, h, tt)
+fine_climbs P (tree.Among s vars) h = climb_with_all vars [] h.1 tt
+fine_climbs P (tree.Not f) h = fine_climbs P f h
+fine_climbs P (tree.And f g) h = climb_with_all (vars_of f) (vars_of g) (climb_low 0 (vars_of f) (fine_climbs P f h.0)) (fine_climbs P g h.1)
+fine_climbs P (tree.Or f g) h = climb_with_all (vars_of f) (vars_of g) (climb_low 0 (vars_of f) (fine_climbs P f h.0)) (fine_climbs P g h.1)
+fine_climbs P (tree.Ex x f) h = climb_with 0 x (vars_of f) (omega arith) h.0 (fine_climbs P f h.1)
+
+-- its variables are at most eighteen
+pub fine_few : (P : ℕ × List Var → Type 0) (t : Tree) → IsFine P t → length (vars_of t) ≤ 18
+fine_few P t h = let w = climb_length 0 (vars_of t) (omega arith) (fine_climbs P t h) in omega (arith, w)
+
+one_differs : (x y : Var) → x.0 ≢ y.0 → x ≢ y
+one_differs x y ne e = ne (ap (λ (v : Var). v.0) e)
+
+-- one or minus one
+abbrev pub IsUnit : ℤ → Type 0
+IsUnit d = (d ≡ pos 1) ⊎ (d ≡ negsuc 0)
+
+unit_is : (d : ℤ) (x : Var) → IsUnit d → IsCoefficient (d, x)
+unit_is d x (inl e) = (λ w. omega (arith, ints, e, w), omega (arith, ints, e), omega (arith, ints, e))
+unit_is d x (inr e) = (λ w. omega (arith, ints, e, w), omega (arith, ints, e), omega (arith, ints, e))
+
+-- the difference of two variables
+pub two_atom : (x y : Var) (n : ℤ) → x.0 ≢ y.0 → IsBound n → IsAtom ((pos 1, x) ∷ (negsuc 0, y) ∷ []) n
+two_atom x y n ne bound =
+    let C = λ (t : ℤ × Var). IsCoefficient t in
+    let D = λ (z : Var) (t : ℤ × Var). t.1 ≢ z in (
+      (omega arith, omega arith, (All-cons (D x) (negsuc 0, y) [] (λ e. ne (ap (λ (v : Var). v.0) (sym e))) (All-nil (D x)), (All-nil (D y), tt))),
+      All-cons C (pos 1, x) ((negsuc 0, y) ∷ []) (unit_is (pos 1) x (inl refl)) (All-cons C (negsuc 0, y) [] (unit_is (negsuc 0) y (inr refl)) (All-nil C)),
+      bound,
+    )
+
+parity : (x y : Var) → x.0 % 2 ≡ 0 → y.0 % 2 ≡ 1 → x ≢ y
+parity x y even odd e =
+    let same : x.0 ≡ y.0 = ap (λ (v : Var). v.0) e in
+    let both : 0 ≡ 1 = sym even ∙ ap (λ n. n % 2) same ∙ odd in absurd (omega (arith, both))
+
+-- two differences
+pub four_atom : (b d : ℤ) (c e : ℤ) (p q r s : Var) → p.0 ≢ q.0 → r.0 ≢ s.0 → q.0 % 2 ≡ 0 → p.0 % 2 ≡ 0 → s.0 % 2 ≡ 1 → r.0 % 2 ≡ 1 → IsUnit b → IsUnit d → IsUnit c → IsUnit e → IsAtom ((b, p) ∷ (d, q) ∷ (c, r) ∷ (e, s) ∷ []) (pos 0)
+four_atom b d c e p q r s across along q_even p_even s_odd r_odd ub ud uc ue =
+    let C = λ (t : ℤ × Var). IsCoefficient t in
+    let D = λ (z : Var) (t : ℤ × Var). t.1 ≢ z in (
+      (
+        omega arith,
+        omega arith,
+        (
+          All-cons (D p) (d, q) ((c, r) ∷ (e, s) ∷ []) (one_differs q p (λ w. across (sym w)))
+              (All-cons (D p) (c, r) ((e, s) ∷ []) (λ w. parity p r p_even r_odd (sym w)) (All-cons (D p) (e, s) [] (λ w. parity p s p_even s_odd (sym w)) (All-nil (D p)))),
+          (
+            All-cons (D q) (c, r) ((e, s) ∷ []) (λ w. parity q r q_even r_odd (sym w)) (All-cons (D q) (e, s) [] (λ w. parity q s q_even s_odd (sym w)) (All-nil (D q))),
+            (All-cons (D r) (e, s) [] (one_differs s r (λ w. along (sym w))) (All-nil (D r)), (All-nil (D s), tt)),
+          ),
+        ),
+      ),
+      All-cons C (b, p) ((d, q) ∷ (c, r) ∷ (e, s) ∷ []) (unit_is b p ub)
+          (All-cons C (d, q) ((c, r) ∷ (e, s) ∷ []) (unit_is d q ud) (All-cons C (c, r) ((e, s) ∷ []) (unit_is c r uc) (All-cons C (e, s) [] (unit_is e s ue) (All-nil C)))),
+      (omega (arith, ints), omega (arith, ints)),
+    )

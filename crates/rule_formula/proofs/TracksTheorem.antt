@@ -1,0 +1,568 @@
+-- The free variables of a formula are those of the live men.
+use Rattle.std.proofs.Common.{◌≡◌, ◌≢◌, ◌⊎◌, ◌↔◌, ℕ, zero, suc, ◌+◌, ◌*◌, ◌-◌, ◌<◌, ◌≤◌, ℤ, pos, negsuc, Bool, true, false, List, [], ◌∷◌, ◌++◌, length, nat_lt, ◌==◌, ◌&&◌, not, if◌then◌else◌, Some, inl, inr, refl, sym, ap, ◌∙◌, subst, arith}
+use Rattle.std.proofs.lemmas.Int.{ints}
+use Rattle.std.proofs.lemmas.Bool.Decides.{nat_tests}
+use Rattle.track_word.specs.declared.tracks.Var.{Var}
+use Rattle.track_word.specs.declared.atoms.Rel.{Rel}
+use Rattle.track_word.specs.declared.atoms.Rel.TheVariants.{Eq, Le}
+use Rattle.track_word.specs.Tracks.{with_var, with_vars, without_var}
+use Rattle.track_word.specs.Atom.{term_vars}
+use Rattle.lin_formula.specs.Tree.{Tree, free_vars}
+use Rattle.lin_formula.specs.Tree as tree
+use Rattle.lin_formula.specs.Free.{IsFree, IsOneOf}
+use Rattle.lin_formula.proofs.FreeVars.{free_vars-free, if_cases, var_is}
+use Rattle.game_rules.specs.declared.men.Man.{Man}
+use Rattle.game_rules.specs.declared.men.Ray.{Ray}
+use Rattle.game_rules.specs.declared.men.Side.{Side}
+use Rattle.rule_formula.specs.declared.opt.Opt.{Opt}
+use Rattle.rule_formula.specs.declared.seats.Seat.{Seat}
+use Rattle.rule_formula.specs.Placed.{is_live, stock_man, without}
+use Rattle.rule_formula.specs.Seats.{new_seat, new_seats, old_seats, own, seats_with, spare, swept, var, vars_to}
+use Rattle.rule_formula.specs.Trees.{ahead, and_all, atoms_as, bear_of, bear_tree, clear, clear_as, difference, ex_swept, image_body, image_of, image_tree, is_other, line, line_atoms, on, on_as, ordered, pre_body, pre_of, pre_tree, ray_at, ray_atoms, safe_of, safe_tree, tracks_of, unless_same}
+use Rattle.rule_formula.specs.Meaning.{IsBearer, IsOptionOf, IsPrey}
+use Rattle.rule_formula.proofs.BearLemmas.{IsNumber, stock_number}
+use Rattle.rule_formula.proofs.MoveLemmas.{option_untaken, same_number}
+
+-- they ascend from n on
+abbrev Rises : ℕ → List Var → Type 0
+Rises n [] = Unit {0}
+Rises n (x ∷ xs) = (n ≤ x.0) × Rises (suc x.0) xs
+
+rises_lower : (m n : ℕ) (xs : List Var) → m ≤ n → Rises n xs → Rises m xs
+rises_lower m n [] low h = tt
+rises_lower m n (x ∷ xs) low h = (omega (arith, low, h.0), h.1)
+
+rises_with : (n : ℕ) (x : Var) (ys : List Var) → n ≤ x.0 → Rises n ys → Rises n (with_var x ys)
+rises_with n x [] from h = (from, tt)
+rises_with n x (y ∷ ys) from h =
+    if_cases (nat_lt x.0 y.0) (x ∷ y ∷ ys) (if x.0 == y.0 then y ∷ ys else y ∷ with_var x ys) (Rises n)
+    (λ e. let less : x.0 < y.0 = grind (arith, nat_tests) in (from, (omega (arith, less), h.1)))
+    (λ e. if_cases (x.0 == y.0) (y ∷ ys) (y ∷ with_var x ys) (Rises n)
+    (λ same. h)
+    (λ other. let above : y.0 < x.0 = grind (arith, nat_tests) in (h.0, rises_with (suc y.0) x ys (omega (arith, above)) h.1)))
+
+rises_with_all : (xs ys : List Var) → Rises 0 ys → Rises 0 (with_vars xs ys)
+rises_with_all [] ys h = h
+rises_with_all (x ∷ xs) ys h = rises_with 0 x (with_vars xs ys) (omega arith) (rises_with_all xs ys h)
+
+rises_without : (n : ℕ) (x : Var) (ys : List Var) → Rises n ys → Rises n (without_var x ys)
+rises_without n x [] h = tt
+rises_without n x (y ∷ ys) h =
+    if_cases (not (y.0 == x.0)) (y ∷ without_var x ys) (without_var x ys) (Rises n)
+    (λ e. (h.0, rises_without (suc y.0) x ys h.1))
+    (λ e. rises_without n x ys (rises_lower n (suc y.0) ys (omega (arith, h.0)) h.1))
+
+rises_free : (f : Tree) → Rises 0 (free_vars f)
+rises_free (tree.Lin terms rel bound) = rises_with_all (term_vars terms) [] tt
+rises_free (tree.Value x n) = (omega arith, tt)
+rises_free (tree.Among s vars) = rises_with_all vars [] tt
+rises_free (tree.Not f) = rises_free f
+rises_free (tree.And f g) = rises_with_all (free_vars f) (free_vars g) (rises_free g)
+rises_free (tree.Or f g) = rises_with_all (free_vars f) (free_vars g) (rises_free g)
+rises_free (tree.Ex x f) = rises_without 0 x (free_vars f) (rises_free f)
+
+-- they ascend from m on, below k
+abbrev Spans : ℕ → ℕ → List Var → Type 0
+Spans m k [] = m ≤ k
+Spans m k (x ∷ xs) = (m ≤ x.0) × Spans (suc x.0) k xs
+
+spans_more : (m k : ℕ) (xs : List Var) (x y : Var) → k ≤ x.0 → x.0 < y.0 → Spans m k xs → Spans m (suc y.0) (xs ++ x ∷ y ∷ [])
+spans_more m k [] x y low order h = (omega (arith, low, h), (omega (arith, order), omega arith))
+spans_more m k (z ∷ zs) x y low order h = (h.0, spans_more (suc z.0) k zs x y low order h.1)
+
+spans_wider : (m k l : ℕ) (xs : List Var) → k ≤ l → Spans m k xs → Spans m l xs
+spans_wider m k l [] low h = omega (arith, low, h)
+spans_wider m k l (x ∷ xs) low h = (h.0, spans_wider (suc x.0) k l xs low h.1)
+
+spans_if : (b : Bool) (n : ℕ) (xs : List Var) → Spans 0 (2 * n) xs → Spans 0 (2 * (n + 1)) (if b then xs ++ (own (suc n)).x ∷ (own (suc n)).y ∷ [] else xs)
+spans_if true n xs h =
+    spans_wider 0 (suc (own (suc n)).y.0) (2 * (n + 1)) (xs ++ (own (suc n)).x ∷ (own (suc n)).y ∷ []) (omega arith)
+    (spans_more 0 (2 * n) xs (own (suc n)).x (own (suc n)).y (omega arith) (omega arith) h)
+spans_if false n xs h = spans_wider 0 (2 * n) (2 * (n + 1)) xs (omega arith) h
+
+spans_own : (live : ℕ → Bool) (n : ℕ) → Spans 0 (2 * n) (vars_to own live n)
+spans_own live zero = omega arith
+spans_own live (suc n) =
+    let e : 2 * (n + 1) ≡ 2 * suc n = omega arith in
+    subst (λ k. Spans 0 k (vars_to own live (suc n))) e (spans_if (live (suc n)) n (vars_to own live n) (spans_own live n))
+
+spans_rise : (m k : ℕ) (xs : List Var) → Spans m k xs → Rises m xs
+spans_rise m k [] h = tt
+spans_rise m k (x ∷ xs) h = (h.0, spans_rise (suc x.0) k xs h.1)
+
+risen : (n : ℕ) (xs : List Var) (z : Var) → Rises n xs → IsOneOf z xs → n ≤ z.0
+risen n [] z h is = absurd is
+risen n (x ∷ xs) z h (inl e) = let same : z.0 ≡ x.0 = ap (λ (v : Var). v.0) e in omega (arith, same, h.0)
+risen n (x ∷ xs) z h (inr is) = let rest = risen (suc x.0) xs z h.1 is in omega (arith, rest, h.0)
+
+-- the first of two ascending lists with the same members
+first_same : (m n : ℕ) (x y : Var) (xs ys : List Var) → Rises m (x ∷ xs) → Rises n (y ∷ ys) → IsOneOf x (y ∷ ys) → IsOneOf y (x ∷ xs) → x.0 ≡ y.0
+first_same m n x y xs ys h k (inl e) there = ap (λ (v : Var). v.0) e
+first_same m n x y xs ys h k (inr is) (inl e) = sym (ap (λ (v : Var). v.0) e)
+first_same m n x y xs ys h k (inr is) (inr at) =
+    let above = risen (suc y.0) ys x k.1 is in
+    let below = risen (suc x.0) xs y h.1 at in absurd (omega (arith, above, below))
+
+later : (n : ℕ) (x z : Var) (xs ys : List Var) → Rises (suc x.0) xs → IsOneOf z xs → IsOneOf z (x ∷ ys) → IsOneOf z ys
+later n x z xs ys h is (inl e) = let above = risen (suc x.0) xs z h is in let same : z.0 ≡ x.0 = ap (λ (v : Var). v.0) e in absurd (omega (arith, above, same))
+later n x z xs ys h is (inr at) = at
+
+same_list : (m n : ℕ) (xs ys : List Var) → Rises m xs → Rises n ys → ((z : Var) → IsOneOf z xs → IsOneOf z ys) → ((z : Var) → IsOneOf z ys → IsOneOf z xs) → xs ≡ ys
+same_list m n [] [] h k there back = refl
+same_list m n [] (y ∷ ys) h k there back = absurd (back y (inl refl))
+same_list m n (x ∷ xs) [] h k there back = absurd (there x (inl refl))
+same_list m n (x ∷ xs) (y ∷ ys) h k there back =
+    let e : x ≡ y = var_is x y (first_same m n x y xs ys h k (there x (inl refl)) (back y (inl refl))) in
+    let rises : Rises (suc x.0) ys = subst (λ (v : Var). Rises (suc v.0) ys) (sym e) k.1 in
+    ap (λ v. v ∷ xs) e
+    ∙ ap (λ l. y ∷ l) (same_list (suc x.0) (suc x.0) xs ys h.1 rises
+    (λ z is. later m x z xs ys h.1 is (subst (λ v. IsOneOf z (v ∷ ys)) (sym e) (there z (inr is))))
+    (λ z is. later m x z ys xs rises is (back z (inr is))))
+
+-- the variable is one of the seat's two
+abbrev IsOf : Seat → Var → Type 0
+IsOf s z = (z ≡ s.x) ⊎ (z ≡ s.y)
+
+record IsSeated (seats : ℕ → Seat) (live : ℕ → Bool) (n : ℕ) (z : Var) : Type 0 where
+  number : ℕ
+  low : 0 < number
+  high : number ≤ n
+  on : live number ≡ true
+  is : IsOf (seats number) z
+
+one_of-append : (z x y : Var) (xs : List Var) → IsOneOf z (xs ++ x ∷ y ∷ []) ↔ (IsOneOf z xs ⊎ ((z ≡ x) ⊎ (z ≡ y)))
+one_of-append z x y [] = (
+  λ h. elim h [ inl e ↦ inr (inl e) | inr k ↦ elim k [ inl e ↦ inr (inr e) | inr none ↦ absurd none ] ],
+  λ h. elim h [ inl none ↦ absurd none | inr k ↦ elim k [ inl e ↦ inl e | inr e ↦ inr (inl e) ] ],
+)
+one_of-append z x y (w ∷ ws) =
+    let rest = one_of-append z x y ws in (
+      λ h. elim h [ inl e ↦ inl (inl e) | inr k ↦ elim (rest.0 k) [ inl l ↦ inl (inr l) | inr l ↦ inr l ] ],
+      λ h. elim h [ inl k ↦ elim k [ inl e ↦ inl e | inr l ↦ inr (rest.1 (inl l)) ] | inr k ↦ inr (rest.1 (inr k)) ],
+    )
+
+one_of-if : (b : Bool) (z x y : Var) (xs : List Var) → IsOneOf z (if b then xs ++ x ∷ y ∷ [] else xs) ↔ (IsOneOf z xs ⊎ ((b ≡ true) × ((z ≡ x) ⊎ (z ≡ y))))
+one_of-if true z x y xs =
+    let all = one_of-append z x y xs in
+    (λ h. elim (all.0 h) [ inl k ↦ inl k | inr k ↦ inr (refl, k) ], λ h. all.1 (elim h [ inl k ↦ inl k | inr k ↦ inr k.1 ]))
+one_of-if false z x y xs = (λ h. inl h, λ h. elim h [ inl k ↦ k | inr k ↦ absurd (cc) ])
+
+seated : (seats : ℕ → Seat) (live : ℕ → Bool) (n : ℕ) (z : Var) → IsOneOf z (vars_to seats live n) → IsSeated seats live n z
+seated seats live zero z h = absurd h
+seated seats live (suc n) z h =
+    elim ((one_of-if (live (suc n)) z (seats (suc n)).x (seats (suc n)).y (vars_to seats live n)).0 h) [
+      | inl k ↦ let w = seated seats live n z k in let high : w.number ≤ n = w.high in record { number = w.number; low = w.low; high = omega arith; on = w.on; is = w.is }
+      | inr k ↦ record { number = suc n; low = omega arith; high = omega arith; on = k.0; is = k.1 }
+    ]
+
+seat_in : (seats : ℕ → Seat) (live : ℕ → Bool) (n : ℕ) (z : Var) (k : ℕ) → 0 < k → k ≤ n → live k ≡ true → IsOf (seats k) z → IsOneOf z (vars_to seats live n)
+seat_in seats live zero z k low high on is = absurd (omega (arith, low, high))
+seat_in seats live (suc n) z k low high on is =
+    let step = one_of-if (live (suc n)) z (seats (suc n)).x (seats (suc n)).y (vars_to seats live n) in
+    elim (same_number k (suc n)) [
+      | inl e ↦ step.1 (inr (subst (λ j. live j ≡ true) e on, subst (λ j. IsOf (seats j) z) e is))
+      | inr ne ↦ step.1 (inl (seat_in seats live n z k low (omega (arith, high, ne)) on is))
+    ]
+
+-- each free variable is as told
+abbrev FreeIn : (Var → Type 0) → Tree → Type 0
+FreeIn T f = (z : Var) → IsFree z f → T z
+
+record SeatIn (T : Var → Type 0) (s : Seat) : Type 0 where
+  across : T s.x
+  along : T s.y
+
+difference_in : (T : Var → Type 0) (x y : Var) (rel : Rel) (n : ℤ) → T x → T y → FreeIn T (difference x y rel n)
+difference_in T x y rel n first second z (inl e) = subst T (sym e) first
+difference_in T x y rel n first second z (inr (inl e)) = subst T (sym e) second
+difference_in T x y rel n first second z (inr (inr none)) = absurd none
+
+four_in : (T : Var → Type 0) (b d c e : ℤ) (p q r s : Var) (rel : Rel) (n : ℤ) → T p → T q → T r → T s → FreeIn T (tree.Lin ((b, p) ∷ (d, q) ∷ (c, r) ∷ (e, s) ∷ []) rel n)
+four_in T b d c e p q r s rel n tp tq tr ts z (inl w) = subst T (sym w) tp
+four_in T b d c e p q r s rel n tp tq tr ts z (inr (inl w)) = subst T (sym w) tq
+four_in T b d c e p q r s rel n tp tq tr ts z (inr (inr (inl w))) = subst T (sym w) tr
+four_in T b d c e p q r s rel n tp tq tr ts z (inr (inr (inr (inl w)))) = subst T (sym w) ts
+four_in T b d c e p q r s rel n tp tq tr ts z (inr (inr (inr (inr none)))) = absurd none
+
+line_in : (T : Var → Type 0) (dx dy : ℤ) (a b : Seat) → SeatIn T a → SeatIn T b → FreeIn T (line dx dy a b)
+line_in T (pos zero) dy a b f t = difference_in T b.x a.x Eq (pos 0) t.across f.across
+line_in T (pos (suc dx)) (pos zero) a b f t = difference_in T b.y a.y Eq (pos 0) t.along f.along
+line_in T (negsuc dx) (pos zero) a b f t = difference_in T b.y a.y Eq (pos 0) t.along f.along
+line_in T (pos (suc dx)) (pos (suc dy)) a b f t = four_in T (pos 1) (negsuc 0) (negsuc 0) (pos 1) b.x a.x b.y a.y Eq (pos 0) t.across f.across t.along f.along
+line_in T (negsuc dx) (negsuc dy) a b f t = four_in T (pos 1) (negsuc 0) (negsuc 0) (pos 1) b.x a.x b.y a.y Eq (pos 0) t.across f.across t.along f.along
+line_in T (pos (suc dx)) (negsuc dy) a b f t = four_in T (pos 1) (negsuc 0) (pos 1) (negsuc 0) b.x a.x b.y a.y Eq (pos 0) t.across f.across t.along f.along
+line_in T (negsuc dx) (pos (suc dy)) a b f t = four_in T (pos 1) (negsuc 0) (pos 1) (negsuc 0) b.x a.x b.y a.y Eq (pos 0) t.across f.across t.along f.along
+
+ordered_in : (T : Var → Type 0) (d : ℤ) (x y : Var) (n : ℤ) → T x → T y → FreeIn T (ordered d x y n)
+ordered_in T (pos d) x y n first second = difference_in T x y Le n first second
+ordered_in T (negsuc d) x y n first second = difference_in T y x Le n second first
+
+ahead_in : (T : Var → Type 0) (dx dy : ℤ) (a b : Seat) (n : ℤ) → SeatIn T a → SeatIn T b → FreeIn T (ahead dx dy a b n)
+ahead_in T (pos zero) dy a b n f t = ordered_in T dy a.y b.y n f.along t.along
+ahead_in T (pos (suc dx)) dy a b n f t = ordered_in T (pos (suc dx)) a.x b.x n f.across t.across
+ahead_in T (negsuc dx) dy a b n f t = ordered_in T (negsuc dx) a.x b.x n f.across t.across
+
+and_in : (T : Var → Type 0) (f g : Tree) → FreeIn T f → FreeIn T g → FreeIn T (tree.And f g)
+and_in T f g h k z (inl w) = h z w
+and_in T f g h k z (inr w) = k z w
+
+on_in : (T : Var → Type 0) (b : Bool) (dx dy : ℤ) (a c m : Seat) (n : ℤ) → SeatIn T a → SeatIn T c → SeatIn T m → FreeIn T (on_as b dx dy a c m n)
+on_in T true dx dy a c m n f t w =
+    and_in T (tree.And (line dx dy a m) (ahead dx dy a m (negsuc 0))) (ahead dx dy m c n)
+    (and_in T (line dx dy a m) (ahead dx dy a m (negsuc 0)) (line_in T dx dy a m f w) (ahead_in T dx dy a m (negsuc 0) f w)) (ahead_in T dx dy m c n w t)
+on_in T false dx dy a c m n f t w =
+    and_in T (difference m.x c.x Eq (pos 0)) (difference m.y c.y Eq (pos 0)) (difference_in T m.x c.x Eq (pos 0) w.across t.across) (difference_in T m.y c.y Eq (pos 0) w.along t.along)
+
+abbrev AllIn : (Var → Type 0) → List Tree → Type 0
+AllIn T [] = Unit {0}
+AllIn T (f ∷ fs) = FreeIn T f × AllIn T fs
+
+all_in-append : (T : Var → Type 0) (fs gs : List Tree) → AllIn T fs → AllIn T gs → AllIn T (fs ++ gs)
+all_in-append T [] gs h k = k
+all_in-append T (f ∷ fs) gs h k = (h.0, all_in-append T fs gs h.1 k)
+
+and_all_in : (T : Var → Type 0) (f : Tree) (gs : List Tree) → FreeIn T f → AllIn T gs → FreeIn T (and_all f gs)
+and_all_in T f [] h k = h
+and_all_in T f (g ∷ gs) h k = and_all_in T (tree.And f g) gs (and_in T f g h k.0) k.1
+
+unless_in : (T : Var → Type 0) (b : Bool) (f : Tree) → FreeIn T f → AllIn T (if b then [] else f ∷ [])
+unless_in T true f h = tt
+unless_in T false f h = (h, tt)
+
+line_atoms_in : (T : Var → Type 0) (dx dy : ℤ) (a b : Seat) → SeatIn T a → SeatIn T b → AllIn T (line_atoms dx dy a b)
+line_atoms_in T (pos zero) dy a b f t = unless_in T (b.x.0 == a.x.0) (line (pos zero) dy a b) (line_in T (pos zero) dy a b f t)
+line_atoms_in T (pos (suc dx)) (pos zero) a b f t = unless_in T (b.y.0 == a.y.0) (line (pos (suc dx)) (pos zero) a b) (line_in T (pos (suc dx)) (pos zero) a b f t)
+line_atoms_in T (negsuc dx) (pos zero) a b f t = unless_in T (b.y.0 == a.y.0) (line (negsuc dx) (pos zero) a b) (line_in T (negsuc dx) (pos zero) a b f t)
+line_atoms_in T (pos (suc dx)) (pos (suc dy)) a b f t = (line_in T (pos (suc dx)) (pos (suc dy)) a b f t, tt)
+line_atoms_in T (pos (suc dx)) (negsuc dy) a b f t = (line_in T (pos (suc dx)) (negsuc dy) a b f t, tt)
+line_atoms_in T (negsuc dx) (pos (suc dy)) a b f t = (line_in T (negsuc dx) (pos (suc dy)) a b f t, tt)
+line_atoms_in T (negsuc dx) (negsuc dy) a b f t = (line_in T (negsuc dx) (negsuc dy) a b f t, tt)
+
+atoms_in : (T : Var → Type 0) (far : Bool) (dx dy : ℤ) (a b : Seat) → SeatIn T a → SeatIn T b → AllIn T (atoms_as far dx dy a b)
+atoms_in T true dx dy a b f t = all_in-append T (line_atoms dx dy a b) (ahead dx dy a b (negsuc 0) ∷ []) (line_atoms_in T dx dy a b f t) (ahead_in T dx dy a b (negsuc 0) f t, tt)
+atoms_in T false dx dy a b f t =
+    all_in-append T (unless_same b.x a.x (difference b.x a.x Eq dx)) (unless_same b.y a.y (difference b.y a.y Eq dy))
+    (unless_in T (b.x.0 == a.x.0) (difference b.x a.x Eq dx) (difference_in T b.x a.x Eq dx t.across f.across))
+    (unless_in T (b.y.0 == a.y.0) (difference b.y a.y Eq dy) (difference_in T b.y a.y Eq dy t.along f.along))
+
+if_in : (T : Var → Type 0) (b : Bool) (f g : Tree) → FreeIn T f → (b ≡ true → FreeIn T g) → FreeIn T (if b then tree.And f (tree.Not g) else f)
+if_in T true f g h k = and_in T f (tree.Not g) h (k refl)
+if_in T false f g h k = h
+
+live_other : (b : Bool) (i j k : ℕ) → (b && (not (k == i) && not (k == j))) ≡ true → (b ≡ true) × (k ≢ j)
+live_other true i j k e = (refl, grind (arith, nat_tests))
+live_other false i j k e = absurd (cc)
+
+clear_in : (T : Var → Type 0) (f : Tree) (hit : ℕ → Tree) (live : ℕ → Bool) (i j n : ℕ) → FreeIn T f → ((k : ℕ) → 0 < k → k ≤ n → live k ≡ true → k ≢ j → FreeIn T (hit k)) → FreeIn T (clear f hit live i j n)
+clear_in T f hit live i j zero h each = h
+clear_in T f hit live i j (suc n) h each =
+    if_in T (is_other live i j (suc n)) (clear f hit live i j n) (hit (suc n)) (clear_in T f hit live i j n h (λ k low high. each k low (omega (arith, high))))
+    (λ e. let w = live_other (live (suc n)) i j (suc n) e in each (suc n) (omega arith) (omega arith) w.0 w.1)
+
+clear_as_in : (T : Var → Type 0) (b : Bool) (f : Tree) (hit : ℕ → Tree) (live : ℕ → Bool) (i j n : ℕ) → FreeIn T f → ((k : ℕ) → 0 < k → k ≤ n → live k ≡ true → k ≢ j → FreeIn T (hit k)) → FreeIn T (clear_as b f hit live i j n)
+clear_as_in T true f hit live i j n h each = clear_in T f hit live i j n h each
+clear_as_in T false f hit live i j n h each = h
+
+-- what stays free when a variable is quantified where the ray sweeps it
+swept_in : (T : Var → Type 0) (d : ℤ) (x : Var) (f : Tree) → FreeIn (λ z. T z ⊎ ((z ≡ x) × (d ≢ pos 0))) f → FreeIn T (ex_swept d x f)
+swept_in T (pos zero) x f h z w = elim (h z w) [ inl is ↦ is | inr k ↦ absurd (k.1 refl) ]
+swept_in T (pos (suc d)) x f h z w = elim (h z w.1) [ inl is ↦ is | inr k ↦ absurd (w.0 k.0) ]
+swept_in T (negsuc d) x f h z w = elim (h z w.1) [ inl is ↦ is | inr k ↦ absurd (w.0 k.0) ]
+
+swept_seat : (T : Var → Type 0) (d : ℤ) (x y : Var) → T x → T (swept d x y) ⊎ ((swept d x y ≡ y) × (d ≢ pos 0))
+swept_seat T (pos zero) x y h = inl h
+swept_seat T (pos (suc d)) x y h = inr (refl, λ e. omega (arith, ints, e))
+swept_seat T (negsuc d) x y h = inr (refl, λ e. omega (arith, ints, e))
+
+-- a seat of the live men, or what is swept
+abbrev InBody : (Var → Type 0) → Ray → Var → Type 0
+InBody T r z = (T z ⊎ ((z ≡ var 16) × (r.dx ≢ pos 0))) ⊎ ((z ≡ var 17) × (r.dy ≢ pos 0))
+
+spare_in : (T : Var → Type 0) (r : Ray) (i : ℕ) → SeatIn T (own i) → SeatIn (InBody T r) (spare r i)
+spare_in T r i h =
+    record {
+      across = elim (swept_seat T r.dx (own i).x (var 16) h.across) [ inl is ↦ inl (inl is) | inr k ↦ inl (inr k) ];
+      along = elim (swept_seat T r.dy (own i).y (var 17) h.along) [ inl is ↦ inl (inl is) | inr k ↦ inr k ];
+    }
+
+seat_body : (T : Var → Type 0) (r : Ray) (s : Seat) → SeatIn T s → SeatIn (InBody T r) s
+seat_body T r s h = record { across = inl (inl h.across); along = inl (inl h.along) }
+
+own_seat_in : (live : ℕ → Bool) (n k : ℕ) → 0 < k → k ≤ n → live k ≡ true → SeatIn (IsSeated own live n) (own k)
+own_seat_in live n k low high on =
+    record { across = record { number = k; low = low; high = high; on = on; is = inl refl }; along = record { number = k; low = low; high = high; on = on; is = inr refl } }
+
+among_in : (T : Var → Type 0) (s : ℕ) (seats : ℕ → Seat) (live : ℕ → Bool) (n : ℕ) → ((k : ℕ) → 0 < k → k ≤ n → live k ≡ true → SeatIn T (seats k)) → FreeIn T (tree.Among s (vars_to seats live n))
+among_in T s seats live n h z is =
+    let w = seated seats live n z is in
+    let seat = h w.number w.low w.high w.on in
+    elim w.is [ inl e ↦ subst T (sym e) seat.across | inr e ↦ subst T (sym e) seat.along ]
+
+seats_in : (T : Var → Type 0) (i j k : ℕ) (a b : Seat) → SeatIn T a → SeatIn T b → (k ≢ i → k ≢ j → SeatIn T (own k)) → SeatIn T (seats_with i a j b k)
+seats_in T i j k a b first second third = cases (k == i) (k == j) (λ e. differs k i e) (λ e. differs k j e)
+  where
+    differs : (p q : ℕ) → (p == q) ≡ false → p ≢ q
+    differs p q e = grind (arith, nat_tests)
+
+    cases : (p q : Bool) → (p ≡ false → k ≢ i) → (q ≡ false → k ≢ j) → SeatIn T (if p then a else if q then b else own k)
+    cases true q one two = first
+    cases false true one two = second
+    cases false false one two = third (one refl) (two refl)
+
+path_in : (U : Var → Type 0) (f : Tree) (r : Ray) (a b : Seat) (bound : ℤ) (live : ℕ → Bool) (i j n : ℕ) → FreeIn U f → SeatIn U a → SeatIn U b → ((k : ℕ) → 0 < k → k ≤ n → live k ≡ true → k ≢ j → SeatIn U (own k)) → FreeIn U (clear (and_all f (ray_atoms r a b)) (λ k. on r a b bound (own k)) live i j n)
+path_in U f r a b bound live i j n h from to each =
+    clear_in U (and_all f (ray_atoms r a b)) (λ k. on r a b bound (own k)) live i j n (and_all_in U f (ray_atoms r a b) h (atoms_in U r.far r.dx r.dy a b from to))
+    (λ k low high alive other. on_in U r.far r.dx r.dy a b (own k) bound from to (each k low high alive other))
+
+was_live : (b : Bool) (k t : ℕ) → (b && not (k == t)) ≡ true → (b ≡ true) × (k ≢ t)
+was_live true k t e = (refl, grind (arith, nat_tests))
+was_live false k t e = absurd (cc)
+
+is_kept : (b : Bool) (k t : ℕ) → b ≡ true → k ≢ t → (b && not (k == t)) ≡ true
+is_kept true k t e ne = grind (arith, nat_tests)
+is_kept false k t e ne = absurd (cc)
+
+pre_body_in : (U : Var → Type 0) (n mask i t s q : ℕ) (r : Ray) → SeatIn U (own i) → SeatIn U (new_seat r i t) → ((k : ℕ) → 0 < k → k ≤ n → is_live mask k ≡ true → SeatIn U (own k)) → FreeIn U (pre_body n mask i r t s q)
+pre_body_in U n mask i t s q r from to each =
+    path_in U (tree.And (tree.Among s (vars_to own (is_live mask) n)) (tree.Among q (vars_to (new_seats r i t) (without (is_live mask) t) n))) r (own i) (new_seat r i t) (pos 0) (is_live mask) i t n
+    (and_in U (tree.Among s (vars_to own (is_live mask) n)) (tree.Among q (vars_to (new_seats r i t) (without (is_live mask) t) n))
+    (among_in U s own (is_live mask) n each)
+    (among_in U q (new_seats r i t) (without (is_live mask) t) n
+    (λ k low high alive. seats_in U i t k (new_seat r i t) (new_seat r i t) to to (λ first second. each k low high (was_live (is_live mask k) k t alive).0))))
+    from to (λ k low high alive other. each k low high alive)
+
+pre_tree_in : (n mask i t s q : ℕ) (r : Ray) → 0 < i → i ≤ n → is_live mask i ≡ true → (0 < t → (t ≤ n) × (is_live mask t ≡ true)) → FreeIn (IsSeated own (is_live mask) n) (pre_tree n mask i r t s q)
+pre_tree_in n mask i zero s q r low high on prey =
+    let T = IsSeated own (is_live mask) n in
+    let mover : SeatIn T (own i) = own_seat_in (is_live mask) n i low high on in
+    swept_in T r.dx (var 16) (ex_swept r.dy (var 17) (pre_body n mask i r 0 s q))
+    (swept_in (λ z. T z ⊎ ((z ≡ var 16) × (r.dx ≢ pos 0))) r.dy (var 17) (pre_body n mask i r 0 s q)
+    (pre_body_in (InBody T r) n mask i 0 s q r (seat_body T r (own i) mover) (spare_in T r i mover) (λ k first last alive. seat_body T r (own k) (own_seat_in (is_live mask) n k first last alive))))
+pre_tree_in n mask i (suc t) s q r low high on prey =
+    let w = prey (omega arith) in
+    pre_body_in (IsSeated own (is_live mask) n) n mask i (suc t) s q r (own_seat_in (is_live mask) n i low high on) (own_seat_in (is_live mask) n (suc t) (omega arith) w.0 w.1)
+    (λ k first last alive. own_seat_in (is_live mask) n k first last alive)
+
+bear_tree_in : (n mask k g s : ℕ) (r : Ray) → 0 < k → k ≤ n → is_live mask k ≡ true → 0 < g → g ≤ n → is_live mask g ≡ true → FreeIn (IsSeated own (is_live mask) n) (bear_tree n mask k r g s)
+bear_tree_in n mask k g s r low high alive_k first last target =
+    let T = IsSeated own (is_live mask) n in
+    let from : SeatIn T (own k) = own_seat_in (is_live mask) n k low high alive_k in
+    let to : SeatIn T (own g) = own_seat_in (is_live mask) n g first last target in
+    clear_as_in T r.far (and_all (tree.Among s (vars_to own (is_live mask) n)) (ray_atoms r (own k) (own g))) (λ l. on r (own k) (own g) (negsuc 0) (own l)) (is_live mask) k g n
+    (and_all_in T (tree.Among s (vars_to own (is_live mask) n)) (ray_atoms r (own k) (own g)) (among_in T s own (is_live mask) n (λ l begin end alive. own_seat_in (is_live mask) n l begin end alive)) (atoms_in T r.far r.dx r.dy (own k) (own g) from to))
+    (λ l begin end alive other. on_in T r.far r.dx r.dy (own k) (own g) (own l) (negsuc 0) from to (own_seat_in (is_live mask) n l begin end alive))
+
+-- a variable that is free in the first stays free
+if_free : (b : Bool) (f g : Tree) (z : Var) → IsFree z f → IsFree z (if b then tree.And f g else f)
+if_free true f g z h = inl h
+if_free false f g z h = h
+
+clear_free : (f : Tree) (hit : ℕ → Tree) (live : ℕ → Bool) (i j n : ℕ) (z : Var) → IsFree z f → IsFree z (clear f hit live i j n)
+clear_free f hit live i j zero z h = h
+clear_free f hit live i j (suc n) z h = if_free (is_other live i j (suc n)) (clear f hit live i j n) (tree.Not (hit (suc n))) z (clear_free f hit live i j n z h)
+
+clear_as_free : (b : Bool) (f : Tree) (hit : ℕ → Tree) (live : ℕ → Bool) (i j n : ℕ) (z : Var) → IsFree z f → IsFree z (clear_as b f hit live i j n)
+clear_as_free true f hit live i j n z h = clear_free f hit live i j n z h
+clear_as_free false f hit live i j n z h = h
+
+and_all_free : (f : Tree) (gs : List Tree) (z : Var) → IsFree z f → IsFree z (and_all f gs)
+and_all_free f [] z h = h
+and_all_free f (g ∷ gs) z h = and_all_free (tree.And f g) gs z (inl h)
+
+swept_free : (d : ℤ) (x : Var) (f : Tree) (z : Var) → z ≢ x → IsFree z f → IsFree z (ex_swept d x f)
+swept_free (pos zero) x f z ne h = h
+swept_free (pos (suc d)) x f z ne h = (ne, h)
+swept_free (negsuc d) x f z ne h = (ne, h)
+
+own_low : (live : ℕ → Bool) (n : ℕ) (z : Var) → n ≤ 8 → IsSeated own live n z → z.0 < 16
+own_low live n z few w =
+    let high : w.number ≤ n = w.high in
+    let low : 0 < w.number = w.low in
+    elim w.is [
+      | inl e ↦ let same : z.0 ≡ (own w.number).x.0 = ap (λ (v : Var). v.0) e in omega (arith, same)
+      | inr e ↦ let same : z.0 ≡ (own w.number).y.0 = ap (λ (v : Var). v.0) e in omega (arith, same)
+    ]
+
+not_var : (z : Var) (n : ℕ) → z.0 < n → z ≢ var n
+not_var z n low e = let same : z.0 ≡ n = ap (λ (v : Var). v.0) e in omega (arith, same, low)
+
+seated_in : (live : ℕ → Bool) (n : ℕ) (z : Var) → IsSeated own live n z → IsOneOf z (vars_to own live n)
+seated_in live n z w = seat_in own live n z w.number w.low w.high w.on w.is
+
+pre_free : (n mask i t s q : ℕ) (r : Ray) (z : Var) → n ≤ 8 → IsSeated own (is_live mask) n z → IsFree z (pre_tree n mask i r t s q)
+pre_free n mask i t s q r z few w =
+    let low : z.0 < 16 = own_low (is_live mask) n z few w in
+    let body : IsFree z (pre_body n mask i r t s q) = clear_free (and_all (tree.And (tree.Among s (vars_to own (is_live mask) n)) (tree.Among q (vars_to (new_seats r i t) (without (is_live mask) t) n))) (ray_atoms r (own i) (new_seat r i t))) (λ k. on r (own i) (new_seat r i t) (pos 0) (own k)) (is_live mask) i t n z
+    (and_all_free (tree.And (tree.Among s (vars_to own (is_live mask) n)) (tree.Among q (vars_to (new_seats r i t) (without (is_live mask) t) n))) (ray_atoms r (own i) (new_seat r i t)) z (inl (seated_in (is_live mask) n z w)))
+    in
+    whole t body low
+  where
+    whole : (t : ℕ) → IsFree z (pre_body n mask i r t s q) → z.0 < 16 → IsFree z (pre_tree n mask i r t s q)
+    whole zero body low = swept_free r.dx (var 16) (ex_swept r.dy (var 17) (pre_body n mask i r 0 s q)) z (not_var z 16 low) (swept_free r.dy (var 17) (pre_body n mask i r 0 s q) z (not_var z 17 (omega (arith, low))) body)
+    whole (suc t) body low = body
+
+bear_free : (n mask k g s : ℕ) (r : Ray) (z : Var) → IsSeated own (is_live mask) n z → IsFree z (bear_tree n mask k r g s)
+bear_free n mask k g s r z w =
+    clear_as_free r.far (and_all (tree.Among s (vars_to own (is_live mask) n)) (ray_atoms r (own k) (own g))) (λ l. on r (own k) (own g) (negsuc 0) (own l)) (is_live mask) k g n z
+    (and_all_free (tree.Among s (vars_to own (is_live mask) n)) (ray_atoms r (own k) (own g)) z (seated_in (is_live mask) n z w))
+
+-- the free variables are the tracks, where those and no others are free
+tracks_are : (live : ℕ → Bool) (n : ℕ) (f : Tree) → FreeIn (IsSeated own live n) f → ((z : Var) → IsSeated own live n z → IsFree z f) → free_vars f ≡ vars_to own live n
+tracks_are live n f only all =
+    same_list 0 0 (free_vars f) (vars_to own live n) (rises_free f) (spans_rise 0 (2 * n) (vars_to own live n) (spans_own live n))
+    (λ z is. seated_in live n z (only z ((free_vars-free f z).0 is)))
+    (λ z is. (free_vars-free f z).1 (all z (seated own live n z is)))
+
+prey_is_live : (stock : List Man) (mask t : ℕ) (side : Side) → IsPrey stock mask side t → 0 < t → (t ≤ length stock) × (is_live mask t ≡ true)
+prey_is_live stock mask zero side h low = absurd (omega (arith, low))
+prey_is_live stock mask (suc t) side h low = ((stock_number stock (suc t) h.0 h.1).high, h.2)
+
+pub pre_tracks : (stock : List Man) (mask : ℕ) (o : Opt) (s q : ℕ) → length stock ≤ 8 → IsOptionOf stock mask o → free_vars (pre_of stock mask o s q) ≡ tracks_of stock (is_live mask)
+pre_tracks stock mask o s q few w =
+    let number : IsNumber stock o.man = stock_number stock o.man w.man w.is.is_man in
+    tracks_are (is_live mask) (length stock) (pre_of stock mask o s q)
+    (pre_tree_in (length stock) mask o.man o.taken s q (ray_at stock o.man o.ray) number.low number.high w.is.live (prey_is_live stock mask o.taken w.man.side w.is.prey))
+    (λ z is. pre_free (length stock) mask o.man o.taken s q (ray_at stock o.man o.ray) z few is)
+
+pub bear_tracks : (stock : List Man) (mask k n g s : ℕ) → IsBearer stock mask k n g → free_vars (bear_of stock mask k n g s) ≡ tracks_of stock (is_live mask)
+bear_tracks stock mask k n g s w =
+    let from : IsNumber stock k = stock_number stock k w.man w.is.is_man in
+    let to : IsNumber stock g = stock_number stock g w.target w.is.is_target in
+    tracks_are (is_live mask) (length stock) (bear_of stock mask k n g s)
+    (bear_tree_in (length stock) mask k g s (ray_at stock k n) from.low from.high w.is.live to.low to.high w.is.target_live)
+    (λ z is. bear_free (length stock) mask k g s (ray_at stock k n) z is)
+
+pub safe_tracks : (stock : List Man) (mask k n g s : ℕ) → IsBearer stock mask k n g → free_vars (safe_of stock mask k n g s) ≡ tracks_of stock (is_live mask)
+safe_tracks stock mask k n g s w =
+    let T = IsSeated own (is_live mask) (length stock) in
+    let from : IsNumber stock k = stock_number stock k w.man w.is.is_man in
+    let to : IsNumber stock g = stock_number stock g w.target w.is.is_target in
+    let bear : Tree = bear_of stock mask k n g s in
+    tracks_are (is_live mask) (length stock) (safe_of stock mask k n g s)
+    (and_in T (tree.Among s (vars_to own (is_live mask) (length stock))) (tree.Not bear)
+    (among_in T s own (is_live mask) (length stock) (λ l begin end alive. own_seat_in (is_live mask) (length stock) l begin end alive))
+    (bear_tree_in (length stock) mask k g s (ray_at stock k n) from.low from.high w.is.live to.low to.high w.is.target_live))
+    (λ z is. inl (seated_in (is_live mask) (length stock) z is))
+
+-- the variable is free in one of a list
+abbrev AnyFree : Var → List Tree → Type 0
+AnyFree z [] = ⊥
+AnyFree z (g ∷ gs) = IsFree z g ⊎ AnyFree z gs
+
+any_left : (z : Var) (gs hs : List Tree) → AnyFree z gs → AnyFree z (gs ++ hs)
+any_left z [] hs h = absurd h
+any_left z (g ∷ gs) hs (inl h) = inl h
+any_left z (g ∷ gs) hs (inr h) = inr (any_left z gs hs h)
+
+any_right : (z : Var) (gs hs : List Tree) → AnyFree z hs → AnyFree z (gs ++ hs)
+any_right z [] hs h = h
+any_right z (g ∷ gs) hs h = inr (any_right z gs hs h)
+
+and_all_any : (f : Tree) (gs : List Tree) (z : Var) → AnyFree z gs → IsFree z (and_all f gs)
+and_all_any f [] z h = absurd h
+and_all_any f (g ∷ gs) z (inl h) = and_all_free (tree.And f g) gs z (inr h)
+and_all_any f (g ∷ gs) z (inr h) = and_all_any (tree.And f g) gs z h
+
+unless_any : (x y : Var) (f : Tree) (z : Var) → x.0 ≢ y.0 → IsFree z f → AnyFree z (unless_same x y f)
+unless_any x y f z ne h = cases (x.0 == y.0) (λ e. same x.0 y.0 e)
+  where
+    same : (a b : ℕ) → (a == b) ≡ true → a ≡ b
+    same a b e = grind (arith, nat_tests)
+
+    cases : (b : Bool) → (b ≡ true → x.0 ≡ y.0) → AnyFree z (if b then [] else f ∷ [])
+    cases true e = absurd (ne (e refl))
+    cases false e = inl h
+
+-- where the ray moves, the end's variable is free in its atoms
+across_free : (far : Bool) (dx dy : ℤ) (a b : Seat) → dx ≢ pos 0 → b.x.0 ≢ a.x.0 → AnyFree b.x (atoms_as far dx dy a b)
+across_free true (pos zero) dy a b moves ne = absurd (moves refl)
+across_free true (pos (suc dx)) dy a b moves ne = any_right b.x (line_atoms (pos (suc dx)) dy a b) (ahead (pos (suc dx)) dy a b (negsuc 0) ∷ []) (inl (inr (inl refl)))
+across_free true (negsuc dx) dy a b moves ne = any_right b.x (line_atoms (negsuc dx) dy a b) (ahead (negsuc dx) dy a b (negsuc 0) ∷ []) (inl (inl refl))
+across_free false dx dy a b moves ne =
+    any_left b.x (unless_same b.x a.x (difference b.x a.x Eq dx)) (unless_same b.y a.y (difference b.y a.y Eq dy)) (unless_any b.x a.x (difference b.x a.x Eq dx) b.x ne (inl refl))
+
+along_free : (far : Bool) (dx dy : ℤ) (a b : Seat) → dy ≢ pos 0 → b.y.0 ≢ a.y.0 → AnyFree b.y (atoms_as far dx dy a b)
+along_free true dx (pos zero) a b moves ne = absurd (moves refl)
+along_free true (pos zero) (pos (suc dy)) a b moves ne = any_right b.y (line_atoms (pos zero) (pos (suc dy)) a b) (ahead (pos zero) (pos (suc dy)) a b (negsuc 0) ∷ []) (inl (inr (inl refl)))
+along_free true (pos zero) (negsuc dy) a b moves ne = any_right b.y (line_atoms (pos zero) (negsuc dy) a b) (ahead (pos zero) (negsuc dy) a b (negsuc 0) ∷ []) (inl (inl refl))
+along_free true (pos (suc dx)) (pos (suc dy)) a b moves ne = inl (inr (inr (inl refl)))
+along_free true (pos (suc dx)) (negsuc dy) a b moves ne = inl (inr (inr (inl refl)))
+along_free true (negsuc dx) (pos (suc dy)) a b moves ne = inl (inr (inr (inl refl)))
+along_free true (negsuc dx) (negsuc dy) a b moves ne = inl (inr (inr (inl refl)))
+along_free false dx dy a b moves ne =
+    any_right b.y (unless_same b.x a.x (difference b.x a.x Eq dx)) (unless_same b.y a.y (difference b.y a.y Eq dy)) (unless_any b.y a.y (difference b.y a.y Eq dy) b.y ne (inl refl))
+
+-- a swept variable is the old one, or another where the ray moves
+swept_or : (d : ℤ) (x y : Var) → (swept d x y ≡ x) ⊎ ((d ≢ pos 0) × (swept d x y ≡ y))
+swept_or (pos zero) x y = inl refl
+swept_or (pos (suc d)) x y = inr (λ e. omega (arith, ints, e), refl)
+swept_or (negsuc d) x y = inr (λ e. omega (arith, ints, e), refl)
+
+with_first : (i j : ℕ) (a b : Seat) → seats_with i a j b i ≡ a
+with_first i j a b = grind (arith, nat_tests)
+
+with_other : (i j k : ℕ) (a b : Seat) → k ≢ i → k ≢ j → seats_with i a j b k ≡ own k
+with_other i j k a b first second = grind (arith, nat_tests)
+
+image_body_in : (n mask i t s : ℕ) (r : Ray) → 0 < i → i ≤ n → is_live mask i ≡ true → i ≢ t → FreeIn (InBody (IsSeated own (without (is_live mask) t) n) r) (image_body n mask i r t s)
+image_body_in n mask i t s r low high on ne =
+    let T = IsSeated own (without (is_live mask) t) n in
+    let U = InBody T r in
+    let each : (k : ℕ) → 0 < k → k ≤ n → is_live mask k ≡ true → k ≢ t → SeatIn U (own k) = λ k first last alive untaken.
+    seat_body T r (own k) (own_seat_in (without (is_live mask) t) n k first last (is_kept (is_live mask k) k t alive untaken))
+    in
+    let mover : SeatIn T (own i) = own_seat_in (without (is_live mask) t) n i low high (is_kept (is_live mask i) i t on ne) in
+    let from : SeatIn U (spare r i) = spare_in T r i mover in
+    let to : SeatIn U (own i) = seat_body T r (own i) mover in
+    path_in U (tree.Among s (vars_to (old_seats r i t) (is_live mask) n)) r (spare r i) (own i) (pos 0) (is_live mask) i t n
+    (among_in U s (old_seats r i t) (is_live mask) n (λ k first last alive. seats_in U i t k (spare r i) (own i) from to (λ other untaken. each k first last alive untaken)))
+    from to each
+
+image_tree_in : (n mask i t s : ℕ) (r : Ray) → 0 < i → i ≤ n → is_live mask i ≡ true → i ≢ t → FreeIn (IsSeated own (without (is_live mask) t) n) (image_tree n mask i r t s)
+image_tree_in n mask i t s r low high on ne =
+    let T = IsSeated own (without (is_live mask) t) n in
+    swept_in T r.dx (var 16) (ex_swept r.dy (var 17) (image_body n mask i r t s))
+    (swept_in (λ z. T z ⊎ ((z ≡ var 16) × (r.dx ≢ pos 0))) r.dy (var 17) (image_body n mask i r t s) (image_body_in n mask i t s r low high on ne))
+
+image_body_free : (n mask i t s : ℕ) (r : Ray) (z : Var) → n ≤ 8 → 0 < i → i ≤ n → is_live mask i ≡ true → IsSeated own (without (is_live mask) t) n z → IsFree z (image_body n mask i r t s)
+image_body_free n mask i t s r z few low high alive_i w =
+    let among : Tree = tree.Among s (vars_to (old_seats r i t) (is_live mask) n) in
+    let atoms : List Tree = ray_atoms r (spare r i) (own i) in
+    let alive = was_live (is_live mask w.number) w.number t w.on in
+    let chained : IsFree z (and_all among atoms) → IsFree z (image_body n mask i r t s) = clear_free (and_all among atoms) (λ k. on r (spare r i) (own i) (pos 0) (own k)) (is_live mask) i t n z in
+    let there : (k : ℕ) → 0 < k → k ≤ n → is_live mask k ≡ true → IsOf (old_seats r i t k) z → IsFree z (image_body n mask i r t s) = λ k first last live is.
+    chained (and_all_free among atoms z (seat_in (old_seats r i t) (is_live mask) n z k first last live is))
+    in
+    elim (same_number w.number i) [
+      | inr other ↦ there w.number w.low w.high alive.0 (subst (λ a. IsOf a z) (sym (with_other i t w.number (spare r i) (own i) other alive.1)) w.is)
+      | inl e ↦
+          let mine : IsOf (own i) z = subst (λ k. IsOf (own k) z) e w.is in
+          elim mine [
+            | inl across ↦ elim (swept_or r.dx (own i).x (var 16)) [
+              | inl kept ↦ there i low high alive_i (subst (λ a. IsOf a z) (sym (with_first i t (spare r i) (own i))) (inl (across ∙ sym kept)))
+              | inr moved ↦
+                  let past : (own i).x.0 ≢ (spare r i).x.0 = λ same. let far : (spare r i).x.0 ≡ 16 = ap (λ (v : Var). v.0) moved.1 in omega (arith, same, far, few, high) in
+                  chained (and_all_any among atoms z (subst (λ v. AnyFree v atoms) (sym across) (across_free r.far r.dx r.dy (spare r i) (own i) moved.0 past)))
+            ]
+            | inr along ↦ elim (swept_or r.dy (own i).y (var 17)) [
+              | inl kept ↦ there i low high alive_i (subst (λ a. IsOf a z) (sym (with_first i t (spare r i) (own i))) (inr (along ∙ sym kept)))
+              | inr moved ↦
+                  let past : (own i).y.0 ≢ (spare r i).y.0 = λ same. let far : (spare r i).y.0 ≡ 17 = ap (λ (v : Var). v.0) moved.1 in omega (arith, same, far, few, high) in
+                  chained (and_all_any among atoms z (subst (λ v. AnyFree v atoms) (sym along) (along_free r.far r.dx r.dy (spare r i) (own i) moved.0 past)))
+            ]
+          ]
+    ]
+
+image_free : (n mask i t s : ℕ) (r : Ray) (z : Var) → n ≤ 8 → 0 < i → i ≤ n → is_live mask i ≡ true → IsSeated own (without (is_live mask) t) n z → IsFree z (image_tree n mask i r t s)
+image_free n mask i t s r z few low high on w =
+    let small : z.0 < 16 = own_low (without (is_live mask) t) n z few w in
+    swept_free r.dx (var 16) (ex_swept r.dy (var 17) (image_body n mask i r t s)) z (not_var z 16 small)
+    (swept_free r.dy (var 17) (image_body n mask i r t s) z (not_var z 17 (omega (arith, small))) (image_body_free n mask i t s r z few low high on w))
+
+pub image_tracks : (stock : List Man) (mask : ℕ) (o : Opt) (s : ℕ) → length stock ≤ 8 → IsOptionOf stock mask o → free_vars (image_of stock mask o s) ≡ tracks_of stock (without (is_live mask) o.taken)
+image_tracks stock mask o s few w =
+    let number : IsNumber stock o.man = stock_number stock o.man w.man w.is.is_man in
+    let ne : o.man ≢ o.taken = option_untaken stock mask o.man o.ray o.taken w.man w.ray w.is in
+    tracks_are (without (is_live mask) o.taken) (length stock) (image_of stock mask o s)
+    (image_tree_in (length stock) mask o.man o.taken s (ray_at stock o.man o.ray) number.low number.high w.is.live ne)
+    (λ z is. image_free (length stock) mask o.man o.taken s (ray_at stock o.man o.ray) z few number.low number.high w.is.live is)

@@ -1,0 +1,13 @@
+pub mod Laws
+pub mod Meaning
+pub mod Options
+pub mod Placed
+pub mod Seats
+pub mod Size
+pub mod Trees
+pub use Rattle.game_rules.specs.Game
+pub use Rattle.game_rules.specs.Rays
+pub use Rattle.lin_formula.specs.Tree
+pub use Rattle.lin_formula.specs.TreeOf
+pub use Rattle.lin_formula.specs.Holds
+pub use Rattle.lin_formula.specs.SetOf

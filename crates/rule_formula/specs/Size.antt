@@ -1,0 +1,23 @@
+-- How large a formula of the rules is, and which sets it names.
+use Rattle.std.specs.Prelude.{◌≡◌, ◌⊎◌, ℕ, ◌<◌, ◌≤◌, List, length, All}
+use Rattle.track_word.specs.declared.tracks.Var.{Var}
+use Rattle.lin_formula.specs.Tree.{IsWellMade, Tree, memberships, steps, vars_of}
+
+-- well made, with at most eighteen variables and fewer than a hundred steps
+pub record IsModest (t : Tree) : Type 0 where
+  pub well_made : IsWellMade t
+  pub variables : length (vars_of t) ≤ 18
+  pub steps_are_few : length (steps t) < 100
+
+-- this set is named, with as many variables as it has tracks
+pub record IsOver (s : ℕ) (tracks : List Var) (m : ℕ × List Var) : Type 0 where
+  pub set : m.0 ≡ s
+  pub count : length m.1 ≡ length tracks
+
+-- only this set is named
+abbrev pub NamesOnly : ℕ → List Var → Tree → Type 0
+NamesOnly s tracks t = All (IsOver s tracks) (memberships t)
+
+-- only these two sets are named
+abbrev pub NamesBoth : ℕ → List Var → ℕ → List Var → Tree → Type 0
+NamesBoth s tracks q others t = All (λ m. IsOver s tracks m ⊎ IsOver q others m) (memberships t)

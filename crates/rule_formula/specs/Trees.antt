@@ -1,0 +1,200 @@
+-- The formulas of the rules.
+use Rattle.std.specs.Prelude.{◌≡◌, ◌≢◌, Option, Some, None, ℕ, zero, suc, Bool, true, false, ◌==◌, ◌&&◌, not, if◌then◌else◌, List, [], ◌∷◌, ◌++◌, length, ℤ, pos, negsuc}
+use Rattle.track_word.specs.declared.tracks.Var.{Var}
+use Rattle.track_word.specs.declared.atoms.Rel.{Rel}
+use Rattle.track_word.specs.declared.atoms.Rel.TheVariants.{Le, Eq}
+use Rattle.lin_formula.specs.Tree.{Tree}
+use Rattle.rule_formula.specs.declared.seats.Seat.{Seat}
+use Rattle.game_rules.specs.declared.men.Ray.{Ray}
+use Rattle.rule_formula.specs.Placed.{is_live, stock_man, without}
+use Rattle.game_rules.specs.declared.men.Man.{Man}
+use Rattle.game_rules.specs.declared.men.Square.{Square}
+use Rattle.game_rules.specs.Game.{square_of}
+use Rattle.game_rules.specs.Rays.{leap, ray_of}
+use Rattle.rule_formula.specs.declared.opt.Opt.{Opt}
+use Rattle.rule_formula.specs.Seats.{own, new_seat, new_seats, old_seats, spare, var, vars_to}
+use Rattle.lin_formula.specs.Tree as tree
+
+-- the formula and each of the list, nested to the left
+abbrev pub and_all : Tree → List Tree → Tree
+and_all f [] = f
+and_all f (g ∷ gs) = and_all (tree.And f g) gs
+
+-- x - y against n
+abbrev pub difference : Var → Var → Rel → ℤ → Tree
+difference x y rel n = tree.Lin ((pos 1, x) ∷ (negsuc 0, y) ∷ []) rel n
+
+abbrev pub rising : Seat → Seat → Tree
+rising a b = tree.Lin ((pos 1, b.x) ∷ (negsuc 0, a.x) ∷ (negsuc 0, b.y) ∷ (pos 1, a.y) ∷ []) Eq (pos 0)
+
+abbrev pub falling : Seat → Seat → Tree
+falling a b = tree.Lin ((pos 1, b.x) ∷ (negsuc 0, a.x) ∷ (pos 1, b.y) ∷ (negsuc 0, a.y) ∷ []) Eq (pos 0)
+
+-- the line through a and b has an atom of different variables
+pub record IsDrawn (dx dy : ℤ) (a b : Seat) : Type 0 where
+  pub across : dx ≡ pos 0 → b.x.0 ≢ a.x.0
+  pub along : dy ≡ pos 0 → b.y.0 ≢ a.y.0
+  pub aslant : dx ≢ pos 0 → dy ≢ pos 0 → (b.x.0 ≢ a.x.0) × (b.y.0 ≢ a.y.0)
+
+-- b is on the line through a in the direction (dx, dy)
+abbrev pub line : ℤ → ℤ → Seat → Seat → Tree
+line (pos zero) dy a b = difference b.x a.x Eq (pos 0)
+line (pos (suc dx)) (pos zero) a b = difference b.y a.y Eq (pos 0)
+line (pos (suc dx)) (pos (suc dy)) a b = rising a b
+line (pos (suc dx)) (negsuc dy) a b = falling a b
+line (negsuc dx) (pos zero) a b = difference b.y a.y Eq (pos 0)
+line (negsuc dx) (pos (suc dy)) a b = falling a b
+line (negsuc dx) (negsuc dy) a b = rising a b
+
+-- an atom of two variables is left out where they are the same
+abbrev pub unless_same : Var → Var → Tree → List Tree
+unless_same x y f = if x.0 == y.0 then [] else f ∷ []
+
+abbrev pub line_atoms : ℤ → ℤ → Seat → Seat → List Tree
+line_atoms (pos zero) dy a b = unless_same b.x a.x (line (pos zero) dy a b)
+line_atoms dx (pos zero) a b = unless_same b.y a.y (line dx (pos zero) a b)
+line_atoms dx dy a b = line dx dy a b ∷ []
+
+-- x - y in the direction d is at most n
+abbrev pub ordered : ℤ → Var → Var → ℤ → Tree
+ordered (pos d) x y n = difference x y Le n
+ordered (negsuc d) x y n = difference y x Le n
+
+-- the squares differ in the variable that the ray counts
+pub record IsCounted (dx dy : ℤ) (a b : Seat) : Type 0 where
+  pub across : dx ≢ pos 0 → a.x.0 ≢ b.x.0
+  pub along : dx ≡ pos 0 → a.y.0 ≢ b.y.0
+
+-- how far a may be past b in the direction (dx, dy)
+abbrev pub ahead : ℤ → ℤ → Seat → Seat → ℤ → Tree
+ahead (pos zero) dy a b n = ordered dy a.y b.y n
+ahead dx dy a b n = ordered dx a.x b.x n
+
+abbrev pub atoms_as : Bool → ℤ → ℤ → Seat → Seat → List Tree
+atoms_as true dx dy a b = line_atoms dx dy a b ++ ahead dx dy a b (negsuc 0) ∷ []
+atoms_as false dx dy a b =
+    unless_same b.x a.x (difference b.x a.x Eq dx) ++ unless_same b.y a.y (difference b.y a.y Eq dy)
+
+-- b lies on the ray from a
+abbrev pub ray_atoms : Ray → Seat → Seat → List Tree
+ray_atoms r a b = atoms_as r.far r.dx r.dy a b
+
+abbrev pub on_as : Bool → ℤ → ℤ → Seat → Seat → Seat → ℤ → Tree
+on_as true dx dy a b z n = tree.And (tree.And (line dx dy a z) (ahead dx dy a z (negsuc 0))) (ahead dx dy z b n)
+on_as false dx dy a b z n = tree.And (difference z.x b.x Eq (pos 0)) (difference z.y b.y Eq (pos 0))
+
+-- z stands on the way from a, itself excluded, to b, which is included where n is 0 and excluded where it is -1
+abbrev pub on : Ray → Seat → Seat → ℤ → Seat → Tree
+on r a b n z = on_as r.far r.dx r.dy a b z n
+
+-- all of the seats' variables differ
+pub record AreApart (a b : Seat) : Type 0 where
+  pub across : a.x.0 ≢ b.x.0
+  pub along : a.y.0 ≢ b.y.0
+
+-- the seats may share a variable only where the ray does not move
+pub record Suits (r : Ray) (a b : Seat) : Type 0 where
+  pub across : b.x.0 ≡ a.x.0 → r.dx ≡ pos 0
+  pub along : b.y.0 ≡ a.y.0 → r.dy ≡ pos 0
+
+-- a live man other than i and j
+abbrev pub is_other : (ℕ → Bool) → ℕ → ℕ → ℕ → Bool
+is_other live i j k = live k && (not (k == i) && not (k == j))
+
+-- the formula, and that what `hit` says holds of none of the other live men among the first n
+abbrev pub clear : Tree → (ℕ → Tree) → (ℕ → Bool) → ℕ → ℕ → ℕ → Tree
+clear f hit live i j zero = f
+clear f hit live i j (suc n) =
+    if is_other live i j (suc n) then tree.And (clear f hit live i j n) (tree.Not (hit (suc n))) else clear f hit live i j n
+
+-- some value of x, where the ray sweeps it
+abbrev pub ex_swept : ℤ → Var → Tree → Tree
+ex_swept (pos zero) x f = f
+ex_swept _ x f = tree.Ex x f
+
+abbrev pub image_body : ℕ → ℕ → ℕ → Ray → ℕ → ℕ → Tree
+image_body n mask i r t s =
+    clear (and_all (tree.Among s (vars_to (old_seats r i t) (is_live mask) n)) (ray_atoms r (spare r i) (own i)))
+    (λ k. on r (spare r i) (own i) (pos 0) (own k)) (is_live mask) i t n
+
+-- the positions to which man i goes along the ray, taking man t, from those of the set
+abbrev pub image_tree : ℕ → ℕ → ℕ → Ray → ℕ → ℕ → Tree
+image_tree n mask i r t s = ex_swept r.dx (var 16) (ex_swept r.dy (var 17) (image_body n mask i r t s))
+
+abbrev pub pre_body : ℕ → ℕ → ℕ → Ray → ℕ → ℕ → ℕ → Tree
+pre_body n mask i r t s q =
+    clear (and_all (tree.And (tree.Among s (vars_to own (is_live mask) n)) (tree.Among q (vars_to (new_seats r i t) (without (is_live mask) t) n)))
+    (ray_atoms r (own i) (new_seat r i t)))
+    (λ k. on r (own i) (new_seat r i t) (pos 0) (own k)) (is_live mask) i t n
+
+abbrev pub pre_tree : ℕ → ℕ → ℕ → Ray → ℕ → ℕ → ℕ → Tree
+pre_tree n mask i r zero s q = ex_swept r.dx (var 16) (ex_swept r.dy (var 17) (pre_body n mask i r 0 s q))
+pre_tree n mask i r (suc t) s q = pre_body n mask i r (suc t) s q
+
+abbrev pub clear_as : Bool → Tree → (ℕ → Tree) → (ℕ → Bool) → ℕ → ℕ → ℕ → Tree
+clear_as true f hit live i j n = clear f hit live i j n
+clear_as false f hit live i j n = f
+
+-- man k bears along the ray on king g, in a position of the set
+abbrev pub bear_tree : ℕ → ℕ → ℕ → Ray → ℕ → ℕ → Tree
+bear_tree n mask k r g s =
+    clear_as r.far (and_all (tree.Among s (vars_to own (is_live mask) n)) (ray_atoms r (own k) (own g)))
+    (λ l. on r (own k) (own g) (negsuc 0) (own l)) (is_live mask) k g n
+
+abbrev pub safe_tree : ℕ → ℕ → ℕ → Ray → ℕ → ℕ → Tree
+safe_tree n mask k r g s = tree.And (tree.Among s (vars_to own (is_live mask) n)) (tree.Not (bear_tree n mask k r g s))
+
+abbrev pub twins_tree : ℕ → ℕ → ℕ → ℕ → ℕ → Tree
+twins_tree n mask a b s =
+    tree.And (tree.And (tree.Among s (vars_to own (is_live mask) n)) (difference (own a).x (own b).x Eq (pos 0)))
+    (difference (own a).y (own b).y Eq (pos 0))
+
+abbrev pub and_maybe : Option Tree → Tree → Tree
+and_maybe None g = g
+and_maybe (Some f) g = tree.And f g
+
+-- also, the square stands in the seat
+abbrev pub with_square : Option Tree → Seat → Option Square → Option Tree
+with_square o s None = o
+with_square o s (Some z) = Some (tree.And (and_maybe o (tree.Value s.x z.x)) (tree.Value s.y z.y))
+
+abbrev pub man_square : Option Man → Option Square
+man_square None = None
+man_square (Some m) = square_of m
+
+-- the places of the live men among the first n, if there are any
+abbrev pub point_to : List Man → ℕ → Option Tree
+point_to men zero = None
+point_to men (suc n) = with_square (point_to men n) (own (suc n)) (man_square (stock_man men (suc n)))
+
+-- the formula of the places of the live men, if there are any
+abbrev pub point_of : List Man → Option Tree
+point_of men = point_to men (length men)
+
+abbrev pub ray_or_none : Option Ray → Ray
+ray_or_none None = leap (pos 0) (pos 0)
+ray_or_none (Some r) = r
+
+abbrev pub man_ray : ℕ → Option Man → Ray
+man_ray n None = leap (pos 0) (pos 0)
+man_ray n (Some m) = ray_or_none (ray_of m.kind m.side n)
+
+-- ray n of man k; where there is none, one that leads nowhere
+abbrev pub ray_at : List Man → ℕ → ℕ → Ray
+ray_at stock k n = man_ray n (stock_man stock k)
+
+-- the variables of the live men
+abbrev pub tracks_of : List Man → (ℕ → Bool) → List Var
+tracks_of stock live = vars_to own live (length stock)
+
+abbrev pub image_of : List Man → ℕ → Opt → ℕ → Tree
+image_of stock mask o s = image_tree (length stock) mask o.man (ray_at stock o.man o.ray) o.taken s
+
+abbrev pub pre_of : List Man → ℕ → Opt → ℕ → ℕ → Tree
+pre_of stock mask o s q = pre_tree (length stock) mask o.man (ray_at stock o.man o.ray) o.taken s q
+
+abbrev pub bear_of : List Man → ℕ → ℕ → ℕ → ℕ → ℕ → Tree
+bear_of stock mask k n g s = bear_tree (length stock) mask k (ray_at stock k n) g s
+
+abbrev pub safe_of : List Man → ℕ → ℕ → ℕ → ℕ → ℕ → Tree
+safe_of stock mask k n g s = safe_tree (length stock) mask k (ray_at stock k n) g s

@@ -1,0 +1,169 @@
+//! The atoms of rays.
+
+ghost use Rattle.std.specs.Prelude.{◌≡◌, ◌≢◌, ◌≤ℤ◌, IfOk, [], ◌∷◌, pos, negsuc};
+ghost use Rattle.track_word.specs.Atom.{IsAtom};
+ghost use Rattle.lin_formula.specs.TreeOf.{tree_of};
+ghost use Rattle.rule_formula.specs.Seats.{IsSeat};
+ghost use Rattle.rule_formula.specs.Trees.{AreApart, IsCounted, IsDrawn, ahead as ahead_tree, falling as falling_tree, rising as rising_tree, difference as difference_tree, line as line_tree, on as on_tree, ordered as ordered_tree};
+ghost use Rattle.lin_formula.specs.Tree as tree;
+
+use crate::seats::Seat;
+use game_rules::Ray;
+use lin_formula::Formula;
+use std::alloc::{AllocError, Global};
+use track_word::{Rel, Var};
+
+/// Both formulas.
+pub(crate) fn both(alloc: Global, a: Formula, b: Formula) -> Result<Formula, AllocError>
+    ensures { IfOk result (λ f. tree_of f ≡ tree.And (tree_of a) (tree_of b)) }
+{
+    match lin_formula::and(alloc, a, b) {
+        Ok(f) => Ok(f),
+        Err(_) => Err(AllocError),
+    }
+}
+
+pub(crate) fn not(alloc: Global, a: Formula) -> Result<Formula, AllocError>
+    ensures { IfOk result (λ f. tree_of f ≡ tree.Not (tree_of a)) }
+{
+    match lin_formula::not(alloc, a) {
+        Ok(f) => Ok(f),
+        Err(_) => Err(AllocError),
+    }
+}
+
+/// The sum of the terms against the bound.
+fn sum(alloc: Global, terms: &[(i8, Var)], rel: Rel, bound: i32) -> Result<Formula, AllocError>
+    requires { IsAtom terms.now bound }
+    ensures { IfOk result (λ f. tree_of f ≡ tree.Lin terms.now rel bound) }
+{
+    match lin_formula::lin(alloc, terms, rel, bound) {
+        Ok(f) => Ok(f),
+        Err(lin_formula::LinWhy::Memory) => Err(AllocError),
+        Err(_) => unreachable!(),
+    }
+}
+
+/// x - y against the bound.
+pub(crate) fn difference(
+    alloc: Global,
+    x: Var,
+    y: Var,
+    rel: Rel,
+    bound: i32,
+) -> Result<Formula, AllocError>
+    requires apart { x.0 ≢ y.0 }
+    requires low { negsuc 999 ≤ℤ bound }
+    requires high { bound ≤ℤ pos 1000 }
+    ensures { IfOk result (λ f. tree_of f ≡ difference_tree x y rel bound) }
+{
+    sum(alloc, &[(1, x), (-1, y)], rel, bound)
+}
+
+fn rising(alloc: Global, a: Seat, b: Seat) -> Result<Formula, AllocError>
+    requires from { IsSeat a }
+    requires to { IsSeat b }
+    requires apart { AreApart a b }
+    ensures { IfOk result (λ f. tree_of f ≡ rising_tree a b) }
+{
+    sum(
+        alloc,
+        &[(1, b.x), (-1, a.x), (-1, b.y), (1, a.y)],
+        Rel::Eq,
+        0,
+    )
+}
+
+fn falling(alloc: Global, a: Seat, b: Seat) -> Result<Formula, AllocError>
+    requires from { IsSeat a }
+    requires to { IsSeat b }
+    requires apart { AreApart a b }
+    ensures { IfOk result (λ f. tree_of f ≡ falling_tree a b) }
+{
+    sum(
+        alloc,
+        &[(1, b.x), (-1, a.x), (1, b.y), (-1, a.y)],
+        Rel::Eq,
+        0,
+    )
+}
+
+/// b is on the line through a in the direction of the ray.
+pub(crate) fn line(alloc: Global, ray: Ray, a: Seat, b: Seat) -> Result<Formula, AllocError>
+    requires from { IsSeat a }
+    requires to { IsSeat b }
+    requires drawn { IsDrawn ray.dx ray.dy a b }
+    ensures { IfOk result (λ f. tree_of f ≡ line_tree ray.dx ray.dy a b) }
+{
+    if ray.dx == 0 {
+        difference(alloc, b.x, a.x, Rel::Eq, 0)
+    } else if ray.dy == 0 {
+        difference(alloc, b.y, a.y, Rel::Eq, 0)
+    } else if (ray.dx > 0) == (ray.dy > 0) {
+        rising(alloc, a, b)
+    } else {
+        falling(alloc, a, b)
+    }
+}
+
+/// x - y in the direction of the step is at most the bound.
+fn ordered(alloc: Global, step: i8, x: Var, y: Var, bound: i32) -> Result<Formula, AllocError>
+    requires apart { x.0 ≢ y.0 }
+    requires low { negsuc 999 ≤ℤ bound }
+    requires high { bound ≤ℤ pos 1000 }
+    ensures { IfOk result (λ f. tree_of f ≡ ordered_tree step x y bound) }
+{
+    if step >= 0 {
+        difference(alloc, x, y, Rel::Le, bound)
+    } else {
+        difference(alloc, y, x, Rel::Le, bound)
+    }
+}
+
+/// How far a may be past b in the direction of the ray.
+pub(crate) fn ahead(
+    alloc: Global,
+    ray: Ray,
+    a: Seat,
+    b: Seat,
+    bound: i32,
+) -> Result<Formula, AllocError>
+    requires counted { IsCounted ray.dx ray.dy a b }
+    requires low { negsuc 999 ≤ℤ bound }
+    requires high { bound ≤ℤ pos 1000 }
+    ensures { IfOk result (λ f. tree_of f ≡ ahead_tree ray.dx ray.dy a b bound) }
+{
+    if ray.dx == 0 {
+        ordered(alloc, ray.dy, a.y, b.y, bound)
+    } else {
+        ordered(alloc, ray.dx, a.x, b.x, bound)
+    }
+}
+
+/// z stands on the way from a to b, which is included where the bound is 0 and excluded where it is -1.
+pub(crate) fn on(
+    alloc: Global,
+    ray: Ray,
+    a: Seat,
+    b: Seat,
+    z: Seat,
+    bound: i32,
+) -> Result<Formula, AllocError>
+    requires from { IsSeat a }
+    requires middle { IsSeat z }
+    requires first { AreApart a z }
+    requires last { AreApart z b }
+    requires low { negsuc 999 ≤ℤ bound }
+    requires high { bound ≤ℤ pos 1000 }
+    ensures { IfOk result (λ f. tree_of f ≡ on_tree ray a b bound z) }
+{
+    if ray.far {
+        let line = line(alloc, ray, a, z)?;
+        let ahead_of_start = ahead(alloc, ray, a, z, -1)?;
+        let started = both(alloc, line, ahead_of_start)?;
+        both(alloc, started, ahead(alloc, ray, z, b, bound)?)
+    } else {
+        let across = difference(alloc, z.x, b.x, Rel::Eq, 0)?;
+        both(alloc, across, difference(alloc, z.y, b.y, Rel::Eq, 0)?)
+    }
+}

@@ -1,0 +1,177 @@
+//! The options of a side in a mask.
+
+ghost use Rattle.std.specs.Prelude.{◌≡◌, ◌↔◌, ◌≤◌, ◌++◌, Contains, IfOk, OnOk, Some, length};
+ghost use Rattle.game_rules.specs.Rays.{rays_of, serves_captures as captures, serves_moves as moves};
+ghost use Rattle.rule_formula.specs.declared.opt.Opt.{Opt};
+ghost use Rattle.rule_formula.specs.Meaning.{IsOptionOfSide};
+ghost use Rattle.rule_formula.specs.Options.{captures_to, is_king as king_of, is_prey as prey_of, is_side as side_of, man_options, option, options_of, ray_options, rays_to};
+
+use crate::opt::Opt;
+use crate::stock::{is_live, man_of};
+use chess_game::Position;
+use game_rules::{Kind, Man, Side};
+use smallvec::SmallVec;
+use std::alloc::{AllocError, Global};
+
+/// The ways in which men may go. Most lists are short.
+type Opts = SmallVec<Opt, 16>;
+
+fn is_side(a: Side, b: Side) -> bool
+    ensures { result ≡ side_of a b }
+{
+    matches!(
+        (a, b),
+        (Side::White, Side::White) | (Side::Black, Side::Black)
+    )
+}
+
+fn is_king(kind: Kind) -> bool
+    ensures { result ≡ king_of kind }
+{
+    matches!(kind, Kind::King)
+}
+
+/// Whether the ray serves moves onto an empty square.
+fn serves_moves(kind: Kind, number: u8) -> bool
+    ensures { result ≡ moves kind number }
+{
+    match kind {
+        Kind::Pawn => number == 0,
+        _ => true,
+    }
+}
+
+/// Whether the ray serves captures.
+fn serves_captures(kind: Kind, number: u8) -> bool
+    ensures { result ≡ captures kind number }
+{
+    match kind {
+        Kind::Pawn => number != 0,
+        _ => true,
+    }
+}
+
+/// Whether man k is a live enemy other than the king.
+fn is_prey(stock: &Position, mask: u8, side: Side, k: u8) -> bool
+    requires low { 1 ≤ k }
+    requires high { k ≤ length stock.now.men }
+    requires few { k ≤ 8 }
+    ensures { result ≡ prey_of stock.now.men mask side k }
+{
+    let man = man_of(stock, k);
+    is_live(mask, k) && !is_side(man.side, side) && !is_king(man.kind)
+}
+
+fn push_captures(
+    options: &mut Opts,
+    stock: &Position,
+    mask: u8,
+    side: Side,
+    man: u8,
+    ray: u8,
+) -> Result<(), AllocError>
+    ensures { OnOk result (options.new.items ≡ options.old.items ++ captures_to stock.now.men mask side man ray (length stock.now.men)) }
+{
+    for n in 0..stock.count() {
+        let taken = n + 1;
+        if is_prey(stock, mask, side, taken) {
+            options.push(Opt { man, ray, taken })?;
+        }
+    }
+    Ok(())
+}
+
+fn push_ray(
+    options: &mut Opts,
+    stock: &Position,
+    mask: u8,
+    side: Side,
+    kind: Kind,
+    man: u8,
+    ray: u8,
+) -> Result<(), AllocError>
+    ensures { OnOk result (options.new.items ≡ options.old.items ++ ray_options stock.now.men mask side kind man ray) }
+{
+    if serves_moves(kind, ray) {
+        options.push(Opt { man, ray, taken: 0 })?;
+    }
+    if serves_captures(kind, ray) {
+        push_captures(options, stock, mask, side, man, ray)?;
+    }
+    Ok(())
+}
+
+fn push_rays(
+    options: &mut Opts,
+    stock: &Position,
+    mask: u8,
+    side: Side,
+    kind: Kind,
+    man: u8,
+    count: u8,
+) -> Result<(), AllocError>
+    ensures { OnOk result (options.new.items ≡ options.old.items ++ rays_to stock.now.men mask side kind man count) }
+{
+    for number in 0..count {
+        push_ray(options, stock, mask, side, kind, man, number)?;
+    }
+    Ok(())
+}
+
+fn push_man(
+    options: &mut Opts,
+    stock: &Position,
+    mask: u8,
+    side: Side,
+    number: u8,
+    man: Man,
+) -> Result<(), AllocError>
+    requires low { 1 ≤ number }
+    requires high { number ≤ 8 }
+    ensures { OnOk result (options.new.items ≡ options.old.items ++ man_options stock.now.men mask side number (Some man)) }
+{
+    if !(is_live(mask, number) && is_side(man.side, side)) {
+        return Ok(());
+    }
+    let count = ray_count(man.kind, man.side);
+    push_rays(options, stock, mask, side, man.kind, number, count)
+}
+
+/// The list itself.
+fn list(alloc: Global, stock: &Position, mask: u8, side: Side) -> Result<Opts, AllocError>
+    ensures list { IfOk result (λ all. all.items ≡ options_of stock.now.men mask side) }
+    ensures few { length stock.now.men ≤ 8 }
+{
+    let mut options = SmallVec::new(alloc);
+    for n in 0..stock.count() {
+        let number = n + 1;
+        let man = man_of(stock, number);
+        push_man(&mut options, stock, mask, side, number, man)?;
+    }
+    Ok(options)
+}
+
+/// How many rays a man has.
+fn ray_count(kind: Kind, side: Side) -> u8
+    ensures { result ≡ length (rays_of kind side) }
+{
+    match kind {
+        Kind::King | Kind::Queen | Kind::Knight => 8,
+        Kind::Rook | Kind::Bishop => 4,
+        Kind::Pawn => 3,
+    }
+}
+
+/// The ways in which the side's men may go where the men of the mask are live: by man, then by ray, then by the man that is taken.
+pub fn options(
+    alloc: Global,
+    stock: &Position,
+    mask: u8,
+    side: Side,
+) -> Result<SmallVec<Opt, 16>, AllocError>
+    ensures list { IfOk result (λ all. all.items ≡ options_of stock.now.men mask side) }
+    ensures exact { IfOk result (λ all. (o : Opt) → Contains all.items o ↔ IsOptionOfSide stock.now.men mask side o) }
+    ensures few { IfOk result (λ all. length all.items ≤ 1000) }
+{
+    list(alloc, stock, mask, side)
+}

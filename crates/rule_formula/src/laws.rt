@@ -1,0 +1,16 @@
+//! Laws of the options, each the contract of a function that does nothing.
+
+ghost use Rattle.rule_formula.specs.Laws.{BearIsOverTracks, ImageIsOverTracks, PreIsOverTracks, SafeIsOverTracks, StepsAreByOptions};
+
+/// In a sound position the steps of the side to move are those by its options together.
+pub fn steps_are_by_options()
+    ensures { StepsAreByOptions }
+{}
+
+/// The free variables of a formula are those of the live men: after the step in an image, and before it in the others.
+pub fn formulas_are_over_the_live_men()
+    ensures image { ImageIsOverTracks }
+    ensures pre { PreIsOverTracks }
+    ensures bear { BearIsOverTracks }
+    ensures safe { SafeIsOverTracks }
+{}
