@@ -1,0 +1,213 @@
+-- Words, a text and a position have one meaning each, and so an input has one report.
+use Rattle.std.proofs.Common.{◌≡◌, ◌⊎◌, ◌++◌, ℕ, ◌+◌, ◌≤◌, List, [], ◌∷◌, Result, Ok, Err, codes, false, inl, inr, refl, sym, ap, subst, ◌∙◌, arith}
+use Rattle.desk_base.specs.Files.{Files}
+use Rattle.desk_base.specs.Lines.{Lines, full, ended, cut, long, lines_of}
+use Rattle.game_rules.specs.Game.{Position}
+use Rattle.game_rules.specs.declared.men.Side.{Side}
+use Rattle.game_rules.specs.declared.men.Side.TheVariants.{White, Black}
+use Rattle.chess_game.specs.Fault.{IsFirstFault, IsLesserPair, rank}
+use Rattle.chess_game.specs.declared.faults.Unsound.{Unsound}
+use Rattle.chess_game.specs.declared.faults.Unsound.TheVariants.{NoKing, ManyKings, KingGone, SameSquare, OtherInCheck}
+use Rattle.chess_game.proofs.FaultLemmas.{fault_unsound, number_cases}
+use Rattle.chess_text.specs.PositionText.{Turnout, position_text}
+use Rattle.chess_text.specs.PositionText as turnouts
+use Rattle.chess_text.specs.declared.reader.Stage.{Stage}
+use Rattle.chess_text.specs.declared.reader.Stage.TheVariants.{Header}
+use Rattle.chess_text.proofs.PositionLemmas.{feeds_once}
+use Rattle.mate_desk.specs.Order.{ReadsNumber, FromNumber, WithNumber, DecideOrdered, ShowOrdered, Ordered, most_moves, most_budget, default_budget}
+use Rattle.mate_desk.specs.Outcome.{Report, refusal_as, done_with}
+use Rattle.mate_desk.specs.Report.{unsound_line, IsVerdict, IsCheckLine, Prints, live_line, ReportsPosition, ReportsText, ReportsOrder, OneReport}
+use Rattle.mate_desk.specs.Text.{Text, whole, refused, AfterLine, ReadsLines}
+use Rattle.mate_desk.specs.declared.order.Order.{Order}
+use Rattle.mate_desk.specs.declared.order.Order.TheVariants.{Decide, Show}
+use Rattle.mate_desk.specs.declared.order.UsageWhy.{UsageWhy}
+use Rattle.mate_desk.specs.declared.order.UsageWhy.TheVariants.{NoCommand, Unknown, Count, Number, Limit}
+use Rattle.mate_desk.specs.declared.status.Status.TheVariants as is
+
+-- a word is one number, or none for one reason
+once_number : (word : List ℕ) (low high : ℕ) (one other : Result ℕ UsageWhy) → ReadsNumber word low high one → ReadsNumber word low high other → one ≡ other
+once_number word low high (Ok m) (Ok n) a b = ap Ok (sym a.0.value ∙ b.0.value)
+once_number word low high (Ok m) (Err Number) a b = absurd (b m a.0)
+once_number word low high (Ok m) (Err Limit) a b = absurd (b.2 (omega (arith, a.1, a.0.value, b.1.value)) (omega (arith, a.2, a.0.value, b.1.value)))
+once_number word low high (Ok m) (Err NoCommand) a b = absurd b
+once_number word low high (Ok m) (Err Unknown) a b = absurd b
+once_number word low high (Ok m) (Err Count) a b = absurd b
+once_number word low high (Err Number) (Ok n) a b = absurd (a n b.0)
+once_number word low high (Err Number) (Err Number) a b = refl
+once_number word low high (Err Number) (Err Limit) a b = absurd (a b.0 b.1)
+once_number word low high (Err Number) (Err NoCommand) a b = absurd b
+once_number word low high (Err Number) (Err Unknown) a b = absurd b
+once_number word low high (Err Number) (Err Count) a b = absurd b
+once_number word low high (Err Limit) (Ok n) a b = absurd (a.2 (omega (arith, b.1, b.0.value, a.1.value)) (omega (arith, b.2, b.0.value, a.1.value)))
+once_number word low high (Err Limit) (Err Number) a b = absurd (b a.0 a.1)
+once_number word low high (Err Limit) (Err Limit) a b = refl
+once_number word low high (Err Limit) (Err NoCommand) a b = absurd b
+once_number word low high (Err Limit) (Err Unknown) a b = absurd b
+once_number word low high (Err Limit) (Err Count) a b = absurd b
+once_number word low high (Err NoCommand) other a b = absurd a
+once_number word low high (Err Unknown) other a b = absurd a
+once_number word low high (Err Count) other a b = absurd a
+
+module _ (one other : Result Order UsageWhy) where
+  from_number : (number : Result ℕ UsageWhy) (F G : ℕ → Type 0) → ((n : ℕ) → F n → G n → one ≡ other) → FromNumber number one F → FromNumber number other G → one ≡ other
+  from_number (Ok n) F G once a b = once n a b
+  from_number (Err why) F G once a b = a ∙ sym b
+
+  with_number : (word : List ℕ) (low high : ℕ) (F G : ℕ → Type 0) → ((n : ℕ) → F n → G n → one ≡ other) → WithNumber word low high one F → WithNumber word low high other G → one ≡ other
+  with_number word low high F G once (m, is_m, a) (n, is_n, b) =
+      let P : Result ℕ UsageWhy → Type 0 = λ r. FromNumber r other G in
+      from_number m F G once a (subst P (sym (once_number word low high m n is_m is_n)) b)
+
+  once_decide : (words : List (List ℕ)) → DecideOrdered words one → DecideOrdered words other → one ≡ other
+  once_decide [] a b = a ∙ sym b
+  once_decide (moves ∷ []) a b = with_number moves 0 most_moves (λ n. one ≡ Ok (Decide n default_budget)) (λ n. other ≡ Ok (Decide n default_budget)) (λ n x y. x ∙ sym y) a b
+  once_decide (moves ∷ budget ∷ []) a b =
+      with_number moves 0 most_moves (λ n. WithNumber budget 1 most_budget one (λ k. one ≡ Ok (Decide n k))) (λ n. WithNumber budget 1 most_budget other (λ k. other ≡ Ok (Decide n k)))
+      (λ n x y. with_number budget 1 most_budget (λ k. one ≡ Ok (Decide n k)) (λ k. other ≡ Ok (Decide n k)) (λ k u v. u ∙ sym v) x y)
+      a b
+  once_decide (moves ∷ budget ∷ word ∷ words) a b = a ∙ sym b
+
+  once_show : (words : List (List ℕ)) → ShowOrdered words one → ShowOrdered words other → one ≡ other
+  once_show [] a b = a ∙ sym b
+  once_show (word ∷ words) a b = a ∙ sym b
+
+  two_commands : (command : List ℕ) → command ≡ codes "decide" → command ≡ codes "show" → one ≡ other
+  two_commands command a b = absurd (cc)
+
+  pub once_words : (words : List (List ℕ)) → Ordered words one → Ordered words other → one ≡ other
+  once_words [] a b = a ∙ sym b
+  once_words (command ∷ words) (inl (is', a)) (inl (so, b)) = once_decide words a b
+  once_words (command ∷ words) (inl (is', a)) (inr (inl (so, b))) = two_commands command is' so
+  once_words (command ∷ words) (inl (is', a)) (inr (inr (d, h, b))) = absurd (d is')
+  once_words (command ∷ words) (inr (inl (is', a))) (inl (so, b)) = two_commands command so is'
+  once_words (command ∷ words) (inr (inl (is', a))) (inr (inl (so, b))) = once_show words a b
+  once_words (command ∷ words) (inr (inl (is', a))) (inr (inr (d, h, b))) = absurd (h is')
+  once_words (command ∷ words) (inr (inr (d, h, a))) (inl (so, b)) = absurd (d so)
+  once_words (command ∷ words) (inr (inr (d, h, a))) (inr (inl (so, b))) = absurd (h so)
+  once_words (command ∷ words) (inr (inr (d, h, a))) (inr (inr (e, k, b))) = a ∙ sym b
+
+-- lines are one text
+once_after : (turnout : Turnout) (number : ℕ) (rest : Lines) (one other : Text) (F G : Stage → Type 0) → ((next : Stage) → F next → G next → one ≡ other) → AfterLine turnout number rest one F → AfterLine turnout number rest other G → one ≡ other
+once_after (turnouts.more next) number rest one other F G once a b = once next a b
+once_after (turnouts.whole p) number rest one other F G once a b = a ∙ sym b
+once_after (turnouts.refused why) number rest one other F G once a b = a ∙ sym b
+
+pub once_text : (stage : Stage) (number : ℕ) (lines : Lines) (one other : Text) → ReadsLines stage number lines one → ReadsLines stage number lines other → one ≡ other
+once_text stage number (full line rest) one other a b =
+    let F : Stage → Type 0 = λ next. ReadsLines next (number + 1) rest one in
+    let G : Stage → Type 0 = λ next. ReadsLines next (number + 1) rest other in
+    let P : Turnout → Type 0 = λ t. AfterLine t number rest other G in
+    once_after a.0 number rest one other F G (λ next x y. once_text next (number + 1) rest one other x y) a.2 (subst P (sym (feeds_once stage line a.0 b.0 a.1 b.1)) b.2)
+once_text stage number ended one other a b = a ∙ sym b
+once_text stage number (cut front) one other a b = a ∙ sym b
+once_text stage number long one other a b = a ∙ sym b
+
+-- a position has one first fault
+same_pair : (i j k l : ℕ) → (SameSquare i j ≡ SameSquare k l) ⊎ (IsLesserPair (SameSquare i j) (SameSquare k l) ⊎ IsLesserPair (SameSquare k l) (SameSquare i j))
+same_pair i j k l = elim (number_cases i k) [
+  | inl less ↦ inr (inl (inl less))
+  | inr (inr more) ↦ inr (inr (inl more))
+  | inr (inl same) ↦ elim (number_cases j l) [
+    | inl less ↦ inr (inl (inr (same, less)))
+    | inr (inr more) ↦ inr (inr (inr (sym same, more)))
+    | inr (inl equal) ↦ inl (cc)
+  ]
+]
+
+-- the places of the sides in the order
+abbrev place_of : Side → ℕ
+place_of White = 0
+place_of Black = 1
+
+same_side : (s t : Side) → place_of s ≡ place_of t → s ≡ t
+same_side White White h = refl
+same_side White Black h = absurd (omega arith)
+same_side Black White h = absurd (omega arith)
+same_side Black Black h = refl
+
+record RanksOf (s : Side) : Type 0 where
+  small : place_of s ≤ 1
+  no_king : rank (NoKing s) ≡ place_of s
+  many_kings : rank (ManyKings s) ≡ 2 + place_of s
+  king_gone : rank (KingGone s) ≡ 4 + place_of s
+
+ranks : (s : Side) → RanksOf s
+ranks White = record { small = omega arith; no_king = refl; many_kings = refl; king_gone = refl }
+ranks Black = record { small = omega arith; no_king = refl; many_kings = refl; king_gone = refl }
+
+same_rank : (e f : Unsound) → rank e ≡ rank f → (e ≡ f) ⊎ (IsLesserPair e f ⊎ IsLesserPair f e)
+same_rank (NoKing s) (NoKing t) h = inl (ap NoKing (same_side s t (let r = ranks s in let q = ranks t in omega (arith, h, r, q))))
+same_rank (NoKing s) (ManyKings t) h = absurd (let r = ranks s in let q = ranks t in omega (arith, h, r, q))
+same_rank (NoKing s) (KingGone t) h = absurd (let r = ranks s in let q = ranks t in omega (arith, h, r, q))
+same_rank (NoKing s) (SameSquare k l) h = absurd (let r = ranks s in omega (arith, h, r))
+same_rank (NoKing s) OtherInCheck h = absurd (let r = ranks s in omega (arith, h, r))
+same_rank (ManyKings s) (NoKing t) h = absurd (let r = ranks s in let q = ranks t in omega (arith, h, r, q))
+same_rank (ManyKings s) (ManyKings t) h = inl (ap ManyKings (same_side s t (let r = ranks s in let q = ranks t in omega (arith, h, r, q))))
+same_rank (ManyKings s) (KingGone t) h = absurd (let r = ranks s in let q = ranks t in omega (arith, h, r, q))
+same_rank (ManyKings s) (SameSquare k l) h = absurd (let r = ranks s in omega (arith, h, r))
+same_rank (ManyKings s) OtherInCheck h = absurd (let r = ranks s in omega (arith, h, r))
+same_rank (KingGone s) (NoKing t) h = absurd (let r = ranks s in let q = ranks t in omega (arith, h, r, q))
+same_rank (KingGone s) (ManyKings t) h = absurd (let r = ranks s in let q = ranks t in omega (arith, h, r, q))
+same_rank (KingGone s) (KingGone t) h = inl (ap KingGone (same_side s t (let r = ranks s in let q = ranks t in omega (arith, h, r, q))))
+same_rank (KingGone s) (SameSquare k l) h = absurd (let r = ranks s in omega (arith, h, r))
+same_rank (KingGone s) OtherInCheck h = absurd (let r = ranks s in omega (arith, h, r))
+same_rank (SameSquare i j) (NoKing t) h = absurd (let q = ranks t in omega (arith, h, q))
+same_rank (SameSquare i j) (ManyKings t) h = absurd (let q = ranks t in omega (arith, h, q))
+same_rank (SameSquare i j) (KingGone t) h = absurd (let q = ranks t in omega (arith, h, q))
+same_rank (SameSquare i j) (SameSquare k l) h = same_pair i j k l
+same_rank (SameSquare i j) OtherInCheck h = absurd (omega (arith, h))
+same_rank OtherInCheck (NoKing t) h = absurd (let q = ranks t in omega (arith, h, q))
+same_rank OtherInCheck (ManyKings t) h = absurd (let q = ranks t in omega (arith, h, q))
+same_rank OtherInCheck (KingGone t) h = absurd (let q = ranks t in omega (arith, h, q))
+same_rank OtherInCheck (SameSquare k l) h = absurd (omega (arith, h))
+same_rank OtherInCheck OtherInCheck h = inl refl
+
+once_fault : (p : Position) (e f : Unsound) → IsFirstFault p e → IsFirstFault p f → e ≡ f
+once_fault p e f a b = elim (number_cases (rank e) (rank f)) [
+  | inl less ↦ absurd (b.first e (inl less) a.fault)
+  | inr (inr more) ↦ absurd (a.first f (inl more) b.fault)
+  | inr (inl same) ↦ elim (same_rank e f same) [
+    | inl equal ↦ equal
+    | inr (inl lesser) ↦ absurd (b.first e (inr lesser) a.fault)
+    | inr (inr lesser) ↦ absurd (a.first f (inr lesser) b.fault)
+  ]
+]
+
+-- what is printed of a position is one text
+once_verdict : (n : ℕ) (p : Position) (one other : List ℕ) → IsVerdict n p one → IsVerdict n p other → one ≡ other
+once_verdict n p one other (inl (a, v)) (inl (b, w)) = a ∙ sym b
+once_verdict n p one other (inl (a, v)) (inr (b, w)) = absurd (w v)
+once_verdict n p one other (inr (a, v)) (inl (b, w)) = absurd (v w)
+once_verdict n p one other (inr (a, v)) (inr (b, w)) = a ∙ sym b
+
+once_check : (p : Position) (one other : List ℕ) → IsCheckLine p one → IsCheckLine p other → one ≡ other
+once_check p one other (inl (a, v)) (inl (b, w)) = a ∙ sym b
+once_check p one other (inl (a, v)) (inr (b, w)) = absurd (w v)
+once_check p one other (inr (a, v)) (inl (b, w)) = absurd (v w)
+once_check p one other (inr (a, v)) (inr (b, w)) = a ∙ sym b
+
+once_prints : (order : Order) (p : Position) (one other : List ℕ) → Prints order p one → Prints order p other → one ≡ other
+once_prints (Decide moves budget) p one other a b = once_verdict moves p one other a b
+once_prints Show p one other a b = a.2 ∙ ap (λ check. position_text p ++ check ++ live_line p) (once_check p a.0 b.0 a.1 b.1) ∙ sym b.2
+
+module _ (files : Files) (one other : Report) where
+  once_position : (order : Order) (p : Position) → ReportsPosition files order p one → ReportsPosition files order p other → one ≡ other
+  once_position order p (inl (e, a, i)) (inl (f, b, j)) = i ∙ ap (λ why. refusal_as files is.Unsound (unsound_line why) false) (once_fault p e f a b) ∙ sym j
+  once_position order p (inl (e, a, i)) (inr (sound, b)) = absurd (fault_unsound e p a sound)
+  once_position order p (inr (sound, a)) (inl (f, b, j)) = absurd (fault_unsound f p b sound)
+  once_position order p (inr (sound, a)) (inr (also, b)) = a.2 ∙ ap (done_with files) (once_prints order p a.0 b.0 a.1 b.1) ∙ sym b.2
+
+  once_whole : (order : Order) (text : Text) → ReportsText files order text one → ReportsText files order text other → one ≡ other
+  once_whole order (refused number why) a b = a ∙ sym b
+  once_whole order (whole p rest) a b = once_position order p a b
+
+  once_order : (answer : Result Order UsageWhy) (bytes : List ℕ) → ReportsOrder files answer bytes one → ReportsOrder files answer bytes other → one ≡ other
+  once_order (Err why) bytes a b = a ∙ sym b
+  once_order (Ok order) bytes a b =
+      let P : Text → Type 0 = λ t. ReportsText files order t other in
+      once_whole order a.0 a.2 (subst P (sym (once_text Header 1 (lines_of bytes) a.0 b.0 a.1 b.1)) b.2)
+
+pub one_report : OneReport
+one_report words bytes files one other a b =
+    let P : Result Order UsageWhy → Type 0 = λ r. ReportsOrder files r bytes other in
+    once_order files one other a.0 bytes a.2 (subst P (sym (once_words a.0 b.0 words a.1 b.1)) b.2)

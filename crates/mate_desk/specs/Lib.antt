@@ -1,0 +1,13 @@
+pub mod Codes
+pub mod Order
+pub mod Outcome
+pub mod Report
+pub mod Text
+pub mod TextRead
+pub use Rattle.desk_base.specs.Faults
+pub use Rattle.desk_base.specs.Files
+pub use Rattle.desk_base.specs.Lines
+pub use Rattle.game_rules.specs.Game
+pub use Rattle.chess_game.specs.Fault
+pub use Rattle.chess_text.specs.ManLine
+pub use Rattle.chess_text.specs.PositionText

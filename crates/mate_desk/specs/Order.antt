@@ -1,0 +1,79 @@
+-- What words order.
+use Rattle.std.specs.Prelude.{◌≡◌, ◌≢◌, ◌⊎◌, ℕ, ◌≤◌, List, [], ◌∷◌, Result, Ok, Err, codes}
+use Rattle.std.specs.Char.{IsAsciiDigit}
+use Rattle.std.specs.List.{All}
+use Rattle.std.specs.Str.Parse.{digits_value}
+use Rattle.mate_desk.specs.declared.order.Order.{Order}
+use Rattle.mate_desk.specs.declared.order.Order.TheVariants.{Decide, Show}
+use Rattle.mate_desk.specs.declared.order.UsageWhy.{UsageWhy}
+use Rattle.mate_desk.specs.declared.order.UsageWhy.TheVariants.{NoCommand, Unknown, Count, Number, Limit}
+
+-- the greatest number of moves that can be asked for
+abbrev pub most_moves : ℕ
+most_moves = 0
+
+-- the greatest budget, and the one that holds where no word names one
+abbrev pub most_budget : ℕ
+most_budget = 200000
+
+abbrev pub default_budget : ℕ
+default_budget = 50000
+
+-- 0, or a digit from 1 to 9 and any digits
+abbrev pub IsNaturalText : List ℕ → Type 0
+IsNaturalText [] = ⊥
+IsNaturalText (first ∷ rest) = ((first ≡ 48) × (rest ≡ [])) ⊎ ((49 ≤ first) × (first ≤ 57) × All IsAsciiDigit rest)
+
+-- the word is this natural
+pub record IsNatural (word : List ℕ) (n : ℕ) : Type 0 where
+  pub text : IsNaturalText word
+  pub value : digits_value 10 word ≡ n
+
+-- the natural that the word is, if it lies within the limits, or the first reason why there is none
+abbrev pub ReadsNumber : List ℕ → ℕ → ℕ → Result ℕ UsageWhy → Type 0
+ReadsNumber word low high (Ok n) = IsNatural word n × (low ≤ n) × (n ≤ high)
+ReadsNumber word low high (Err Number) = (n : ℕ) → IsNatural word n → ⊥
+ReadsNumber word low high (Err Limit) = (n : ℕ) × IsNatural word n × (low ≤ n → n ≤ high → ⊥)
+ReadsNumber word low high (Err _) = ⊥
+
+-- the answer goes on from the number as `go_on` says, or has the reason why there is none
+abbrev pub FromNumber : Result ℕ UsageWhy → Result Order UsageWhy → (ℕ → Type 0) → Type 0
+FromNumber (Ok n) answer go_on = go_on n
+FromNumber (Err why) answer go_on = answer ≡ Err why
+
+abbrev pub WithNumber : List ℕ → ℕ → ℕ → Result Order UsageWhy → (ℕ → Type 0) → Type 0
+WithNumber word low high answer go_on = (number : Result ℕ UsageWhy) × ReadsNumber word low high number × FromNumber number answer go_on
+
+-- what the words behind `decide` order: the number of moves, and the budget if a word names it
+abbrev pub DecideOrdered : List (List ℕ) → Result Order UsageWhy → Type 0
+DecideOrdered [] answer = answer ≡ Err Count
+DecideOrdered (moves ∷ []) answer = WithNumber moves 0 most_moves answer (λ n. answer ≡ Ok (Decide n default_budget))
+DecideOrdered (moves ∷ budget ∷ []) answer =
+    WithNumber moves 0 most_moves answer (λ n. WithNumber budget 1 most_budget answer (λ b. answer ≡ Ok (Decide n b)))
+DecideOrdered (moves ∷ budget ∷ word ∷ words) answer = answer ≡ Err Count
+
+-- what the words behind `show` order
+abbrev pub ShowOrdered : List (List ℕ) → Result Order UsageWhy → Type 0
+ShowOrdered [] answer = answer ≡ Ok Show
+ShowOrdered (word ∷ words) answer = answer ≡ Err Count
+
+-- what words order, or the first reason why they are no order
+abbrev pub Ordered : List (List ℕ) → Result Order UsageWhy → Type 0
+Ordered [] answer = answer ≡ Err NoCommand
+Ordered (command ∷ words) answer =
+    ((command ≡ codes "decide") × DecideOrdered words answer)
+    ⊎ ((command ≡ codes "show") × ShowOrdered words answer)
+    ⊎ ((command ≢ codes "decide") × (command ≢ codes "show") × (answer ≡ Err Unknown))
+
+-- the numbers of an order are within their limits
+abbrev pub IsWithinLimits : Order → Type 0
+IsWithinLimits (Decide moves budget) = (moves ≤ most_moves) × (1 ≤ budget) × (budget ≤ most_budget)
+IsWithinLimits Show = Unit {0}
+
+-- the fault line of words that are no order
+abbrev pub usage_line : UsageWhy → List ℕ
+usage_line NoCommand = codes "usage no command\n"
+usage_line Unknown = codes "usage unknown\n"
+usage_line Count = codes "usage count\n"
+usage_line Number = codes "usage number\n"
+usage_line Limit = codes "usage limit\n"

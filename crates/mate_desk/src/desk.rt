@@ -1,0 +1,73 @@
+//! The top call.
+
+ghost use Rattle.std.specs.Prelude.{◌≡◌, ℕ, ◌≤◌, List, map, string_bytes, IsTrue};
+ghost use Rattle.desk_base.specs.Faults.{HasRisen};
+ghost use Rattle.mate_desk.specs.Outcome.{RunEnds};
+ghost use Rattle.mate_desk.specs.Report.{MayLackMemory, Reports};
+
+use crate::answer::answer;
+use crate::fault_line::{refusal_line, refuse, unsound_line};
+use crate::order::order_of;
+use crate::status::Status;
+use crate::text::{TextEnd, read_position};
+use chess_game::soundness;
+use desk_base::{LineReader, Shelf, Sink, Source};
+use std::alloc::Global;
+
+/// Does what the words say, with the position text at the front of the source, and writes the answer to the sink.
+///
+/// The words come first, then the text line by line, then whether its position is sound, then the answer; the first refusal ends the
+/// run with its one fault line. Where writing that line fails, the status stays the refusal's. No command keeps a file yet.
+pub fn run<S: Source, K: Sink, H: Shelf>(
+    alloc: Global,
+    words: &Vec<String>,
+    source: &mut S,
+    sink: &mut K,
+    shelf: &mut H,
+) -> Status
+    ensures ends { IsTrue S.told →
+        let given = map string_bytes words.now.items in
+        RunEnds result (λ bytes report. Reports given bytes (H.files shelf.old) report) (MayLackMemory given)
+        record {
+          sink_told = IsTrue K.told;
+          shelf_told = IsTrue H.told;
+          sink_failed = HasRisen (K.faults sink.old) (K.faults sink.new);
+        }
+        record { left = S.left source.old; written = K.written sink.old; files = H.files shelf.old }
+        record { left = S.left source.new; written = K.written sink.new; files = H.files shelf.new } }
+    ensures read_fault { result ≡ Status.ReadFault → HasRisen (S.faults source.old) (S.faults source.new) }
+    ensures write_fault { result ≡ Status.WriteFault → HasRisen (K.faults sink.old) (K.faults sink.new) }
+    // Where the words are no order, nothing is read.
+    ensures nothing_read { result ≡ Status.Usage → source.new ≡ source.old }
+    ensures shelf_untouched { shelf.new ≡ shelf.old }
+{
+    let _ = shelf;
+    let order = match order_of(words) {
+        Ok(order) => order,
+        Err(why) => {
+            refuse(sink, why.line());
+            return Status::Usage;
+        }
+    };
+    let mut reader = LineReader::new();
+    let position = match read_position(&mut reader, source) {
+        Ok(position) => position,
+        Err(TextEnd::Fault) => {
+            refuse(sink, b"read fault\n");
+            return Status::ReadFault;
+        }
+        Err(TextEnd::Refused(number, why)) => {
+            let line = refusal_line(number, why);
+            refuse(sink, line.as_slice());
+            return Status::Text;
+        }
+    };
+    match soundness(&position) {
+        Ok(()) => answer(alloc, order, &position, sink),
+        Err(why) => {
+            let line = unsound_line(why);
+            refuse(sink, line.as_slice());
+            Status::Unsound
+        }
+    }
+}

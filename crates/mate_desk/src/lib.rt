@@ -1,0 +1,20 @@
+//! The top call: does what the words of a command line say, with the text of a position, and writes the answer.
+//!
+//! The words, the text, the soundness of its position and the output come in this order, and the first refusal ends the run. What a
+//! run does is the relation `Reports` under `specs`, and the contract of `run` says how a run may differ from it where an object fails.
+#![tactic(auto)]
+
+mod answer;
+mod desk;
+mod fault_line;
+pub mod laws;
+mod order;
+mod status;
+mod text;
+
+pub use desk::run;
+pub use order::{Order, UsageWhy, order_of};
+pub use status::Status;
+
+#[cfg(test)]
+mod tests;

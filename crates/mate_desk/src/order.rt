@@ -1,0 +1,145 @@
+//! The words of a command line.
+
+ghost use Rattle.std.specs.Prelude.{◌≡◌, ◌↔◌, ◌≤◌, map, string_bytes, IsTrue, IfOk};
+ghost use Rattle.std.specs.Char.{IsAsciiDigit};
+ghost use Rattle.std.specs.List.{All};
+ghost use Rattle.mate_desk.specs.Order.{DecideOrdered, IsNaturalText, IsWithinLimits, Ordered, ReadsNumber, ShowOrdered, usage_line};
+
+/// The greatest number of moves that can be asked for.
+const MOST_MOVES: u32 = 0;
+
+/// The greatest budget.
+const MOST_BUDGET: u32 = 200_000;
+
+/// The budget where no word names one.
+const DEFAULT_BUDGET: u32 = 50_000;
+
+/// What is to be done.
+#[derive(Clone, Copy, Debug, PartialEq, Eq)]
+pub enum Order {
+    /// Say whether White mates within so many moves. The budget bounds the states of the automata that decide it.
+    Decide { moves: u8, budget: u32 },
+    /// Write the position, whether its side to move is in check, and how many men are live.
+    Show,
+}
+
+/// Why words are no order. Words are looked at from the left.
+#[derive(Clone, Copy, Debug, PartialEq, Eq)]
+pub enum UsageWhy {
+    /// There are no words.
+    NoCommand,
+    /// The first word is no command.
+    Unknown,
+    /// The command takes another number of words.
+    Count,
+    /// A word that is to be a number is none: neither 0 nor digits of which the first is not 0.
+    Number,
+    /// A number is outside its limits.
+    Limit,
+}
+
+impl UsageWhy {
+    /// The fault line.
+    pub fn line(self) -> &'static [u8]
+        ensures { result.now ≡ usage_line self }
+    {
+        match self {
+            UsageWhy::NoCommand => b"usage no command\n",
+            UsageWhy::Unknown => b"usage unknown\n",
+            UsageWhy::Count => b"usage count\n",
+            UsageWhy::Number => b"usage number\n",
+            UsageWhy::Limit => b"usage limit\n",
+        }
+    }
+}
+
+/// The order that the words are.
+pub fn order_of(words: &Vec<String>) -> Result<Order, UsageWhy>
+    ensures ordered { Ordered (map string_bytes words.now.items) result }
+    ensures within { IfOk result IsWithinLimits }
+{
+    match words.as_slice() {
+        [] => Err(UsageWhy::NoCommand),
+        [command, rest @ ..] => {
+            if command.as_str() == "decide" {
+                return decide_order(rest);
+            }
+            if command.as_str() == "show" {
+                return show_order(rest);
+            }
+            Err(UsageWhy::Unknown)
+        }
+    }
+}
+
+/// The order that the words behind `decide` are.
+fn decide_order(words: &[String]) -> Result<Order, UsageWhy>
+    ensures ordered { DecideOrdered (map string_bytes words.now) result }
+    ensures within { IfOk result IsWithinLimits }
+{
+    match words {
+        [moves] => Ok(Order::Decide {
+            moves: read_moves(moves.as_str())?,
+            budget: DEFAULT_BUDGET,
+        }),
+        [moves, budget] => Ok(Order::Decide {
+            moves: read_moves(moves.as_str())?,
+            budget: read_number(budget.as_str(), 1, MOST_BUDGET)?,
+        }),
+        _ => Err(UsageWhy::Count),
+    }
+}
+
+/// The order that the words behind `show` are.
+fn show_order(words: &[String]) -> Result<Order, UsageWhy>
+    ensures ordered { ShowOrdered (map string_bytes words.now) result }
+    ensures within { IfOk result IsWithinLimits }
+{
+    if words.is_empty() {
+        Ok(Order::Show)
+    } else {
+        Err(UsageWhy::Count)
+    }
+}
+
+/// The number of moves that the word is.
+fn read_moves(word: &str) -> Result<u8, UsageWhy>
+    ensures { ReadsNumber word.now 0 0 result }
+{
+    Ok(read_number(word, 0, MOST_MOVES)? as u8)
+}
+
+/// The natural that the word is, if it lies within the limits.
+fn read_number(word: &str, low: u32, high: u32) -> Result<u32, UsageWhy>
+    ensures { ReadsNumber word.now low high result }
+{
+    if !is_natural(word.as_bytes()) {
+        return Err(UsageWhy::Number);
+    }
+    match word.parse::<u32>() {
+        Ok(number) => {
+            if number < low || number > high {
+                return Err(UsageWhy::Limit);
+            }
+            Ok(number)
+        }
+        Err(_) => Err(UsageWhy::Limit),
+    }
+}
+
+/// Whether the word is 0, or digits of which the first is not 0.
+fn is_natural(word: &[u8]) -> bool
+    ensures { IsTrue result ↔ IsNaturalText word.now }
+{
+    match word {
+        [b'0', rest @ ..] => rest.is_empty(),
+        [b'1'..=b'9', rest @ ..] => are_digits(rest),
+        _ => false,
+    }
+}
+
+fn are_digits(bytes: &[u8]) -> bool
+    ensures { IsTrue result ↔ All IsAsciiDigit bytes.now }
+{
+    bytes.iter().all(|byte| byte.is_ascii_digit())
+}

@@ -1,0 +1,40 @@
+//! How a run ends.
+
+ghost use Rattle.std.specs.Prelude.{◌≡◌};
+ghost use Rattle.mate_desk.specs.Codes.{code_of};
+
+/// How a run ended.
+#[derive(Clone, Copy, Debug, PartialEq, Eq)]
+pub enum Status {
+    /// The answer was written whole.
+    Done,
+    /// The words are no order.
+    Usage,
+    /// The text is no position text.
+    Text,
+    /// The position is not sound.
+    Unsound,
+    /// The source has failed while a line was due.
+    ReadFault,
+    /// The sink has failed before the answer was out.
+    WriteFault,
+    /// There is no memory for the answer.
+    Memory,
+}
+
+impl Status {
+    /// The status that a process ends with.
+    pub fn code(self) -> u8
+        ensures { result ≡ code_of self }
+    {
+        match self {
+            Status::Done => 0,
+            Status::Usage => 2,
+            Status::Text => 3,
+            Status::Unsound => 4,
+            Status::ReadFault => 5,
+            Status::WriteFault => 6,
+            Status::Memory => 10,
+        }
+    }
+}
