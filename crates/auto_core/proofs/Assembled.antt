@@ -1,5 +1,5 @@
 -- The parts of an automaton of sums.
-use Rattle.std.proofs.Common.{◌≡◌, ◌↔◌, ℕ, zero, suc, ℤ, pos, negsuc, neg_ℤ, ◌+ℤ◌, ◌-ℤ◌, ◌≤ℤ◌, ◌<ℤ◌, ◌+◌, ◌*◌, ◌<◌, ◌≤◌, Bool, true, false, List, [], ◌∷◌, ◌++◌, length, get_or, slice_index, arith, inl, inr, ◌⊎◌, refl, sym, ap, ◌∙◌, subst, IsTrue, w32, to_z, of_z}
+use Rattle.std.proofs.Common.{◌≡◌, ◌↔◌, ℕ, ℤ, pos, negsuc, neg_ℤ, ◌+ℤ◌, ◌-ℤ◌, ◌≤ℤ◌, ◌<ℤ◌, ◌+◌, ◌≤◌, Bool, false, List, [], ◌∷◌, ◌++◌, length, get_or, slice_index, arith, inl, inr, refl, sym, ap, ◌∙◌, subst, IsTrue, w32, to_z, of_z}
 use Rattle.std.specs.List.{sum_by}
 use mir.Val.{SFits}
 use Rattle.std.proofs.lemmas.Grind.{common_steps}

@@ -1,8 +1,8 @@
 -- Nodes that were known, as nodes are added in steps.
-use Rattle.std.proofs.Common.{◌≡◌, ℕ, ◌<◌, ◌≤◌, List, length, nat_eq, if◌then◌else◌, arith, ◌∙◌, ap, sym}
+use Rattle.std.proofs.Common.{◌≡◌, ℕ, ◌<◌, List, length, nat_eq, if◌then◌else◌, arith, ◌∙◌, ap, sym}
 use Rattle.std.specs.Int.{bit_at}
 use Rattle.letter_diagram.specs.declared.diagrams.Shape.{Shape}
-use Rattle.letter_diagram.specs.Diagram.{map_at, top_track, chosen, Grows}
+use Rattle.letter_diagram.specs.Diagram.{map_at, chosen, Grows}
 
 pub Grows-trans : (a b c : List Shape) → Grows a b → Grows b c → Grows a c
 Grows-trans a b c p q =

@@ -12,3 +12,5 @@ pub mod Assembled
 pub mod Ascents
 pub mod Linears
 pub mod Members
+pub mod Inserted
+pub mod Renamed

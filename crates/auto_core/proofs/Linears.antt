@@ -1,8 +1,7 @@
 -- The automaton of sums decides its atom.
-use Rattle.std.proofs.Common.{◌≡◌, ◌↔◌, ℕ, zero, suc, ℤ, pos, negsuc, neg_ℤ, ◌+ℤ◌, ◌*ℤ◌, ◌≤ℤ◌, ◌<ℤ◌, ◌+◌, ◌*◌, ◌^◌, ◌<◌, ◌≤◌, Bool, true, false, List, [], ◌∷◌, length, map, drop, get_or, slice_index, All, IsTrue, unsigned_abs, nat_lt, if◌then◌else◌, arith, inl, inr, ◌⊎◌, refl, sym, ap, ◌∙◌, subst}
+use Rattle.std.proofs.Common.{◌≡◌, ◌↔◌, ℕ, zero, suc, ℤ, pos, negsuc, neg_ℤ, ◌+ℤ◌, ◌*ℤ◌, ◌+◌, ◌*◌, ◌<◌, ◌≤◌, Bool, true, false, List, [], ◌∷◌, length, map, get_or, slice_index, All, unsigned_abs, nat_lt, if◌then◌else◌, arith, refl, sym, ap, ◌∙◌, subst}
 use Rattle.std.specs.List.{sum_by}
 use Rattle.std.specs.Int.{bit_at}
-use Rattle.std.proofs.lemmas.Grind.{common_steps}
 use Rattle.std.proofs.lemmas.Int.{ints}
 use Rattle.std.proofs.lemmas.List.Sums.{sum_by-cons}
 use Rattle.std.proofs.lemmas.List.{get_or_default, length-map}
@@ -10,17 +9,17 @@ use Rattle.track_word.specs.declared.tracks.Var.{Var}
 use Rattle.track_word.specs.declared.atoms.Rel.{Rel}
 use Rattle.track_word.specs.Word.{IsWord}
 use Rattle.track_word.specs.Tracks.{IsAscending, place, word_values}
-use Rattle.track_word.specs.Atom.{Compares, IsAtom, IsCoefficient, AtomHolds, sum_of, term_vars, atom_tracks}
+use Rattle.track_word.specs.Atom.{Compares, IsAtom, IsCoefficient, sum_of, term_vars, atom_tracks}
 use Rattle.letter_diagram.specs.declared.diagrams.Shape.{Shape}
 use Rattle.letter_diagram.specs.Diagram.{map_at, LooksBelow}
 use Rattle.auto_core.specs.declared.sums.Span.{Span}
-use Rattle.auto_core.specs.Automaton.{Automaton, IsAutomaton, width, first_state, next_state, state_of, is_final, Accepts}
+use Rattle.auto_core.specs.Automaton.{Automaton, IsAutomaton, width, first_state, next_state, state_of, Accepts}
 use Rattle.auto_core.specs.Rows.{AreRows, row_of, rows_of}
-use Rattle.auto_core.specs.Sums.{with_term, ordered_terms, gain, loss, weight_from, step, total, IsSmall, AreWeights, IsSpan, IsSpanOf, StandsFor, IsSumRow, AreSumRows, AreFlagsOf}
+use Rattle.auto_core.specs.Sums.{with_term, ordered_terms, gain, loss, weight_from, total, IsSmall, AreWeights, IsSpan, IsSpanOf, StandsFor, IsSumRow, AreSumRows, AreFlagsOf}
 use Rattle.auto_core.proofs.Ascents.{IsAscending-with_vars, place-at}
 use Rattle.auto_core.proofs.Orders.{Each, Each-all, each-ordered, sum-ordered, length-ordered, vars-ordered, term_vars-map}
 use Rattle.auto_core.proofs.RowLemmas.{get_or-row_of, get_or-rows_of}
-use Rattle.auto_core.proofs.Spans.{IsBetween, weight-between, weight-neg, weight-same, StandsFor-one, StandsFor-more, Compares-state}
+use Rattle.auto_core.proofs.Spans.{weight-between, weight-neg, weight-same, StandsFor-one, StandsFor-more, Compares-state}
 use Rattle.auto_core.proofs.Totals.{total-sum, sum_weight, ReadsTotals, stands-state_of}
 
 -- weights by terms and by tracks

@@ -1,11 +1,11 @@
 -- The words of a tuple are accepted alike.
-use Rattle.std.proofs.Common.{◌≡◌, ◌≢◌, ◌↔◌, ℕ, zero, suc, ℤ, pos, negsuc, ◌+◌, ◌-◌, ◌*◌, ◌^◌, ◌<◌, ◌≤◌, List, [], ◌∷◌, length, map, All, get_or, IsTrue, Bool, arith, inl, inr, ◌⊎◌, refl, sym, ap, ◌∙◌, subst}
+use Rattle.std.proofs.Common.{◌≡◌, ◌≢◌, ◌↔◌, ℕ, zero, suc, ℤ, pos, negsuc, ◌+◌, ◌-◌, ◌^◌, ◌<◌, ◌≤◌, List, [], ◌∷◌, length, All, get_or, IsTrue, Bool, arith, inl, inr, refl, sym, ap, ◌∙◌, subst}
 use mir.Val.{SFits}
 use Rattle.std.specs.Int.{w64}
 use Rattle.std.proofs.lemmas.Bool.{cases_lt}
 use Rattle.std.proofs.lemmas.List.{ext_get_or, get_or-map, length-map}
 use Rattle.track_word.specs.declared.tracks.Var.{Var}
-use Rattle.track_word.specs.Word.{IsWord, Spells, val, repeat_first, repeated, spelled, letters_below, letter_of, FitsBelow, BitsSpell, RepeatKeepsValues, EqualValuesEqualWords}
+use Rattle.track_word.specs.Word.{IsWord, val, repeat_first, repeated, spelled, letters_below, letter_of, FitsBelow, BitsSpell, RepeatKeepsValues, EqualValuesEqualWords}
 use Rattle.track_word.specs.Tracks.{IsAscending, Values, place, word_values, values_at}
 use Rattle.auto_core.specs.Automaton.{Automaton, IsAutomaton, Accepts, run, first_state, next_state, state_of, is_final}
 use Rattle.auto_core.specs.Integers.{DecidesIntegers, IsWordOf, IsAccepted, IsLeft, word_of}
@@ -19,7 +19,7 @@ length-letters : (integers : List ℤ) (n : ℕ) → length (letters_below integ
 length-letters integers zero = refl
 length-letters integers (suc n) = ap suc (length-letters integers n)
 
-IsWord-repeat : (tracks : ℕ) (word : List ℕ) → IsWord tracks word → IsWord tracks (repeat_first word)
+pub IsWord-repeat : (tracks : ℕ) (word : List ℕ) → IsWord tracks word → IsWord tracks (repeat_first word)
 IsWord-repeat tracks [] is = is
 IsWord-repeat tracks (l ∷ word) is = record {
   nonempty = λ e. never l (l ∷ word) e;

@@ -1,12 +1,12 @@
 -- Terms in the order of their variables.
-use Rattle.std.proofs.Common.{◌≡◌, ◌≢◌, ℕ, zero, suc, ℤ, pos, negsuc, ◌+ℤ◌, ◌*ℤ◌, ◌+◌, ◌<◌, ◌≤◌, Bool, true, false, cond, not, List, [], ◌∷◌, length, map, All, get_or, nat_lt, nat_eq, ◌==◌, if◌then◌else◌, arith, inl, inr, ◌⊎◌, refl, sym, ap, ◌∙◌, subst}
+use Rattle.std.proofs.Common.{◌≡◌, ◌≢◌, ℕ, suc, ℤ, ◌+ℤ◌, ◌*ℤ◌, ◌+◌, Bool, true, false, cond, not, List, [], ◌∷◌, length, map, All, nat_lt, ◌==◌, if◌then◌else◌, arith, inl, inr, refl, sym, ap, ◌∙◌}
 use Rattle.std.specs.List.{insert, position_or_len}
 use Rattle.std.proofs.lemmas.Grind.{common_steps}
 use Rattle.std.proofs.lemmas.Int.{ints}
 use Rattle.std.proofs.lemmas.Bool.{cases_eq, true≢false}
 use Rattle.track_word.specs.declared.tracks.Var.{Var}
-use Rattle.track_word.specs.Tracks.{Values, with_var, with_vars}
-use Rattle.track_word.specs.Atom.{sum_of, term_vars, atom_tracks, IsDistinct, IsCoefficient}
+use Rattle.track_word.specs.Tracks.{Values, with_var}
+use Rattle.track_word.specs.Atom.{sum_of, term_vars, atom_tracks, IsDistinct}
 use Rattle.auto_core.specs.Sums.{with_term, ordered_terms}
 
 place-cons : (b : Bool) (t u : ℤ × Var) (terms : List (ℤ × Var)) (n : ℕ) → insert terms n t ≡ with_term t terms → insert (u ∷ terms) (cond (not b) (1 + n) 0) t ≡ (if b then t ∷ u ∷ terms else u ∷ with_term t terms)

@@ -1,17 +1,17 @@
 -- Rows of sums, as nodes are added and remembered.
-use Rattle.std.proofs.Common.{◌≡◌, ◌≢◌, ℕ, zero, suc, ℤ, pos, negsuc, neg_ℤ, ◌+ℤ◌, ◌*ℤ◌, ◌≤ℤ◌, ◌+◌, ◌*◌, ◌<◌, ◌≤◌, Bool, true, false, List, [], ◌∷◌, length, drop, get_or, None, Some, nat_eq, if◌then◌else◌, add-one, arith, inl, inr, ◌⊎◌, refl, sym, ap, ◌∙◌, subst}
+use Rattle.std.proofs.Common.{◌≡◌, ℕ, suc, ℤ, pos, ◌+ℤ◌, ◌*ℤ◌, ◌+◌, ◌<◌, ◌≤◌, Bool, true, false, List, [], ◌∷◌, length, drop, get_or, None, Some, nat_eq, if◌then◌else◌, arith, inl, inr, ◌⊎◌, refl, sym, ap, ◌∙◌, subst}
 use Rattle.std.specs.Int.{bit_at}
 use Rattle.std.specs.HashMap.{HashMap, get, Updates, IsEmpty}
 use Rattle.std.proofs.lemmas.Grind.{common_steps}
 use Rattle.std.specs.Ordering.{int_eq}
 use Rattle.std.proofs.lemmas.Bool.Decides.{Decides-and, Decides-eqb, Decides-int_eq}
-use Rattle.std.proofs.lemmas.Int.{ints, by_lt_z}
+use Rattle.std.proofs.lemmas.Int.{ints}
 use Rattle.std.proofs.lemmas.List.{drop_more}
 use Rattle.std.proofs.lemmas.Nat.Bits.{bit_at-lt}
 use Rattle.letter_diagram.specs.declared.diagrams.Shape.{Shape}
 use Rattle.letter_diagram.specs.Diagram.{map_at, top_track, chosen, Grows}
 use Rattle.auto_core.specs.declared.sums.Span.{Span}
-use Rattle.auto_core.specs.Sums.{weight_from, IsSpan, StandsFor, IsSumRow, RemembersSums, key_eq}
+use Rattle.auto_core.specs.Sums.{weight_from, StandsFor, IsSumRow, RemembersSums, key_eq}
 
 pub IsSumRow-grows : (old new : List Shape) (weights : List ℤ) (span : Span) (track : ℕ) (sum : ℤ) (node : ℕ) → Grows old new → IsSumRow old weights span track sum node → IsSumRow new weights span track sum node
 IsSumRow-grows old new weights span track sum node grows is =

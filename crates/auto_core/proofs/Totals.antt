@@ -1,11 +1,11 @@
 -- The values that words spell, read from the sign letter on.
-use Rattle.std.proofs.Common.{◌≡◌, ◌≢◌, ℕ, zero, suc, ℤ, pos, neg_ℤ, ◌+ℤ◌, ◌-ℤ◌, ◌*ℤ◌, ◌+◌, ◌*◌, ◌^◌, ◌<◌, ◌≤◌, List, [], ◌∷◌, length, All, fold, slice_index, refl, ap, sym, ◌∙◌, arith}
+use Rattle.std.proofs.Common.{◌≡◌, ℕ, suc, ℤ, pos, neg_ℤ, ◌+ℤ◌, ◌-ℤ◌, ◌*ℤ◌, ◌+◌, ◌*◌, ◌^◌, ◌<◌, ◌≤◌, List, [], ◌∷◌, length, All, fold, refl, ap, ◌∙◌, arith}
 use Rattle.std.specs.Int.{bit_at}
 use Rattle.std.proofs.lemmas.Int.{ints}
-use borrow.Author.Differences.{up, down, neg_is}
+use borrow.Author.Differences.{neg_is}
 use Rattle.track_word.specs.declared.tracks.Var.{Var}
 use Rattle.track_word.specs.Word.{val, low_value, IsWord}
-use Rattle.track_word.specs.Tracks.{Values, place, word_values}
+use Rattle.track_word.specs.Tracks.{place, word_values}
 use Rattle.track_word.specs.Atom.{sum_of}
 use Rattle.auto_core.specs.Sums.{step, total}
 use Rattle.auto_core.specs.Automaton.{Automaton, IsAutomaton, width, run, state_of, first_state, next_state}

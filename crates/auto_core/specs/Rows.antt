@@ -1,5 +1,5 @@
 -- Rows of an automaton as nodes of diagrams.
-use Rattle.std.specs.Prelude.{◌≡◌, ℕ, ◌+◌, ◌*◌, ◌^◌, ◌<◌, ◌≤◌, Bool, List, length, All, map}
+use Rattle.std.specs.Prelude.{◌≡◌, ℕ, ◌*◌, ◌^◌, ◌<◌, ◌≤◌, Bool, List, length, All, map}
 use Rattle.std.specs.List.{range_with_len, flat_map}
 use Rattle.track_word.specs.declared.tracks.Var.{Var}
 use Rattle.track_word.specs.Tracks.{IsAscending}

@@ -89,6 +89,13 @@ impl Auto {
         self.rows[state as usize]
     }
 
+    /// The nodes of the states' rows, in order.
+    pub fn row_nodes(&self) -> &[Node]
+        ensures { result.now ≡ self.now.row_nodes }
+    {
+        self.rows.as_slice()
+    }
+
     /// The tracks, ascending.
     pub fn tracks(&self) -> &[Var]
         ensures tracks { result.now ≡ self.now.tracks }

@@ -7,6 +7,7 @@ mod dense;
 mod lin;
 mod member;
 mod reading;
+mod rename;
 mod sums;
 mod terms;
 #[cfg(test)]

@@ -1,6 +1,5 @@
-use Rattle.std.proofs.Common.{◌≡◌, ◌∙◌, ◌+◌, ◌^◌, ◌<◌, ap, sym, slice_index, arith}
+use Rattle.std.proofs.Common.{◌≡◌, ◌∙◌, ap, sym, slice_index, arith}
 use Rattle.std.proofs.lemmas.Grind.{common_steps}
-use Rattle.letter_diagram.specs.Diagram.{map_at}
 use Rattle.auto_core.specs.Dense.{place_of}
 use Rattle.auto_core.proofs.Places.{place_of-last, chosen-place}
 use Rattle.auto_core.proofs.dense.+node_from.Goals as goal

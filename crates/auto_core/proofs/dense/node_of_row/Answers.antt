@@ -1,4 +1,4 @@
-use Rattle.std.proofs.Common.{◌∙◌, ◌+◌, ◌≡◌, ap, arith, slice_index, sym}
+use Rattle.std.proofs.Common.{◌∙◌, ap, arith, slice_index}
 use Rattle.auto_core.proofs.Places.{place_of-first}
 use Rattle.auto_core.proofs.dense.node_of_row.Goals as goal
 

@@ -1,5 +1,5 @@
-use Rattle.std.proofs.Common.{arith, w32, sym, pos, ◌+ℤ◌, ◌≤ℤ◌}
-use Rattle.std.proofs.lemmas.Int.{ints, to_z-of_z}
+use Rattle.std.proofs.Common.{arith, pos, ◌+ℤ◌, ◌≤ℤ◌}
+use Rattle.std.proofs.lemmas.Int.{ints}
 use Rattle.auto_core.proofs.Assembled.{AreFlagsOf-push, flag-is}
 use Rattle.auto_core.proofs.lin.flags.Goals as goal
 

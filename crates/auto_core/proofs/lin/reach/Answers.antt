@@ -1,6 +1,5 @@
-use Rattle.std.proofs.Common.{arith, ◌≡◌, ◌+◌, ◌∙◌, get_or, take, pos, sym, ap, w32}
-use Rattle.std.specs.List.{sum_by}
-use Rattle.std.proofs.lemmas.Int.{ints, to_z-of_z}
+use Rattle.std.proofs.Common.{arith, ◌∙◌, get_or, pos, sym, ap, w32}
+use Rattle.std.proofs.lemmas.Int.{to_z-of_z}
 use Rattle.std.proofs.lemmas.List.Sums.{sum_by_more}
 use Rattle.auto_core.specs.Sums.{gain, loss}
 use Rattle.auto_core.proofs.Assembled.{SFits-small, gain-small, loss-small, summed}

@@ -1,6 +1,6 @@
-use Rattle.std.proofs.Common.{◌≡◌, ◌≤◌, ◌*◌, pos, take, All, length}
+use Rattle.std.proofs.Common.{◌≡◌, ◌≤◌, ◌*◌, pos, take}
 use Rattle.std.specs.List.{sum_by}
-use Rattle.auto_core.specs.Sums.{gain, loss, IsSmall}
+use Rattle.auto_core.specs.Sums.{gain, loss}
 use Rattle.auto_core.proofs.lin.reach.Given as goal
 
 abbrev pub invariant-loop-weight : goal.invariant-loop-weight

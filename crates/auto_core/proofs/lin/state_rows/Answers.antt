@@ -1,6 +1,5 @@
-use Rattle.std.proofs.Common.{arith, w32, sym}
-use Rattle.std.proofs.lemmas.Int.{ints, to_z-of_z}
-use Rattle.auto_core.specs.Sums.{IsNear}
+use Rattle.std.proofs.Common.{arith, w32}
+use Rattle.std.proofs.lemmas.Int.{to_z-of_z}
 use Rattle.auto_core.proofs.Grown.{Grows-trans}
 use Rattle.auto_core.proofs.Assembled.{SFits-near, AreSumRows-grows, AreSumRows-push, IsSumRow-doubled}
 use Rattle.auto_core.proofs.lin.state_rows.Goals as goal

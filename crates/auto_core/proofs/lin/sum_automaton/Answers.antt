@@ -1,9 +1,8 @@
-use Rattle.std.proofs.Common.{arith, w32, ◌≡◌, ◌+ℤ◌, pos, length, sym, ap, ◌∙◌, subst, ◌↔◌, Some, None, ℕ, ℤ}
-use Rattle.std.specs.HashMap.{get}
+use Rattle.std.proofs.Common.{arith, w32, subst, ◌↔◌}
 use Rattle.std.proofs.lemmas.Int.{ints, to_z-of_z}
 use Rattle.track_word.specs.Atom.{Compares}
 use Rattle.auto_core.specs.Automaton.{Accepts}
-use Rattle.auto_core.specs.Sums.{total, weight_from, key_eq, IsSumRow, AreSumRows, RemembersSums, IsNear}
+use Rattle.auto_core.specs.Sums.{total, weight_from}
 use Rattle.auto_core.proofs.SumRows.{RemembersSums-empty}
 use Rattle.auto_core.proofs.Assembled.{AreSumRows-grows}
 use Rattle.auto_core.proofs.Linears.{AreWeights-opposite, AreRows-sums, sum_words}

@@ -1,4 +1,4 @@
-use Rattle.std.proofs.Common.{rules, ◌<◌, ◌+◌, ◌∷◌, ℕ, ℤ, List, length, subst, sym}
+use Rattle.std.proofs.Common.{rules}
 use mir.Val.{SFits}
 use Rattle.std.specs.Int.{w64}
 use Rattle.auto_core.proofs.Members.{fits-cons}

@@ -1,9 +1,7 @@
-use Rattle.std.proofs.Common.{rules, arith, ◌≡◌, ◌+◌, ◌<◌, ℕ, ℤ, ◌+ℤ◌, length, sym, ap, ◌∙◌, subst, List, All, get_or, pos, refl, ◌≤◌, Some, w32, to_z, of_z}
-use Rattle.std.proofs.lemmas.Grind.{common_steps}
+use Rattle.std.proofs.Common.{arith, ◌≡◌, ◌+◌, ◌<◌, ℕ, ℤ, ◌+ℤ◌, length, sym, ◌∙◌, subst, List, All, get_or, pos, refl, ◌≤◌, Some, w32, to_z, of_z}
 use Rattle.std.proofs.lemmas.Int.{ints, to_z-of_z}
 use mir.Val.{SFits}
-use Rattle.letter_diagram.specs.Diagram.{Grows}
-use Rattle.auto_core.specs.Sums.{IsSumRow, RemembersSums, IsNear, IsSmall, StandsFor, key_eq}
+use Rattle.auto_core.specs.Sums.{IsSumRow, IsNear, IsSmall, StandsFor, key_eq}
 use Rattle.std.specs.HashMap.{Updates}
 use Rattle.auto_core.proofs.Grown.{Grows-trans, chosen-grows}
 use Rattle.auto_core.proofs.SumRows.{IsSumRow-grows, RemembersSums-grows, RemembersSums-insert, IsSumRow-leaf, IsSumRow-test}

@@ -1,6 +1,4 @@
-use Rattle.std.proofs.Common.{rules, ◌≡◌, ◌∙◌, ap, sym}
-use Rattle.std.specs.List.{position_or_len}
-use Rattle.auto_core.specs.Sums.{ordered_terms, with_term}
+use Rattle.auto_core.specs.Sums.{ordered_terms}
 use Rattle.auto_core.proofs.Orders.{insert-with_term}
 use Rattle.auto_core.proofs.terms.+ordered.Goals as goal
 

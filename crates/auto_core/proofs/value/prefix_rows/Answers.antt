@@ -1,6 +1,5 @@
-use Rattle.std.proofs.Common.{arith, rules, sym, ap, ◌∙◌, ◌≡◌, ◌*◌, length, w64}
+use Rattle.std.proofs.Common.{arith, ap, ◌∙◌, ◌≡◌, ◌*◌, length, w64}
 use Rattle.std.proofs.lemmas.Int.{to_z-of_z}
-use Rattle.std.proofs.lemmas.Grind.{common_steps}
 use Rattle.auto_core.proofs.Prefixes.{ArePrefixRows-push, AreAllPrefixRows-push}
 use Rattle.auto_core.proofs.value.prefix_rows.Goals as goal
 

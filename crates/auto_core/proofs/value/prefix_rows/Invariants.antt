@@ -1,4 +1,4 @@
-use Rattle.std.proofs.Common.{◌≡◌, ◌*◌, ◌<◌, length}
+use Rattle.std.proofs.Common.{◌≡◌, ◌*◌, length}
 use Rattle.auto_core.specs.Prefix.{ArePrefixRows}
 use Rattle.auto_core.proofs.value.prefix_rows.Given as goal
 

@@ -1,6 +1,5 @@
-use Rattle.std.proofs.Common.{rules, ◌≡◌, ◌^◌, ◌<◌, ◌*◌, length, refl, arith, sym, ◌∙◌, subst, ℕ, List}
+use Rattle.std.proofs.Common.{rules, ◌≡◌, ◌^◌, ◌*◌, length, refl, ◌∙◌}
 use Rattle.std.proofs.lemmas.Nat.{pow_pos}
-use Rattle.std.proofs.lemmas.Grind.{common_steps}
 use Rattle.auto_core.specs.Dense.{IsRowFrom, AreRowsFrom}
 use Rattle.auto_core.proofs.Denses.{AreRows-tables, AreRowsFrom-grows, row_of-is, rows_of-is}
 use Rattle.auto_core.proofs.auto.Auto.from_rows.Goals as goal

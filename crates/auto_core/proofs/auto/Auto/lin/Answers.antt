@@ -1,10 +1,9 @@
-use Rattle.std.proofs.Common.{arith, ◌≡◌, ◌∙◌, ◌+◌, ap, sym, refl, map, length, subst, ◌↔◌, ℤ, List, neg_ℤ, All, w32, to_z, of_z}
+use Rattle.std.proofs.Common.{arith, ◌≡◌, ◌∙◌, ap, sym, refl, map, subst, ◌↔◌, ℤ, List, neg_ℤ, All, w32, to_z, of_z}
 use Rattle.std.proofs.lemmas.Int.{to_z-of_z}
-use Rattle.std.specs.List.{sum_by}
 use Rattle.track_word.specs.declared.tracks.Var.{Var}
 use Rattle.track_word.specs.Atom.{Compares, AtomHolds, atom_tracks, sum_of}
 use Rattle.auto_core.specs.Automaton.{Accepts}
-use Rattle.auto_core.specs.Sums.{AreWeights, IsSmall, ordered_terms, total, weight_from}
+use Rattle.auto_core.specs.Sums.{IsSmall, ordered_terms, total, weight_from}
 use Rattle.auto_core.proofs.Linears.{AreOrdered, AreWeights-atom, tracks-atom, total-is, weights-size}
 use Rattle.auto_core.proofs.Members.{DecidesIntegers-values}
 use Rattle.auto_core.proofs.auto.Auto.lin.Goals as goal

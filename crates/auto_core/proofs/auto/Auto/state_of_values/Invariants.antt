@@ -1,4 +1,4 @@
-use Rattle.std.proofs.Common.{◌≡◌, ◌-◌, ◌<◌, length, All}
+use Rattle.std.proofs.Common.{◌-◌, ◌<◌, length, All}
 use Rattle.track_word.specs.Word.{FitsBelow}
 use Rattle.auto_core.specs.Integers.{IsLeft}
 use Rattle.auto_core.proofs.auto.Auto.state_of_values.Given as goal

@@ -1,7 +1,6 @@
-use Rattle.std.proofs.Common.{arith, rules, ◌∙◌, ◌≡◌, ℕ, length, [], ◌∷◌, List, sym}
+use Rattle.std.proofs.Common.{arith, ◌∙◌, ◌≡◌, [], ◌∷◌}
 use Rattle.std.proofs.lemmas.Int.{to_z-of_z}
 use Rattle.std.specs.Int.{w64}
-use Rattle.auto_core.specs.Prefix.{AreAllPrefixRows, IsFirstFlag}
 use Rattle.auto_core.proofs.Prefixes.{AreTables-prefix, value_words-same}
 use Rattle.auto_core.proofs.Members.{DecidesIntegers-values}
 use Rattle.auto_core.proofs.auto.Auto.value.Goals as goal

@@ -1,0 +1,163 @@
+-- Automata that read the letters of others by some of their bits.
+use Rattle.std.proofs.Common.{◌≡◌, ◌≢◌, ◌↔◌, ℕ, zero, suc, ◌+◌, ◌*◌, ◌^◌, ◌<◌, ◌≤◌, Bool, false, List, [], ◌∷◌, length, map, All, slice_index, slice_index_or, IsTrue, arith, refl, sym, ap, ◌∙◌, subst}
+use Rattle.std.specs.Int.{bit_at}
+use Rattle.std.proofs.lemmas.List.{get_or_default}
+use Rattle.std.proofs.lemmas.Nat.Bits.{bit_at-lt}
+use Rattle.track_word.specs.declared.tracks.Var.{Var}
+use Rattle.track_word.specs.Word.{IsWord, repeat_first}
+use Rattle.track_word.specs.Tracks.{IsAscending, place, restrict, part_of}
+use Rattle.letter_diagram.specs.declared.diagrams.Shape.{Shape}
+use Rattle.letter_diagram.specs.Diagram.{map_at, Grows, LooksBelow}
+use Rattle.letter_diagram.specs.Relabelled.{relabelled, IsRelabelled}
+use Rattle.letter_diagram.specs.Listed.{EachAnswers}
+use Rattle.auto_core.specs.Automaton.{Automaton, width, first_state, next_state, run, state_of, is_final, Accepts}
+use Rattle.auto_core.specs.Integers.{DecidesIntegers}
+use Rattle.auto_core.specs.Rows.{AreRows, IsOverNodes}
+use Rattle.auto_core.proofs.RowLemmas.{get_or-row_of, get_or-rows_of}
+use Rattle.auto_core.proofs.Members.{IsWord-repeat}
+
+relabelled-below : (places : List ℕ) (letter : ℕ) → relabelled places letter < 2 ^ length places
+relabelled-below [] letter = omega arith
+relabelled-below (p ∷ places) letter =
+    let small = bit_at-lt letter p in
+    let rest = relabelled-below places letter in
+    doubled (bit_at letter p) (relabelled places letter) (length places) small rest
+  where
+    doubled : (b r n : ℕ) → b < 2 → r < 2 ^ n → b + 2 * r < 2 ^ suc n
+    doubled b r n small rest = omega (arith, small, rest)
+
+relabelled-same : (places : List ℕ) (bound a b : ℕ) → All (λ p. p < bound) places → ((k : ℕ) → k < bound → bit_at a k ≡ bit_at b k) → relabelled places a ≡ relabelled places b
+relabelled-same [] bound a b below same = refl
+relabelled-same (p ∷ places) bound a b below same =
+    let bit = same p (below 0 0 (omega arith)) in
+    let rest = relabelled-same places bound a b (λ i d h. below (suc i) d (omega (arith, h))) same in
+    λ i. bit i + 2 * rest i
+
+-- the letter by the places of variables
+relabelled-restrict : (tracks vars : List Var) (letter : ℕ) → relabelled (map (place tracks) vars) letter ≡ restrict tracks vars letter
+relabelled-restrict tracks [] letter = refl
+relabelled-restrict tracks (v ∷ vars) letter = ap (λ r. bit_at letter (place tracks v) + 2 * r) (relabelled-restrict tracks vars letter)
+
+pub part_of-relabelled : (tracks vars : List Var) (word : List ℕ) → map (relabelled (map (place tracks) vars)) word ≡ part_of tracks vars word
+part_of-relabelled tracks vars word = λ i. map (λ letter. relabelled-restrict tracks vars letter i) word
+
+-- the maps of first and rows are those of an automaton on relabelled letters
+pub record AreRenamed (a : Automaton) (shapes : List Shape) (places : List ℕ) (first : ℕ) (rows : List ℕ) : Type 0 where
+  pub first_known : first < length shapes
+  pub first_is : (letter : ℕ) → map_at shapes first letter ≡ map_at a.shapes a.first_node (relabelled places letter)
+  pub count : length rows ≡ length a.row_nodes
+  pub rows_known : (i : ℕ) → i < length a.row_nodes → slice_index rows i < length shapes
+  pub rows_are : (i letter : ℕ) → i < length a.row_nodes → map_at shapes (slice_index rows i) letter ≡ map_at a.shapes (slice_index a.row_nodes i) (relabelled places letter)
+
+-- what the code has made of a copy of the automaton's nodes
+pub AreRenamed-made : (a : Automaton) (copy middle new shapes : List Shape) (places nodes rows answers : List ℕ) (node answer first : ℕ) → IsOverNodes a → copy ≡ a.shapes → nodes ≡ a.row_nodes → node ≡ a.first_node → shapes ≡ new → first ≡ answer → rows ≡ answers
+    → Grows copy middle → Grows middle new → EachAnswers (IsRelabelled middle places) nodes answers → answer < length new → ((letter : ℕ) → map_at new answer letter ≡ map_at middle node (relabelled places letter)) → AreRenamed a shapes places first rows
+AreRenamed-made a copy middle new shapes places nodes rows answers node answer first over same_shapes same_nodes same_node s f r grows more each known is =
+    let g = subst (λ old. Grows old middle) same_shapes grows in
+    let e = subst (λ l. EachAnswers (IsRelabelled middle places) l answers) same_nodes each in
+    subst (λ x. AreRenamed a x places first rows) (sym s) (subst (λ x. AreRenamed a new places x rows) (sym f) (subst (λ x. AreRenamed a new places answer x) (sym r) (record {
+      first_known = known;
+      first_is = λ letter. is letter ∙ ap (λ n. map_at middle n (relabelled places letter)) same_node ∙ g.map a.first_node (relabelled places letter) over.nodes.first_known;
+      count = e.size;
+      rows_known = λ i h. let k = (e.each i h).known in let longer = more.longer in omega (arith, k, longer);
+      rows_are = λ i letter h.
+          more.map (slice_index answers i) letter (e.each i h).known ∙ (e.each i h).map letter ∙ g.map (slice_index a.row_nodes i) (relabelled places letter) (over.nodes.rows_known i 0 h);
+    })))
+
+narrow : (a : Automaton) (shapes : List Shape) (places : List ℕ) (bound node source : ℕ) → All (λ p. p < bound) places → ((letter : ℕ) → map_at shapes node letter ≡ map_at a.shapes source (relabelled places letter)) → LooksBelow shapes node bound
+narrow a shapes places bound node source below is = record {
+  same = λ x y bits. is x ∙ ap (map_at a.shapes source) (relabelled-same places bound x y below bits) ∙ sym (is y);
+}
+
+pub AreRows-renamed : (a : Automaton) (tracks : List Var) (shapes : List Shape) (places : List ℕ) (first : ℕ) (rows : List ℕ) (accept : List Bool) → IsOverNodes a → IsAscending tracks → length tracks ≤ 20 → accept ≡ a.accept
+    → All (λ p. p < length tracks) places → AreRenamed a shapes places first rows → AreRows tracks shapes first rows accept
+AreRows-renamed a tracks shapes places first rows accept over up few same below are =
+    let size = ap length same in
+    let old = over.nodes in
+    let inside = λ (i : ℕ) (h : i < length rows). (let count = are.count in let k : i < length a.row_nodes = omega (arith, h, count) in k) in
+    let at = λ (i d : ℕ) (h : i < length rows). get_or_default rows i 0 d h in
+    record {
+      ascending = up;
+      few_tracks = few;
+      some_state = let some = old.some_state in omega (arith, some, size);
+      few_states = let some = old.few_states in omega (arith, some, size);
+      rows_size = are.count ∙ old.rows_size ∙ sym size;
+      first_known = are.first_known;
+      first_narrow = narrow a shapes places (length tracks) first a.first_node below are.first_is;
+      first_within = λ letter. rw (are.first_is letter, size) (old.first_within (relabelled places letter));
+      rows_known = λ i d h. subst (λ n. n < length shapes) (at i d h) (are.rows_known i (inside i h));
+      rows_narrow = λ i d h. subst (λ n. LooksBelow shapes n (length tracks)) (at i d h)
+          (narrow a shapes places (length tracks) (slice_index rows i) (slice_index a.row_nodes i) below (λ letter. are.rows_are i letter (inside i h)));
+      rows_within = λ i d h. subst (λ n. (letter : ℕ) → map_at shapes n letter < length accept) (at i d h)
+          (λ letter. rw (are.rows_are i letter (inside i h), size) (old.rows_within i 0 (inside i h) (relabelled places letter)));
+    }
+
+first_state-over : (a : Automaton) → IsOverNodes a → (letter : ℕ) → letter < width a → first_state a letter ≡ map_at a.shapes a.first_node letter
+first_state-over a over letter h = ap (λ l. slice_index l letter) over.first ∙ get_or-row_of a.shapes (width a) a.first_node letter h
+
+next_state-over : (a : Automaton) → IsOverNodes a → (state letter : ℕ) → state < length a.row_nodes → letter < width a → next_state a state letter ≡ map_at a.shapes (slice_index a.row_nodes state) letter
+next_state-over a over state letter k h = ap (λ l. slice_index l (state * width a + letter)) over.next ∙ get_or-rows_of a.shapes (width a) a.row_nodes state letter 0 k h
+
+-- the word of the bits at the places is one of as many tracks
+IsWord-map : (places : List ℕ) (tracks count : ℕ) (word : List ℕ) → length places ≡ count → IsWord tracks word → IsWord count (map (relabelled places) word)
+IsWord-map places tracks count word size is = record { nonempty = some word is.nonempty; letters = letters word }
+  where
+    some : (word : List ℕ) → word ≢ [] → map (relabelled places) word ≢ []
+    some [] none e = none refl
+    some (l ∷ ls) none e = cc
+
+    letters : (word : List ℕ) → All (λ letter. letter < 2 ^ count) (map (relabelled places) word)
+    letters [] i d h = absurd (omega (arith, h))
+    letters (l ∷ ls) zero d h = rw (← size) (relabelled-below places l)
+    letters (l ∷ ls) (suc i) d h = letters ls i d (omega (arith, h))
+
+repeat-map : (f : ℕ → ℕ) (word : List ℕ) → repeat_first (map f word) ≡ map f (repeat_first word)
+repeat-map f [] = refl
+repeat-map f (l ∷ ls) = refl
+
+module _ (a new : Automaton) (places : List ℕ) (over : IsOverNodes a) (made : IsOverNodes new) (count : length places ≡ length a.tracks) (same : new.accept ≡ a.accept) (are : AreRenamed a new.shapes places new.first_node new.row_nodes) where
+  inside : (letter : ℕ) → relabelled places letter < width a
+  inside letter = rw (← count) (relabelled-below places letter)
+
+  first-is : (letter : ℕ) → letter < width new → first_state new letter ≡ first_state a (relabelled places letter)
+  first-is letter h = first_state-over new made letter h ∙ are.first_is letter ∙ sym (first_state-over a over (relabelled places letter) (inside letter))
+
+  next-is : (state letter : ℕ) → state < length a.accept → letter < width new → next_state new state letter ≡ next_state a state (relabelled places letter)
+  next-is state letter k h =
+      let size = over.nodes.rows_size in
+      let rows = are.count in
+      let here : state < length a.row_nodes = omega (arith, k, size) in
+      next_state-over new made state letter (omega (arith, here, rows)) h ∙ are.rows_are state letter here ∙ sym (next_state-over a over state (relabelled places letter) here (inside letter))
+
+  next-within : (state letter : ℕ) → state < length a.accept → next_state a state (relabelled places letter) < length a.accept
+  next-within state letter k =
+      let size = over.nodes.rows_size in
+      let here : state < length a.row_nodes = omega (arith, k, size) in
+      rw (next_state-over a over state (relabelled places letter) here (inside letter)) (over.nodes.rows_within state 0 here (relabelled places letter))
+
+  run-is : (letters : List ℕ) (s t : ℕ) → s ≡ t → t < length a.accept → All (λ letter. letter < width new) letters → run new s letters ≡ run a t (map (relabelled places) letters)
+  run-is [] s t e k all = e
+  run-is (l ∷ ls) s t e k all =
+      run-is ls (next_state new s l) (next_state a t (relabelled places l)) (ap (λ n. next_state new n l) e ∙ next-is t l k (all 0 0 (omega arith))) (next-within t l k) (λ i d h. all (suc i) d (omega (arith, h)))
+
+  state-is : (word : List ℕ) → All (λ letter. letter < width new) word → state_of new word ≡ state_of a (map (relabelled places) word)
+  state-is [] all = refl
+  state-is (l ∷ ls) all =
+      run-is ls (first_state new l) (first_state a (relabelled places l)) (first-is l (all 0 0 (omega arith)))
+      (rw (first_state-over a over (relabelled places l) (inside l)) (over.nodes.first_within (relabelled places l))) (λ i d h. all (suc i) d (omega (arith, h)))
+
+  -- a word is accepted just if the word of the bits at the places is
+  pub words-renamed : (word : List ℕ) → IsWord (length new.tracks) word → Accepts new word ↔ Accepts a (map (relabelled places) word)
+  words-renamed word is =
+      let final : is_final new (state_of new word) ≡ is_final a (state_of a (map (relabelled places) word)) = λ i. slice_index_or (same i) (state-is word is.letters i) false in
+      (λ h. subst IsTrue final h, λ h. subst IsTrue (sym final) h)
+
+  pub DecidesIntegers-renamed : DecidesIntegers a → DecidesIntegers new
+  DecidesIntegers-renamed decides = record {
+    stable = λ word is.
+        let one = words-renamed word is in
+        let longer = words-renamed (repeat_first word) (IsWord-repeat (length new.tracks) word is) in
+        let old = decides.stable (map (relabelled places) word) (IsWord-map places (length new.tracks) (length a.tracks) word count is) in
+        let twice = subst (λ w. Accepts a (map (relabelled places) word) ↔ Accepts a w) (repeat-map (relabelled places) word) old in
+        (λ h. longer.1 (twice.0 (one.0 h)), λ h. one.1 (twice.1 (longer.0 h)));
+  }

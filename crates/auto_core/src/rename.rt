@@ -1,0 +1,123 @@
+//! Automata whose tracks take their bits from other variables.
+ghost use Rattle.std.specs.Prelude.{◌≡◌, ◌↔◌, ◌≤◌, ◌<◌, ◌^◌, [], ℕ, List, length, map, All, IfOk, OnOk, nat_le};
+ghost use Rattle.std.specs.List.{position_or_len};
+ghost use Rattle.track_word.specs.Word.{IsWord};
+ghost use Rattle.track_word.specs.Tracks.{with_vars, with_var, place, part_of, IsAscending};
+ghost use Rattle.letter_diagram.specs.Relabelled.{relabelled};
+ghost use Rattle.auto_core.specs.Automaton.{IsAutomaton, Accepts};
+ghost use Rattle.auto_core.specs.Integers.{DecidesIntegers};
+
+use crate::auto::Auto;
+use std::alloc::{AllocError, Global};
+use track_word::Var;
+
+impl Auto {
+    /// The automaton over the variables that accepts a word where this one accepts what its tracks read of it:
+    /// the t-th track takes its bit from `vars[t]`. Two tracks may be given the same variable.
+    pub fn rename(&self, alloc: Global, vars: &[Var]) -> Result<Auto, AllocError>
+        requires { length vars.now ≡ length self.now.tracks }
+        ensures tracks { IfOk result (λ r. r.tracks ≡ with_vars vars.now []) }
+        ensures words { IfOk result (λ r. (word : List ℕ) → IsWord (length r.tracks) word → Accepts r word ↔ Accepts self.now (part_of r.tracks vars.now word)) }
+        ensures accept { IfOk result (λ r. r.accept ≡ self.now.accept) }
+        ensures integers { DecidesIntegers self.now → IfOk result (λ r. DecidesIntegers r) }
+        ensures valid { IfOk result (λ r. IsAutomaton r) }
+    {
+        let _ = self.tracks();
+        let tracks = ascending(alloc, vars)?;
+        let places = places_of(alloc, tracks.as_slice(), vars)?;
+        let renamed = self.over_tracks(alloc, tracks, places.as_slice())?;
+        Ok(renamed)
+    }
+
+    /// The automaton over the tracks whose letters this one reads by the bits at the places.
+    fn over_tracks(
+        &self,
+        alloc: Global,
+        tracks: Vec<Var>,
+        places: &[u8],
+    ) -> Result<Auto, AllocError>
+        requires ascending { IsAscending tracks.items }
+        requires few { length tracks.items ≤ 20 }
+        requires count { length places.now ≡ length self.now.tracks }
+        requires places { All (λ place. place < length tracks.items) places.now }
+        ensures tracks { IfOk result (λ r. r.tracks ≡ tracks.items) }
+        ensures words { IfOk result (λ r. (word : List ℕ) → IsWord (length tracks.items) word → Accepts r word ↔ Accepts self.now (map (relabelled places.now) word)) }
+        ensures accept { IfOk result (λ r. r.accept ≡ self.now.accept) }
+        ensures integers { DecidesIntegers self.now → IfOk result (λ r. DecidesIntegers r) }
+        ensures valid { IfOk result (λ r. IsAutomaton r) }
+    {
+        let _ = self.tracks();
+        let mut diagrams = self.diagrams().copy()?;
+        let rows = diagrams.relabel_all(self.row_nodes(), places)?;
+        let first = diagrams.relabel(self.first_node(), places)?;
+        let accept = self.flags().to_vec(alloc)?;
+        let renamed = Auto::from_diagrams(tracks, diagrams, first, rows, accept);
+        let _ = renamed.diagrams();
+        Ok(renamed)
+    }
+}
+
+/// The variables, ascending and without repeats.
+fn ascending(alloc: Global, vars: &[Var]) -> Result<Vec<Var>, AllocError>
+    ensures { IfOk result (λ sorted. sorted.items ≡ with_vars vars.now []) }
+{
+    match vars.split_first() {
+        None => Ok(Vec::new(alloc)),
+        Some((var, rest)) => {
+            let mut sorted = ascending(alloc, rest)?;
+            insert_var(&mut sorted, *var)?;
+            Ok(sorted)
+        }
+    }
+}
+
+/// Puts a variable at its place among ascending ones, unless it is there.
+fn insert_var(sorted: &mut Vec<Var>, var: Var) -> Result<(), AllocError>
+    ensures { OnOk result (sorted.new.items ≡ with_var var sorted.old.items) }
+{
+    let place = place_for(sorted.as_slice(), var);
+    if place < sorted.len() && sorted[place].0 == var.0 {
+        return Ok(());
+    }
+    sorted.insert(place, var)?;
+    Ok(())
+}
+
+/// The place of the first variable that does not come before a variable.
+fn place_for(vars: &[Var], var: Var) -> usize
+    ensures place { result ≡ position_or_len (λ other. nat_le var.0 other.0) vars.now }
+    ensures within { result ≤ length vars.now }
+{
+    for (index, other) in vars.iter().enumerate() {
+        if var.0 <= other.0 {
+            return index;
+        }
+    }
+    vars.len()
+}
+
+/// The place of a variable among tracks.
+fn place_in(tracks: &[Var], var: Var) -> usize
+    ensures place { result ≡ place tracks.now var }
+    ensures within { result ≤ length tracks.now }
+{
+    for (index, other) in tracks.iter().enumerate() {
+        if other.0 == var.0 {
+            return index;
+        }
+    }
+    tracks.len()
+}
+
+/// The places of variables among tracks.
+fn places_of(alloc: Global, tracks: &[Var], vars: &[Var]) -> Result<Vec<u8>, AllocError>
+    requires { length tracks.now ≤ 20 }
+    ensures { IfOk result (λ places. places.items ≡ map (place tracks.now) vars.now) }
+{
+    let mut places = Vec::new(alloc);
+    for var in vars {
+        let place = place_in(tracks, *var);
+        places.push(place as u8)?;
+    }
+    Ok(places)
+}
