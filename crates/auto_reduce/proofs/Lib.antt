@@ -1,0 +1,13 @@
+pub mod States
+pub mod Splits
+pub mod Counting
+pub mod Rounds
+pub mod RowNodes
+pub mod Quotients
+pub mod Orders
+pub mod Leads
+pub mod Canons
+pub mod Empties
+pub mod Flags
+pub mod Stables
+pub mod Numberings

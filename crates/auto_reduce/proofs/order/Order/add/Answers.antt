@@ -1,0 +1,8 @@
+use Rattle.auto_reduce.proofs.Orders.{different, AddsAll-insert}
+use Rattle.auto_reduce.proofs.order.Order.add.Goals as goal
+
+pub invariant_of-self-2 : goal.invariant_of-self-2
+invariant_of-self-2 c = different _ c.in_ok-insert_full.ensures.unique
+
+pub returns : goal.returns
+returns c = rw (← c.self.view_is) (AddsAll-insert _ _ _ c.in_ok-insert_full.ensures.keys)

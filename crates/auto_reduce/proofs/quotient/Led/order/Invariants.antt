@@ -1,0 +1,14 @@
+use Rattle.std.proofs.Common.{◌≤◌, ◌+◌, ◌-◌, length}
+use Rattle.auto_reduce.specs.Quotient.{IsOrderTo}
+use Rattle.auto_reduce.specs.Numbering.{IsNumberedTo}
+use Rattle.auto_reduce.proofs.quotient.Led.order.Given as goal
+
+abbrev pub invariant-loop-place : goal.invariant-loop-place
+invariant-loop-place l = record {
+  order_to : IsOrderTo l.self.a.now l.self.canon.items l.order l.place;
+  numbered : IsNumberedTo l.self.a.now l.self.canon.items l.order (l.place + 1);
+  within : l.place ≤ length l.order;
+}
+
+abbrev pub decreases-loop-place : goal.decreases-loop-place
+decreases-loop-place l = length l.self.a.now.accept - l.place

@@ -1,0 +1,15 @@
+use Rattle.auto_reduce.proofs.Quotients.{quotient_words, quotient_reduced, quotient_tracks}
+use Rattle.auto_reduce.proofs.Numberings.{quotient_numbered}
+use Rattle.auto_reduce.proofs.quotient.reduce.Goals as goal
+
+pub returns-clause-tracks : goal.returns-clause-tracks
+returns-clause-tracks c = quotient_tracks _ _ c.in_ok-m.ensures
+
+pub returns-clause-words : goal.returns-clause-words
+returns-clause-words c = quotient_words _ _ c.in_ok-m.ensures
+
+pub returns-clause-reduced : goal.returns-clause-reduced
+returns-clause-reduced c = quotient_reduced _ _ c.in_ok-m.ensures
+
+pub returns-clause-numbered : goal.returns-clause-numbered
+returns-clause-numbered c = quotient_numbered _ _ c.in_ok-m.ensures

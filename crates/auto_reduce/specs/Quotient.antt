@@ -1,0 +1,97 @@
+-- One state for all states that nothing tells apart, and the automaton over these in the order in which they are met.
+use Rattle.std.specs.Prelude.{◌≡◌, ◌≢◌, ℕ, ◌<◌, ◌≤◌, Bool, false, List, length, All, AllPairs, Contains, slice_index, slice_index_or}
+use Rattle.track_word.specs.Word.{IsWord}
+use Rattle.letter_diagram.specs.declared.diagrams.Shape.{Shape}
+use Rattle.letter_diagram.specs.Diagram.{map_at, LooksBelow}
+use Rattle.auto_core.specs.Automaton.{Automaton, IsAutomaton, width, first_state, next_state, state_of, is_final}
+use Rattle.auto_core.specs.Reduced.{ToldApart}
+
+-- a state of each class
+pub record AreMembers (classes : List ℕ) (count : ℕ) (members : List ℕ) : Type 0 where
+  pub size : length members ≡ count
+  pub within : All (λ state. state < length classes) members
+  pub has : (class : ℕ) → class < count → slice_index classes (slice_index members class) ≡ class
+
+-- for each state one that nothing tells apart from it, the same for all of these
+pub record IsCanonical (a : Automaton) (canon : List ℕ) : Type 0 where
+  pub valid : IsAutomaton a
+  pub size : length canon ≡ length a.accept
+  pub within : All (λ state. state < length a.accept) canon
+  pub flags : (j : ℕ) → j < length a.accept → is_final a (slice_index canon j) ≡ is_final a j
+  pub steps : (j letter : ℕ) → j < length a.accept → letter < width a
+      → slice_index canon (next_state a (slice_index canon j) letter) ≡ slice_index canon (next_state a j letter)
+  pub apart : (j k : ℕ) → j < length a.accept → k < length a.accept → slice_index canon j ≢ slice_index canon k → ToldApart a j k
+
+-- a node that leads each letter to the canonical state of a state
+pub record IsLed (a : Automaton) (canon : List ℕ) (shapes : List Shape) (node : ℕ) (state : ℕ → ℕ) : Type 0 where
+  pub known : node < length shapes
+  pub narrow : LooksBelow shapes node (length a.tracks)
+  pub leads : (letter : ℕ) → letter < width a → map_at shapes node letter ≡ slice_index canon (state letter)
+
+-- the first row and the rows of the states, led to canonical states
+pub record AreLed (a : Automaton) (canon : List ℕ) (shapes : List Shape) (first : ℕ) (rows : List ℕ) : Type 0 where
+  pub valid : IsAutomaton a
+  pub canon_size : length canon ≡ length a.accept
+  pub size : length rows ≡ length a.accept
+  pub first_row : IsLed a canon shapes first (first_state a)
+  pub row : (state : ℕ) → state < length a.accept → IsLed a canon shapes (slice_index rows state) (next_state a state)
+
+-- a value stands in a list before another one
+pub record ComesBefore (values : List ℕ) (x y : ℕ) : Type 0 where
+  pub place : ℕ
+  pub later : ℕ
+  pub less : place < later
+  pub within : later < length values
+  pub is : slice_index values place ≡ x
+  pub later_is : slice_index values later ≡ y
+
+-- the list goes on by values that it did not have, in their order
+pub record AddsAll (old new values : List ℕ) : Type 0 where
+  pub longer : length old ≤ length new
+  pub kept : (place : ℕ) → place < length old → slice_index new place ≡ slice_index old place
+  pub has : (value : ℕ) → Contains values value → Contains new value
+  pub added : (place : ℕ) → length old ≤ place → place < length new → Contains values (slice_index new place)
+  pub in_order : (i j : ℕ) → length old ≤ i → i < j → j < length new → ComesBefore values (slice_index new i) (slice_index new j)
+
+-- a word whose state has this canonical state
+pub record IsMet (a : Automaton) (canon : List ℕ) (state : ℕ) : Type 0 where
+  pub word : List ℕ
+  pub is_word : IsWord (length a.tracks) word
+  pub leads : slice_index canon (state_of a word) ≡ state
+
+-- different canonical states that words lead to, all those of the first row and of the rows of the first so many of them
+pub record IsOrderTo (a : Automaton) (canon order : List ℕ) (rows : ℕ) : Type 0 where
+  pub met : All (IsMet a canon) order
+  pub different : AllPairs (λ j k. j ≢ k) order
+  pub first : (letter : ℕ) → letter < width a → Contains order (slice_index canon (first_state a letter))
+  pub next : (place letter : ℕ) → place < rows → letter < width a → Contains order (slice_index canon (next_state a (slice_index order place) letter))
+
+abbrev pub IsOrder : Automaton → List ℕ → List ℕ → Type 0
+IsOrder a canon order = IsOrderTo a canon order (length order)
+
+-- for each state of an order its place
+pub record AreNumbers (order : List ℕ) (states : ℕ) (numbers : List ℕ) : Type 0 where
+  pub size : length numbers ≡ states
+  pub within : All (λ number. number < length order) numbers
+  pub at : (place : ℕ) → place < length order → slice_index numbers (slice_index order place) ≡ place
+
+-- the automaton whose states are the places of an order of canonical states
+pub record IsQuotientBy (a : Automaton) (canon order : List ℕ) (m : Automaton) : Type 0 where
+  pub valid : IsAutomaton m
+  pub canonical : IsCanonical a canon
+  pub order_is : IsOrder a canon order
+  pub tracks : m.tracks ≡ a.tracks
+  pub size : length m.accept ≡ length order
+  pub first : (letter : ℕ) → letter < width a → slice_index order (first_state m letter) ≡ slice_index canon (first_state a letter)
+  pub next : (place letter : ℕ) → place < length order → letter < width a → slice_index order (next_state m place letter) ≡ slice_index canon (next_state a (slice_index order place) letter)
+  pub final : (place : ℕ) → place < length order → is_final m place ≡ is_final a (slice_index order place)
+
+-- the nodes of the states of an order
+pub record ArePicked (rows order picked : List ℕ) : Type 0 where
+  pub size : length picked ≡ length order
+  pub at : (place : ℕ) → place < length order → slice_index picked place ≡ slice_index rows (slice_index order place)
+
+-- the flags of the states of an order
+pub record AreFlags (a : Automaton) (order : List ℕ) (flags : List Bool) : Type 0 where
+  pub size : length flags ≡ length order
+  pub at : (place : ℕ) → place < length order → slice_index_or flags place false ≡ is_final a (slice_index order place)

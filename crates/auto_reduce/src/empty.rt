@@ -1,0 +1,21 @@
+//! Whether an automaton accepts a word.
+ghost use Rattle.std.specs.Prelude.{◌↔◌, List, ℕ, length, IsTrue};
+ghost use Rattle.track_word.specs.Word.{IsWord};
+ghost use Rattle.auto_core.specs.Automaton.{Accepts};
+ghost use Rattle.auto_core.specs.Reduced.{IsReduced};
+
+use auto_core::Auto;
+
+/// Whether a reduced automaton accepts no word: each of its states is reached, so that is whether no flag is set.
+pub fn is_empty(a: &Auto) -> bool
+    requires { IsReduced a.now }
+    ensures { IsTrue result ↔ ((word : List ℕ) → IsWord (length a.now.tracks) word → ¬ Accepts a.now word) }
+{
+    let _ = a.states();
+    for flag in a.flags() {
+        if *flag {
+            return false;
+        }
+    }
+    true
+}

@@ -1,0 +1,17 @@
+//! Reduction of automata, and the questions that a reduced automaton answers: whether it accepts no word, whether two accept the
+//! same words, and whether a repeated first letter ever matters.
+//! `specs/Partition` has the classes of states that nothing tells apart, `specs/Quotient` the automaton over one state of each class.
+#![tactic(auto)]
+
+mod canonical;
+mod empty;
+mod order;
+mod partition;
+mod quotient;
+mod rows;
+mod signatures;
+mod stable;
+
+pub use empty::is_empty;
+pub use quotient::reduce;
+pub use stable::sign_stable;

@@ -1,0 +1,21 @@
+//! The rows of an automaton as a list of nodes.
+ghost use Rattle.std.specs.Prelude.{◌≡◌, IfOk};
+ghost use Rattle.auto_core.specs.Automaton.{IsAutomaton};
+ghost use Rattle.auto_reduce.specs.Partition.{AreRowNodes};
+
+use auto_core::Auto;
+use letter_diagram::Node;
+use std::alloc::{AllocError, Global};
+
+/// The nodes of the rows, in the order of the states.
+pub fn row_nodes(alloc: Global, a: &Auto) -> Result<Vec<Node>, AllocError>
+    ensures rows { IfOk result (λ rows. AreRowNodes a.now a.now.shapes rows.items) }
+    ensures valid { IsAutomaton a.now }
+{
+    let _ = a.diagrams();
+    let mut rows = Vec::new(alloc);
+    for state in 0..a.states() {
+        rows.push(a.row_node(state))?;
+    }
+    Ok(rows)
+}
