@@ -1,5 +1,5 @@
 //! Products cost the pairs of nodes that they meet.
-ghost use Rattle.std.specs.Prelude.{◌≡◌, ◌<◌, length, IfOk};
+ghost use Rattle.std.specs.Prelude.{◌<◌, length, IfOk};
 
 use crate::maps::{branch, node_at};
 use letter_diagram::{Diagrams, Node, Pairs, Product};
@@ -83,7 +83,7 @@ fn check_rests(rt: &impl Abort, product: &Product, both: Node)
 }
 
 #[test]
-fn products_meet_pairs_of_nodes_and_no_letters(rt: HostRuntime) -> Result<(), Fail> {
+fn products_with_one_memo_meet_each_pair_of_nodes_once(rt: HostRuntime) -> Result<(), Fail> {
     let mut diagrams = Diagrams::new(rt.alloc());
     let firsts = residues(&rt, &mut diagrams, 53)?;
     let seconds = residues(&rt, &mut diagrams, 47)?;
@@ -95,5 +95,31 @@ fn products_meet_pairs_of_nodes_and_no_letters(rt: HostRuntime) -> Result<(), Fa
     let both = multiplied(&rt, &mut product, a, b)?;
     check_rests(&rt, &product, both);
     assert!(rt; product.pairs().len() == 2491);
+    Ok(())
+}
+
+/// How many pairs of values two nodes have, by a product with a memo of its own.
+fn count_pairs(
+    rt: &impl Abort,
+    diagrams: &mut Diagrams,
+    a: Node,
+    b: Node,
+) -> Result<usize, AllocError> {
+    assert!(rt; diagrams.is_node(a));
+    assert!(rt; diagrams.is_node(b));
+    let mut pairs = Pairs::new(diagrams.alloc());
+    diagrams.apply2(a, b, &mut pairs)?;
+    Ok(pairs.len())
+}
+
+#[test]
+fn each_product_meets_pairs_of_nodes_and_no_letters(rt: HostRuntime) -> Result<(), Fail> {
+    let mut diagrams = Diagrams::new(rt.alloc());
+    let nodes = residues(&rt, &mut diagrams, 53)?;
+    let first = node_at(&rt, &diagrams, nodes.as_slice(), 0);
+    for node in &nodes {
+        let count = count_pairs(&rt, &mut diagrams, first, *node)?;
+        assert!(rt; count == 53);
+    }
     Ok(())
 }
