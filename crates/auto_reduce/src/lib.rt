@@ -11,6 +11,8 @@ mod quotient;
 mod rows;
 mod signatures;
 mod stable;
+#[cfg(test)]
+mod tests;
 
 pub use empty::is_empty;
 pub use quotient::reduce;
