@@ -1,0 +1,11 @@
+pub mod SameWords
+pub mod Exceedings
+pub mod FirstOvers
+pub mod Values
+pub mod Parts
+pub mod Lifts
+pub mod Projections
+pub mod Rooms
+pub mod OneWord
+pub mod Atoms
+pub mod Compiles

@@ -1,0 +1,44 @@
+-- What a formula asks of the table of sets, and what compiling it answers.
+use Rattle.std.specs.Prelude.{◌≡◌, ℕ, ◌+◌, ◌≤◌, List, length, All, Result, Ok, Err, Some, None, slice_get}
+use Rattle.auto_core.specs.Automaton.{Automaton}
+use Rattle.auto_core.specs.Reduced.{IsReduced}
+use Rattle.auto_core.specs.Integers.{DecidesIntegers}
+use Rattle.lin_formula.specs.Tree.{Tree, IsWellMade, vars_of, steps, memberships}
+use Rattle.lin_formula.specs.SetOf.{SetOf, members}
+use Rattle.formula_auto.specs.Step.{FirstOver}
+use Rattle.formula_auto.specs.Decides.{Decides}
+use Rattle.formula_auto.specs.declared.errors.CompileError.{CompileError}
+use Rattle.formula_auto.specs.declared.errors.CompileError.TheVariants as compile_error
+
+-- a set of the table, reduced, that decides a set of tuples of integers of this length
+pub record IsSetFor (sets : List Automaton) (number size : ℕ) : Type 0 where
+  pub set : Automaton
+  pub is_there : slice_get sets number ≡ Some set
+  pub reduced : IsReduced set
+  pub integers : DecidesIntegers set
+  pub arity : length set.tracks ≡ size
+
+-- each set that is named is there, with a track for each variable
+abbrev pub HasSets : List Automaton → Tree → Type 0
+HasSets sets f = All (λ m. IsSetFor sets m.0 (length m.1)) (memberships f)
+
+-- well made, with few variables, and with sets for what it names
+pub record IsCompilable (f : Tree) (sets : List Automaton) : Type 0 where
+  pub well_made : IsWellMade f
+  pub few_vars : length (vars_of f) ≤ 20
+  pub has_sets : HasSets sets f
+
+-- reduced, decides the formula, and no step exceeds the budget
+pub record IsCompiled (f : Tree) (e : ℕ → SetOf) (before budget : ℕ) (a : Automaton) : Type 0 where
+  pub reduced : IsReduced a
+  pub decides : Decides a f (members e)
+  pub within : FirstOver (steps f) (members e) budget (before + 1) None
+
+-- the step, counted on from the steps before, is the first that exceeds the budget
+abbrev pub IsCompileError : Tree → (ℕ → SetOf) → ℕ → ℕ → CompileError → Type 0
+IsCompileError f e before budget (compile_error.Over step) = FirstOver (steps f) (members e) budget (before + 1) (Some step)
+IsCompileError f e before budget compile_error.Memory = Unit {0}
+
+abbrev pub Compiles : Tree → (ℕ → SetOf) → ℕ → ℕ → Result Automaton CompileError → Type 0
+Compiles f e before budget (Ok a) = IsCompiled f e before budget a
+Compiles f e before budget (Err why) = IsCompileError f e before budget why

@@ -1,0 +1,22 @@
+//! Why a formula has no automaton.
+ghost use Rattle.std.specs.Prelude.{◌≡◌};
+ghost use Rattle.formula_auto.specs.declared.errors.CompileError.TheVariants.{Memory};
+
+use std::alloc::AllocError;
+
+/// Why a formula has no automaton.
+#[derive(Clone, Copy, PartialEq, Eq, Debug)]
+pub enum CompileError {
+    /// The step of this number, counted from 1 in post-order, is the first whose spread exceeds the budget.
+    Over { step: u32 },
+    /// Memory ran out.
+    Memory,
+}
+
+impl From<AllocError> for CompileError {
+    ghost from_gives = { λ _ why. why ≡ Memory };
+
+    fn from(_: AllocError) -> Self {
+        CompileError::Memory
+    }
+}

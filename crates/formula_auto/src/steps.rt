@@ -1,0 +1,158 @@
+//! One node of a formula each: the automaton of it, with no state too many, from the automata of its parts.
+ghost use Rattle.std.specs.Prelude.{◌≡◌, ◌↔◌, ◌⊎◌, ◌≤◌, ℕ, List, length, IfOk, IfErr, OnOk};
+ghost use Rattle.track_word.specs.Tracks.{with_vars};
+ghost use Rattle.track_word.specs.Atom.{IsAtom};
+ghost use Rattle.auto_core.specs.Automaton.{Accepts};
+ghost use Rattle.auto_core.specs.Integers.{DecidesIntegers};
+ghost use Rattle.auto_core.specs.Reduced.{IsReduced};
+ghost use Rattle.auto_core.specs.Spread.{BothSpreadExceeds, ExSpreadExceeds};
+ghost use Rattle.lin_formula.specs.Tree as tree;
+ghost use Rattle.lin_formula.specs.Tree.{Tree};
+ghost use Rattle.lin_formula.specs.SetOf.{SetOf, members};
+ghost use Rattle.lin_formula.specs.SetOf as set_of;
+ghost use Rattle.formula_auto.specs.Decides.{Decides};
+ghost use Rattle.formula_auto.specs.StepError.{IsStepError};
+
+use crate::errors::CompileError;
+use crate::operations::{Grown, Operations};
+use auto_core::Auto;
+use std::alloc::{AllocError, Global};
+use track_word::{Rel, Var};
+
+pub fn comparison<O: Operations>(
+    alloc: Global,
+    ops: &O,
+    terms: &[(i8, Var)],
+    rel: Rel,
+    bound: i32,
+) -> Result<Auto, AllocError>
+    requires { IsAtom terms.now bound }
+    ensures reduced { IfOk result IsReduced }
+    ensures decides { IfOk result (λ a. (e : ℕ → SetOf) → Decides a (tree.Lin terms.now rel bound) (members e)) }
+{
+    let a = ops.lin(alloc, terms, rel, bound)?;
+    ops.reduce(alloc, &a)
+}
+
+pub fn value_of<O: Operations>(
+    alloc: Global,
+    ops: &O,
+    var: Var,
+    value: i64,
+) -> Result<Auto, AllocError>
+    ensures reduced { IfOk result IsReduced }
+    ensures decides { IfOk result (λ a. (e : ℕ → SetOf) → Decides a (tree.Value var value) (members e)) }
+{
+    let a = ops.value(alloc, var, value)?;
+    ops.reduce(alloc, &a)
+}
+
+pub fn membership<O: Operations>(
+    alloc: Global,
+    ops: &O,
+    set: &Auto,
+    vars: &[Var],
+) -> Result<Auto, AllocError>
+    requires size { length vars.now ≡ length set.now.tracks }
+    requires integers { DecidesIntegers set.now }
+    ensures reduced { IfOk result IsReduced }
+    ensures decides { IfOk result (λ a. (e : ℕ → SetOf) (number : ℕ) → e number ≡ set_of.Table set.now → Decides a (tree.Among number vars.now) (members e)) }
+{
+    let _ = set.tracks();
+    let a = ops.rename(alloc, set, vars)?;
+    ops.reduce(alloc, &a)
+}
+
+pub fn conjunction<O: Operations>(
+    alloc: Global,
+    ops: &O,
+    a: &Auto,
+    b: &Auto,
+    budget: u32,
+    step: u32,
+) -> Result<Auto, CompileError>
+    requires a_reduced { IsReduced a.now }
+    requires b_reduced { IsReduced b.now }
+    requires tracks { length (with_vars a.now.tracks b.now.tracks) ≤ 20 }
+    requires budget { (1 ≤ budget) × (budget ≤ 200000) }
+    ensures reduced { IfOk result IsReduced }
+    ensures decides { IfOk result (λ c. (f g : Tree) (e : ℕ → SetOf) → Decides a.now f (members e) → Decides b.now g (members e) → Decides c (tree.And f g) (members e)) }
+    ensures within { IfOk result (λ c. ¬ BothSpreadExceeds a.now.tracks b.now.tracks (Accepts a.now) (Accepts b.now) budget) }
+    ensures over { IfErr result (IsStepError step (BothSpreadExceeds a.now.tracks b.now.tracks (Accepts a.now) (Accepts b.now) budget)) }
+{
+    match ops.meet(alloc, a, b, budget) {
+        Ok(c) => reduced(alloc, ops, &c),
+        Err(Grown::Over) => Err(CompileError::Over { step }),
+        Err(Grown::Memory) => Err(CompileError::Memory),
+    }
+}
+
+pub fn disjunction<O: Operations>(
+    alloc: Global,
+    ops: &O,
+    a: &Auto,
+    b: &Auto,
+    budget: u32,
+    step: u32,
+) -> Result<Auto, CompileError>
+    requires a_reduced { IsReduced a.now }
+    requires b_reduced { IsReduced b.now }
+    requires tracks { length (with_vars a.now.tracks b.now.tracks) ≤ 20 }
+    requires budget { (1 ≤ budget) × (budget ≤ 200000) }
+    ensures reduced { IfOk result IsReduced }
+    ensures decides { IfOk result (λ c. (f g : Tree) (e : ℕ → SetOf) → Decides a.now f (members e) → Decides b.now g (members e) → Decides c (tree.Or f g) (members e)) }
+    ensures within { IfOk result (λ c. ¬ BothSpreadExceeds a.now.tracks b.now.tracks (Accepts a.now) (Accepts b.now) budget) }
+    ensures over { IfErr result (IsStepError step (BothSpreadExceeds a.now.tracks b.now.tracks (Accepts a.now) (Accepts b.now) budget)) }
+{
+    match ops.join(alloc, a, b, budget) {
+        Ok(c) => reduced(alloc, ops, &c),
+        Err(Grown::Over) => Err(CompileError::Over { step }),
+        Err(Grown::Memory) => Err(CompileError::Memory),
+    }
+}
+
+pub fn projection<O: Operations>(
+    alloc: Global,
+    ops: &O,
+    var: Var,
+    a: &Auto,
+    budget: u32,
+    step: u32,
+) -> Result<Auto, CompileError>
+    requires reduced { IsReduced a.now }
+    requires budget { (1 ≤ budget) × (budget ≤ 200000) }
+    ensures reduced { IfOk result IsReduced }
+    ensures decides { IfOk result (λ c. (f : Tree) (e : ℕ → SetOf) → Decides a.now f (members e) → Decides c (tree.Ex var f) (members e)) }
+    ensures within { IfOk result (λ c. ¬ ExSpreadExceeds var a.now.tracks (Accepts a.now) budget) }
+    ensures over { IfErr result (IsStepError step (ExSpreadExceeds var a.now.tracks (Accepts a.now) budget)) }
+{
+    match ops.forget(alloc, a, var, budget) {
+        Ok(c) => reduced(alloc, ops, &c),
+        Err(Grown::Over) => Err(CompileError::Over { step }),
+        Err(Grown::Memory) => Err(CompileError::Memory),
+    }
+}
+
+pub fn complement<O: Operations>(alloc: Global, ops: &O, a: &Auto) -> Result<Auto, CompileError>
+    requires { IsReduced a.now }
+    ensures reduced { IfOk result IsReduced }
+    ensures decides { IfOk result (λ c. (f : Tree) (e : ℕ → SetOf) → Decides a.now f (members e) → Decides c (tree.Not f) (members e)) }
+    ensures over { IfErr result (λ why. why ≡ CompileError.Memory) }
+{
+    match ops.not(alloc, a) {
+        Ok(c) => Ok(c),
+        Err(_) => Err(CompileError::Memory),
+    }
+}
+
+/// The same words, with no state too many.
+fn reduced<O: Operations>(alloc: Global, ops: &O, a: &Auto) -> Result<Auto, CompileError>
+    ensures reduced { IfOk result IsReduced }
+    ensures decides { IfOk result (λ c. (f : Tree) (e : ℕ → SetOf) → Decides a.now f (members e) → Decides c f (members e)) }
+    ensures over { IfErr result (λ why. why ≡ CompileError.Memory) }
+{
+    match ops.reduce(alloc, a) {
+        Ok(c) => Ok(c),
+        Err(_) => Err(CompileError::Memory),
+    }
+}
