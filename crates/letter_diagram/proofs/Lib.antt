@@ -9,10 +9,9 @@ pub mod Pairings
 pub mod Restrictions
 pub mod Bringing
 pub mod Narrow
-pub mod Leasts
-pub mod ValueLemmas
 pub mod Lists
 pub mod SetNumbers
 pub mod Mergings
+pub mod Passes
 pub mod LeafOrder
 pub mod TopTracks

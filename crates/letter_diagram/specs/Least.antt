@@ -1,27 +1,59 @@
--- The least letter at which a map gives a value.
-use Rattle.std.specs.Prelude.{◌≡◌, ℕ, ◌+◌, ◌*◌, ◌^◌, ◌≤◌, min, List, Option, Some, None, nat_eq}
-use Rattle.std.specs.HashMap.{HashMap, get}
+-- The least letter at which a map gives a value, and a pass over the nodes below a node that finds these letters.
+use Rattle.std.specs.Prelude.{◌≡◌, ℕ, ◌%◌, ◌^◌, ◌<◌, ◌≤◌, ◌⊎◌, List, length, Some, All}
+use Rattle.std.specs.Ordering.{nat_cmp}
+use Rattle.std.specs.BTreeMap.{BTreeMap, get}
+use Rattle.std.specs.Map.{keys_of}
 use Rattle.letter_diagram.specs.declared.diagrams.Shape.{Shape}
-use Rattle.letter_diagram.specs.Diagram.{map_at, top_track}
+use Rattle.letter_diagram.specs.declared.diagrams.Shape.TheVariants.{Leaf}
+use Rattle.letter_diagram.specs.Diagram.{map_at, top_track, IsAt}
 
--- the least letter at which a node's map gives a value, with no bit below the node's track
+-- the least letter at which a node's map gives a value
 pub record IsFirst (shapes : List Shape) (node value letter : ℕ) : Type 0 where
   pub map : map_at shapes node letter ≡ value
   pub least : (l : ℕ) → map_at shapes node l ≡ value → letter ≤ l
-  pub aligned : (m : ℕ) × (letter ≡ m * 2 ^ top_track shapes node)
-  pub room : letter + 2 ^ top_track shapes node ≤ 2 ^ 20
 
--- that letter, or none where the map gives the value nowhere
-pub record IsLeast (shapes : List Shape) (node value : ℕ) (found : Option ℕ) : Type 0 where
-  pub some : (letter : ℕ) → found ≡ Some letter → IsFirst shapes node value letter
-  pub none : found ≡ None → (letter : ℕ) → map_at shapes node letter ≡ value → ⊥
+-- for each value that the node's map gives, the least letter at which it does
+pub record AreFirsts (shapes : List Shape) (node : ℕ) (firsts : BTreeMap ℕ ℕ) : Type 0 where
+  pub first : (letter value : ℕ) → get nat_cmp firsts letter ≡ Some value → IsFirst shapes node value letter
+  pub has : (letter : ℕ) → (first : ℕ) × (get nat_cmp firsts first ≡ Some (map_at shapes node letter))
 
--- the earlier of a letter and of another with one more bit
-abbrev pub earliest : Option ℕ → Option ℕ → ℕ → Option ℕ
-earliest None None bit = None
-earliest (Some low) None bit = Some low
-earliest None (Some high) bit = Some (high + bit)
-earliest (Some low) (Some high) bit = Some (min low (high + bit))
+-- a node whose map is that of the root at each letter with these bits before the node's track
+pub record IsMet (shapes : List Shape) (root node letter : ℕ) : Type 0 where
+  pub known : node < length shapes
+  pub below : letter < 2 ^ top_track shapes node
+  pub same : (l : ℕ) → l % 2 ^ top_track shapes node ≡ letter → map_at shapes root l ≡ map_at shapes node l
 
-pub record RemembersLeast {S : Type 0} (shapes : List Shape) (value : ℕ) (memo : HashMap ℕ (Option ℕ) S) : Type 0 where
-  pub least : (node : ℕ) (found : Option ℕ) → get nat_eq memo node ≡ Some found → IsLeast shapes node value found
+-- of old and of a node at a letter, what new has: for each node one letter, which is the least
+pub record Meets (old new : BTreeMap ℕ ℕ) (node letter : ℕ) : Type 0 where
+  pub here : (least : ℕ) × (get nat_cmp new node ≡ Some least) × (least ≤ letter)
+  pub kept : (n l : ℕ) → get nat_cmp old n ≡ Some l → (least : ℕ) × (get nat_cmp new n ≡ Some least) × (least ≤ l)
+  pub only : (n l : ℕ) → get nat_cmp new n ≡ Some l → (get nat_cmp old n ≡ Some l) ⊎ ((n ≡ node) × (l ≡ letter))
+  pub below : (bound : ℕ) → node < bound → All (λ key. key < bound) (keys_of old.entries) → All (λ key. key < bound) (keys_of new.entries)
+
+-- a node that is met and gives the root's value at a letter, no later than that letter
+pub record Awaits (shapes : List Shape) (root : ℕ) (met : BTreeMap ℕ ℕ) (letter : ℕ) : Type 0 where
+  pub node : ℕ
+  pub first : ℕ
+  pub at : get nat_cmp met node ≡ Some first
+  pub early : first ≤ letter % 2 ^ top_track shapes node
+  pub gives : map_at shapes node letter ≡ map_at shapes root letter
+
+-- the root's value at a letter was found, no later than that letter
+pub record IsFound (shapes : List Shape) (root : ℕ) (firsts : BTreeMap ℕ ℕ) (letter : ℕ) : Type 0 where
+  pub first : ℕ
+  pub at : get nat_cmp firsts first ≡ Some (map_at shapes root letter)
+  pub early : first ≤ letter
+
+-- a value that was found is that of a leaf after all nodes that are still to be passed
+pub record IsPassed (shapes : List Shape) (met : BTreeMap ℕ ℕ) (value : ℕ) : Type 0 where
+  pub leaf : ℕ
+  pub at : IsAt shapes leaf (Leaf value)
+  pub after : (node letter : ℕ) → get nat_cmp met node ≡ Some letter → node < leaf
+
+-- nodes that are met and still to be passed, and the values of the leaves that were passed, by their letters
+pub record IsPass (shapes : List Shape) (root : ℕ) (met firsts : BTreeMap ℕ ℕ) : Type 0 where
+  pub met_at : (node letter : ℕ) → get nat_cmp met node ≡ Some letter → IsMet shapes root node letter
+  pub value_at : (letter value : ℕ) → get nat_cmp firsts letter ≡ Some value → map_at shapes root letter ≡ value
+  pub passed : (letter value : ℕ) → get nat_cmp firsts letter ≡ Some value → IsPassed shapes met value
+  pub once : (a b value : ℕ) → get nat_cmp firsts a ≡ Some value → get nat_cmp firsts b ≡ Some value → a ≡ b
+  pub each : (letter : ℕ) → Awaits shapes root met letter ⊎ IsFound shapes root firsts letter

@@ -5,7 +5,6 @@ pub mod Restricted
 pub mod Brought
 pub mod Relabelled
 pub mod Least
-pub mod Values
 pub mod Product
 pub mod Listed
 pub mod Sets

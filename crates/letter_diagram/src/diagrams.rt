@@ -8,7 +8,7 @@ use std::alloc::{AllocError, Global};
 use std::marker::Model;
 
 /// A diagram inside a `Diagrams`.
-#[derive(Debug, Clone, Copy, PartialEq, Eq, Hash)]
+#[derive(Debug, Clone, Copy, PartialEq, Eq, PartialOrd, Ord, Hash)]
 pub struct Node(usize);
 
 impl Model for Node {
@@ -58,7 +58,9 @@ impl Diagrams {
     }
 
     /// The allocator that the nodes are kept in.
-    pub fn alloc(&self) -> Global {
+    pub fn alloc(&self) -> Global
+        ensures diagram { IsDiagram self.now }
+    {
         *self.shapes.allocator()
     }
 

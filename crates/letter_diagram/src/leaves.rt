@@ -1,15 +1,14 @@
 //! The values of a map, in the order of the letters.
-ghost use Rattle.std.specs.Prelude.{◌≡◌, ◌<◌, ℕ, length, IfOk};
+ghost use Rattle.std.specs.Prelude.{◌≡◌, ◌<◌, ◌+◌, ◌^◌, ℕ, length, IfOk, OnOk};
 ghost use Rattle.std.specs.BTreeMap.{IsOrdered};
 ghost use Rattle.std.specs.Map.{values_of};
 ghost use Rattle.std.specs.Ordering.{nat_cmp};
-ghost use Rattle.letter_diagram.specs.Least.{IsLeast};
-ghost use Rattle.letter_diagram.specs.Leaves.{AreLeaves, AreFirsts};
+ghost use Rattle.letter_diagram.specs.Least.{AreFirsts, Meets};
+ghost use Rattle.letter_diagram.specs.Leaves.{AreLeaves};
 
-use crate::diagrams::{Diagrams, Node};
-use indexmap::IndexSet;
+use crate::diagrams::{Diagrams, Node, Shape};
 use std::alloc::{AllocError, Global};
-use std::collections::{BTreeMap, HashMap, HashSet};
+use std::collections::BTreeMap;
 
 /// The values of a map, in the order of their keys.
 fn values_in_order(alloc: Global, firsts: &BTreeMap<u32, u32>) -> Result<Vec<u32>, AllocError>
@@ -19,41 +18,59 @@ fn values_in_order(alloc: Global, firsts: &BTreeMap<u32, u32>) -> Result<Vec<u32
     firsts.values().copied().collect(alloc)
 }
 
+/// Notes that a node is met at a letter. Of the letters at which a node is met, the least is kept.
+fn meet(met: &mut BTreeMap<Node, u32>, node: Node, letter: u32) -> Result<(), AllocError>
+    ensures { OnOk result (Meets met.old met.new node letter) }
+{
+    if let Some(earlier) = met.get(&node) {
+        if *earlier <= letter {
+            return Ok(());
+        }
+    }
+    met.insert(node, letter)?;
+    Ok(())
+}
+
+/// A letter with one more bit, that of a track after its bits.
+fn with_bit(letter: u32, track: u8) -> u32
+    requires before { letter < 2 ^ track }
+    requires track_low { track < 20 }
+    ensures { result ≡ letter + 2 ^ track }
+{
+    letter + (1 << track)
+}
+
 impl Diagrams {
     /// The different values of a node's map, ordered by the least letter at which each is given.
     pub fn leaves(&self, node: Node) -> Result<Vec<u32>, AllocError>
         requires { node < length self.now }
         ensures { IfOk result (λ values. AreLeaves self.now node values.items) }
     {
-        let mut seen = HashSet::new(self.alloc());
-        let mut values = IndexSet::new(self.alloc());
-        self.gather(node, &mut seen, &mut values)?;
-        let firsts = self.firsts(node, values.as_slice())?;
+        let firsts = self.firsts(node)?;
         let leaves = values_in_order(self.alloc(), &firsts)?;
         Ok(leaves)
     }
 
-    /// Each of some values by the least letter at which the node's map gives it.
-    fn firsts(&self, node: Node, values: &[u32]) -> Result<BTreeMap<u32, u32>, AllocError>
-        requires { node < length self.now }
-        ensures { IfOk result (λ firsts. AreFirsts self.now node values.now firsts) }
+    /// Each value of a node's map by the least letter at which it is given. Nodes are passed from the last one down, so
+    /// that each was met from all that lead to it before it is passed itself.
+    fn firsts(&self, root: Node) -> Result<BTreeMap<u32, u32>, AllocError>
+        requires { root < length self.now }
+        ensures { IfOk result (λ firsts. AreFirsts self.now root firsts) }
     {
         let mut firsts = BTreeMap::new(self.alloc());
-        for value in values {
-            if let Some(first) = self.first(node, *value)? {
-                firsts.insert(first, *value)?;
+        let mut met = BTreeMap::new(self.alloc());
+        met.insert(root, 0)?;
+        while let Some((node, letter)) = met.pop_last() {
+            match self.shape(node) {
+                Shape::Leaf(value) => {
+                    firsts.insert(letter, value)?;
+                }
+                Shape::Test { track, low, high } => {
+                    meet(&mut met, low, letter)?;
+                    meet(&mut met, high, with_bit(letter, track))?;
+                }
             }
         }
         Ok(firsts)
-    }
-
-    /// The least letter at which the node's map gives a value.
-    fn first(&self, node: Node, value: u32) -> Result<Option<u32>, AllocError>
-        requires { node < length self.now }
-        ensures { IfOk result (λ found. IsLeast self.now node value found) }
-    {
-        let mut memo = HashMap::new(self.alloc());
-        let found = self.least(node, value, &mut memo)?;
-        Ok(found)
     }
 }

@@ -5,7 +5,6 @@ mod apply2;
 mod bring;
 mod diagrams;
 pub mod laws;
-mod least;
 mod leaves;
 mod map_leaves;
 mod merge;
@@ -17,7 +16,6 @@ mod restrict;
 mod sets;
 #[cfg(test)]
 mod tests;
-mod values;
 
 pub use diagrams::{Diagrams, Node, Shape};
 pub use merger::Merger;

@@ -1,6 +1,9 @@
-use Rattle.std.proofs.Common.{take}
-use Rattle.letter_diagram.specs.Leaves.{AreFirsts}
+use Rattle.letter_diagram.specs.Least.{IsPass}
+use Rattle.letter_diagram.proofs.Passes.{above}
 use Rattle.letter_diagram.proofs.diagrams.Diagrams.firsts.Given as goal
 
-abbrev pub invariant-loop-value : goal.invariant-loop-value
-invariant-loop-value l = AreFirsts l.self l.node (take l.value-index l.values) l.firsts
+abbrev pub invariant-loop-node : goal.invariant-loop-node
+invariant-loop-node l = IsPass l.self l.fn.root l.met l.firsts
+
+abbrev pub decreases-loop-node : goal.decreases-loop-node
+decreases-loop-node l = above l.met.entries
