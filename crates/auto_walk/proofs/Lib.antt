@@ -1,3 +1,4 @@
 pub mod WalkLemmas
 pub mod RowLemmas
 pub mod WalkWords
+pub mod ResidueLemmas

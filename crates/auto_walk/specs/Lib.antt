@@ -5,3 +5,4 @@ pub use Rattle.auto_core.specs.Automaton
 pub use Rattle.auto_core.specs.Reduced
 pub mod Walker
 pub mod Rows
+pub mod Residue

@@ -1,0 +1,32 @@
+-- Residues of a track's value as places, of which each has the residue for its only entry.
+use Rattle.std.specs.Prelude.{◌≡◌, ◌≢◌, ◌⊎◌, ℕ, ◌+◌, ◌-◌, ◌*◌, ◌%◌, ◌<◌, ◌≤◌, pos, List, [], ◌∷◌, length, slice_index, slice_get, Some, AllPairs, nat_eq, if◌then◌else◌}
+use Rattle.std.specs.Int.{bit_at, int_rem_euclid}
+use Rattle.track_word.specs.declared.tracks.Var.{Var}
+use Rattle.track_word.specs.Tracks.{word_values}
+use Rattle.letter_diagram.specs.declared.diagrams.Shape.{Shape}
+use Rattle.letter_diagram.specs.Diagram.{map_at}
+use Rattle.auto_walk.specs.Walker.{Walker}
+
+-- the residue of what has been read, by the residue before the last bit
+abbrev pub next_residue : ℕ → List ℕ → ℕ → List ℕ
+next_residue modulus place letter = (2 * slice_index place 0 + bit_at letter 0) % modulus ∷ []
+
+-- a sign letter with the bit 1 stands for -1
+abbrev pub residue_walker : List Var → ℕ → ℕ → Walker
+residue_walker tracks modulus residue = record {
+  tracks = tracks;
+  first = λ sign. bit_at sign 0 * (modulus - 1) ∷ [];
+  next = next_residue modulus;
+  final = λ place. nat_eq (slice_index place 0) residue;
+}
+
+-- a word over the variable alone gives it a value that leaves this remainder, which is not negative
+abbrev pub ResidueHolds : Var → ℕ → ℕ → List ℕ → Type 0
+ResidueHolds var modulus residue word = int_rem_euclid (word_values (var ∷ []) word var.0) (pos modulus) ≡ pos residue
+
+-- the node's map leads each letter by its bit to the number of one of two residues, which alone are new
+pub record IsBitRow (shapes : List Shape) (old new : List (List ℕ)) (low high node : ℕ) : Type 0 where
+  pub known : node < length shapes
+  pub leads : (letter : ℕ) → slice_get new (map_at shapes node letter) ≡ Some ((if nat_eq (bit_at letter 0) 0 then low else high) ∷ [])
+  pub different : AllPairs (λ p q. p ≢ q) new
+  pub added : (number : ℕ) → length old ≤ number → number < length new → (slice_get new number ≡ Some (low ∷ [])) ⊎ (slice_get new number ≡ Some (high ∷ []))

@@ -1,0 +1,167 @@
+//! Residues of the value of a track: a walk whose places are residues.
+ghost use Rattle.std.specs.Prelude.{◌≡◌, ◌↔◌, ◌<◌, ◌^◌, ◌+◌, ◌-◌, ◌*◌, ◌%◌, [], ◌∷◌, List, ℕ, length, slice_get, slice_index, Some, IfOk, OnOk};
+ghost use Rattle.track_word.specs.Word.{IsWord};
+ghost use Rattle.letter_diagram.specs.Diagram.{Grows};
+ghost use Rattle.letter_diagram.specs.Sets.{NumbersSet};
+ghost use Rattle.auto_core.specs.Automaton.{Accepts};
+ghost use Rattle.auto_core.specs.Integers.{DecidesIntegers};
+ghost use Rattle.auto_walk.specs.Walker.{MoreThan};
+ghost use Rattle.auto_walk.specs.Rows.{Extends};
+ghost use Rattle.auto_walk.specs.Residue.{residue_walker, ResidueHolds, IsBitRow};
+
+use crate::explore::walked;
+use crate::grown::Grown;
+use crate::walk::Walk;
+use auto_core::Auto;
+use letter_diagram::{Diagrams, Node, PairsError, Sets};
+use std::alloc::{AllocError, Global};
+use track_word::Var;
+use track_word::laws::repeating_first_letter_keeps_values;
+
+/// The residues that a track's value leaves: after each bit the residue of what has been read is known by the one before.
+#[derive(Drop)]
+struct Residues {
+    tracks: Vec<Var>,
+    modulus: u32,
+    wanted: u32,
+    diagrams: Diagrams,
+    seen: Sets,
+    ghost one_track: { length tracks.items ≡ 1 },
+    ghost positive: { 0 < modulus },
+}
+
+impl Residues {
+    fn new(alloc: Global, var: Var, modulus: u32, wanted: u32) -> Result<Self, AllocError>
+        requires { 0 < modulus }
+        ensures tracks { IfOk result (λ r. r.tracks.items ≡ var ∷ []) }
+        ensures modulus { IfOk result (λ r. r.modulus ≡ modulus) }
+        ensures wanted { IfOk result (λ r. r.wanted ≡ wanted) }
+        ensures fresh { IfOk result (λ r. r.seen ≡ []) }
+    {
+        let tracks = vec![in alloc; var]?;
+        Ok(Residues {
+            tracks,
+            modulus,
+            wanted,
+            diagrams: Diagrams::new(alloc),
+            seen: Sets::new(alloc),
+        })
+    }
+}
+
+/// The residue after one more bit.
+fn after(residue: u32, bit: u32, modulus: u32) -> u32
+    requires bit { bit < 2 }
+    requires positive { 0 < modulus }
+    ensures { result ≡ (2 * residue + bit) % modulus }
+{
+    ((2 * u64::from(residue) + u64::from(bit)) % u64::from(modulus)) as u32
+}
+
+/// The residue of a numbered place.
+fn residue_of(seen: &Sets, number: u32) -> u32
+    requires { number < length seen.now }
+    ensures { (place : List ℕ) × (slice_get seen.now number ≡ Some place) × (result ≡ slice_index place 0) }
+{
+    match seen.get(number) {
+        Some(place) => place.first().copied().unwrap_or(0),
+        None => unreachable!(),
+    }
+}
+
+/// The number of a residue's place.
+fn number_of(seen: &mut Sets, residue: u32) -> Result<u32, AllocError>
+    requires { length seen.old < 2 ^ 32 - 1 }
+    ensures number { IfOk result (λ number. slice_get seen.new number ≡ Some (residue ∷ [])) }
+    ensures seen { OnOk result (NumbersSet seen.old seen.new (residue ∷ [])) }
+    ensures kept { Extends seen.old seen.new }
+{
+    match seen.number(&[residue]) {
+        Ok(number) => Ok(number),
+        Err(PairsError::Memory) => Err(AllocError),
+        Err(PairsError::Full) => unreachable!(),
+    }
+}
+
+/// The node that leads the bit 0 to the number of one residue, and the bit 1 to that of another.
+fn bit_row(
+    diagrams: &mut Diagrams,
+    seen: &mut Sets,
+    low: u32,
+    high: u32,
+) -> Result<Node, AllocError>
+    requires { length seen.old < 2 ^ 31 }
+    ensures row { IfOk result (IsBitRow diagrams.new seen.old seen.new low high) }
+    ensures kept { Extends seen.old seen.new }
+    ensures grows { Grows diagrams.old diagrams.new }
+{
+    let low = number_of(seen, low)?;
+    let high = number_of(seen, high)?;
+    let _ = seen.len();
+    let low = diagrams.leaf(low)?;
+    let high = diagrams.leaf(high)?;
+    let node = diagrams.node(0, low, high)?;
+    Ok(node)
+}
+
+impl Walk for Residues {
+    ghost use Rattle.auto_walk.specs.Residue.{residue_walker};
+
+    ghost walker = { λ s. residue_walker s.tracks.items s.modulus s.wanted };
+
+    ghost places = { λ s. s.seen };
+
+    ghost shapes = { λ s. s.diagrams };
+
+    fn tracks(&self) -> &[Var] {
+        self.tracks.as_slice()
+    }
+
+    fn count(&self) -> usize {
+        self.seen.len()
+    }
+
+    fn first_row(&mut self) -> Result<Node, AllocError> {
+        let node = bit_row(&mut self.diagrams, &mut self.seen, 0, self.modulus - 1)?;
+        Ok(node)
+    }
+
+    fn next_row(&mut self, number: u32) -> Result<Node, AllocError> {
+        let residue = residue_of(&self.seen, number);
+        let low = after(residue, 0, self.modulus);
+        let high = after(residue, 1, self.modulus);
+        let node = bit_row(&mut self.diagrams, &mut self.seen, low, high)?;
+        Ok(node)
+    }
+
+    fn is_final(&self, number: u32) -> bool {
+        residue_of(&self.seen, number) == self.wanted
+    }
+
+    fn into_diagrams(self) -> Diagrams {
+        self.diagrams
+    }
+}
+
+/// Decides whether the value of a variable leaves a residue after division by a modulus, as `rem_euclid` does. It has a state
+/// for each residue that words lead to. `Over` where they are more than the budget.
+pub fn residue(
+    alloc: Global,
+    var: Var,
+    modulus: u32,
+    residue: u32,
+    budget: u32,
+) -> Result<Auto, Grown>
+    requires modulus { 0 < modulus }
+    requires budget { budget < 2 ^ 31 }
+    ensures tracks { IfOk result (λ a. a.tracks ≡ var ∷ []) }
+    ensures words { IfOk result (λ a. (word : List ℕ) → IsWord 1 word → Accepts a word ↔ ResidueHolds var modulus residue word) }
+    ensures integers { IfOk result (λ a. DecidesIntegers a) }
+    ensures within { OnOk result (¬ MoreThan (residue_walker (var ∷ []) modulus residue) budget) }
+    ensures over { result ≡ Err Grown.Over → MoreThan (residue_walker (var ∷ []) modulus residue) budget }
+{
+    repeating_first_letter_keeps_values();
+    let residues = Residues::new(alloc, var, modulus, residue)?;
+    let decided = walked(alloc, residues, budget)?;
+    Ok(decided)
+}
