@@ -11,3 +11,5 @@ pub mod Empties
 pub mod Flags
 pub mod Stables
 pub mod Numberings
+pub mod SameTables
+pub mod SameWords

@@ -6,3 +6,4 @@ pub use Rattle.auto_core.specs.Integers
 pub mod Partition
 pub mod Quotient
 pub mod Numbering
+pub mod Tables

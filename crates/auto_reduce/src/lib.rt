@@ -5,10 +5,12 @@
 
 mod canonical;
 mod empty;
+pub mod laws;
 mod order;
 mod partition;
 mod quotient;
 mod rows;
+mod same;
 mod signatures;
 mod stable;
 #[cfg(test)]
@@ -16,4 +18,5 @@ mod tests;
 
 pub use empty::is_empty;
 pub use quotient::reduce;
+pub use same::same_set;
 pub use stable::sign_stable;

@@ -125,6 +125,7 @@ pub fn reduce(alloc: Global, a: &Auto) -> Result<Auto, AllocError>
     ensures words { IfOk result (λ m. (word : List ℕ) → IsWord (length a.now.tracks) word → Accepts m word ↔ Accepts a.now word) }
     ensures reduced { IfOk result IsReduced }
     ensures numbered { IfOk result IsNumberedBreadthFirst }
+    ensures valid { IfOk result IsAutomaton }
 {
     let m = quotient(alloc, a)?;
     Ok(m)

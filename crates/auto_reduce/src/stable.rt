@@ -1,31 +1,61 @@
 //! Whether a repeated first letter ever matters.
-ghost use Rattle.std.specs.Prelude.{◌≡◌, ◌↔◌, ◌<◌, ◌^◌, length, IfOk, IsTrue};
+ghost use Rattle.std.specs.Prelude.{◌≡◌, ◌↔◌, ◌<◌, ℕ, length, slice_get, Some, IfOk, IsTrue};
+ghost use Rattle.letter_diagram.specs.Diagram.{map_at, Grows};
 ghost use Rattle.auto_core.specs.Automaton.{IsAutomaton};
 ghost use Rattle.auto_core.specs.Integers.{DecidesIntegers};
-ghost use Rattle.auto_reduce.specs.Partition.{IsCoarsest};
+ghost use Rattle.auto_core.specs.Reduced.{IsReduced};
 
-use crate::partition::{Partition, coarsest};
+use crate::quotient::reduce;
 use auto_core::Auto;
+use letter_diagram::{Diagrams, Node, Pairs};
 use std::alloc::{AllocError, Global};
 
 /// Whether each word is accepted just if it is accepted with its first letter once more, so that the automaton decides a set of integers.
-/// Goes over the sign letters, of which there are two to the number of tracks.
+/// Costs a reduction, and the pairs of nodes of the first row and of the rows of the states that sign letters lead to.
 pub fn sign_stable(alloc: Global, a: &Auto) -> Result<bool, AllocError>
     ensures { IfOk result (λ stable. IsTrue stable ↔ DecidesIntegers a.now) }
 {
-    let partition = coarsest(alloc, a)?;
-    Ok(first_letters_stay(a, &partition))
+    let m = reduce(alloc, a)?;
+    let stable = signs_stay(&m)?;
+    Ok(stable)
 }
 
-/// Whether each sign letter, read once more, leads to the same class.
-fn first_letters_stay(a: &Auto, partition: &Partition) -> bool
-    requires { IsCoarsest a.now partition.now.classes.items partition.now.count }
-    ensures { IsTrue result ↔ DecidesIntegers a.now }
+/// Whether each sign letter of a reduced automaton, read once more, leads to the same state.
+fn signs_stay(m: &Auto) -> Result<bool, AllocError>
+    requires valid { IsAutomaton m.now }
+    requires reduced { IsReduced m.now }
+    ensures { IfOk result (λ stay. IsTrue stay ↔ DecidesIntegers m.now) }
 {
-    for letter in 0..1u32 << a.tracks().len() {
-        let once = a.first_of(letter);
-        let twice = a.next_of(once, letter);
-        if partition.classes[once as usize] != partition.classes[twice as usize] {
+    let first = m.first_node();
+    let mut diagrams = m.diagrams().copy()?;
+    let states = diagrams.leaves(first)?;
+    for state in states.as_slice() {
+        let row = m.row_node(*state);
+        if !keeps(&mut diagrams, first, row, *state)? {
+            return Ok(false);
+        }
+    }
+    Ok(true)
+}
+
+/// Whether a row gives a state wherever the first row does.
+fn keeps(diagrams: &mut Diagrams, first: Node, row: Node, state: u32) -> Result<bool, AllocError>
+    requires first_known { first < length diagrams.old }
+    requires row_known { row < length diagrams.old }
+    ensures keeps { IfOk result (λ keeps. IsTrue keeps ↔ ((letter : ℕ) → map_at diagrams.old first letter ≡ state → map_at diagrams.old row letter ≡ state)) }
+    ensures grows { Grows diagrams.old diagrams.new }
+{
+    let mut pairs = Pairs::new(diagrams.alloc());
+    let _ = diagrams.apply2(first, row, &mut pairs)?;
+    Ok(each_keeps(pairs.as_slice(), state))
+}
+
+/// Whether no pair leaves a state.
+fn each_keeps(pairs: &[(u32, u32)], state: u32) -> bool
+    ensures { IsTrue result ↔ ((number before after : ℕ) → slice_get pairs.now number ≡ Some (before, after) → before ≡ state → after ≡ state) }
+{
+    for pair in pairs {
+        if pair.0 == state && pair.1 != state {
             return false;
         }
     }

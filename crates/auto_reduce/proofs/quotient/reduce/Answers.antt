@@ -13,3 +13,6 @@ returns-clause-reduced c = quotient_reduced _ _ c.in_ok-m.ensures
 
 pub returns-clause-numbered : goal.returns-clause-numbered
 returns-clause-numbered c = quotient_numbered _ _ c.in_ok-m.ensures
+
+pub returns-clause-valid : goal.returns-clause-valid
+returns-clause-valid c = c.in_ok-m.ensures.quotient.valid
