@@ -1,0 +1,250 @@
+-- Tables of joined sets, and unions of rows.
+use Rattle.std.proofs.Common.{◌≡◌, ◌≢◌, ◌⊎◌, ◌↔◌, ℕ, zero, suc, ◌<◌, ◌≤◌, ◌+◌, ◌^◌, List, [], ◌∷◌, ◌++◌, length, get_or, slice_get, slice_index, Option, None, Some, Contains, arith, refl, sym, ap, ◌∙◌, subst, inl, inr}
+use Rattle.std.specs.List.{All}
+use Rattle.std.proofs.Math.ListN.{set}
+use Rattle.std.proofs.lemmas.Bool.{cases_eq, cases_lt}
+use Rattle.std.proofs.lemmas.Option.{slice_get-get_or, slice_get_within, get_or_from_slice_get, same_Some}
+use Rattle.std.proofs.lemmas.List.{length_push, get_or_push, get_or_append_left, get_or_default, get_or-set_same, get_or-set_other}
+use Rattle.std.proofs.lemmas.List.Elements.{All-from_get_or, All-get_or, Contains-get_or}
+use Rattle.letter_diagram.specs.declared.diagrams.Shape.{Shape}
+use Rattle.letter_diagram.specs.Diagram.{map_at, Grows}
+use Rattle.letter_diagram.specs.Paired.{AreAnswers}
+use Rattle.letter_diagram.specs.Sets.{set_at, SetsKept, NumbersSet}
+use Rattle.letter_diagram.specs.Leaves.{AreLeaves}
+use Rattle.letter_diagram.specs.Merged.{HasSets}
+use Rattle.letter_diagram.proofs.SetNumbers.{set_at-kept, SetsKept-trans, SetsKept-numbers, slice_get-last, length-numbers}
+use Rattle.letter_diagram.proofs.Mergings.{HasSets-grows}
+use Rattle.auto_project.specs.SetMaps.{set_of, AreSingletons, IsJoinedSet, AreJoinedSets, IsJoined, IsUnionRow, HasNumber, HasNumbers, IsNumbered}
+use Rattle.auto_project.proofs.SetMapLemmas.{has-kept, had, IsJoinedSet-kept}
+
+-- the sets of the states below a count, in order
+pub record AreSingletonsSoFar (sets : List (List ℕ)) (count : ℕ) : Type 0 where
+  pub size : length sets ≡ count
+  pub single : (number : ℕ) → number < count → slice_get sets number ≡ Some (number ∷ [])
+
+same_single : (m n : ℕ) → m ∷ [] ≡ n ∷ [] → m ≡ n
+same_single m n e = cc
+
+pub AreSingletonsSoFar-push : (old new : List (List ℕ)) (count number : ℕ) → NumbersSet old new (count ∷ []) → slice_get new number ≡ Some (count ∷ []) → AreSingletonsSoFar old count → AreSingletonsSoFar new (count + 1)
+AreSingletonsSoFar-push old new count number (inl e) at are =
+    let at' : slice_get old number ≡ Some (count ∷ []) = ap (λ l. slice_get l number) (sym e) ∙ at in
+    let within = slice_get_within old number (count ∷ []) at' in
+    let size = are.size in
+    let single = are.single number (omega (arith, within, size)) in
+    let same = same_single number count (same_Some _ _ (sym single ∙ at')) in
+    absurd (omega (arith, within, size, same))
+AreSingletonsSoFar-push old new count number (inr (e, absent)) at are = record {
+  size = let l = ap length e ∙ length_push old (count ∷ []) in let s = are.size in omega (arith, l, s);
+  single = λ k h. elim (cases_lt k count) [
+    | inl less ↦ (SetsKept-numbers old new (count ∷ []) (inr (e, absent))).at k (k ∷ []) (are.single k less)
+    | inr more ↦
+        let here : k ≡ count = omega arith in
+        let l = ap length e ∙ length_push old (count ∷ []) in
+        let s = are.size in
+        slice_get-last old new (count ∷ []) k (inr (e, absent)) (omega (arith, s, more)) (omega (arith, l, s, h)) ∙ ap (λ n. Some (n ∷ [])) (sym here)
+  ];
+}
+
+pub AreSingletons-all : (sets : List (List ℕ)) (count : ℕ) → AreSingletonsSoFar sets count → AreSingletons sets count
+AreSingletons-all sets count are = record { enough = let s = are.size in omega (arith, s); single = are.single }
+
+pub AreSingletonsSoFar-none : (sets : List (List ℕ)) → sets ≡ [] → AreSingletonsSoFar sets 0
+AreSingletonsSoFar-none sets e = record { size = ap length e; single = λ number h. absurd (omega arith) }
+
+-- the joined sets of the first pairs
+pub record AreJoinedSoFar (sets : List (List ℕ)) (only : Option ℕ) (pairs : List (ℕ × ℕ)) (table : List ℕ) (count : ℕ) : Type 0 where
+  pub size : length table ≡ count
+  pub each : (i a b : ℕ) → i < count → slice_get pairs i ≡ Some (a, b) → IsJoinedSet sets only a b (slice_index table i)
+
+pub AreJoinedSoFar-push : (sets sets' : List (List ℕ)) (only : Option ℕ) (pairs : List (ℕ × ℕ)) (table : List ℕ) (count number : ℕ) (pair : ℕ × ℕ) → SetsKept sets sets' → slice_get pairs count ≡ Some pair → AreJoinedSoFar sets only pairs table count
+    → IsJoinedSet sets' only pair.0 pair.1 number → AreJoinedSoFar sets' only pairs (table ++ number ∷ []) (count + 1)
+AreJoinedSoFar-push sets sets' only pairs table count number pair kept at so_far here = record {
+  size = let l = length_push table number in let s = so_far.size in omega (arith, l, s);
+  each = λ i a b h at'.
+      let s = so_far.size in
+      elim (cases_lt i count) [
+        | inl less ↦
+            let e = get_or_append_left table (number ∷ []) 0 i (omega (arith, s, less)) in
+            subst (IsJoinedSet sets' only a b) (sym e) (IsJoinedSet-kept sets sets' only a b (slice_index table i) kept (so_far.each i a b less at'))
+        | inr more ↦
+            let same : i ≡ count = omega arith in
+            let e = get_or_push table number 0 i (s ∙ sym same) in
+            let p : pair ≡ (a, b) = same_Some _ _ (sym at ∙ ap (slice_get pairs) (sym same) ∙ at') in
+            subst (IsJoinedSet sets' only a b) (sym e) (subst (λ (q : ℕ × ℕ). IsJoinedSet sets' only q.0 q.1 number) p here)
+      ];
+}
+
+pub AreJoinedSets-all : (sets : List (List ℕ)) (only : Option ℕ) (pairs : List (ℕ × ℕ)) (table : List ℕ) (count : ℕ) → count ≡ length pairs → AreJoinedSoFar sets only pairs table count → AreJoinedSets sets only pairs table
+AreJoinedSets-all sets only pairs table count all so_far = record {
+  size = so_far.size ∙ all;
+  each = λ i a b at. so_far.each i a b (let h = slice_get_within pairs i (a, b) at in omega (arith, h, all)) at;
+}
+
+-- the pairs of values of two nodes are pairs of known numbers
+pub pairs-known : (shapes : List Shape) (sets : List (List ℕ)) (pairs : List (ℕ × ℕ)) (a b from : ℕ) → from ≡ 0 → HasSets shapes sets a → HasSets shapes sets b → AreAnswers shapes from pairs a b → All (λ (pair : ℕ × ℕ). (pair.0 < length sets) × (pair.1 < length sets)) pairs
+pairs-known shapes sets pairs a b from none a_sets b_sets answers = All-from_get_or (λ (pair : ℕ × ℕ). (pair.0 < length sets) × (pair.1 < length sets)) pairs (0, 0) (λ i h.
+    let one = answers.answer i (omega (arith, none)) h in
+    let e : (map_at shapes a one.0, map_at shapes b one.0) ≡ get_or pairs i (0, 0) = same_Some _ _ (sym one.1 ∙ slice_get-get_or pairs i (0, 0) h) in
+    subst (λ (pair : ℕ × ℕ). (pair.0 < length sets) × (pair.1 < length sets)) e (a_sets.numbered one.0, b_sets.numbered one.0))
+
+-- a node over pairs, led through their joined sets
+pub IsJoined-made : (old mid shapes : List Shape) (sets : List (List ℕ)) (only : Option ℕ) (pairs : List (ℕ × ℕ)) (table : List ℕ) (a b both node : ℕ) → a < length old → b < length old → Grows old shapes
+    → ((letter : ℕ) → slice_get pairs (map_at mid both letter) ≡ Some (map_at old a letter, map_at old b letter)) → AreJoinedSets sets only pairs table → node < length shapes
+    → ((letter : ℕ) → map_at shapes node letter ≡ slice_index table (map_at mid both letter)) → IsJoined shapes sets only a b node
+IsJoined-made old mid shapes sets only pairs table a b both node a_known b_known grows paired joined known led = record {
+  known = known;
+  joins = λ letter.
+      let j = joined.each (map_at mid both letter) (map_at old a letter) (map_at old b letter) (paired letter) in
+      subst (λ n. IsJoinedSet sets only (map_at shapes a letter) (map_at shapes b letter) n) (sym (led letter))
+      (subst (λ n. IsJoinedSet sets only n (map_at shapes b letter) (slice_index table (map_at mid both letter))) (sym (grows.map a letter a_known))
+      (subst (λ n. IsJoinedSet sets only (map_at old a letter) n (slice_index table (map_at mid both letter))) (sym (grows.map b letter b_known)) j));
+}
+
+pub table-covers : (mid : List Shape) (pairs : List (ℕ × ℕ)) (table : List ℕ) (both : ℕ) (letter : ℕ) (pair : ℕ × ℕ) → length table ≡ length pairs → slice_get pairs (map_at mid both letter) ≡ Some pair → map_at mid both letter < length table
+table-covers mid pairs table both letter pair size at = let h = slice_get_within pairs (map_at mid both letter) pair at in omega (arith, h, size)
+
+-- the union of the rows of the first states of a set
+pub record IsUnionSoFar (shapes : List Shape) (sets : List (List ℕ)) (rows set : List ℕ) (node count : ℕ) : Type 0 where
+  pub all : All (HasSets shapes sets) rows
+  pub is : HasSets shapes sets node
+  pub inside : (k : ℕ) → k < count → slice_index set k < length rows
+  pub members : (letter state : ℕ) → Contains (set_of shapes sets node letter) state ↔ ((k : ℕ) × (k < count) × Contains (set_of shapes sets (slice_index rows (slice_index set k)) letter) state)
+
+pub rows-kept : (shapes more : List Shape) (sets sets' : List (List ℕ)) (rows : List ℕ) → Grows shapes more → SetsKept sets sets' → All (HasSets shapes sets) rows → All (HasSets more sets') rows
+rows-kept shapes more sets sets' rows grows kept all = λ i d h. HasSets-grows shapes more sets sets' (get_or rows i d) grows kept (all i d h)
+
+pub IsUnionSoFar-first : (shapes more : List Shape) (sets sets' : List (List ℕ)) (rows set : List ℕ) (empty node : ℕ) → Grows shapes more → SetsKept sets sets' → All (HasSets shapes sets) rows → slice_get sets' empty ≡ Some [] → node < length more → ((letter : ℕ) → map_at more node letter ≡ empty)
+    → IsUnionSoFar more sets' rows set node 0
+IsUnionSoFar-first shapes more sets sets' rows set empty node grows kept all at known constant =
+    let within = slice_get_within sets' empty [] at in
+    record {
+      all = rows-kept shapes more sets sets' rows grows kept all;
+      is = record { known = known; numbered = λ letter. let e = constant letter in omega (arith, e, within) };
+      inside = λ k h. absurd (omega arith);
+      members = λ letter state. (
+        λ c.
+            let e : set_of more sets' node letter ≡ [] = ap (set_at sets') (constant letter) ∙ get_or_from_slice_get sets' empty [] [] at in
+            let d = subst (λ l. Contains l state) e c in
+            let h = d.1 in
+            absurd (omega arith),
+        λ one. let h = one.1 in absurd (omega arith),
+      );
+    }
+
+same_place : (count k : ℕ) → k < count + 1 → count ≤ k → count ≡ k
+same_place count k h past = omega arith
+
+pub IsUnionSoFar-step : (shapes more : List Shape) (sets sets' : List (List ℕ)) (rows set : List ℕ) (node row after count : ℕ) → Grows shapes more → SetsKept sets sets' → IsUnionSoFar shapes sets rows set node count → slice_index set count < length rows
+    → row ≡ slice_index rows (slice_index set count) → IsJoined more sets' None node row after → IsUnionSoFar more sets' rows set after (count + 1)
+IsUnionSoFar-step shapes more sets sets' rows set node row after count grows kept so_far within row_is joined = record {
+  all = rows-kept shapes more sets sets' rows grows kept so_far.all;
+  is = record { known = joined.known; numbered = λ letter. (joined.joins letter).known };
+  inside = inside;
+  members = λ letter state. (to letter state, from letter state);
+}
+  where
+    inside : (k : ℕ) → k < count + 1 → slice_index set k < length rows
+    inside k h = elim (cases_lt k count) [
+      | inl less ↦ so_far.inside k less
+      | inr past ↦ subst (λ n. slice_index set n < length rows) (same_place count k h past) within
+    ]
+
+    to : (letter state : ℕ) → Contains (set_of more sets' after letter) state → (k : ℕ) × (k < count + 1) × Contains (set_of more sets' (slice_index rows (slice_index set k)) letter) state
+    to letter state c = elim (((joined.joins letter).members state).0 c) [
+      | inl l ↦
+          let one = (so_far.members letter state).0 (had shapes more sets sets' grows kept node letter state so_far.is l) in
+          let h = one.1 in
+          (one.0, omega arith, has-kept shapes more sets sets' grows kept (slice_index rows (slice_index set one.0)) letter state (so_far.all (slice_index set one.0) 0 (so_far.inside one.0 one.1)) one.2)
+      | inr r ↦ (count, omega arith, subst (λ n. Contains (set_of more sets' n letter) state) row_is r.1)
+    ]
+
+    from : (letter state : ℕ) → ((k : ℕ) × (k < count + 1) × Contains (set_of more sets' (slice_index rows (slice_index set k)) letter) state) → Contains (set_of more sets' after letter) state
+    from letter state (k, h, c) = elim (cases_lt k count) [
+      | inl less ↦
+          let d = had shapes more sets sets' grows kept (slice_index rows (slice_index set k)) letter state (so_far.all (slice_index set k) 0 (so_far.inside k less)) c in
+          ((joined.joins letter).members state).1 (inl (has-kept shapes more sets sets' grows kept node letter state so_far.is ((so_far.members letter state).1 (k, less, d))))
+      | inr past ↦
+          let e : k ≡ count = sym (same_place count k h past) in
+          ((joined.joins letter).members state).1 (inr (tt, subst (λ n. Contains (set_of more sets' n letter) state) (ap (λ n. slice_index rows (slice_index set n)) e ∙ sym row_is) c))
+    ]
+
+pub IsUnionRow-all : (shapes : List Shape) (sets : List (List ℕ)) (rows set : List ℕ) (node count : ℕ) → count ≡ length set → IsUnionSoFar shapes sets rows set node count → IsUnionRow shapes sets rows set node
+IsUnionRow-all shapes sets rows set node count all so_far = record {
+  is = so_far.is;
+  members = λ letter state. (
+    λ c.
+        let one = (so_far.members letter state).0 c in
+        let h = one.1 in
+        (slice_index set one.0, Contains-get_or set one.0 0 (omega (arith, h, all)), one.2),
+    λ one.
+        let from = one.1 in
+        let h = from.1 in
+        let e : slice_index set from.0 ≡ one.0 = get_or_default set from.0 0 one.0 from.1 ∙ from.2 in
+        (so_far.members letter state).1 (from.0, omega (arith, h, all), subst (λ s. Contains (set_of shapes sets (slice_index rows s) letter) state) (sym e) one.2),
+  );
+}
+
+-- the places of the first leaves
+pub record HasNumbersSoFar (sets : List (List ℕ)) (numbers : List ℕ) (before places : List (List ℕ)) (leaves : List ℕ) (count : ℕ) : Type 0 where
+  pub kept : SetsKept before places
+  pub each : (k : ℕ) → k < count → slice_get places (slice_index numbers (slice_index leaves k)) ≡ Some (set_at sets (slice_index leaves k))
+  pub added : (number : ℕ) → length before ≤ number → number < length places → (leaf : ℕ) × Contains leaves leaf × (slice_get places number ≡ Some (set_at sets leaf))
+
+pub HasNumbersSoFar-step : (sets : List (List ℕ)) (numbers more : List ℕ) (before places after : List (List ℕ)) (leaves : List ℕ) (count : ℕ) → count < length leaves → SetsKept places after → HasNumbersSoFar sets numbers before places leaves count
+    → HasNumber sets numbers more places after (slice_index leaves count) → HasNumbersSoFar sets more before after leaves (count + 1)
+HasNumbersSoFar-step sets numbers more before places after leaves count inside kept so_far number = record {
+  kept = SetsKept-trans before places after so_far.kept kept;
+  each = λ k h. elim (cases_eq (slice_index leaves k) (slice_index leaves count)) [
+    | inl e ↦ subst (λ leaf. slice_get after (slice_index more leaf) ≡ Some (set_at sets leaf)) (sym e) number.here
+    | inr ne ↦
+        let less : k < count = earlier k h ne in
+        ap (slice_get after) (number.others (slice_index leaves k) ne) ∙ kept.at (slice_index numbers (slice_index leaves k)) (set_at sets (slice_index leaves k)) (so_far.each k less)
+  ];
+  added = λ n from within. elim (cases_lt n (length places)) [
+    | inl old ↦
+        let one = so_far.added n from old in
+        (one.0, one.1, kept.at n (set_at sets one.0) one.2)
+    | inr new ↦ (slice_index leaves count, Contains-get_or leaves count 0 inside, number.added n new within)
+  ];
+}
+  where
+    earlier : (k : ℕ) → k < count + 1 → slice_index leaves k ≢ slice_index leaves count → k < count
+    earlier k h ne = elim (cases_lt k count) [ inl less ↦ less | inr more ↦ absurd (ne (ap (slice_index leaves) (let e : k ≡ count = omega arith in e))) ]
+
+pub HasNumbers-all : (sets : List (List ℕ)) (numbers : List ℕ) (before places : List (List ℕ)) (leaves : List ℕ) (count : ℕ) → count ≡ length leaves → HasNumbersSoFar sets numbers before places leaves count → HasNumbers sets numbers before places leaves
+HasNumbers-all sets numbers before places leaves count all so_far = record {
+  each = λ leaf there.
+      let h = there.1 in
+      let e : slice_index leaves there.0 ≡ leaf = get_or_default leaves there.0 0 leaf there.1 ∙ there.2 in
+      subst (λ l. slice_get places (slice_index numbers l) ≡ Some (set_at sets l)) e (so_far.each there.0 (omega (arith, h, all)));
+  added = so_far.added;
+}
+
+-- the row that leads each letter to the place of its set
+pub IsNumbered-made : (shapes more : List Shape) (sets before places : List (List ℕ)) (numbers leaves : List ℕ) (node row : ℕ) → HasSets shapes sets node → Grows shapes more → AreLeaves shapes node leaves → HasNumbers sets numbers before places leaves → row < length more
+    → ((letter : ℕ) → map_at more row letter ≡ slice_index numbers (map_at shapes node letter)) → IsNumbered more sets before places node row
+IsNumbered-made shapes more sets before places numbers leaves node row is grows are has known led = record {
+  known = known;
+  leads = λ letter. ap (slice_get places) (led letter) ∙ has.each (map_at shapes node letter) (are.all letter) ∙ ap (λ n. Some (set_at sets n)) (sym (grows.map node letter is.known));
+  led = λ number from within.
+      let one = has.added number from within in
+      let there = one.1 in
+      let letter = are.given there.0 there.1 in
+      let e : slice_index leaves there.0 ≡ one.0 = get_or_default leaves there.0 0 one.0 there.1 ∙ there.2 in
+      (letter.0, one.2 ∙ ap (λ n. Some (set_at sets n)) (sym (grows.map node letter.0 is.known ∙ letter.1 ∙ e)));
+}
+
+-- each leaf is the number of a set
+pub leaves-known : (shapes : List Shape) (sets : List (List ℕ)) (node : ℕ) (leaves : List ℕ) → HasSets shapes sets node → AreLeaves shapes node leaves → All (λ leaf. leaf < length sets) leaves
+leaves-known shapes sets node leaves is are = All-from_get_or (λ leaf. leaf < length sets) leaves 0 (λ i h. let one = are.given i h in subst (λ n. n < length sets) one.1 (is.numbered one.0))
+
+-- the number of a leaf is written
+pub HasNumber-made : (sets : List (List ℕ)) (old : List ℕ) (before places : List (List ℕ)) (leaf number : ℕ) (elements : List ℕ) → leaf < length old → slice_get sets leaf ≡ Some elements → slice_get places number ≡ Some elements → NumbersSet before places elements
+    → HasNumber sets old (set old leaf number) before places leaf
+HasNumber-made sets old before places leaf number elements inside is at numbers =
+    let e : set_at sets leaf ≡ elements = get_or_from_slice_get sets leaf elements [] is in
+    record {
+      here = ap (slice_get places) (get_or-set_same old leaf number 0 inside) ∙ at ∙ ap Some (sym e);
+      others = λ other ne. get_or-set_other old leaf other number 0 ne;
+      added = λ n from within. slice_get-last before places elements n numbers from within ∙ ap Some (sym e);
+    }

@@ -1,0 +1,9 @@
+pub mod Lists
+pub mod Letters
+pub mod Lifts
+pub mod Walks
+pub mod SetMapLemmas
+pub mod Closures
+pub mod Joins
+pub mod Places
+pub mod WideRows

@@ -1,0 +1,31 @@
+use Rattle.std.proofs.Common.{◌≡◌, arith, rules}
+use Rattle.letter_diagram.proofs.Maps.{Grows-refl, Grows-trans}
+use Rattle.letter_diagram.proofs.SetNumbers.{SetsKept-refl, SetsKept-trans}
+use Rattle.auto_project.proofs.Closures.{IsClosing-first, IsClosing-step, IsSetRow-same, IsSetRow-last}
+use Rattle.auto_project.proofs.closure.Rows.closed.Goals as goal
+
+pub loop-round-init : goal.loop-round-init
+loop-round-init c = record {
+  grows = Grows-refl _;
+  kept = SetsKept-refl _;
+  closing = IsClosing-first _ _ _ _ _ _ c.requires.rows c.len.ensures.ascend c.requires.first;
+}
+
+pub returns-then-eq-clause-closed : goal.returns-then-eq-clause-closed
+returns-then-eq-clause-closed c =
+    let e = c.in_ok-next.ensures in
+    let same : c.in_ok-next.next ≡ c.loop-round.node = search rules in
+    IsSetRow-same _ _ _ _ _ _ _ _ _ _ e.grows e.kept c.loop-round.invariant.closing e.led e.swept e.ascend c.requires.valid same
+
+pub loop-round-preserved : goal.loop-round-preserved
+loop-round-preserved c =
+    let e = c.in_ok-next.ensures in
+    let i = c.loop-round.invariant in
+    record {
+      grows = Grows-trans _ _ _ i.grows e.grows;
+      kept = SetsKept-trans _ _ _ i.kept e.kept;
+      closing = IsClosing-step _ _ _ _ _ _ _ _ _ _ e.grows e.kept i.closing e.led e.swept e.ascend c.requires.valid;
+    }
+
+pub returns-clause-closed : goal.returns-clause-closed
+returns-clause-closed c = IsSetRow-last _ _ _ _ _ _ c.loop-round.round c.requires.valid (omega arith) c.loop-round.invariant.closing

@@ -1,0 +1,10 @@
+pub use Rattle.track_word.specs.Word
+pub use Rattle.track_word.specs.Tracks
+pub use Rattle.letter_diagram.specs.Diagram
+pub use Rattle.auto_core.specs.Automaton
+pub use Rattle.auto_core.specs.Reduced
+pub use Rattle.auto_core.specs.Spread
+pub use Rattle.auto_walk.specs.Walker
+pub mod Lifted
+pub mod Subsets
+pub mod SetMaps

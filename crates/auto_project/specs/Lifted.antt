@@ -1,0 +1,29 @@
+-- The states to which an automaton is led by letters and words that read alike on some of its tracks.
+use Rattle.std.specs.Prelude.{◌≡◌, ℕ, ◌^◌, ◌<◌, List, length}
+use Rattle.track_word.specs.declared.tracks.Var.{Var}
+use Rattle.track_word.specs.Tracks.{restrict}
+use Rattle.auto_core.specs.Automaton.{Automaton, first_state, next_state, state_of}
+use Rattle.auto_core.specs.Spread.{IsLift}
+
+-- a letter over all tracks that is the other letter on some of them
+pub record ReadsAs (all some : List Var) (letter longer : ℕ) : Type 0 where
+  pub below : longer < 2 ^ length all
+  pub reads : restrict all some longer ≡ letter
+
+-- a sign letter that reads as this one leads to the state
+pub record Begins (a : Automaton) (some : List Var) (letter state : ℕ) : Type 0 where
+  pub longer : ℕ
+  pub is : ReadsAs a.tracks some letter longer
+  pub leads : first_state a longer ≡ state
+
+-- a further letter that reads as this one leads from the one state to the other
+pub record Follows (a : Automaton) (some : List Var) (from letter state : ℕ) : Type 0 where
+  pub longer : ℕ
+  pub is : ReadsAs a.tracks some letter longer
+  pub leads : next_state a from longer ≡ state
+
+-- a lift of the word leads to the state
+pub record LiftLeads (a : Automaton) (some : List Var) (word : List ℕ) (state : ℕ) : Type 0 where
+  pub lift : List ℕ
+  pub is : IsLift some a.tracks word lift
+  pub leads : state_of a lift ≡ state

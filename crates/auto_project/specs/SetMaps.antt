@@ -1,0 +1,143 @@
+-- Nodes whose maps lead letters to the numbers of sets of states.
+use Rattle.std.specs.Prelude.{◌≡◌, ◌≢◌, ◌⊎◌, ◌↔◌, ℕ, ◌^◌, ◌<◌, ◌≤◌, List, [], ◌∷◌, Option, None, Some, length, slice_get, slice_index, All, Contains}
+use Rattle.std.specs.Int.{bit_at}
+use Rattle.std.specs.List.Sorted.{IsStrictlyIncreasing}
+use Rattle.track_word.specs.declared.tracks.Var.{Var}
+use Rattle.track_word.specs.Tracks.{restrict}
+use Rattle.letter_diagram.specs.declared.diagrams.Shape.{Shape}
+use Rattle.letter_diagram.specs.Diagram.{map_at}
+use Rattle.letter_diagram.specs.Sets.{set_at}
+use Rattle.letter_diagram.specs.Merged.{HasSets}
+use Rattle.auto_core.specs.Automaton.{Automaton, IsAutomaton, first_state, next_state}
+use Rattle.auto_project.specs.Lifted.{Begins, Follows, LiftLeads}
+use Rattle.auto_project.specs.Subsets.{next_set}
+
+-- each number below a bound is that of the set that has it alone
+pub record AreSingletons (sets : List (List ℕ)) (count : ℕ) : Type 0 where
+  pub enough : count ≤ length sets
+  pub single : (number : ℕ) → number < count → slice_get sets number ≡ Some (number ∷ [])
+
+-- the set that the node's map gives at a letter
+abbrev pub set_of : List Shape → List (List ℕ) → ℕ → ℕ → List ℕ
+set_of shapes sets node letter = set_at sets (map_at shapes node letter)
+
+-- whatever the set, or one that has this state
+abbrev pub IsAllowed : Option ℕ → List ℕ → Type 0
+IsAllowed None set = Unit {0}
+IsAllowed (Some state) set = Contains set state
+
+-- what set a has, and where it is allowed what set b has
+pub record IsJoinedSet (sets : List (List ℕ)) (only : Option ℕ) (a b number : ℕ) : Type 0 where
+  pub a_known : a < length sets
+  pub b_known : b < length sets
+  pub known : number < length sets
+  pub members : (state : ℕ) → Contains (set_at sets number) state ↔ (Contains (set_at sets a) state ⊎ (IsAllowed only (set_at sets a) × Contains (set_at sets b) state))
+
+-- for each pair of numbers that of the joined set
+pub record AreJoinedSets (sets : List (List ℕ)) (only : Option ℕ) (pairs : List (ℕ × ℕ)) (table : List ℕ) : Type 0 where
+  pub size : length table ≡ length pairs
+  pub each : (i a b : ℕ) → slice_get pairs i ≡ Some (a, b) → IsJoinedSet sets only a b (slice_index table i)
+
+-- the node's sets are the joined sets of two nodes
+pub record IsJoined (shapes : List Shape) (sets : List (List ℕ)) (only : Option ℕ) (a b node : ℕ) : Type 0 where
+  pub known : node < length shapes
+  pub joins : (letter : ℕ) → IsJoinedSet sets only (map_at shapes a letter) (map_at shapes b letter) (map_at shapes node letter)
+
+-- letters that agree on so many tracks have sets with the same states
+pub record IsNarrow (shapes : List Shape) (sets : List (List ℕ)) (tracks node : ℕ) : Type 0 where
+  pub same : (x y state : ℕ) → ((k : ℕ) → k < tracks → bit_at x k ≡ bit_at y k) → Contains (set_of shapes sets node x) state → Contains (set_of shapes sets node y) state
+
+-- the node's map leads each letter over so many tracks to the set of the states for which this holds
+pub record IsSetRow (shapes : List Shape) (sets : List (List ℕ)) (tracks node : ℕ) (Holds : ℕ → ℕ → Type 0) : Type 0 where
+  pub is : HasSets shapes sets node
+  pub narrow : IsNarrow shapes sets tracks node
+  pub members : (letter state : ℕ) → letter < 2 ^ tracks → Contains (set_of shapes sets node letter) state ↔ Holds letter state
+
+-- a node for each state, which leads each letter over some tracks to the set of the states that follow
+pub record AreSetRows (shapes : List Shape) (sets : List (List ℕ)) (a : Automaton) (some : List Var) (rows : List ℕ) : Type 0 where
+  pub size : length rows ≡ length a.accept
+  pub each : (state node : ℕ) → slice_get rows state ≡ Some node → IsSetRow shapes sets (length some) node (Follows a some state)
+
+-- the rows of an automaton over some of its tracks, from the states to which a sign letter leads
+pub record HasSetRows (shapes : List Shape) (sets : List (List ℕ)) (a : Automaton) (some : List Var) (first : ℕ) (rows : List ℕ) : Type 0 where
+  pub valid : IsAutomaton a
+  pub first_row : IsSetRow shapes sets (length some) first (Begins a some)
+  pub state_rows : AreSetRows shapes sets a some rows
+
+-- the same, from the states to which the lifts of a sign letter lead
+pub record HasClosedRows (shapes : List Shape) (sets : List (List ℕ)) (a : Automaton) (some : List Var) (first : ℕ) (rows : List ℕ) : Type 0 where
+  pub valid : IsAutomaton a
+  pub ascend : All IsStrictlyIncreasing sets
+  pub first_row : IsSetRow shapes sets (length some) first (λ letter state. LiftLeads a some (letter ∷ []) state)
+  pub state_rows : AreSetRows shapes sets a some rows
+
+-- the rows of the walk over sets of states: each state's row leads to the sets that follow on that state alone
+pub record HasPlaceRows (shapes : List Shape) (sets : List (List ℕ)) (a : Automaton) (some : List Var) (first : ℕ) (rows : List ℕ) : Type 0 where
+  pub valid : IsAutomaton a
+  pub first_is : HasSets shapes sets first
+  pub first_within : (letter state : ℕ) → letter < 2 ^ length some → Contains (set_of shapes sets first letter) state → state < length a.accept
+  pub first_narrow : (x y : ℕ) → ((k : ℕ) → k < length some → bit_at x k ≡ bit_at y k) → set_of shapes sets first x ≡ set_of shapes sets first y
+  pub size : length rows ≡ length a.accept
+  pub is : (state : ℕ) → state < length rows → HasSets shapes sets (slice_index rows state)
+  pub narrow : (state x y : ℕ) → state < length rows → ((k : ℕ) → k < length some → bit_at x k ≡ bit_at y k) → set_of shapes sets (slice_index rows state) x ≡ set_of shapes sets (slice_index rows state) y
+  pub leads : (state letter : ℕ) → state < length rows → letter < 2 ^ length some → set_of shapes sets (slice_index rows state) letter ≡ next_set a some (state ∷ []) letter
+
+-- the node's map gives each letter a state, by the letter over all tracks
+pub record IsWideRow (shapes : List Shape) (a : Automaton) (some : List Var) (node : ℕ) (value : ℕ → ℕ) : Type 0 where
+  pub known : node < length shapes
+  pub within : (letter : ℕ) → map_at shapes node letter < length a.accept
+  pub reads : (letter : ℕ) → map_at shapes node letter ≡ value (restrict some a.tracks letter)
+
+-- a node for each state's row
+pub record AreWideRows (shapes : List Shape) (a : Automaton) (some : List Var) (rows : List ℕ) : Type 0 where
+  pub size : length rows ≡ length a.accept
+  pub each : (state node : ℕ) → slice_get rows state ≡ Some node → IsWideRow shapes a some node (next_state a state)
+
+-- the rows of an automaton by the letters over all tracks
+pub record HasWideRows (shapes : List Shape) (a : Automaton) (some : List Var) (first : ℕ) (rows : List ℕ) : Type 0 where
+  pub valid : IsAutomaton a
+  pub first_row : IsWideRow shapes a some first (first_state a)
+  pub state_rows : AreWideRows shapes a some rows
+
+-- the node's sets have states to which a lift of the letter leads
+pub record IsLedRow (shapes : List Shape) (sets : List (List ℕ)) (a : Automaton) (some : List Var) (node : ℕ) : Type 0 where
+  pub is : HasSets shapes sets node
+  pub narrow : IsNarrow shapes sets (length some) node
+  pub led : (letter state : ℕ) → letter < 2 ^ length some → Contains (set_of shapes sets node letter) state → LiftLeads a some (letter ∷ []) state
+
+-- the next node's sets have what the node's sets have, and where they have a state what its row gives
+pub record IsStepped (shapes : List Shape) (sets : List (List ℕ)) (rows : List ℕ) (from node next : ℕ) : Type 0 where
+  pub is : HasSets shapes sets node
+  pub next_is : HasSets shapes sets next
+  pub wider : (letter state : ℕ) → Contains (set_of shapes sets node letter) state → Contains (set_of shapes sets next letter) state
+  pub has : (row letter state : ℕ) → slice_get rows from ≡ Some row → Contains (set_of shapes sets node letter) from → Contains (set_of shapes sets row letter) state → Contains (set_of shapes sets next letter) state
+  pub only : (letter state : ℕ) → Contains (set_of shapes sets next letter) state
+      → Contains (set_of shapes sets node letter) state ⊎ ((row : ℕ) × (slice_get rows from ≡ Some row) × Contains (set_of shapes sets node letter) from × Contains (set_of shapes sets row letter) state)
+
+-- the swept node's sets have what the node's sets have, and what the rows of their states give
+pub record IsSwept (shapes : List Shape) (sets : List (List ℕ)) (rows : List ℕ) (node swept : ℕ) : Type 0 where
+  pub is : HasSets shapes sets node
+  pub wider : (letter state : ℕ) → Contains (set_of shapes sets node letter) state → Contains (set_of shapes sets swept letter) state
+  pub has : (from row letter state : ℕ) → slice_get rows from ≡ Some row → Contains (set_of shapes sets node letter) from → Contains (set_of shapes sets row letter) state → Contains (set_of shapes sets swept letter) state
+
+-- the node's sets have just what the sets of the rows of some states have
+pub record IsUnionRow (shapes : List Shape) (sets : List (List ℕ)) (rows set : List ℕ) (node : ℕ) : Type 0 where
+  pub is : HasSets shapes sets node
+  pub members : (letter state : ℕ) → Contains (set_of shapes sets node letter) state ↔ ((from : ℕ) × Contains set from × Contains (set_of shapes sets (slice_index rows from) letter) state)
+
+-- after a set was numbered among the places: its own entry is its place, other entries stay, and what is new among the places is that set
+pub record HasNumber (sets : List (List ℕ)) (old new : List ℕ) (before places : List (List ℕ)) (leaf : ℕ) : Type 0 where
+  pub here : slice_get places (slice_index new leaf) ≡ Some (set_at sets leaf)
+  pub others : (other : ℕ) → other ≢ leaf → slice_index new other ≡ slice_index old other
+  pub added : (number : ℕ) → length before ≤ number → number < length places → slice_get places number ≡ Some (set_at sets leaf)
+
+-- the entry of each of some sets is its place, and what is new among the places is one of the sets
+pub record HasNumbers (sets : List (List ℕ)) (numbers : List ℕ) (before places : List (List ℕ)) (leaves : List ℕ) : Type 0 where
+  pub each : (leaf : ℕ) → Contains leaves leaf → slice_get places (slice_index numbers leaf) ≡ Some (set_at sets leaf)
+  pub added : (number : ℕ) → length before ≤ number → number < length places → (leaf : ℕ) × Contains leaves leaf × (slice_get places number ≡ Some (set_at sets leaf))
+
+-- the row's map leads each letter to the place of the set that the node gives it, and what is new among the places is such a set
+pub record IsNumbered (shapes : List Shape) (sets before places : List (List ℕ)) (node row : ℕ) : Type 0 where
+  pub known : row < length shapes
+  pub leads : (letter : ℕ) → slice_get places (map_at shapes row letter) ≡ Some (set_of shapes sets node letter)
+  pub led : (number : ℕ) → length before ≤ number → number < length places → (letter : ℕ) × (slice_get places number ≡ Some (set_of shapes sets node letter))

@@ -1,0 +1,130 @@
+//! The first row, closed over repeated first letters.
+ghost use Rattle.std.specs.Prelude.{◌≡◌, ◌<◌, ◌≤◌, ◌^◌, ◌∷◌, [], ℕ, length, slice_get, Some, All, Contains, IfOk, OnOk, ◌++◌};
+ghost use Rattle.std.specs.List.Sorted.{IsStrictlyIncreasing};
+ghost use Rattle.letter_diagram.specs.Diagram.{Grows};
+ghost use Rattle.letter_diagram.specs.Sets.{SetsKept, set_at};
+ghost use Rattle.letter_diagram.specs.Merged.{HasSets};
+ghost use Rattle.auto_core.specs.Automaton.{IsAutomaton};
+ghost use Rattle.auto_project.specs.Lifted.{Begins, LiftLeads};
+ghost use Rattle.auto_project.specs.SetMaps.{set_of, IsSetRow, AreSetRows, IsLedRow, IsStepped, IsSwept};
+
+use crate::join::joined;
+use auto_core::Auto;
+use letter_diagram::{Diagrams, Node, Sets};
+use std::alloc::AllocError;
+use track_word::Var;
+
+/// Adds the states of a numbered set.
+fn add_states(sets: &Sets, number: u32, states: &mut Vec<u32>) -> Result<(), AllocError>
+    requires { number < length sets.now }
+    ensures { OnOk result (states.new.items ≡ states.old.items ++ set_at sets.now number) }
+{
+    if let Some(set) = sets.get(number) {
+        states.extend_from_slice(set)?;
+    }
+    Ok(())
+}
+
+fn drop_repeats(states: &mut Vec<u32>) -> Result<(), AllocError>
+    ensures { OnOk result ((state : ℕ) → Contains states.old.items state → Contains states.new.items state) }
+{
+    states.sort()?;
+    states.dedup();
+    Ok(())
+}
+
+/// The states that stand in a set of the node.
+fn states_in(diagrams: &Diagrams, sets: &Sets, node: Node) -> Result<Vec<u32>, AllocError>
+    requires { HasSets diagrams.now sets.now node }
+    ensures { IfOk result (λ states. (letter state : ℕ) → Contains (set_of diagrams.now sets.now node letter) state → Contains states.items state) }
+{
+    let mut states = Vec::new(diagrams.alloc());
+    let leaves = diagrams.leaves(node)?;
+    for number in leaves.as_slice() {
+        add_states(sets, *number, &mut states)?;
+    }
+    drop_repeats(&mut states)?;
+    Ok(states)
+}
+
+/// The node whose sets have besides what follows on the state, if they have the state.
+fn with_row(
+    diagrams: &mut Diagrams,
+    sets: &mut Sets,
+    rows: &[Node],
+    state: u32,
+    node: Node,
+) -> Result<Node, AllocError>
+    requires rows { All (HasSets diagrams.old sets.old) rows.now }
+    requires node { HasSets diagrams.old sets.old node }
+    ensures stepped { IfOk result (λ next. IsStepped diagrams.new sets.new rows.now state node next) }
+    ensures grows { Grows diagrams.old diagrams.new }
+    ensures kept { SetsKept sets.old sets.new }
+{
+    if state as usize >= rows.len() {
+        return Ok(node);
+    }
+    let next = joined(diagrams, sets, Some(state), node, rows[state as usize])?;
+    Ok(next)
+}
+
+/// The rows of an automaton's states over some of its tracks.
+#[derive(Drop)]
+pub struct Rows<'a> {
+    pub automaton: &'a Auto,
+    pub tracks: Vec<Var>,
+    pub nodes: Vec<Node>,
+}
+
+impl<'a> Rows<'a> {
+    /// The node whose sets have besides what follows on one of their states by the same letter.
+    fn swept(
+        &self,
+        diagrams: &mut Diagrams,
+        sets: &mut Sets,
+        node: Node,
+    ) -> Result<Node, AllocError>
+        requires rows { AreSetRows diagrams.old sets.old self.now.automaton.now self.now.tracks.items self.now.nodes.items }
+        requires led { IsLedRow diagrams.old sets.old self.now.automaton.now self.now.tracks.items node }
+        ensures led { IfOk result (λ next. IsLedRow diagrams.new sets.new self.now.automaton.now self.now.tracks.items next) }
+        ensures swept { IfOk result (λ next. IsSwept diagrams.new sets.new self.now.nodes.items node next) }
+        ensures ascend { IfOk result (λ _. All IsStrictlyIncreasing sets.new) }
+        ensures grows { Grows diagrams.old diagrams.new }
+        ensures kept { SetsKept sets.old sets.new }
+    {
+        let states = states_in(diagrams, sets, node)?;
+        let mut next = node;
+        for state in states.as_slice() {
+            next = with_row(diagrams, sets, self.nodes.as_slice(), *state, next)?;
+        }
+        let _ = sets.len();
+        Ok(next)
+    }
+
+    /// The first row closed over repeated first letters. Each round adds a state at least to each set that is not closed yet, so
+    /// there are at most as many rounds as states.
+    pub fn closed(
+        &self,
+        diagrams: &mut Diagrams,
+        sets: &mut Sets,
+        first: Node,
+    ) -> Result<Node, AllocError>
+        requires valid { IsAutomaton self.now.automaton.now }
+        requires first { IsSetRow diagrams.old sets.old (length self.now.tracks.items) first (Begins self.now.automaton.now self.now.tracks.items) }
+        requires rows { AreSetRows diagrams.old sets.old self.now.automaton.now self.now.tracks.items self.now.nodes.items }
+        ensures closed { IfOk result (λ node. IsSetRow diagrams.new sets.new (length self.now.tracks.items) node (λ letter state. LiftLeads self.now.automaton.now self.now.tracks.items (letter ∷ []) state)) }
+        ensures grows { Grows diagrams.old diagrams.new }
+        ensures kept { SetsKept sets.old sets.new }
+    {
+        let _ = sets.len();
+        let mut node = first;
+        for round in 0..self.nodes.len() {
+            let next = self.swept(diagrams, sets, node)?;
+            if next == node {
+                return Ok(node);
+            }
+            node = next;
+        }
+        Ok(node)
+    }
+}

@@ -1,0 +1,132 @@
+//! The rows of an automaton over the tracks that are left, as maps to sets of states.
+ghost use Rattle.std.specs.Prelude.{◌≡◌, ◌<◌, ◌≤◌, ◌+◌, ℕ, length, map, All, IfOk};
+ghost use Rattle.track_word.specs.Tracks.{without_var, place};
+ghost use Rattle.letter_diagram.specs.Diagram.{Grows, LooksBelow, map_at};
+ghost use Rattle.letter_diagram.specs.Sets.{SetsKept};
+ghost use Rattle.letter_diagram.specs.Listed.{EachAnswers};
+ghost use Rattle.letter_diagram.specs.Merged.{HasSets, IsMerged};
+ghost use Rattle.auto_project.specs.SetMaps.{AreSingletons, HasWideRows, HasSetRows};
+
+use crate::sets::singletons;
+use crate::tracks::{places_of, tracks_without};
+use auto_core::Auto;
+use letter_diagram::{Diagrams, Merger, Node, Sets};
+use std::alloc::{AllocError, Global};
+use track_word::Var;
+
+/// Nodes that lead letters to states: the first row, and a row for each state.
+#[derive(Drop)]
+pub struct StateRows {
+    pub diagrams: Diagrams,
+    pub first: Node,
+    pub rows: Vec<Node>,
+}
+
+/// Nodes that lead letters to numbers of sets of states: the first row, and a row for each state.
+#[derive(Drop)]
+pub struct SetRows {
+    pub diagrams: Diagrams,
+    pub sets: Sets,
+    pub first: Node,
+    pub rows: Vec<Node>,
+}
+
+/// The rows over the tracks that are left, and after them the lost one.
+fn wide_rows(alloc: Global, a: &Auto, tracks: &[Var]) -> Result<StateRows, AllocError>
+    requires few { length tracks.now ≤ 20 }
+    requires fit { All (λ place. place < 20) (map (place tracks.now) a.now.tracks) }
+    ensures rows { IfOk result (λ wide. HasWideRows wide.diagrams a.now tracks.now wide.first wide.rows.items) }
+{
+    let places = places_of(alloc, tracks, a.tracks())?;
+    let mut diagrams = a.diagrams().copy()?;
+    let rows = diagrams.relabel_all(a.row_nodes(), places.as_slice())?;
+    let first = diagrams.relabel(a.first_node(), places.as_slice())?;
+    Ok(StateRows {
+        diagrams,
+        first,
+        rows,
+    })
+}
+
+/// The node of the unions over both bits of the merger's track.
+fn merged_row(merger: &mut Merger, node: Node) -> Result<Node, AllocError>
+    requires { HasSets merger.old.shapes merger.old.sets node }
+    ensures merged { IfOk result (λ row. IsMerged merger.new.shapes merger.new.sets merger.old.track node row) }
+    ensures sets { SetsKept merger.old.sets merger.new.sets }
+    ensures grows { Grows merger.old.shapes merger.new.shapes }
+    ensures track { merger.new.track ≡ merger.old.track }
+{
+    if merger.sets().len() >= 1 << 31 {
+        return Err(AllocError);
+    }
+    let row = merger.apply(node)?;
+    Ok(row)
+}
+
+fn merged_rows(alloc: Global, merger: &mut Merger, nodes: &[Node]) -> Result<Vec<Node>, AllocError>
+    requires { All (HasSets merger.old.shapes merger.old.sets) nodes.now }
+    ensures merged { IfOk result (λ rows. EachAnswers (IsMerged merger.new.shapes merger.new.sets merger.old.track) nodes.now rows.items) }
+    ensures sets { SetsKept merger.old.sets merger.new.sets }
+    ensures grows { Grows merger.old.shapes merger.new.shapes }
+    ensures track { merger.new.track ≡ merger.old.track }
+{
+    let mut rows = Vec::new(alloc);
+    for node in nodes {
+        let row = merged_row(merger, *node)?;
+        rows.push(row)?;
+    }
+    Ok(rows)
+}
+
+/// Rows that do not look at a track: the unions over both its bits.
+fn without_track(
+    alloc: Global,
+    wide: StateRows,
+    sets: Sets,
+    track: u8,
+) -> Result<SetRows, AllocError>
+    requires track { track < 20 }
+    requires first { HasSets wide.diagrams sets wide.first }
+    requires rows { All (HasSets wide.diagrams sets) wide.rows.items }
+    ensures first { IfOk result (λ made. IsMerged made.diagrams made.sets track wide.first made.first) }
+    ensures rows { IfOk result (λ made. EachAnswers (IsMerged made.diagrams made.sets track) wide.rows.items made.rows.items) }
+    ensures grows { IfOk result (λ made. Grows wide.diagrams made.diagrams) }
+    ensures kept { IfOk result (λ made. SetsKept sets made.sets) }
+{
+    let StateRows {
+        diagrams,
+        first,
+        rows,
+    } = wide;
+    let mut merger = Merger::new(diagrams, sets, track);
+    let rows = merged_rows(alloc, &mut merger, rows.as_slice())?;
+    let first = merged_row(&mut merger, first)?;
+    let (diagrams, sets) = merger.into_parts();
+    Ok(SetRows {
+        diagrams,
+        sets,
+        first,
+        rows,
+    })
+}
+
+/// The rows over the tracks that are left, as maps to the sets of the states to which the letters lead that read alike.
+pub fn set_rows(alloc: Global, a: &Auto, var: Var, tracks: &[Var]) -> Result<SetRows, AllocError>
+    requires { tracks.now ≡ without_var var a.now.tracks }
+    ensures { IfOk result (λ made. HasSetRows made.diagrams made.sets a.now tracks.now made.first made.rows.items) }
+{
+    let all = a.tracks();
+    let wide = wide_rows(alloc, a, tracks)?;
+    let sets = singletons(alloc, a.states())?;
+    if tracks.len() == all.len() {
+        return Ok(SetRows {
+            diagrams: wide.diagrams,
+            sets,
+            first: wide.first,
+            rows: wide.rows,
+        });
+    }
+    let made = without_track(alloc, wide, sets, tracks.len() as u8)?;
+    let _ = made.sets.len();
+    Ok(made)
+}

@@ -1,0 +1,70 @@
+//! Numbers of sets of states, and why there are none.
+ghost use Rattle.std.specs.Prelude.{◌≡◌, ◌≤◌, ◌<◌, ◌↔◌, ◌⊎◌, ◌+◌, ℕ, [], ◌∷◌, length, slice_get, Some, IfOk, OnOk, IsTrue, Contains};
+ghost use Rattle.std.specs.List.Sorted.{IsStrictlyIncreasing};
+ghost use Rattle.letter_diagram.specs.Sets.{SetsKept, NumbersSet, set_at};
+ghost use Rattle.auto_project.specs.SetMaps.{AreSingletons, IsAllowed, IsJoinedSet};
+
+use letter_diagram::Sets;
+use std::alloc::{AllocError, Global};
+
+/// The number of a set. No more than 2^32 - 1 sets are numbered: a further one counts as want of memory.
+pub fn number_of(sets: &mut Sets, set: &[u32]) -> Result<u32, AllocError>
+    requires { IsStrictlyIncreasing set.now }
+    ensures number { IfOk result (λ number. slice_get sets.new number ≡ Some set.now) }
+    ensures numbers { OnOk result (NumbersSet sets.old sets.new set.now) }
+    ensures kept { SetsKept sets.old sets.new }
+{
+    match sets.number(set) {
+        Ok(number) => Ok(number),
+        Err(_) => Err(AllocError),
+    }
+}
+
+/// The sets of one state each, numbered as the states.
+pub fn singletons(alloc: Global, states: u32) -> Result<Sets, AllocError>
+    ensures { IfOk result (λ sets. AreSingletons sets states) }
+{
+    let mut sets = Sets::new(alloc);
+    for state in 0..states {
+        let set = [state];
+        number_of(&mut sets, &set)?;
+    }
+    Ok(sets)
+}
+
+fn has_state(sets: &Sets, number: u32, state: u32) -> bool
+    requires { number < length sets.now }
+    ensures { IsTrue result ↔ Contains (set_at sets.now number) state }
+{
+    match sets.get(number) {
+        Some(set) => set.contains(&state),
+        None => false,
+    }
+}
+
+fn is_allowed(sets: &Sets, only: Option<u32>, number: u32) -> bool
+    requires { number < length sets.now }
+    ensures { IsTrue result ↔ IsAllowed only (set_at sets.now number) }
+{
+    match only {
+        None => true,
+        Some(state) => has_state(sets, number, state),
+    }
+}
+
+/// The number of what set `a` has, and set `b` too unless only sets with a state that `a` does not have are joined.
+pub fn joined_set(sets: &mut Sets, only: Option<u32>, a: u32, b: u32) -> Result<u32, AllocError>
+    requires a_known { a < length sets.old }
+    requires b_known { b < length sets.old }
+    ensures joined { IfOk result (λ number. IsJoinedSet sets.new only a b number) }
+    ensures kept { SetsKept sets.old sets.new }
+{
+    if !is_allowed(sets, only, a) {
+        return Ok(a);
+    }
+    if sets.len() >= u32::MAX as usize {
+        return Err(AllocError);
+    }
+    let number = sets.unite(a, b)?;
+    Ok(number)
+}
