@@ -6,7 +6,7 @@ use Rattle.track_word.specs.declared.tracks.Var.{Var}
 use Rattle.track_word.specs.declared.atoms.Rel.{Rel}
 use Rattle.track_word.specs.Word.{IsWord, val}
 use Rattle.track_word.specs.Tracks.{Values, with_vars, part_of, restrict, place, word_values, values_at}
-use Rattle.track_word.specs.Atom.{AtomHolds, atom_tracks}
+use Rattle.track_word.specs.Atom.{AtomHolds, ValueHolds, atom_tracks}
 use Rattle.auto_core.specs.Automaton.{Automaton, Accepts}
 use Rattle.auto_core.specs.Integers.{DecidesIntegers, IsAccepted}
 use Rattle.lin_formula.specs.Tree.{Lin, Value, Among}
@@ -21,18 +21,12 @@ use Rattle.formula_auto.proofs.Values.{SameBits, val-same_bits, bit_at-first, bi
 use Rattle.formula_auto.proofs.OneWord.{accepts-same}
 
 pub Decides-Lin : (e : Sets) (a : Automaton) (terms : List (ℤ × Var)) (rel : Rel) (bound : ℤ) → a.tracks ≡ atom_tracks terms
-    → ((word : List ℕ) → IsWord (length a.tracks) word → Accepts a word ↔ AtomHolds terms rel bound word) → Decides a (Lin terms rel bound) e
-Decides-Lin e a terms rel bound tracks words = record {
-  tracks = tracks;
-  words = λ word is. words word (subst (λ t. IsWord (length t) word) (sym tracks) is);
-}
+    → ((word : List ℕ) → IsWord (length (atom_tracks terms)) word → Accepts a word ↔ AtomHolds terms rel bound word) → Decides a (Lin terms rel bound) e
+Decides-Lin e a terms rel bound tracks words = record { tracks = tracks; words = words }
 
 pub Decides-Value : (e : Sets) (a : Automaton) (x : Var) (n : ℤ) → a.tracks ≡ x ∷ []
-    → ((word : List ℕ) → IsWord (length a.tracks) word → Accepts a word ↔ (word_values a.tracks word x.0 ≡ n)) → Decides a (Value x n) e
-Decides-Value e a x n tracks words = record {
-  tracks = tracks;
-  words = λ word is. subst (λ t. Accepts a word ↔ (word_values t word x.0 ≡ n)) tracks (words word (subst (λ t. IsWord (length t) word) (sym tracks) is));
-}
+    → ((word : List ℕ) → IsWord 1 word → Accepts a word ↔ ValueHolds x n word) → Decides a (Value x n) e
+Decides-Value e a x n tracks words = record { tracks = tracks; words = words }
 
 -- the values of so many tracks of a word, from one track on
 abbrev pub vals_from : ℕ → ℕ → List ℕ → List ℤ

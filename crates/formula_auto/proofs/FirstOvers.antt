@@ -4,7 +4,7 @@ use Rattle.lin_formula.specs.Tree.{Tree}
 use Rattle.lin_formula.specs.Holds.{Sets}
 use Rattle.formula_auto.specs.Step.{FirstOver}
 
-none_some : {A : Type 0} {a : A} {P : Type 0} → Some a ≡ None → P
+pub none_some : {A : Type 0} {a : A} {P : Type 0} → Some a ≡ None → P
 none_some e = cc
 
 pub FirstOver-append : (xs ys : List Tree) (e : Sets) (budget from : ℕ) (answer : Option ℕ) → FirstOver xs e budget from None → FirstOver ys e budget (from + length xs) answer → FirstOver (xs ++ ys) e budget from answer

@@ -1,3 +1,4 @@
+pub mod BothOk
 pub mod SameWords
 pub mod Exceedings
 pub mod FirstOvers
@@ -9,3 +10,5 @@ pub mod Rooms
 pub mod OneWord
 pub mod Atoms
 pub mod Compiles
+pub mod Stable
+pub mod NoSets

@@ -1,5 +1,6 @@
 //! The way down a formula and up again, a step at a time.
 ghost use Rattle.std.specs.Prelude.{◌≡◌, ℕ, ◌+◌, ◌<◌, ◌≤◌, ◌^◌, length, IfOk, IfErr, OnOk, None};
+ghost use Rattle.auto_core.specs.Integers.{DecidesIntegers};
 ghost use Rattle.auto_core.specs.Reduced.{IsReduced};
 ghost use Rattle.lin_formula.specs.Tree.{steps};
 ghost use Rattle.lin_formula.specs.TreeOf.{tree_of};
@@ -10,7 +11,6 @@ ghost use Rattle.formula_auto.specs.Compiled.{IsCompilable, IsCompiled, IsCompil
 ghost use Rattle.formula_auto.specs.Ready.{IsReady};
 
 use crate::errors::CompileError;
-use crate::operations::Operations;
 use crate::steps::{
     comparison, complement, conjunction, disjunction, membership, projection, value_of,
 };
@@ -19,12 +19,11 @@ use auto_core::Auto;
 use lin_formula::Formula;
 use std::alloc::{AllocError, Global};
 
-/// The automaton of a formula, made by these operations: reduced, with the free variables as tracks.
+/// The automaton of a formula: reduced, with the free variables as tracks.
 /// Each And, Or and Ex is a step, numbered from 1 in post-order, and stops where it needs more states than the budget.
 /// Goes down the formula, a call a level.
-pub fn compile_with<O: Operations>(
+pub fn compile(
     alloc: Global,
-    ops: &O,
     f: &Formula,
     sets: &SetTable,
     budget: u32,
@@ -34,25 +33,25 @@ pub fn compile_with<O: Operations>(
     requires budget { (1 ≤ budget) × (budget ≤ 200000) }
     ensures reduced { IfOk result IsReduced }
     ensures decides { IfOk result (λ a. Decides a (tree_of f.now) (members (tables sets.now))) }
+    ensures integers { IfOk result DecidesIntegers }
     ensures within { OnOk result (FirstOver (steps (tree_of f.now)) (members (tables sets.now)) budget 1 None) }
     ensures over { IfErr result (IsCompileError (tree_of f.now) (tables sets.now) 0 budget) }
 {
-    let made = compiled(alloc, ops, f, sets, 0, budget)?;
+    let made = compiled(alloc, f, sets, 0, budget)?;
     Ok(made.auto)
 }
 
 /// An automaton, and how many steps were taken up to it.
 #[derive(Drop)]
-struct Made {
-    auto: Auto,
-    done: u32,
+pub struct Made {
+    pub auto: Auto,
+    pub done: u32,
 }
 
 /// The automaton of a formula, where so many steps were taken before.
 #[tactic(auto, using(crate::proofs::Rooms::room_right, crate::proofs::Rooms::room_right_or))]
-fn compiled<O: Operations>(
+pub fn compiled(
     alloc: Global,
-    ops: &O,
     f: &Formula,
     sets: &SetTable,
     before: u32,
@@ -67,46 +66,46 @@ fn compiled<O: Operations>(
 {
     match f {
         Formula::Lin { terms, rel, bound } => {
-            let auto = comparison(alloc, ops, terms.as_slice(), *rel, *bound)?;
+            let auto = comparison(alloc, terms.as_slice(), *rel, *bound)?;
             Ok(Made { auto, done: before })
         }
         Formula::Value { var, value } => {
-            let auto = value_of(alloc, ops, *var, *value)?;
+            let auto = value_of(alloc, *var, *value)?;
             Ok(Made { auto, done: before })
         }
         Formula::Among { set, vars } => match sets.get(*set) {
             Some(a) => {
-                let auto = membership(alloc, ops, a, vars.as_slice())?;
+                let auto = membership(alloc, a, vars.as_slice())?;
                 Ok(Made { auto, done: before })
             }
             None => unreachable!(),
         },
         Formula::Not(g) => {
-            let part = compiled(alloc, ops, g, sets, before, budget)?;
-            let auto = complement(alloc, ops, &part.auto)?;
+            let part = compiled(alloc, g, sets, before, budget)?;
+            let auto = complement(alloc, &part.auto)?;
             Ok(Made {
                 auto,
                 done: part.done,
             })
         }
         Formula::And(g, h) => {
-            let left = compiled(alloc, ops, g, sets, before, budget)?;
-            let right = compiled(alloc, ops, h, sets, left.done, budget)?;
+            let left = compiled(alloc, g, sets, before, budget)?;
+            let right = compiled(alloc, h, sets, left.done, budget)?;
             let step = right.done + 1;
-            let auto = conjunction(alloc, ops, &left.auto, &right.auto, budget, step)?;
+            let auto = conjunction(alloc, &left.auto, &right.auto, budget, step)?;
             Ok(Made { auto, done: step })
         }
         Formula::Or(g, h) => {
-            let left = compiled(alloc, ops, g, sets, before, budget)?;
-            let right = compiled(alloc, ops, h, sets, left.done, budget)?;
+            let left = compiled(alloc, g, sets, before, budget)?;
+            let right = compiled(alloc, h, sets, left.done, budget)?;
             let step = right.done + 1;
-            let auto = disjunction(alloc, ops, &left.auto, &right.auto, budget, step)?;
+            let auto = disjunction(alloc, &left.auto, &right.auto, budget, step)?;
             Ok(Made { auto, done: step })
         }
         Formula::Ex { var, body } => {
-            let part = compiled(alloc, ops, body, sets, before, budget)?;
+            let part = compiled(alloc, body, sets, before, budget)?;
             let step = part.done + 1;
-            let auto = projection(alloc, ops, *var, &part.auto, budget, step)?;
+            let auto = projection(alloc, *var, &part.auto, budget, step)?;
             Ok(Made { auto, done: step })
         }
     }

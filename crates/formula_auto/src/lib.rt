@@ -1,16 +1,14 @@
 //! Formulas compiled to automata, step by step and within a budget (Büchi 1960). `specs/Decides` says when an automaton decides a formula,
-//! `specs/Step` how many words a step has to tell apart by what its parts mean, whatever the automata are.
+//! `specs/Step` how many words a step has to tell apart by what its parts mean, whatever the automata are. `specs/PlainParts` has the
 #![tactic(auto)]
 
 mod compiling;
 mod errors;
-mod operations;
 mod steps;
 mod table;
 #[cfg(test)]
 mod tests;
 
-pub use compiling::compile_with;
+pub use compiling::compile;
 pub use errors::CompileError;
-pub use operations::{Grown, Operations};
 pub use table::SetTable;

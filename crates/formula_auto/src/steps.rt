@@ -14,14 +14,16 @@ ghost use Rattle.formula_auto.specs.Decides.{Decides};
 ghost use Rattle.formula_auto.specs.StepError.{IsStepError};
 
 use crate::errors::CompileError;
-use crate::operations::{Grown, Operations};
+use auto_bool::{join, meet, not};
 use auto_core::Auto;
+use auto_project::forget;
+use auto_reduce::reduce;
+use auto_walk::Grown;
 use std::alloc::{AllocError, Global};
 use track_word::{Rel, Var};
 
-pub fn comparison<O: Operations>(
+pub fn comparison(
     alloc: Global,
-    ops: &O,
     terms: &[(i8, Var)],
     rel: Rel,
     bound: i32,
@@ -30,42 +32,31 @@ pub fn comparison<O: Operations>(
     ensures reduced { IfOk result IsReduced }
     ensures decides { IfOk result (λ a. (e : ℕ → SetOf) → Decides a (tree.Lin terms.now rel bound) (members e)) }
 {
-    let a = ops.lin(alloc, terms, rel, bound)?;
-    ops.reduce(alloc, &a)
+    let a = Auto::lin(alloc, terms, rel, bound)?;
+    reduce(alloc, &a)
 }
 
-pub fn value_of<O: Operations>(
-    alloc: Global,
-    ops: &O,
-    var: Var,
-    value: i64,
-) -> Result<Auto, AllocError>
+pub fn value_of(alloc: Global, var: Var, value: i64) -> Result<Auto, AllocError>
     ensures reduced { IfOk result IsReduced }
     ensures decides { IfOk result (λ a. (e : ℕ → SetOf) → Decides a (tree.Value var value) (members e)) }
 {
-    let a = ops.value(alloc, var, value)?;
-    ops.reduce(alloc, &a)
+    let a = Auto::value(alloc, var, value)?;
+    reduce(alloc, &a)
 }
 
-pub fn membership<O: Operations>(
-    alloc: Global,
-    ops: &O,
-    set: &Auto,
-    vars: &[Var],
-) -> Result<Auto, AllocError>
+pub fn membership(alloc: Global, set: &Auto, vars: &[Var]) -> Result<Auto, AllocError>
     requires size { length vars.now ≡ length set.now.tracks }
     requires integers { DecidesIntegers set.now }
     ensures reduced { IfOk result IsReduced }
     ensures decides { IfOk result (λ a. (e : ℕ → SetOf) (number : ℕ) → e number ≡ set_of.Table set.now → Decides a (tree.Among number vars.now) (members e)) }
 {
     let _ = set.tracks();
-    let a = ops.rename(alloc, set, vars)?;
-    ops.reduce(alloc, &a)
+    let a = set.rename(alloc, vars)?;
+    reduce(alloc, &a)
 }
 
-pub fn conjunction<O: Operations>(
+pub fn conjunction(
     alloc: Global,
-    ops: &O,
     a: &Auto,
     b: &Auto,
     budget: u32,
@@ -80,16 +71,15 @@ pub fn conjunction<O: Operations>(
     ensures within { IfOk result (λ c. ¬ BothSpreadExceeds a.now.tracks b.now.tracks (Accepts a.now) (Accepts b.now) budget) }
     ensures over { IfErr result (IsStepError step (BothSpreadExceeds a.now.tracks b.now.tracks (Accepts a.now) (Accepts b.now) budget)) }
 {
-    match ops.meet(alloc, a, b, budget) {
-        Ok(c) => reduced(alloc, ops, &c),
+    match meet(alloc, a, b, budget) {
+        Ok(c) => reduced(alloc, &c),
         Err(Grown::Over) => Err(CompileError::Over { step }),
         Err(Grown::Memory) => Err(CompileError::Memory),
     }
 }
 
-pub fn disjunction<O: Operations>(
+pub fn disjunction(
     alloc: Global,
-    ops: &O,
     a: &Auto,
     b: &Auto,
     budget: u32,
@@ -104,16 +94,15 @@ pub fn disjunction<O: Operations>(
     ensures within { IfOk result (λ c. ¬ BothSpreadExceeds a.now.tracks b.now.tracks (Accepts a.now) (Accepts b.now) budget) }
     ensures over { IfErr result (IsStepError step (BothSpreadExceeds a.now.tracks b.now.tracks (Accepts a.now) (Accepts b.now) budget)) }
 {
-    match ops.join(alloc, a, b, budget) {
-        Ok(c) => reduced(alloc, ops, &c),
+    match join(alloc, a, b, budget) {
+        Ok(c) => reduced(alloc, &c),
         Err(Grown::Over) => Err(CompileError::Over { step }),
         Err(Grown::Memory) => Err(CompileError::Memory),
     }
 }
 
-pub fn projection<O: Operations>(
+pub fn projection(
     alloc: Global,
-    ops: &O,
     var: Var,
     a: &Auto,
     budget: u32,
@@ -126,32 +115,32 @@ pub fn projection<O: Operations>(
     ensures within { IfOk result (λ c. ¬ ExSpreadExceeds var a.now.tracks (Accepts a.now) budget) }
     ensures over { IfErr result (IsStepError step (ExSpreadExceeds var a.now.tracks (Accepts a.now) budget)) }
 {
-    match ops.forget(alloc, a, var, budget) {
-        Ok(c) => reduced(alloc, ops, &c),
+    match forget(alloc, a, var, budget) {
+        Ok(c) => reduced(alloc, &c),
         Err(Grown::Over) => Err(CompileError::Over { step }),
         Err(Grown::Memory) => Err(CompileError::Memory),
     }
 }
 
-pub fn complement<O: Operations>(alloc: Global, ops: &O, a: &Auto) -> Result<Auto, CompileError>
+pub fn complement(alloc: Global, a: &Auto) -> Result<Auto, CompileError>
     requires { IsReduced a.now }
     ensures reduced { IfOk result IsReduced }
     ensures decides { IfOk result (λ c. (f : Tree) (e : ℕ → SetOf) → Decides a.now f (members e) → Decides c (tree.Not f) (members e)) }
     ensures over { IfErr result (λ why. why ≡ CompileError.Memory) }
 {
-    match ops.not(alloc, a) {
+    match not(alloc, a) {
         Ok(c) => Ok(c),
         Err(_) => Err(CompileError::Memory),
     }
 }
 
 /// The same words, with no state too many.
-fn reduced<O: Operations>(alloc: Global, ops: &O, a: &Auto) -> Result<Auto, CompileError>
+fn reduced(alloc: Global, a: &Auto) -> Result<Auto, CompileError>
     ensures reduced { IfOk result IsReduced }
     ensures decides { IfOk result (λ c. (f : Tree) (e : ℕ → SetOf) → Decides a.now f (members e) → Decides c f (members e)) }
     ensures over { IfErr result (λ why. why ≡ CompileError.Memory) }
 {
-    match ops.reduce(alloc, a) {
+    match reduce(alloc, a) {
         Ok(c) => Ok(c),
         Err(_) => Err(CompileError::Memory),
     }

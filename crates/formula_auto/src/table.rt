@@ -1,5 +1,5 @@
 //! The sets that formulas name.
-ghost use Rattle.std.specs.Prelude.{◌≡◌, ◌<◌, ◌^◌, [], ◌∷◌, ◌++◌, length, IfOk, IfErr, OnErr, slice_get, Some, IfSome, IfNone, MatchOption, ◌≤◌};
+ghost use Rattle.std.specs.Prelude.{◌≡◌, ◌<◌, ◌^◌, [], ◌∷◌, ◌++◌, length, IfOk, IfErr, OnErr, slice_get, Some, IfSome, IfNone, MatchOption, take, ◌≤◌};
 
 use auto_core::Auto;
 use lin_formula::SetId;
@@ -45,6 +45,28 @@ impl SetTable {
             Ok(()) => Ok(id),
             Err(failed) => Err(failed.value),
         }
+    }
+
+    /// The number of sets.
+    pub fn len(&self) -> usize
+        ensures { result ≡ length self.now }
+    {
+        self.sets.len()
+    }
+
+    /// Takes out the set that was put in last. Its name is then given to the next set that is put in.
+    pub fn pop(&mut self) -> Option<Auto>
+        ensures some { IfSome result (λ a. self.old ≡ self.new ++ a ∷ []) }
+        ensures none { IfNone result ((self.old ≡ []) × (self.new ≡ [])) }
+    {
+        self.sets.pop()
+    }
+
+    /// Lets go the sets from a place on, in the order in which they were put in. Their names are then given anew.
+    pub fn truncate(&mut self, len: usize)
+        ensures { self.new ≡ take len self.old }
+    {
+        self.sets.truncate(len);
     }
 
     /// The set of a name.

@@ -1,17 +1,13 @@
-use Rattle.std.proofs.Common.{Result, Ok, Err, IfOk}
 use Rattle.lin_formula.specs.Tree as tree
 use Rattle.lin_formula.specs.SetOf.{members}
+use Rattle.formula_auto.proofs.BothOk.{both_ok}
 use Rattle.formula_auto.proofs.Parts.{Decides-same}
 use Rattle.formula_auto.proofs.Atoms.{Decides-Among}
 use Rattle.formula_auto.proofs.Projections.{apart-ascending}
 use Rattle.formula_auto.proofs.steps.membership.Goals as goal
 
-both_ok : {T E : Type 0} (r : Result T E) (P Q R : T → Type 0) → ((x : T) → P x → Q x → R x) → IfOk r P → IfOk r Q → IfOk r R
-both_ok (Ok x) P Q R f p q = f x p q
-both_ok (Err e) P Q R f p q = p
-
 pub returns-clause-decides : goal.returns-clause-decides
-returns-clause-decides g c =
+returns-clause-decides c =
     both_ok c.reduce.result _ _ _
     (λ made tracks words e number is.
     Decides-same (members e) (tree.Among number c.args.vars.now) c.in_ok-a.a made
