@@ -24,10 +24,10 @@ list_same (x ∷ xs) (y ∷ ys) e h =
 abbrev pub moved : (ℕ → Square) → ℕ → Square → ℕ → Square
 moved f i z k = if k == i then z else f k
 
-moved_same : (f : ℕ → Square) (i k : ℕ) (z : Square) → k ≡ i → moved f i z k ≡ z
+pub moved_same : (f : ℕ → Square) (i k : ℕ) (z : Square) → k ≡ i → moved f i z k ≡ z
 moved_same f i k z e = grind (arith, nat_tests)
 
-moved_other : (f : ℕ → Square) (i k : ℕ) (z : Square) → k ≢ i → moved f i z k ≡ f k
+pub moved_other : (f : ℕ → Square) (i k : ℕ) (z : Square) → k ≢ i → moved f i z k ≡ f k
 moved_other f i k z ne = grind (arith, nat_tests)
 
 taken_stands : (t : ℕ) (p : Position) (z : Square) → Takes t p z → (k : ℕ) (m : Man) → k ≡ t → 0 < k → man_at p k ≡ Some m → StandsOn m z

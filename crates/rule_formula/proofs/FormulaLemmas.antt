@@ -34,11 +34,11 @@ tuple_more : (b : Bool) (v : Values) (xs : List Var) (s : Seat) (m : Man) → ma
 tuple_more true v xs s m = map_on v xs (s.x ∷ s.y ∷ [])
 tuple_more false v xs s m = no_more (map (λ x. v x.0) xs)
 
-stock_there : (stock : List Man) (k : ℕ) → 0 < k → k ≤ length stock → (m : Man) × (stock_man stock k ≡ Some m)
+pub stock_there : (stock : List Man) (k : ℕ) → 0 < k → k ≤ length stock → (m : Man) × (stock_man stock k ≡ Some m)
 stock_there [] k low high = absurd (omega arith)
 stock_there (d ∷ ms) k low high = stock_has (d ∷ ms) k low high d
 
-tuple_is : (stock : List Man) (live : ℕ → Bool) (turn : Side) (seats : ℕ → Seat) (v : Values) (n : ℕ) → n ≤ length stock → map (λ x. v x.0) (vars_to seats live n) ≡ tuple_to (placed stock live turn (λ k. at v (seats k))) n
+pub tuple_is : (stock : List Man) (live : ℕ → Bool) (turn : Side) (seats : ℕ → Seat) (v : Values) (n : ℕ) → n ≤ length stock → map (λ x. v x.0) (vars_to seats live n) ≡ tuple_to (placed stock live turn (λ k. at v (seats k))) n
 tuple_is stock live turn seats v zero high = refl
 tuple_is stock live turn seats v (suc n) high =
     let (m, is) = stock_there stock (suc n) (omega arith) high in

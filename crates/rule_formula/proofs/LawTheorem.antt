@@ -36,7 +36,7 @@ men_self n (m ∷ ms) live f h =
     ap (λ a. record m { place = a } ∷ men_from (suc n) ms live f) (h 0 n m (omega arith) refl)
     ∙ ap (λ xs. m ∷ xs) (men_self (suc n) ms live f (λ i k b e is. h (suc i) k b (omega (arith, e)) is))
 
-live_at : (mask i k : ℕ) → k ≡ 1 + i → bit_at mask i ≡ 1 → is_live mask k ≡ true
+pub live_at : (mask i k : ℕ) → k ≡ 1 + i → bit_at mask i ≡ 1 → is_live mask k ≡ true
 live_at mask i k e bit =
     let there : k - 1 ≡ i = omega (arith, e) in
     subst (λ j. (bit_at mask j == 1) ≡ true) (sym there) (eq-eqb (bit_at mask i) 1 bit)
@@ -55,10 +55,15 @@ place_self false Gone z off on here = refl
 place_self true (At x y) z off on here = ap (λ (a : Square). At a.x a.y) (here x y refl)
 place_self false (At x y) z off on here = let e : false ≡ true = on (λ w. cc) in absurd (cc)
 
-square_self : (p : Position) (k : ℕ) (m : Man) (x y : ℤ) → stock_man p.men k ≡ Some m → m.place ≡ At x y → squares_of p k ≡ record { x = x; y = y }
+pub square_self : (p : Position) (k : ℕ) (m : Man) (x y : ℤ) → stock_man p.men k ≡ Some m → m.place ≡ At x y → squares_of p k ≡ record { x = x; y = y }
 unfolding squares_of square_or
 square_self p k m x y is at =
     ap (λ o. square_or (man_square o)) is ∙ ap (λ q. square_or (place_square q)) at
+
+-- the square of a man who stands
+pub square_stands : (p : Position) (k : ℕ) (m : Man) (z : Square) → stock_man p.men k ≡ Some m → StandsOn m z → squares_of p k ≡ z
+unfolding squares_of square_or
+square_stands p k m z is stands = ap (λ o. square_or (man_square o)) is ∙ ap square_or stands
 
 in_stock : (p : Position) (i k : ℕ) (m : Man) → k ≡ 1 + i → slice_get p.men i ≡ Some m → stock_man p.men k ≡ Some m
 in_stock p i k m e is =
@@ -77,7 +82,7 @@ self_placed p mask h =
     in
     ap (λ xs. record { men = xs; turn = p.turn }) men
 
-other_other : (s : Side) → other (other s) ≡ s
+pub other_other : (s : Side) → other (other s) ≡ s
 other_other White = refl
 other_other Black = refl
 

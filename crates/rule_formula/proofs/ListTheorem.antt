@@ -19,27 +19,27 @@ use Rattle.rule_formula.specs.Meaning.{IsOption, IsOptionOfSide, IsPrey, Serves}
 use Rattle.rule_formula.proofs.BearLemmas.{stock_number}
 use Rattle.rule_formula.proofs.ChainLemmas.{last_or_before}
 
-nothing : (o : Opt) → Contains [] o → ⊥
+pub nothing : {A : Type 0} (o : A) → Contains [] o → ⊥
 nothing o (k, within, is) = omega (arith, within)
 
-one : (y o : Opt) → Contains (y ∷ []) o ↔ (y ≡ o)
+one : {A : Type 0} (y o : A) → Contains (y ∷ []) o ↔ (y ≡ o)
 one y o = (
   λ h. elim (Contains-push_cases [] y o h) [ inl none ↦ absurd (nothing o none) | inr e ↦ e ],
   λ e. subst (Contains (y ∷ [])) e (Contains-push [] y),
 )
 
-pushed_if : (b : Bool) (xs : List Opt) (y o : Opt) → Contains (if b then xs ++ y ∷ [] else xs) o ↔ (Contains xs o ⊎ ((b ≡ true) × (y ≡ o)))
+pub pushed_if : {A : Type 0} (b : Bool) (xs : List A) (y o : A) → Contains (if b then xs ++ y ∷ [] else xs) o ↔ (Contains xs o ⊎ ((b ≡ true) × (y ≡ o)))
 pushed_if true xs y o = (
   λ h. elim (Contains-push_cases xs y o h) [ inl before ↦ inl before | inr e ↦ inr (refl, e) ],
   λ h. elim h [ inl before ↦ Contains-append_left xs (y ∷ []) o before | inr e ↦ subst (Contains (xs ++ y ∷ [])) e.1 (Contains-push xs y) ],
 )
 pushed_if false xs y o = (λ h. inl h, λ h. elim h [ inl before ↦ before | inr e ↦ absurd (cc) ])
 
-only_if : (b : Bool) (xs : List Opt) (o : Opt) → Contains (if b then xs else []) o ↔ ((b ≡ true) × Contains xs o)
+pub only_if : {A : Type 0} (b : Bool) (xs : List A) (o : A) → Contains (if b then xs else []) o ↔ ((b ≡ true) × Contains xs o)
 only_if true xs o = (λ h. (refl, h), λ h. h.1)
 only_if false xs o = (λ h. absurd (nothing o h), λ h. absurd (cc))
 
-appended : (xs ys : List Opt) (o : Opt) → Contains (xs ++ ys) o ↔ (Contains xs o ⊎ Contains ys o)
+pub appended : {A : Type 0} (xs ys : List A) (o : A) → Contains (xs ++ ys) o ↔ (Contains xs o ⊎ Contains ys o)
 appended xs ys o = (
   λ h. Contains-append_cases xs ys o h,
   λ h. elim h [ inl first ↦ Contains-append_left xs ys o first | inr second ↦ Contains-append_right xs ys o second ],
@@ -114,30 +114,30 @@ in_rays stock mask s sort i (suc n) m o low h =
       | inr last ↦ let at : m ≡ n = omega arith in step.1 (inr ((ray_options_are stock mask s sort i n o).1 (subst (λ j. IsAlongRay stock mask s sort i j o) at h)))
     ]
 
-some_or_none : (x : Option Man) → ((m : Man) × (x ≡ Some m)) ⊎ (x ≡ None)
+pub some_or_none : (x : Option Man) → ((m : Man) × (x ≡ Some m)) ⊎ (x ≡ None)
 some_or_none None = inr refl
 some_or_none (Some m) = inl (m, refl)
 
-both_true : (a b : Bool) → (a && b) ≡ true → (a ≡ true) × (b ≡ true)
+pub both_true : (a b : Bool) → (a && b) ≡ true → (a ≡ true) × (b ≡ true)
 both_true true b h = (refl, h)
 both_true false b h = absurd (cc)
 
-true_both : (a b : Bool) → a ≡ true → b ≡ true → (a && b) ≡ true
+pub true_both : (a b : Bool) → a ≡ true → b ≡ true → (a && b) ≡ true
 true_both true b e h = h
 true_both false b e h = absurd (cc)
 
-get_some : (xs : List Ray) (n : ℕ) → n < length xs → (r : Ray) × (slice_get xs n ≡ Some r)
+pub get_some : (xs : List Ray) (n : ℕ) → n < length xs → (r : Ray) × (slice_get xs n ≡ Some r)
 get_some [] n low = absurd (omega (arith, low))
 get_some (x ∷ xs) zero low = (x, refl)
 get_some (x ∷ xs) (suc n) low = get_some xs n (omega (arith, low))
 
-side_is : (a b : Side) → is_side a b ≡ true → a ≡ b
+pub side_is : (a b : Side) → is_side a b ≡ true → a ≡ b
 side_is White White e = refl
 side_is White Black e = absurd (cc)
 side_is Black White e = absurd (cc)
 side_is Black Black e = refl
 
-is_his_side : (a b : Side) → a ≡ b → is_side a b ≡ true
+pub is_his_side : (a b : Side) → a ≡ b → is_side a b ≡ true
 is_his_side White White e = refl
 is_his_side White Black e = absurd (cc)
 is_his_side Black White e = absurd (cc)

@@ -3,9 +3,10 @@ use Rattle.std.proofs.Common.{◌≡◌, ◌↔◌, ℕ, ◌≤◌, Bool, List, 
 use Rattle.game_rules.specs.declared.men.Side.{Side}
 use Rattle.game_rules.specs.declared.men.Man.{Man}
 use Rattle.game_rules.specs.declared.men.Square.{Square}
-use Rattle.game_rules.specs.Game.{Position, man_at, other}
+use Rattle.game_rules.specs.Game.{IsApart, Position, man_at, other}
 use Rattle.lin_formula.specs.Tree.{Tree}
 use Rattle.lin_formula.specs.Holds.{Holds, Sets}
+use Rattle.track_word.specs.Tracks.{Values}
 use Rattle.game_rules.specs.declared.men.Ray.{Ray}
 use Rattle.rule_formula.specs.declared.opt.Opt.{Opt}
 use Rattle.game_rules.specs.Rays.{ray_of}
@@ -26,7 +27,7 @@ ray_placed stock live turn f k n m q r y is at ray his =
     let there : ray_of q.kind q.side n ≡ Some r = subst (λ (a : Man). ray_of a.kind a.side n ≡ Some r) (sym same) ray in
     let both : Some y ≡ Some r = sym his ∙ there in cc
 
-takes_is : (stock : List Man) (live : ℕ → Bool) (turn : Side) (f : ℕ → Square) (o : Opt) (man : Man) (r : Ray) (q : Position) → stock_man stock o.man ≡ Some man → ray_of man.kind man.side o.ray ≡ Some r → StepsBy o.man r o.taken (placed stock live turn f) q ↔ TakesOption o (placed stock live turn f) q
+pub takes_is : (stock : List Man) (live : ℕ → Bool) (turn : Side) (f : ℕ → Square) (o : Opt) (man : Man) (r : Ray) (q : Position) → stock_man stock o.man ≡ Some man → ray_of man.kind man.side o.ray ≡ Some r → StepsBy o.man r o.taken (placed stock live turn f) q ↔ TakesOption o (placed stock live turn f) q
 takes_is stock live turn f o man r q is ray = (
   λ h. record { man = man_placed live f o.man man; ray = r; is_man = placed_man stock live turn f o.man man is; is_ray = ray; steps = h },
   λ h. subst (λ y. StepsBy o.man y o.taken (placed stock live turn f) q) (ray_placed stock live turn f o.man o.ray man h.man r h.ray is h.is_man ray h.is_ray) h.steps,
@@ -57,18 +58,21 @@ bear_means stock mask k n g s man target r t is tree e turn v =
           subst (λ t. Holds t e v) (sym tree) (main.1 (h.0, subst (λ y. BearsAlong y k g (placed stock (is_live mask) turn (squares v))) same h.1.bears)),
     )
 
+-- pre, at values whose position has its live men on distinct squares if it is in the set
+pub pre_at : (stock : List Man) (mask : ℕ) (o : Opt) (s q : ℕ) (man : Man) (r : Ray) (t : Tree) → length stock ≤ 8 → IsOption stock mask o.man o.ray o.taken man r → t ≡ pre_tree (length stock) mask o.man r o.taken s q → (e : Sets) (v : Values) → (IsMember e s (placed stock (is_live mask) man.side (squares v)) → IsApart (placed stock (is_live mask) man.side (squares v))) → Holds t e v ↔ (IsMember e s (placed stock (is_live mask) man.side (squares v)) × Reaches e q stock mask man.side o (placed stock (is_live mask) man.side (squares v)))
+pre_at stock mask o s q man r t short is tree e v apart =
+    let main = pre_holds stock mask o.man o.ray o.taken man r short is s q e v apart in
+    let takes = λ (g : ℕ → Square). takes_is stock (is_live mask) man.side (squares v) o man r (placed stock (without (is_live mask) o.taken) (other man.side) g) is.is_man is.ray in (
+      λ h. let (member, (g, there, steps)) = main.0 (subst (λ t. Holds t e v) tree h) in (member, (g, there, (takes g).0 steps)),
+      λ (member, (g, there, steps)). subst (λ t. Holds t e v) (sym tree) (main.1 (member, (g, there, (takes g).1 steps))),
+    )
+
 pub pre_means : (stock : List Man) (mask : ℕ) (o : Opt) (s q : ℕ) (man : Man) (r : Ray) (t : Tree) → length stock ≤ 8 → IsOption stock mask o.man o.ray o.taken man r → t ≡ pre_tree (length stock) mask o.man r o.taken s q → (e : Sets) → PreHolds e stock mask o s q t
 pre_means stock mask o s q man r t short is tree e man' v is' apart =
     let both : Some man ≡ Some man' = sym is.is_man ∙ is' in
     let same : man ≡ man' = cc in
     let here : HoldsApart e s stock (is_live mask) man.side = subst (λ (m : Man). HoldsApart e s stock (is_live mask) m.side) (sym same) apart in
-    let main = pre_holds stock mask o.man o.ray o.taken man r short is s q e v here in
-    let takes = λ (g : ℕ → Square). takes_is stock (is_live mask) man.side (squares v) o man r (placed stock (without (is_live mask) o.taken) (other man.side) g) is.is_man is.ray in
-    let told : Holds t e v ↔ (IsMember e s (placed stock (is_live mask) man.side (squares v)) × Reaches e q stock mask man.side o (placed stock (is_live mask) man.side (squares v))) = (
-      λ h. let (member, (g, there, steps)) = main.0 (subst (λ t. Holds t e v) tree h) in (member, (g, there, (takes g).0 steps)),
-      λ (member, (g, there, steps)). subst (λ t. Holds t e v) (sym tree) (main.1 (member, (g, there, (takes g).1 steps))),
-    )
-    in
+    let told = pre_at stock mask o s q man r t short is tree e v (here (squares v)) in
     subst (λ (m : Man). Holds t e v ↔ (IsMember e s (placed stock (is_live mask) m.side (squares v)) × Reaches e q stock mask m.side o (placed stock (is_live mask) m.side (squares v)))) same told
 
 pub safe_means : (stock : List Man) (mask k n g : ℕ) (s : ℕ) (man target : Man) (r : Ray) (t : Tree) → IsBearing stock mask k n g man target r → t ≡ safe_tree (length stock) mask k r g s → (e : Sets) → SafeHolds e stock mask k n g s t
@@ -99,6 +103,11 @@ pub pre_told : (stock : List Man) (mask : ℕ) (o : Opt) (s q : ℕ) (t : Tree) 
 pre_told stock mask o s q t few w is =
     pre_means stock mask o s q w.man w.ray t few w.is
     (is ∙ ap (λ r. pre_tree (length stock) mask o.man r o.taken s q) (sym (ray_at_is stock o.man o.ray w.man w.ray w.is.is_man w.is.ray)))
+
+pub pre_told_at : (stock : List Man) (mask : ℕ) (o : Opt) (s q : ℕ) → length stock ≤ 8 → (w : IsOptionOf stock mask o) → (e : Sets) (v : Values) → (IsMember e s (placed stock (is_live mask) w.man.side (squares v)) → IsApart (placed stock (is_live mask) w.man.side (squares v))) → Holds (pre_of stock mask o s q) e v ↔ (IsMember e s (placed stock (is_live mask) w.man.side (squares v)) × Reaches e q stock mask w.man.side o (placed stock (is_live mask) w.man.side (squares v)))
+pre_told_at stock mask o s q few w e v apart =
+    pre_at stock mask o s q w.man w.ray (pre_of stock mask o s q) few w.is
+    (ap (λ r. pre_tree (length stock) mask o.man r o.taken s q) (sym (ray_at_is stock o.man o.ray w.man w.ray w.is.is_man w.is.ray))) e v apart
 
 pub bear_told : (stock : List Man) (mask k n g s : ℕ) (t : Tree) → IsBearer stock mask k n g → t ≡ bear_of stock mask k n g s → (e : Sets) → BearHolds e stock mask k n g s t
 bear_told stock mask k n g s t w is =

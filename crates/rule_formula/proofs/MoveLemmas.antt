@@ -44,7 +44,7 @@ pub never_live : (b c : Bool) → b ≡ false → (b && c) ≡ false
 never_live true c e = absurd (cc)
 never_live false c e = refl
 
-other_differs : (s : Side) → s ≡ other s → ⊥
+pub other_differs : (s : Side) → s ≡ other s → ⊥
 other_differs White e = cc
 other_differs Black e = cc
 

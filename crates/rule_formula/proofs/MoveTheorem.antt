@@ -4,7 +4,7 @@ use Rattle.std.specs.Prelude.{◌==◌, if◌then◌else◌}
 use Rattle.std.proofs.lemmas.Bool.Decides.{nat_tests}
 use Rattle.game_rules.specs.declared.men.Man.{Man}
 use Rattle.game_rules.specs.declared.men.Square.{Square}
-use Rattle.game_rules.specs.Game.{other}
+use Rattle.game_rules.specs.Game.{IsApart, other}
 use Rattle.lin_formula.specs.Tree.{Tree}
 use Rattle.lin_formula.specs.Holds.{Holds, Sets}
 use Rattle.track_word.specs.Tracks.{Values}
@@ -21,10 +21,10 @@ use Rattle.rule_formula.proofs.RayLemmas.{IsWithin}
 use Rattle.rule_formula.proofs.SweptLemmas.{along_x, along_y, ex_swept_holds, from_spare, own_kept, placed_same, spare_is, swept_value, swept_values, to_spare}
 use Rattle.lin_formula.specs.Tree as tree
 
-if_same : {A : Type 0} (k i : ℕ) (a b : A) → k ≡ i → (if k == i then a else b) ≡ a
+pub if_same : {A : Type 0} (k i : ℕ) (a b : A) → k ≡ i → (if k == i then a else b) ≡ a
 if_same k i a b e = grind (arith, nat_tests)
 
-if_other : {A : Type 0} (k i : ℕ) (a b : A) → k ≢ i → (if k == i then a else b) ≡ b
+pub if_other : {A : Type 0} (k i : ℕ) (a b : A) → k ≢ i → (if k == i then a else b) ≡ b
 if_other k i a b ne = grind (arith, nat_tests)
 
 old_mover : (r : Ray) (i t : ℕ) → old_seats r i t i ≡ spare r i
@@ -126,7 +126,7 @@ image_holds stock mask i n t man r short o s e v apart =
           outer.1 (z.x, (inner (swept_value r.dx v (var 16) z.x)).1 (z.y, (chain w).1 (subst (λ (P : Type 0). P) (sym (among w)) here, goes))),
     )
 
-was_live : (b : Bool) (k t : ℕ) → (b && not (k == t)) ≡ true → (b ≡ true) × (k ≢ t)
+pub was_live : (b : Bool) (k t : ℕ) → (b && not (k == t)) ≡ true → (b ≡ true) × (k ≢ t)
 was_live true k t e = (refl, grind (arith, nat_tests))
 was_live false k t e = absurd (cc)
 
@@ -165,7 +165,7 @@ own_there r zero v z low i = absurd (omega arith)
 own_there r (suc t) v z low i = refl
 
 -- pre holds of the positions of the set from which a step by the option leads into the other set
-pub pre_holds : (stock : List Man) (mask i n t : ℕ) (man : Man) (r : Ray) → length stock ≤ 8 → IsOption stock mask i n t man r → (s q : ℕ) (e : Sets) (v : Values) → HoldsApart e s stock (is_live mask) man.side → Holds (pre_tree (length stock) mask i r t s q) e v ↔ (IsMember e s (placed stock (is_live mask) man.side (squares v)) × ((g : ℕ → Square) × IsMember e q (placed stock (without (is_live mask) t) (other man.side) g) × StepsBy i r t (placed stock (is_live mask) man.side (squares v)) (placed stock (without (is_live mask) t) (other man.side) g)))
+pub pre_holds : (stock : List Man) (mask i n t : ℕ) (man : Man) (r : Ray) → length stock ≤ 8 → IsOption stock mask i n t man r → (s q : ℕ) (e : Sets) (v : Values) → (IsMember e s (placed stock (is_live mask) man.side (squares v)) → IsApart (placed stock (is_live mask) man.side (squares v))) → Holds (pre_tree (length stock) mask i r t s q) e v ↔ (IsMember e s (placed stock (is_live mask) man.side (squares v)) × ((g : ℕ → Square) × IsMember e q (placed stock (without (is_live mask) t) (other man.side) g) × StepsBy i r t (placed stock (is_live mask) man.side (squares v)) (placed stock (without (is_live mask) t) (other man.side) g)))
 pre_holds stock mask i n t man r short o s q e v apart =
     let live : ℕ → Bool = is_live mask in
     let ray : IsRayOf man.side man.kind n r = ray_of_option stock mask i n t man r o in
@@ -200,7 +200,7 @@ pre_holds stock mask i n t man r short o s q e v apart =
           in
           (member, (g, there, steps_by stock mask i n t man r o (squares v) g move)),
       λ (member, (g, there, steps)).
-          let move : IsMove stock live i r t (squares v) g = move_of stock mask i n t man r o (squares v) g (apart (squares v) member) steps in
+          let move : IsMove stock live i r t (squares v) g = move_of stock mask i n t man r o (squares v) g (apart member) steps in
           let z : Square = g i in
           let w : Values = pre_values r t v z in
           let to : at w (new_seat r i t) ≡ g i = new_place r i t v z low high (along_x r (squares v i) (g i) move.along) (along_y r (squares v i) (g i) move.along) move.taken in

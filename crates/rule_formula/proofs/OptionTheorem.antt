@@ -68,7 +68,7 @@ record IsWay (m : Man) (t : ℕ) (a z : Square) : Type 0 where
   serves : Serves m.kind number t
   along : LiesOn ray a z
 
-way_of_bears : (p : Position) (m : Man) (a z : Square) → StandsOn m a → Bears p m z → IsRayTo m.kind m.side a z
+pub way_of_bears : (p : Position) (m : Man) (a z : Square) → StandsOn m a → Bears p m z → IsRayTo m.kind m.side a z
 way_of_bears p m a z stands bears =
     let reach = (bears_from p m a z stands bears).0 in
     ray_to m.kind m.side a z (z.x -ℤ a.x) (z.y -ℤ a.y) (omega (arith, ints)) (omega (arith, ints)) reach
@@ -123,11 +123,11 @@ step_way Knight p m a z is stands free g = quiet_way p m a z (λ e. cc) stands g
 step_way Pawn p m a z is stands free (inl g) = absurd (free g.1)
 step_way Pawn p m a z is stands free (inr g) = pawn_way p m a z is stands g.0
 
-some_square : (o : Option Square) (P : Square → Type 0) → IsSomeAnd o P → (a : Square) × (o ≡ Some a)
+pub some_square : (o : Option Square) (P : Square → Type 0) → IsSomeAnd o P → (a : Square) × (o ≡ Some a)
 some_square None P h = absurd h
 some_square (Some a) P h = (a, refl)
 
-bears_lives : (p : Position) (m : Man) (z : Square) → Bears p m z → (a : Square) × StandsOn m a
+pub bears_lives : (p : Position) (m : Man) (z : Square) → Bears p m z → (a : Square) × StandsOn m a
 bears_lives p m z b = some_square (square_of m) (λ a. HasReach m.side m.kind (z.x -ℤ a.x) (z.y -ℤ a.y) × (IsSlider m.kind → IsOpen p a z)) b
 
 goes_lives : (k : Kind) (p : Position) (m : Man) (z : Square) → GoesAs k p m z → (a : Square) × StandsOn m a

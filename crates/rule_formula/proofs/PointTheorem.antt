@@ -49,7 +49,7 @@ point_to_holds men (suc n) e v =
       λ h. let w = more.0 h in step.1 (before.1 w.0, w.1),
     )
 
-from_square : (x : Option Man) (z : Square) → man_square x ≡ Some z → (m : Man) × (x ≡ Some m) × StandsOn m z
+pub from_square : (x : Option Man) (z : Square) → man_square x ≡ Some z → (m : Man) × (x ≡ Some m) × StandsOn m z
 from_square None z h = absurd (cc)
 from_square (Some m) z h = (m, refl, h)
 

@@ -120,15 +120,15 @@ same_list m n (x ∷ xs) (y ∷ ys) h k there back =
     (λ z is. later m x z ys xs rises is (back z (inr is))))
 
 -- the variable is one of the seat's two
-abbrev IsOf : Seat → Var → Type 0
+abbrev pub IsOf : Seat → Var → Type 0
 IsOf s z = (z ≡ s.x) ⊎ (z ≡ s.y)
 
-record IsSeated (seats : ℕ → Seat) (live : ℕ → Bool) (n : ℕ) (z : Var) : Type 0 where
-  number : ℕ
-  low : 0 < number
-  high : number ≤ n
-  on : live number ≡ true
-  is : IsOf (seats number) z
+pub record IsSeated (seats : ℕ → Seat) (live : ℕ → Bool) (n : ℕ) (z : Var) : Type 0 where
+  pub number : ℕ
+  pub low : 0 < number
+  pub high : number ≤ n
+  pub on : live number ≡ true
+  pub is : IsOf (seats number) z
 
 one_of-append : (z x y : Var) (xs : List Var) → IsOneOf z (xs ++ x ∷ y ∷ []) ↔ (IsOneOf z xs ⊎ ((z ≡ x) ⊎ (z ≡ y)))
 one_of-append z x y [] = (
@@ -155,7 +155,7 @@ seated seats live (suc n) z h =
       | inr k ↦ record { number = suc n; low = omega arith; high = omega arith; on = k.0; is = k.1 }
     ]
 
-seat_in : (seats : ℕ → Seat) (live : ℕ → Bool) (n : ℕ) (z : Var) (k : ℕ) → 0 < k → k ≤ n → live k ≡ true → IsOf (seats k) z → IsOneOf z (vars_to seats live n)
+pub seat_in : (seats : ℕ → Seat) (live : ℕ → Bool) (n : ℕ) (z : Var) (k : ℕ) → 0 < k → k ≤ n → live k ≡ true → IsOf (seats k) z → IsOneOf z (vars_to seats live n)
 seat_in seats live zero z k low high on is = absurd (omega (arith, low, high))
 seat_in seats live (suc n) z k low high on is =
     let step = one_of-if (live (suc n)) z (seats (suc n)).x (seats (suc n)).y (vars_to seats live n) in
@@ -407,11 +407,25 @@ bear_free n mask k g s r z w =
     (and_all_free (tree.Among s (vars_to own (is_live mask) n)) (ray_atoms r (own k) (own g)) z (seated_in (is_live mask) n z w))
 
 -- the free variables are the tracks, where those and no others are free
-tracks_are : (live : ℕ → Bool) (n : ℕ) (f : Tree) → FreeIn (IsSeated own live n) f → ((z : Var) → IsSeated own live n z → IsFree z f) → free_vars f ≡ vars_to own live n
+pub tracks_are : (live : ℕ → Bool) (n : ℕ) (f : Tree) → FreeIn (IsSeated own live n) f → ((z : Var) → IsSeated own live n z → IsFree z f) → free_vars f ≡ vars_to own live n
 tracks_are live n f only all =
     same_list 0 0 (free_vars f) (vars_to own live n) (rises_free f) (spans_rise 0 (2 * n) (vars_to own live n) (spans_own live n))
     (λ z is. seated_in live n z (only z ((free_vars-free f z).0 is)))
     (λ z is. (free_vars-free f z).1 (all z (seated own live n z is)))
+
+-- tracks twice are the tracks
+pub tracks_twice : (live : ℕ → Bool) (n s t : ℕ) → free_vars (tree.Or (tree.Among s (vars_to own live n)) (tree.Among t (vars_to own live n))) ≡ vars_to own live n
+tracks_twice live n s t =
+    tracks_are live n (tree.Or (tree.Among s (vars_to own live n)) (tree.Among t (vars_to own live n)))
+    (λ z h. elim h [ inl a ↦ seated own live n z a | inr b ↦ seated own live n z b ])
+    (λ z w. inl (seated_in live n z w))
+
+-- the same men have the same tracks
+pub tracks_alike : (live more : ℕ → Bool) (n : ℕ) → ((k : ℕ) → 0 < k → live k ≡ more k) → vars_to own live n ≡ vars_to own more n
+tracks_alike live more zero h = refl
+tracks_alike live more (suc n) h =
+    ap (λ xs. if live (suc n) then xs ++ (own (suc n)).x ∷ (own (suc n)).y ∷ [] else xs) (tracks_alike live more n h)
+    ∙ ap (λ (b : Bool). if b then vars_to own more n ++ (own (suc n)).x ∷ (own (suc n)).y ∷ [] else vars_to own more n) (h (suc n) (omega arith))
 
 prey_is_live : (stock : List Man) (mask t : ℕ) (side : Side) → IsPrey stock mask side t → 0 < t → (t ≤ length stock) × (is_live mask t ≡ true)
 prey_is_live stock mask zero side h low = absurd (omega (arith, low))

@@ -1,4 +1,7 @@
+pub mod Bearings
+pub mod Fits
 pub mod Laws
+pub mod Mean
 pub mod Meaning
 pub mod Options
 pub mod Placed

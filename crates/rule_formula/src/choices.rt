@@ -16,7 +16,7 @@ use std::alloc::{AllocError, Global};
 /// The ways in which men may go. Most lists are short.
 type Opts = SmallVec<Opt, 16>;
 
-fn is_side(a: Side, b: Side) -> bool
+pub(crate) fn is_side(a: Side, b: Side) -> bool
     ensures { result ≡ side_of a b }
 {
     matches!(
@@ -25,7 +25,7 @@ fn is_side(a: Side, b: Side) -> bool
     )
 }
 
-fn is_king(kind: Kind) -> bool
+pub(crate) fn is_king(kind: Kind) -> bool
     ensures { result ≡ king_of kind }
 {
     matches!(kind, Kind::King)
@@ -42,7 +42,7 @@ fn serves_moves(kind: Kind, number: u8) -> bool
 }
 
 /// Whether the ray serves captures.
-fn serves_captures(kind: Kind, number: u8) -> bool
+pub(crate) fn serves_captures(kind: Kind, number: u8) -> bool
     ensures { result ≡ captures kind number }
 {
     match kind {
@@ -152,7 +152,7 @@ fn list(alloc: Global, stock: &Position, mask: u8, side: Side) -> Result<Opts, A
 }
 
 /// How many rays a man has.
-fn ray_count(kind: Kind, side: Side) -> u8
+pub(crate) fn ray_count(kind: Kind, side: Side) -> u8
     ensures { result ≡ length (rays_of kind side) }
 {
     match kind {

@@ -1,6 +1,7 @@
 //! Laws of the options, each the contract of a function that does nothing.
 
 ghost use Rattle.rule_formula.specs.Laws.{BearIsOverTracks, ImageIsOverTracks, PreIsOverTracks, SafeIsOverTracks, StepsAreByOptions};
+ghost use Rattle.rule_formula.specs.Mean.{FormulasMeanTheRules};
 
 /// In a sound position the steps of the side to move are those by its options together.
 pub fn steps_are_by_options()
@@ -13,4 +14,9 @@ pub fn formulas_are_over_the_live_men()
     ensures pre { PreIsOverTracks }
     ensures bear { BearIsOverTracks }
     ensures safe { SafeIsOverTracks }
+{}
+
+/// What the formulas mean, with the masks, the options and the bearings, at the positions of one game.
+pub fn formulas_mean_the_rules()
+    ensures { FormulasMeanTheRules }
 {}

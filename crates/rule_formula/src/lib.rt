@@ -1,15 +1,18 @@
 //! The rules of chess as formulas over the integers. Each formula speaks of the squares of the live men of one mask, and contracts see
 //! it as a tree (`specs/Trees`). What it means is a relation of the game (`specs/Meaning`) on the positions that the stock of men, the
-//! mask, the side to move and the squares give (`specs/Placed`). `specs/Options` is the list of the ways in which men may go, and
-//! `specs/Size` says how large the formulas are.
+//! mask, the side to move and the squares give (`specs/Placed`). `specs/Options` is the list of the ways in which men may go,
+//! `specs/Bearings` that of the ways in which they bear on a king, and `specs/Size` says how large the formulas are. What they mean
+//! together at the positions of one game is one law, `specs/Mean`.
 #![tactic(auto)]
 
 mod atoms;
+mod bearing_list;
 mod build;
 mod chains;
 mod choices;
 mod formulas;
 pub mod laws;
+mod mask_list;
 mod opt;
 mod point;
 mod seats;
@@ -17,7 +20,9 @@ mod stock;
 #[cfg(test)]
 mod tests;
 
+pub use bearing_list::bearings;
 pub use choices::options;
 pub use formulas::{bear_formula, image_formula, pre_formula, safe_formula, twins_formula};
-pub use opt::Opt;
+pub use mask_list::masks;
+pub use opt::{Bearing, Opt};
 pub use point::point_formula;

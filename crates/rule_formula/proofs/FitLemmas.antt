@@ -1,0 +1,205 @@
+-- Positions of one game as positions of its stock.
+use Rattle.std.proofs.Common.{◌≡◌, ◌≢◌, ◌⊎◌, ◌↔◌, ℕ, zero, suc, ◌+◌, ◌*◌, ◌-◌, ◌%◌, ◌/◌, ◌^◌, ◌<◌, ◌≤◌, ℤ, Bool, true, false, List, [], ◌∷◌, map, length, Some, inl, inr, refl, subst, sym, ap, ◌∙◌, arith}
+use Rattle.std.specs.Prelude.{◌==◌, if◌then◌else◌, slice_get}
+use Rattle.std.specs.Int.{bit_at}
+use Rattle.std.proofs.Math.Nat.{pow-succ'}
+use Rattle.std.proofs.lemmas.Nat.Bits.{bit_at-lt, bit_at-suc, bit_at_lowest, same_from_bits_below}
+use Rattle.game_rules.specs.declared.men.Side.{Side}
+use Rattle.game_rules.specs.declared.men.Man.{Man}
+use Rattle.game_rules.specs.declared.men.Place.{Place}
+use Rattle.game_rules.specs.declared.men.Place.TheVariants.{Gone, At}
+use Rattle.game_rules.specs.declared.men.Square.{Square}
+use Rattle.game_rules.specs.Game.{HasOneKing, IsMaskOf, Position, man_at, place_square, square_of}
+use Rattle.track_word.specs.declared.tracks.Var.{Var}
+use Rattle.track_word.specs.Tracks.{Values, values_at}
+use Rattle.lin_formula.specs.Free.{IsOneOf}
+use Rattle.rule_formula.specs.Fits.{Fits, HasStock, live_bit, mask_of, mask_of_men}
+use Rattle.rule_formula.specs.Placed.{is_live, men_from, place_at, placed, stock_man, tuple_of, tuple_to}
+use Rattle.rule_formula.specs.Seats.{own, squares, vars_to}
+use Rattle.rule_formula.specs.Trees.{tracks_of}
+use Rattle.rule_formula.proofs.BearLemmas.{stock_has}
+use Rattle.rule_formula.proofs.FormulaLemmas.{tuple_is}
+use Rattle.rule_formula.proofs.LawTheorem.{self_placed, squares_of}
+use Rattle.rule_formula.proofs.MoveTheorem.{if_other, if_same}
+use Rattle.rule_formula.proofs.PlacedLemmas.{length_placed, stock_man-men}
+use Rattle.rule_formula.proofs.RayLemmas.{square_at}
+use Rattle.rule_formula.proofs.SweptLemmas.{placed_same}
+use Rattle.rule_formula.proofs.TracksTheorem.{seat_in}
+
+-- values that put man k on the square f k
+abbrev pub values_of : (ℕ → Square) → Values
+values_of f i = if i % 2 == 0 then (f (i / 2 + 1)).x else (f (i / 2 + 1)).y
+
+value_across : (f : ℕ → Square) (i k : ℕ) → 0 < k → i ≡ 2 * k - 2 → values_of f i ≡ (f k).x
+value_across f i k low e =
+    let even : i % 2 ≡ 0 = omega (arith, e, low) in
+    let there : i / 2 + 1 ≡ k = omega (arith, e, low) in
+    if_same (i % 2) 0 (f (i / 2 + 1)).x (f (i / 2 + 1)).y even ∙ ap (λ j. (f j).x) there
+
+value_along : (f : ℕ → Square) (i k : ℕ) → 0 < k → i ≡ 2 * k - 1 → values_of f i ≡ (f k).y
+value_along f i k low e =
+    let odd : i % 2 ≢ 0 = λ even. omega (arith, e, low, even) in
+    let there : i / 2 + 1 ≡ k = omega (arith, e, low) in
+    if_other (i % 2) 0 (f (i / 2 + 1)).x (f (i / 2 + 1)).y odd ∙ ap (λ j. (f j).y) there
+
+pub squares_values : (f : ℕ → Square) (k : ℕ) → 0 < k → squares (values_of f) k ≡ f k
+squares_values f k low =
+    square_at (squares (values_of f) k) (f k) (value_across f (2 * k - 2) k low refl) (value_along f (2 * k - 1) k low refl)
+
+-- each position of a stock is that of some values
+pub placed_values : (stock : List Man) (live : ℕ → Bool) (turn : Side) (f : ℕ → Square) → placed stock live turn (squares (values_of f)) ≡ placed stock live turn f
+placed_values stock live turn f = placed_same stock live turn (squares (values_of f)) f (λ k low high on. squares_values f k low)
+
+-- the tuple is that of the values of the live men's variables
+pub tuple_placed : (stock : List Man) (live : ℕ → Bool) (turn : Side) (v : Values) → values_at (tracks_of stock live) v ≡ tuple_of (placed stock live turn (squares v))
+tuple_placed stock live turn v =
+    let n : length (men_from 1 stock live (squares v)) ≡ length stock = length_placed 1 stock live (squares v) in
+    tuple_is stock live turn own v (length stock) (omega arith) ∙ ap (tuple_to (placed stock live turn (squares v))) (sym n)
+
+values_same : (xs : List Var) (v w : Values) → values_at xs v ≡ values_at xs w → (z : Var) → IsOneOf z xs → v z.0 ≡ w z.0
+values_same [] v w e z is = absurd is
+values_same (x ∷ xs) v w e z (inl is) =
+    let cons : v x.0 ∷ values_at xs v ≡ w x.0 ∷ values_at xs w = e in
+    let first : v x.0 ≡ w x.0 = cc in
+    ap (λ (y : Var). v y.0) is ∙ first ∙ sym (ap (λ (y : Var). w y.0) is)
+values_same (x ∷ xs) v w e z (inr is) =
+    let cons : v x.0 ∷ values_at xs v ≡ w x.0 ∷ values_at xs w = e in
+    let rest : values_at xs v ≡ values_at xs w = cc in values_same xs v w rest z is
+
+-- positions of a stock with the same men live and the same tuple are one
+pub placed_unique : (stock : List Man) (live : ℕ → Bool) (turn : Side) (v w : Values) → values_at (tracks_of stock live) v ≡ values_at (tracks_of stock live) w → placed stock live turn (squares v) ≡ placed stock live turn (squares w)
+placed_unique stock live turn v w e =
+    placed_same stock live turn (squares v) (squares w)
+    (λ k low high on.
+    square_at (squares v k) (squares w k)
+    (values_same (tracks_of stock live) v w e (own k).x (seat_in own live (length stock) (own k).x k low high on (inl refl)))
+    (values_same (tracks_of stock live) v w e (own k).y (seat_in own live (length stock) (own k).y k low high on (inr refl))))
+
+-- both lists have the same sides and kinds
+pub record AreAlike (ms ns : List Man) : Type 0 where
+  pub count : length ns ≡ length ms
+  pub men : (k : ℕ) (m n : Man) → slice_get ms k ≡ Some m → slice_get ns k ≡ Some n → (n.side ≡ m.side) × (n.kind ≡ m.kind)
+
+pub alike_back : (ms ns : List Man) → AreAlike ms ns → AreAlike ns ms
+alike_back ms ns h = record { count = sym h.count; men = λ k m n is at. let w = h.men k n m at is in (sym w.0, sym w.1) }
+
+pub alike_of : (stock : List Man) (q : Position) → HasStock stock q → AreAlike stock q.men
+alike_of stock q h = record { count = h.count; men = λ k m n is at. h.men (suc k) m n is at }
+
+man_alike : (m n : Man) (x : Place) → n.side ≡ m.side → n.kind ≡ m.kind → record m { place = x } ≡ record n { place = x }
+man_alike m n x side sort =
+    ap (λ s. record { side = s; kind = m.kind; place = x }) (sym side) ∙ ap (λ k. record { side = n.side; kind = k; place = x }) (sym sort)
+
+men_alike : (i : ℕ) (ms ns : List Man) (live : ℕ → Bool) (f : ℕ → Square) → AreAlike ms ns → men_from i ms live f ≡ men_from i ns live f
+men_alike i [] [] live f h = refl
+men_alike i [] (n ∷ ns) live f h = absurd (omega (arith, h.count))
+men_alike i (m ∷ ms) [] live f h = absurd (omega (arith, h.count))
+men_alike i (m ∷ ms) (n ∷ ns) live f h =
+    let first = h.men 0 m n refl refl in
+    let rest : AreAlike ms ns = record { count = omega (arith, h.count); men = λ k a b is at. h.men (suc k) a b is at } in
+    let place : Place = place_at (live i) (f i) in
+    ap (λ a. a ∷ men_from (suc i) ms live f) (man_alike m n place first.0 first.1)
+    ∙ ap (λ xs. record n { place = place } ∷ xs) (men_alike (suc i) ms ns live f rest)
+
+place_bit_small : (x : Place) → live_bit (place_square x) < 2
+place_bit_small Gone = omega arith
+place_bit_small (At x y) = omega arith
+
+bit_small : (m : Man) → live_bit (square_of m) < 2
+bit_small m = place_bit_small m.place
+
+mask_bits : (ms : List Man) (i : ℕ) (m : Man) → slice_get ms i ≡ Some m → bit_at (mask_of_men ms) i ≡ live_bit (square_of m)
+mask_bits [] i m is = absurd (cc)
+mask_bits (x ∷ xs) zero m is =
+    let same : x ≡ m = cc in
+    let small = bit_small x in
+    let lowest = bit_at_lowest (mask_of_men (x ∷ xs)) in
+    let rest : (live_bit (square_of x) + 2 * mask_of_men xs) % 2 ≡ live_bit (square_of x) = omega (arith, small) in
+    lowest ∙ rest ∙ ap (λ (a : Man). live_bit (square_of a)) same
+mask_bits (x ∷ xs) (suc i) m is =
+    let small = bit_small x in
+    let half : (live_bit (square_of x) + 2 * mask_of_men xs) / 2 ≡ mask_of_men xs = omega (arith, small) in
+    bit_at-suc (mask_of_men (x ∷ xs)) i ∙ ap (λ n. bit_at n i) half ∙ mask_bits xs i m is
+
+pub mask_small : (ms : List Man) → mask_of_men ms < 2 ^ length ms
+mask_small [] = omega arith
+mask_small (x ∷ xs) =
+    let small = bit_small x in
+    let rest = mask_small xs in
+    let power : 2 ^ suc (length xs) ≡ 2 * 2 ^ length xs = pow-succ' 2 (length xs) in
+    omega (arith, small, rest, power)
+
+place_bit_live : (x : Place) → (live_bit (place_square x) ≡ 1) ↔ (x ≢ Gone)
+place_bit_live Gone = (λ h. absurd (omega (arith, h)), λ h. absurd (h refl))
+place_bit_live (At x y) = (λ h same. cc, λ h. refl)
+
+bit_live : (m : Man) → (live_bit (square_of m) ≡ 1) ↔ (m.place ≢ Gone)
+bit_live m = place_bit_live m.place
+
+-- the mask is that of the live men
+pub mask_tells : (q : Position) → IsMaskOf q (mask_of q)
+mask_tells q =
+    record {
+      live = λ i m is.
+          let bits = mask_bits q.men i m is in
+          let alive = bit_live m in
+          (λ h. alive.0 (sym bits ∙ h), λ h. bits ∙ alive.1 h);
+      no_more = mask_small q.men;
+    }
+
+one_or_zero : (n : ℕ) → n < 2 → (n ≡ 1) ⊎ (n ≡ 0)
+one_or_zero zero small = inr refl
+one_or_zero (suc zero) small = inl refl
+one_or_zero (suc (suc n)) small = absurd (omega (arith, small))
+
+same_bit : (a b : ℕ) (P : Type 0) → a < 2 → b < 2 → (a ≡ 1) ↔ P → (b ≡ 1) ↔ P → a ≡ b
+same_bit a b P low less h k =
+    elim (one_or_zero a low) [
+      | inl one ↦ one ∙ sym (k.1 (h.0 one))
+      | inr none ↦ elim (one_or_zero b less) [
+        | inl one ↦ let both : a ≡ 1 = h.1 (k.0 one) in absurd (omega (arith, both, none))
+        | inr also ↦ none ∙ sym also
+      ]
+    ]
+
+-- and no other number is
+pub mask_one : (q : Position) (mask : ℕ) → IsMaskOf q mask → mask ≡ mask_of q
+mask_one q mask h =
+    let tells = mask_tells q in
+    same_from_bits_below (length q.men) mask (mask_of q) h.no_more tells.no_more
+    (λ i low.
+    let (m, is) = man_there q.men i low in
+    same_bit (bit_at mask i) (bit_at (mask_of q) i) (m.place ≢ Gone) (bit_at-lt mask i) (bit_at-lt (mask_of q) i) (h.live i m is) (tells.live i m is))
+  where
+    man_there : (ms : List Man) (i : ℕ) → i < length ms → (m : Man) × (slice_get ms i ≡ Some m)
+    man_there [] i low = absurd (omega (arith, low))
+    man_there (x ∷ xs) zero low = (x, refl)
+    man_there (x ∷ xs) (suc i) low = man_there xs i (omega (arith, low))
+
+-- a position of the game is that of the stock, with its men on their squares
+pub fits_placed : (p : Position) (side : Side) (q : Position) → Fits p side q → placed p.men (is_live (mask_of q)) side (squares_of q) ≡ q
+fits_placed p side q fits =
+    let live : ℕ → Bool = is_live (mask_of q) in
+    let men : men_from 1 p.men live (squares_of q) ≡ men_from 1 q.men live (squares_of q) = men_alike 1 p.men q.men live (squares_of q) (alike_of p.men q fits.stock) in
+    ap (λ xs. record { men = xs; turn = side }) men
+    ∙ ap (λ s. record { men = men_from 1 q.men live (squares_of q); turn = s }) (sym fits.turn)
+    ∙ self_placed q (mask_of q) (mask_tells q)
+
+-- positions of the game with one mask and one tuple are one
+pub fits_unique : (p : Position) (side : Side) (q r : Position) → Fits p side q → Fits p side r → mask_of q ≡ mask_of r → tuple_of q ≡ tuple_of r → q ≡ r
+fits_unique p side q r fits_q fits_r mask tuple =
+    let live : ℕ → Bool = is_live (mask_of r) in
+    let v : Values = values_of (squares_of q) in
+    let w : Values = values_of (squares_of r) in
+    let q_is : placed p.men live side (squares v) ≡ q = placed_values p.men live side (squares_of q) ∙ ap (λ m. placed p.men (is_live m) side (squares_of q)) (sym mask) ∙ fits_placed p side q fits_q in
+    let r_is : placed p.men live side (squares w) ≡ r = placed_values p.men live side (squares_of r) ∙ fits_placed p side r fits_r in
+    let same : values_at (tracks_of p.men live) v ≡ values_at (tracks_of p.men live) w = tuple_placed p.men live side v ∙ ap tuple_of q_is ∙ tuple ∙ sym (ap tuple_of r_is) ∙ sym (tuple_placed p.men live side w) in
+    sym q_is ∙ placed_unique p.men live side v w same ∙ r_is
+
+-- values of the tuple of a position of the game are those of its squares
+pub fits_values : (p : Position) (side : Side) (q : Position) (v : Values) → Fits p side q → values_at (tracks_of p.men (is_live (mask_of q))) v ≡ tuple_of q → placed p.men (is_live (mask_of q)) side (squares v) ≡ q
+fits_values p side q v fits tuple =
+    let live : ℕ → Bool = is_live (mask_of q) in
+    let w : Values = values_of (squares_of q) in
+    let q_is : placed p.men live side (squares w) ≡ q = placed_values p.men live side (squares_of q) ∙ fits_placed p side q fits in
+    placed_unique p.men live side v w (tuple ∙ sym (ap tuple_of q_is) ∙ sym (tuple_placed p.men live side w)) ∙ q_is

@@ -1,0 +1,79 @@
+-- The positions of one game, and its masks.
+use Rattle.std.specs.Prelude.{◌≡◌, ◌≢◌, ℕ, zero, suc, ◌+◌, ◌-◌, ◌*◌, ◌^◌, ◌<◌, Bool, true, false, ◌==◌, ◌&&◌, ◌||◌, not, if◌then◌else◌, List, [], ◌∷◌, ◌++◌, length, Option, Some, None}
+use Rattle.std.specs.Int.Bits.{bit_and}
+use Rattle.game_rules.specs.declared.men.Kind.TheVariants.{King}
+use Rattle.game_rules.specs.declared.men.Side.{Side}
+use Rattle.game_rules.specs.declared.men.Man.{Man}
+use Rattle.game_rules.specs.declared.men.Place.TheVariants.{Gone}
+use Rattle.game_rules.specs.declared.men.Square.{Square}
+use Rattle.game_rules.specs.Game.{HasOneKing, IsApart, Position, man_at, square_of}
+use Rattle.rule_formula.specs.declared.opt.Opt.{Opt}
+use Rattle.rule_formula.specs.Options.{is_king}
+use Rattle.rule_formula.specs.Placed.{is_live, stock_man}
+
+-- the men of the position have the sides and the kinds of the stock, wherever they are
+pub record HasStock (stock : List Man) (q : Position) : Type 0 where
+  pub count : length q.men ≡ length stock
+  pub men : (k : ℕ) (m n : Man) → stock_man stock k ≡ Some m → man_at q k ≡ Some n → (n.side ≡ m.side) × (n.kind ≡ m.kind)
+
+-- q may come up in a game from p with this side to move: the same men, of whom none is back who was gone,
+-- live men on distinct squares, and both kings live
+pub record Fits (p : Position) (side : Side) (q : Position) : Type 0 where
+  pub stock : HasStock p.men q
+  pub none_back : (k : ℕ) (m n : Man) → man_at p k ≡ Some m → man_at q k ≡ Some n → m.place ≡ Gone → n.place ≡ Gone
+  pub turn : q.turn ≡ side
+  pub apart : IsApart q
+  pub kings : (s : Side) → HasOneKing q s
+
+abbrev pub live_bit : Option Square → ℕ
+live_bit None = 0
+live_bit (Some z) = 1
+
+-- the mask of men, of whom the first has the lowest bit
+abbrev pub mask_of_men : List Man → ℕ
+mask_of_men [] = 0
+mask_of_men (m ∷ men) = live_bit (square_of m) + 2 * mask_of_men men
+
+abbrev pub mask_of : Position → ℕ
+mask_of p = mask_of_men p.men
+
+-- the mask without a man, or with no man the mask
+abbrev pub mask_without : ℕ → ℕ → ℕ
+mask_without mask zero = mask
+mask_without mask (suc t) = mask - 2 ^ t
+
+-- the mask after a step by the option
+abbrev pub target_of : ℕ → Opt → ℕ
+target_of mask o = mask_without mask o.taken
+
+-- the mask of some of the live men, with each king among them
+pub record IsGameMask (p : Position) (mask : ℕ) : Type 0 where
+  pub no_more : mask < 2 ^ length p.men
+  pub live : (k : ℕ) (m : Man) → man_at p k ≡ Some m → is_live mask k ≡ true → m.place ≢ Gone
+  pub kings : (k : ℕ) (m : Man) → man_at p k ≡ Some m → m.kind ≡ King → is_live mask k ≡ true
+
+-- all bits of the first are bits of the second
+abbrev pub is_part : ℕ → ℕ → Bool
+is_part a b = bit_and a b == a
+
+abbrev pub is_king_at : Option Man → Bool
+is_king_at None = false
+is_king_at (Some m) = is_king m.kind
+
+-- each king among the first n men is in the mask
+abbrev pub has_kings : List Man → ℕ → ℕ → Bool
+has_kings stock mask zero = true
+has_kings stock mask (suc n) = (not (is_king_at (stock_man stock (suc n))) || is_live mask (suc n)) && has_kings stock mask n
+
+-- it is one of some live men, with each king
+abbrev pub is_game_mask : Position → ℕ → Bool
+is_game_mask p mask = is_part mask (mask_of p) && has_kings p.men mask (length p.men)
+
+-- those of the first n numbers
+abbrev pub masks_to : Position → ℕ → List ℕ
+masks_to p zero = []
+masks_to p (suc n) = if is_game_mask p n then masks_to p n ++ n ∷ [] else masks_to p n
+
+-- the masks of the position, ascending
+abbrev pub masks_of : Position → List ℕ
+masks_of p = masks_to p (mask_of p + 1)

@@ -1,0 +1,122 @@
+//! The rays along which the men of a side bear on the other side's king.
+
+ghost use Rattle.std.specs.Prelude.{◌≡◌, ◌↔◌, ◌≤◌, ◌++◌, Contains, IfOk, OnOk, Some, length};
+ghost use Rattle.game_rules.specs.declared.men.Side.{Side};
+ghost use Rattle.game_rules.specs.Game.{HasOneKing, other as other_of};
+ghost use Rattle.rule_formula.specs.declared.opt.Bearing.{Bearing};
+ghost use Rattle.rule_formula.specs.Bearings.{IsBearingOf, along_rays, bearings_of, is_king_man, king_number as number_of_king, king_to, man_bearings};
+ghost use Rattle.rule_formula.specs.Fits.{IsGameMask};
+
+use crate::choices::{is_king, is_side, ray_count, serves_captures};
+use crate::opt::Bearing;
+use crate::stock::{is_live, man_of};
+use chess_game::Position;
+use game_rules::{Kind, Man, Side};
+use smallvec::SmallVec;
+use std::alloc::{AllocError, Global};
+
+/// The ways in which men may bear. Most lists are short.
+type Bearings = SmallVec<Bearing, 16>;
+
+/// The other side.
+fn other(side: Side) -> Side
+    ensures { result ≡ other_of side }
+{
+    match side {
+        Side::White => Side::Black,
+        Side::Black => Side::White,
+    }
+}
+
+/// Whether the man is the king of the side.
+fn is_king_of(man: Man, side: Side) -> bool
+    ensures { result ≡ is_king_man side (Some man) }
+{
+    is_side(man.side, side) && is_king(man.kind)
+}
+
+/// The number of the side's king, or 0.
+fn king_number(stock: &Position, side: Side) -> u8
+    ensures { result ≡ number_of_king stock.now.men side }
+{
+    king_among(stock, side, stock.count())
+}
+
+/// The number of the last king of the side among the first men, or 0.
+fn king_among(stock: &Position, side: Side, count: u8) -> u8
+    requires { count ≤ length stock.now.men }
+    ensures { result ≡ king_to stock.now.men side count }
+{
+    if count == 0 {
+        0
+    } else if is_king_of(man_of(stock, count), side) {
+        count
+    } else {
+        king_among(stock, side, count - 1)
+    }
+}
+
+fn push_rays(
+    bearings: &mut Bearings,
+    kind: Kind,
+    man: u8,
+    king: u8,
+    count: u8,
+) -> Result<(), AllocError>
+    ensures { OnOk result (bearings.new.items ≡ bearings.old.items ++ along_rays kind man king count) }
+{
+    for ray in 0..count {
+        if serves_captures(kind, ray) {
+            bearings.push(Bearing { man, ray, king })?;
+        }
+    }
+    Ok(())
+}
+
+fn push_man(
+    bearings: &mut Bearings,
+    mask: u8,
+    side: Side,
+    king: u8,
+    number: u8,
+    man: Man,
+) -> Result<(), AllocError>
+    requires low { 1 ≤ number }
+    requires high { number ≤ 8 }
+    ensures { OnOk result (bearings.new.items ≡ bearings.old.items ++ man_bearings mask side king number (Some man)) }
+{
+    if !(is_live(mask, number) && is_side(man.side, side)) {
+        return Ok(());
+    }
+    let count = ray_count(man.kind, man.side);
+    push_rays(bearings, man.kind, number, king, count)
+}
+
+/// The list itself.
+fn list(alloc: Global, stock: &Position, mask: u8, side: Side) -> Result<Bearings, AllocError>
+    ensures { IfOk result (λ all. all.items ≡ bearings_of stock.now.men mask side) }
+{
+    let king = king_number(stock, other(side));
+    let mut bearings = SmallVec::new(alloc);
+    for n in 0..stock.count() {
+        let number = n + 1;
+        let man = man_of(stock, number);
+        push_man(&mut bearings, mask, side, king, number, man)?;
+    }
+    Ok(bearings)
+}
+
+/// The ways in which the side's men may bear on the other side's king where the men of the mask are live: by man, then by ray.
+pub fn bearings(
+    alloc: Global,
+    stock: &Position,
+    mask: u8,
+    side: Side,
+) -> Result<SmallVec<Bearing, 16>, AllocError>
+    requires kings { (s : Side) → HasOneKing stock.now s }
+    requires mask { IsGameMask stock.now mask }
+    ensures list { IfOk result (λ all. all.items ≡ bearings_of stock.now.men mask side) }
+    ensures exact { IfOk result (λ all. (b : Bearing) → Contains all.items b ↔ IsBearingOf stock.now.men mask side b) }
+{
+    list(alloc, stock, mask, side)
+}
