@@ -2,19 +2,20 @@
 use Rattle.std.proofs.Common.{◌≡◌, ◌≢◌, ℕ, ◌<◌, ◌≤◌, ◌+◌, ◌%◌, ◌^◌, List, [], ◌∷◌, ◌++◌, length, get_or, Contains, AllPairs, All, arith, refl, sym, ap, ◌∙◌, subst, inl, inr}
 use Rattle.std.proofs.lemmas.Bool.{cases_lt}
 use Rattle.std.proofs.lemmas.Nat.{mod_below, pow_pos}
+use Rattle.std.proofs.lemmas.List.{get_or_read}
 use Rattle.std.proofs.lemmas.List.Elements.{All-nil, All-cons, All-append, All-get_or, All-from_get_or}
 use Rattle.track_word.specs.Word.{IsWord}
 use Rattle.letter_diagram.specs.declared.diagrams.Shape.{Shape}
 use Rattle.letter_diagram.specs.Diagram.{map_at, LooksBelow, Grows, IsMapped}
-use Rattle.letter_diagram.specs.Leaves.{AreLeaves}
 use Rattle.letter_diagram.specs.Listed.{EachAnswers}
 use Rattle.auto_core.specs.Automaton.{Automaton, width, first_state, next_state, state_of}
 use Rattle.auto_walk.proofs.WalkWords.{map_at-low}
 use Rattle.auto_reduce.specs.Partition.{AreRowNodes}
-use Rattle.auto_reduce.specs.Quotient.{IsCanonical, IsLed, AreLed, IsMet, IsOrderTo, AddsAll}
+use Rattle.auto_reduce.specs.Quotient.{IsCanonical, IsLed, AreLed, IsMet, IsOrderTo}
+use Rattle.auto_reduce.specs.Unmet.{AddsRow}
 use Rattle.auto_reduce.proofs.Counting.{length_le-below}
 use Rattle.auto_reduce.proofs.States.{state_within, state_of-append}
-use Rattle.auto_reduce.proofs.Orders.{place_in, Contains-kept}
+use Rattle.auto_reduce.proofs.Orders.{Contains-on}
 
 pub IsWord-one : (tracks letter : ℕ) → letter < 2 ^ tracks → IsWord tracks (letter ∷ [])
 IsWord-one tracks letter below = record { nonempty = λ e. cc e; letters = All-cons (λ l. l < 2 ^ tracks) letter [] below (All-nil (λ l. l < 2 ^ tracks)) }
@@ -52,6 +53,9 @@ module _ (a : Automaton) (canon : List ℕ) (c : IsCanonical a canon) where
   pub order_within : (order : List ℕ) (rows : ℕ) → IsOrderTo a canon order rows → All (λ s. s < length a.accept) order
   order_within order rows o = All-from_get_or (λ s. s < length a.accept) order 0 (λ k h. met_within _ (All-get_or (IsMet a canon) order k 0 h o.met))
 
+  pub order_known : (order : List ℕ) (rows place : ℕ) → IsOrderTo a canon order rows → place < length order → get_or order place 0 < length a.accept
+  order_known order rows place o within = All-get_or (λ s. s < length a.accept) order place 0 within (order_within order rows o)
+
   pub order_few : (order : List ℕ) (rows : ℕ) → IsOrderTo a canon order rows → length order ≤ length a.accept
   order_few order rows o = length_le-below order (length a.accept) o.different (order_within order rows o)
 
@@ -68,44 +72,41 @@ module _ (a : Automaton) (canon : List ℕ) (shapes : List Shape) (node : ℕ) (
   pub leads_low : (letter : ℕ) → map_at shapes node letter ≡ get_or canon (state (letter % width a)) 0
   leads_low letter = map_at-low shapes node (length a.tracks) letter l.narrow ∙ l.leads (letter % width a) (low_below letter)
 
-  -- what a leaf is
-  pub leaf_met : (leaves : List ℕ) (v : ℕ) → AreLeaves shapes node leaves → ((letter : ℕ) → letter < width a → IsMet a canon (get_or canon (state letter) 0)) → Contains leaves v → IsMet a canon v
-  leaf_met leaves v are met there =
-      let p = place_in leaves v there in
-      let g = are.given p.0 p.1 in
-      subst (IsMet a canon) (sym (leads_low g.0) ∙ g.1 ∙ p.2) (met (g.0 % width a) (low_below g.0))
+  -- what a value is
+  pub value_met : (g v : ℕ) → map_at shapes node g ≡ v → ((letter : ℕ) → letter < width a → IsMet a canon (get_or canon (state letter) 0)) → IsMet a canon v
+  value_met g v is met = subst (IsMet a canon) (sym (leads_low g) ∙ is) (met (g % width a) (low_below g))
 
-  pub leaf_there : (leaves order old : List ℕ) → AreLeaves shapes node leaves → AddsAll old order leaves → (letter : ℕ) → letter < width a → Contains order (get_or canon (state letter) 0)
-  leaf_there leaves order old are adds letter below = subst (Contains order) (l.leads letter below) (adds.has _ (are.all letter))
+  pub value_there : (old new : List ℕ) → AddsRow shapes node old new → (letter : ℕ) → letter < width a → Contains new (get_or canon (state letter) 0)
+  value_there old new adds letter below = subst (Contains new) (l.leads letter below) (adds.has letter)
 
 module _ (a : Automaton) (canon : List ℕ) (shapes : List Shape) (first : ℕ) (rows : List ℕ) (c : IsCanonical a canon) (led : AreLed a canon shapes first rows) where
-  pub order-first : (leaves order : List ℕ) → AreLeaves shapes first leaves → AddsAll [] order leaves → AllPairs (λ j k. j ≢ k) order → IsOrderTo a canon order 0
-  order-first leaves order are adds apart = record {
-    met = All-from_get_or (IsMet a canon) order 0 (λ k h. leaf_met a canon shapes first (first_state a) led.first_row leaves _ are (met_first a canon c) (adds.added k (omega arith) h));
+  pub order-first : (order : List ℕ) → AddsRow shapes first [] order → AllPairs (λ j k. j ≢ k) order → IsOrderTo a canon order 0
+  order-first order adds apart = record {
+    met = All-from_get_or (IsMet a canon) order 0 (λ k h. let g = adds.added k (omega arith) h in value_met a canon shapes first (first_state a) led.first_row g.0 _ g.1 (met_first a canon c));
     different = apart;
-    first = λ letter below. leaf_there a canon shapes first (first_state a) led.first_row leaves order [] are adds letter below;
+    first = λ letter below. value_there a canon shapes first (first_state a) led.first_row [] order adds letter below;
     next = λ place letter none below. absurd (omega (arith, none));
   }
 
-  pub order-next : (leaves old new : List ℕ) (place state : ℕ) → IsOrderTo a canon old place → place < length old → get_or old place 0 ≡ state
-      → AreLeaves shapes (get_or rows state 0) leaves → AddsAll old new leaves → AllPairs (λ j k. j ≢ k) new → IsOrderTo a canon new (place + 1)
-  order-next leaves old new place state o here is are adds apart =
+  pub order-next : (old new : List ℕ) (place state : ℕ) → IsOrderTo a canon old place → place < length old → get_or old place 0 ≡ state
+      → AddsRow shapes (get_or rows state 0) old new → AllPairs (λ j k. j ≢ k) new → IsOrderTo a canon new (place + 1)
+  order-next old new place state o here is adds apart =
       let met_state : IsMet a canon state = subst (IsMet a canon) is (All-get_or (IsMet a canon) old place 0 here o.met) in
       let known = met_within a canon c state met_state in
       let row = led.row state known in
       record {
         met = All-from_get_or (IsMet a canon) new 0 (λ k h. elim (cases_lt k (length old)) [
           | inl before ↦ subst (IsMet a canon) (sym (adds.kept k before)) (All-get_or (IsMet a canon) old k 0 before o.met)
-          | inr past ↦ leaf_met a canon shapes _ (next_state a state) row leaves _ are (λ letter below. met_next a canon c state letter met_state below) (adds.added k past h)
+          | inr past ↦ let g = adds.added k past h in value_met a canon shapes _ (next_state a state) row g.0 _ g.1 (λ letter below. met_next a canon c state letter met_state below)
         ]);
         different = apart;
-        first = λ letter below. Contains-kept old new leaves adds _ (o.first letter below);
+        first = λ letter below. Contains-on old new adds.longer adds.kept _ (o.first letter below);
         next = λ p letter less below. elim (cases_lt p place) [
-          | inl before ↦ subst (λ s. Contains new (get_or canon (next_state a s letter) 0)) (sym (adds.kept p (omega arith))) (Contains-kept old new leaves adds _ (o.next p letter before below))
+          | inl before ↦ subst (λ s. Contains new (get_or canon (next_state a s letter) 0)) (sym (adds.kept p (omega arith))) (Contains-on old new adds.longer adds.kept _ (o.next p letter before below))
           | inr past ↦
               let same : place ≡ p = omega (arith, less, past) in
               subst (λ s. Contains new (get_or canon (next_state a s letter) 0)) (sym (adds.kept p (omega arith) ∙ ap (λ n. get_or old n 0) (sym same) ∙ is))
-              (leaf_there a canon shapes _ (next_state a state) row leaves new old are adds letter below)
+              (value_there a canon shapes _ (next_state a state) row old new adds letter below)
         ];
       }
 
@@ -133,3 +134,9 @@ AreLed-made a canon c s0 s1 s2 first_node first own rows o g h narrow leads know
         leads = λ letter below. made.map letter ∙ ap (λ v. get_or canon v 0) (kept letter ∙ o.leads state letter within below);
       };
 }
+
+-- the row of the state at a place of an order
+pub row_read : (rows seen order : List ℕ) (place node : ℕ) → seen ≡ order → get_or order place 0 < length rows → node ≡ get_or rows (get_or seen place 0) node → node ≡ get_or rows (get_or order place 0) 0
+row_read rows seen order place node same within read =
+    let is = subst (λ l. node ≡ get_or rows (get_or l place 0) node) same read in
+    get_or_read rows (get_or order place 0) node within is 0

@@ -13,3 +13,4 @@ pub mod Stables
 pub mod Numberings
 pub mod SameTables
 pub mod SameWords
+pub mod Unmets

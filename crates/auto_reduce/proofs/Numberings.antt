@@ -6,9 +6,9 @@ use Rattle.std.proofs.lemmas.List.{get_or_append_left, get_or-append_right, leng
 use Rattle.std.proofs.lemmas.Grind.{common_steps}
 use Rattle.letter_diagram.specs.declared.diagrams.Shape.{Shape}
 use Rattle.letter_diagram.specs.Diagram.{map_at}
-use Rattle.letter_diagram.specs.Leaves.{AreLeaves}
 use Rattle.auto_core.specs.Automaton.{Automaton, width, first_state, next_state}
-use Rattle.auto_reduce.specs.Quotient.{IsLed, AddsAll, IsOrderTo, IsQuotientBy}
+use Rattle.auto_reduce.specs.Quotient.{IsLed, IsOrderTo, IsQuotientBy}
+use Rattle.auto_reduce.specs.Unmet.{AddsRow}
 use Rattle.auto_reduce.specs.Numbering.{mentions, IsNumberedBreadthFirst, led_in, IsMentioned, IsMentionedBefore, IsNumberedTo, IsQuotient}
 use Rattle.auto_reduce.proofs.States.{first_within, next_within}
 use Rattle.auto_reduce.proofs.Orders.{place_in}
@@ -17,16 +17,16 @@ use Rattle.auto_reduce.proofs.Quotients.{different_places}
 
 module _ (a : Automaton) (canon : List ℕ) where
   -- rows of kept places lead where they did
-  led-kept : (old new values : List ℕ) → AddsAll old new values → (row letter : ℕ) → row ≤ length old → led_in a canon new row letter ≡ led_in a canon old row letter
-  led-kept old new values h zero letter within = refl
-  led-kept old new values h (suc place) letter within = ap (λ s. get_or canon (next_state a s letter) 0) (h.kept place (omega (arith, within)))
+  led-kept : (old new : List ℕ) → ((place : ℕ) → place < length old → get_or new place 0 ≡ get_or old place 0) → (row letter : ℕ) → row ≤ length old → led_in a canon new row letter ≡ led_in a canon old row letter
+  led-kept old new kept zero letter within = refl
+  led-kept old new kept (suc place) letter within = ap (λ s. get_or canon (next_state a s letter) 0) (kept place (omega (arith, within)))
 
   -- one row more
-  module _ (shapes : List Shape) (node rows : ℕ) (state : ℕ → ℕ) (old new leaves : List ℕ) (l : IsLed a canon shapes node state) (are : AreLeaves shapes node leaves) (adds : AddsAll old new leaves)
+  module _ (shapes : List Shape) (node rows : ℕ) (state : ℕ → ℕ) (old new : List ℕ) (l : IsLed a canon shapes node state) (adds : AddsRow shapes node old new)
       (apart : AllPairs (λ j k. j ≢ k) new) (n : IsNumberedTo a canon old rows) (within : rows ≤ length old) (is_row : (letter : ℕ) → get_or canon (state letter) 0 ≡ led_in a canon old rows letter)
       (closed : (row letter : ℕ) → row < rows → letter < width a → Contains old (led_in a canon old row letter)) where
     row-new : (letter : ℕ) → letter < width a → led_in a canon new rows letter ≡ map_at shapes node letter
-    row-new letter below = led-kept old new leaves adds rows letter within ∙ sym (is_row letter) ∙ sym (l.leads letter below)
+    row-new letter below = led-kept old new adds.kept rows letter within ∙ sym (is_row letter) ∙ sym (l.leads letter below)
 
     mention-kept : (state : ℕ) → IsMentioned a canon old rows state → IsMentioned a canon new (rows + 1) state
     mention-kept s m = record {
@@ -34,15 +34,14 @@ module _ (a : Automaton) (canon : List ℕ) where
       letter = m.letter;
       within = let w = m.within in omega (arith, w);
       below = m.below;
-      leads = led-kept old new leaves adds m.row m.letter (let w = m.within in omega (arith, w, within)) ∙ m.leads;
+      leads = led-kept old new adds.kept m.row m.letter (let w = m.within in omega (arith, w, within)) ∙ m.leads;
     }
 
     new_mentioned : (number : ℕ) → number < length new → IsMentioned a canon new (rows + 1) (get_or new number 0)
     new_mentioned number h = elim (cases_lt number (length old)) [
       | inl before ↦ subst (IsMentioned a canon new (rows + 1)) (sym (adds.kept number before)) (mention-kept _ (n.mentioned number before))
       | inr past ↦
-          let p = place_in leaves _ (adds.added number past h) in
-          let g = are.given p.0 p.1 in
+          let g = adds.added number past h in
           let low = g.0 % width a in
           let below = mod_below g.0 (width a) (pow_pos (length a.tracks)) in
           record {
@@ -50,13 +49,13 @@ module _ (a : Automaton) (canon : List ℕ) where
             letter = g.0 % width a;
             within = omega arith;
             below = below;
-            leads = row-new (g.0 % width a) below ∙ l.leads (g.0 % width a) below ∙ sym (leads_low a canon shapes node state l g.0) ∙ g.1 ∙ p.2;
+            leads = row-new (g.0 % width a) below ∙ l.leads (g.0 % width a) below ∙ sym (leads_low a canon shapes node state l g.0) ∙ g.1;
           }
     ]
 
     before_old : (row letter number : ℕ) → row < rows → letter < width a → number + 1 < length new → led_in a canon new row letter ≡ get_or new (number + 1) 0 → IsMentionedBefore a canon new row letter (get_or new number 0)
     before_old row letter number less below h e =
-        let kept = led-kept old new leaves adds row letter (omega (arith, less, within)) in
+        let kept = led-kept old new adds.kept row letter (omega (arith, less, within)) in
         let p = place_in old _ (closed row letter less below) in
         let p_in = p.1 in
         let longer = adds.longer in
@@ -68,7 +67,7 @@ module _ (a : Automaton) (canon : List ℕ) where
           earlier = m.earlier;
           below = m.below;
           before = m.before;
-          leads = led-kept old new leaves adds m.earlier_row m.earlier (earlier_in m.before) ∙ m.leads ∙ sym (adds.kept number (omega (arith, inside)));
+          leads = led-kept old new adds.kept m.earlier_row m.earlier (earlier_in m.before) ∙ m.leads ∙ sym (adds.kept number (omega (arith, inside)));
         }
       where
         earlier_in : {r e l : ℕ} → (r < row) ⊎ ((r ≡ row) × (e < l)) → r ≤ length old
@@ -85,19 +84,18 @@ module _ (a : Automaton) (canon : List ℕ) where
             earlier = m.letter;
             below = m.below;
             before = inl w;
-            leads = led-kept old new leaves adds m.row m.letter (omega (arith, w, within)) ∙ m.leads ∙ sym (adds.kept number before);
+            leads = led-kept old new adds.kept m.row m.letter (omega (arith, w, within)) ∙ m.leads ∙ sym (adds.kept number before);
           }
       | inr past ↦
-          let r = adds.in_order number (number + 1) past (omega arith) h in
-          let o = are.ordered r.place r.later r.less r.within in
-          let less = o.2 letter (sym (row-new letter below) ∙ e ∙ sym r.later_is) in
+          let o = adds.in_order number (number + 1) past (omega arith) h in
+          let less = o.2 letter (sym (row-new letter below) ∙ e) in
           let low : o.0 < width a = omega (arith, less, below) in
           record {
             earlier_row = rows;
             earlier = o.0;
             below = low;
             before = inr (refl, less);
-            leads = row-new o.0 low ∙ o.1 ∙ r.is;
+            leads = row-new o.0 low ∙ o.1;
           }
     ]
 

@@ -1,5 +1,5 @@
 -- Lists that grow by values that they did not have.
-use Rattle.std.proofs.Common.{◌≡◌, ◌≢◌, ℕ, ◌<◌, ◌+◌, Bool, true, false, nat_eq, List, [], ◌∷◌, ◌++◌, length, take, get_or, Contains, AllPairs, arith, refl, sym, ap, ◌∙◌, subst, inl, inr, if◌then◌else◌}
+use Rattle.std.proofs.Common.{◌≡◌, ◌≢◌, ℕ, ◌<◌, ◌≤◌, ◌+◌, Bool, true, false, nat_eq, List, [], ◌∷◌, ◌++◌, length, take, get_or, Contains, AllPairs, arith, refl, sym, ap, ◌∙◌, subst, inl, inr, if◌then◌else◌}
 use Rattle.std.specs.List.{list_any, IsDistinct}
 use Rattle.std.proofs.lemmas.Bool.{cases_lt}
 use Rattle.std.proofs.lemmas.Bool.Decides.{Decides-eqb}
@@ -19,10 +19,14 @@ place_in xs x h = (h.0, h.1, sym (get_or_read xs h.0 x h.1 (sym h.2) 0))
 pub Contains-at : (xs : List ℕ) (k x : ℕ) → k < length xs → get_or xs k 0 ≡ x → Contains xs x
 Contains-at xs k x within e = subst (Contains xs) e (Contains-get_or xs k 0 within)
 
-pub Contains-kept : (old new values : List ℕ) → AddsAll old new values → (x : ℕ) → Contains old x → Contains new x
-Contains-kept old new values h x there =
+-- what stands in a list stands in one that goes on from it
+pub Contains-on : (old new : List ℕ) → length old ≤ length new → ((place : ℕ) → place < length old → get_or new place 0 ≡ get_or old place 0) → (x : ℕ) → Contains old x → Contains new x
+Contains-on old new longer kept x there =
     let p = place_in old x there in
-    Contains-at new p.0 x (let l = h.longer in let w = p.1 in omega arith) (h.kept p.0 p.1 ∙ p.2)
+    Contains-at new p.0 x (let w = p.1 in omega (arith, longer, w)) (kept p.0 p.1 ∙ p.2)
+
+pub Contains-kept : (old new values : List ℕ) → AddsAll old new values → (x : ℕ) → Contains old x → Contains new x
+Contains-kept old new values h x there = Contains-on old new h.longer h.kept x there
 
 AddsAll-push : (old : List ℕ) (state : ℕ) → AddsAll old (old ++ state ∷ []) (state ∷ [])
 AddsAll-push old state = record {

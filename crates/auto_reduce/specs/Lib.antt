@@ -5,5 +5,6 @@ pub use Rattle.auto_core.specs.Reduced
 pub use Rattle.auto_core.specs.Integers
 pub mod Partition
 pub mod Quotient
+pub mod Unmet
 pub mod Numbering
 pub mod Tables

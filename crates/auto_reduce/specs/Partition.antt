@@ -1,5 +1,5 @@
 -- Partitions of the states of an automaton into numbered classes.
-use Rattle.std.specs.Prelude.{◌≡◌, ◌≢◌, ◌↔◌, ℕ, ◌<◌, List, length, All, slice_get, slice_index, Some}
+use Rattle.std.specs.Prelude.{◌≡◌, ◌≢◌, ◌↔◌, ℕ, ◌<◌, Bool, true, false, List, length, All, slice_get, slice_index, slice_index_or, Some}
 use Rattle.letter_diagram.specs.declared.diagrams.Shape.{Shape}
 use Rattle.letter_diagram.specs.Diagram.{map_at, LooksBelow}
 use Rattle.auto_core.specs.Automaton.{Automaton, width, next_state, is_final}
@@ -35,6 +35,17 @@ pub record AreRowNodes (a : Automaton) (shapes : List Shape) (rows : List ℕ) :
   pub narrow : All (λ node. LooksBelow shapes node (length a.tracks)) rows
   pub within : All (λ node. (letter : ℕ) → map_at shapes node letter < length a.accept) rows
   pub leads : (state letter : ℕ) → state < length a.accept → letter < width a → map_at shapes (slice_index rows state) letter ≡ next_state a state letter
+
+-- for each class whether more than one state has it
+pub record AreShared (classes : List ℕ) (count : ℕ) (shared : List Bool) : Type 0 where
+  pub size : length shared ≡ count
+  pub more : (j k : ℕ) → j < k → k < length classes → slice_index classes j ≡ slice_index classes k → slice_index_or shared (slice_index classes k) false ≡ true
+
+-- rows for the states: their own for those that share their class
+pub record AreOpenRows (classes rows opened : List ℕ) : Type 0 where
+  pub size : length opened ≡ length rows
+  pub some : (state : ℕ) → state < length rows → (other : ℕ) × (other < length rows) × (slice_index opened state ≡ slice_index rows other)
+  pub own : (j k : ℕ) → j < length rows → k < length rows → j ≢ k → slice_index classes j ≡ slice_index classes k → slice_index opened j ≡ slice_index rows j
 
 -- states are in one class exactly where they were in one class before, and their next states too for each letter
 pub record IsRound (a : Automaton) (start classes : List ℕ) (count : ℕ) : Type 0 where

@@ -15,6 +15,7 @@ mod signatures;
 mod stable;
 #[cfg(test)]
 mod tests;
+mod unmet;
 
 pub use empty::is_empty;
 pub use quotient::reduce;

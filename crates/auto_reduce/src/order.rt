@@ -1,5 +1,5 @@
 //! States in the order in which they are met.
-ghost use Rattle.std.specs.Prelude.{◌≡◌, ◌≢◌, ◌≤◌, ◌<◌, [], ◌∷◌, List, ℕ, length, OnOk, AllPairs};
+ghost use Rattle.std.specs.Prelude.{◌≡◌, ◌≢◌, ◌≤◌, ◌<◌, [], ◌∷◌, ◌↔◌, List, ℕ, length, OnOk, AllPairs, Contains, IsTrue};
 ghost use Rattle.auto_reduce.specs.Quotient.{AddsAll};
 
 use indexmap::IndexSet;
@@ -36,16 +36,26 @@ impl Order {
         self.seen.as_slice()
     }
 
+    /// Whether a state was added.
+    pub fn has(&self, state: u32) -> bool
+        ensures { IsTrue result ↔ Contains self.now state }
+    {
+        self.seen.contains(&state)
+    }
+
     fn add(&mut self, state: u32) -> Result<(), AllocError>
-        ensures { OnOk result (AddsAll self.old self.new (state ∷ [])) }
+        ensures adds { OnOk result (AddsAll self.old self.new (state ∷ [])) }
+        ensures different { AllPairs (λ x y. x ≢ y) self.new }
     {
         let _ = self.seen.insert_full(state)?;
         Ok(())
     }
 
     pub fn add_all(&mut self, states: &[u32]) -> Result<(), AllocError>
-        ensures { OnOk result (AddsAll self.old self.new states.now) }
+        ensures adds { OnOk result (AddsAll self.old self.new states.now) }
+        ensures different { AllPairs (λ x y. x ≢ y) self.new }
     {
+        let _ = &self.seen;
         for state in states {
             self.add(*state)?;
         }

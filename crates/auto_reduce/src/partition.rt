@@ -1,8 +1,8 @@
 //! The coarsest partition of the states that keeps flags and next states apart.
-ghost use Rattle.std.specs.Prelude.{◌≡◌, ◌<◌, ◌^◌, length, IfOk};
+ghost use Rattle.std.specs.Prelude.{◌≡◌, ◌<◌, ◌^◌, ℕ, length, slice_index, true, IfOk};
 ghost use Rattle.letter_diagram.specs.Diagram.{Grows};
 ghost use Rattle.auto_core.specs.Automaton.{IsAutomaton};
-ghost use Rattle.auto_reduce.specs.Partition.{IsSplit, IsPartition, IsRound, IsFlag, IsSound, IsCoarsest, AreRowNodes};
+ghost use Rattle.auto_reduce.specs.Partition.{IsSplit, IsPartition, IsRound, IsFlag, IsSound, IsCoarsest, AreRowNodes, AreShared, AreOpenRows};
 
 use crate::rows::row_nodes;
 use crate::signatures::Signatures;
@@ -35,7 +35,46 @@ fn split(alloc: Global, current: &[u32], nodes: &[Node]) -> Result<Partition, Al
     })
 }
 
-/// Splits the classes by the classes of the next states. Equal nodes are equal maps, so the rows, led to classes, are compared as nodes.
+/// For each class whether more than one state has it.
+fn shared_classes(alloc: Global, partition: &Partition) -> Result<Vec<bool>, AllocError>
+    requires { IsPartition (length partition.now.classes.items) partition.now.classes.items partition.now.count }
+    ensures { IfOk result (λ shared. AreShared partition.now.classes.items partition.now.count shared.items) }
+{
+    let mut seen = vec![in alloc; false; partition.count]?;
+    let mut shared = vec![in alloc; false; partition.count]?;
+    for class in partition.classes.as_slice() {
+        let again = seen[*class as usize] | shared[*class as usize];
+        shared[*class as usize] = again;
+        seen[*class as usize] = true;
+    }
+    Ok(shared)
+}
+
+/// The row of a state, or the first one.
+fn row_if(rows: &[Node], state: usize, own: bool) -> Node
+    requires { state < length rows.now }
+    ensures own { own ≡ true → result ≡ slice_index rows.now state }
+    ensures some { (other : ℕ) × (other < length rows.now) × (result ≡ slice_index rows.now other) }
+{
+    if own { rows[state] } else { rows[0] }
+}
+
+/// For each state a row to lead to classes. A state alone in its class stays alone, so that the first row will do for it.
+fn open_rows(alloc: Global, rows: &[Node], partition: &Partition) -> Result<Vec<Node>, AllocError>
+    requires partition { IsPartition (length rows.now) partition.now.classes.items partition.now.count }
+    ensures { IfOk result (λ opened. AreOpenRows partition.now.classes.items rows.now opened.items) }
+{
+    let shared = shared_classes(alloc, partition)?;
+    let mut opened = Vec::new(alloc);
+    for state in 0..rows.len() {
+        let own = shared[partition.classes[state] as usize];
+        opened.push(row_if(rows, state, own))?;
+    }
+    Ok(opened)
+}
+
+/// Splits the classes by the classes of the next states. Equal nodes are equal maps, so the rows, led to classes, are compared as
+/// nodes. Costs the nodes of the rows of states that share their class.
 fn round(
     alloc: Global,
     diagrams: &mut Diagrams,
@@ -49,7 +88,8 @@ fn round(
     ensures grows { Grows diagrams.old diagrams.new }
 {
     let _ = a.states();
-    let led = diagrams.map_leaves_all(rows, start.classes.as_slice())?;
+    let opened = open_rows(alloc, rows, start)?;
+    let led = diagrams.map_leaves_all(opened.as_slice(), start.classes.as_slice())?;
     let _ = diagrams.top(led[0]);
     let split = split(alloc, start.classes.as_slice(), led.as_slice())?;
     Ok(split)

@@ -9,9 +9,11 @@ ghost use Rattle.auto_reduce.specs.Quotient.{AreLed, IsCanonical, IsOrder, AreNu
 use crate::canonical::canonical;
 use crate::order::Order;
 use crate::rows::row_nodes;
+use crate::unmet::add_row;
 use auto_core::Auto;
 use letter_diagram::{Diagrams, Node};
 use std::alloc::{AllocError, Global};
+use std::collections::HashSet;
 
 /// An automaton whose rows lead to canonical states: one of the states that nothing tells apart, the same for all of these.
 #[derive(Drop)]
@@ -52,11 +54,11 @@ impl<'a> Led<'a> {
         let mut order = Order::new(alloc);
         let leaves = self.diagrams.leaves(self.first)?;
         order.add_all(leaves.as_slice())?;
+        let mut done = HashSet::new(alloc);
         let mut place = 0;
         while place < order.as_slice().len() {
-            let state = order.as_slice()[place];
-            let leaves = self.diagrams.leaves(self.rows[state as usize])?;
-            order.add_all(leaves.as_slice())?;
+            let row = self.rows[order.as_slice()[place] as usize];
+            add_row(alloc, &self.diagrams, row, &mut order, &mut done)?;
             place += 1;
         }
         Ok(order)
@@ -119,7 +121,8 @@ fn flags(alloc: Global, a: &Auto, order: &[u32]) -> Result<Vec<bool>, AllocError
 }
 
 /// The automaton of the same words with no state too many (Moore 1956), whose states are numbered in the order in which
-/// a breadth-first walk in ascending letters meets them. Costs the nodes of all rows once for each round of the refinement.
+/// a breadth-first walk in ascending letters meets them. Costs, for each round of the refinement, the nodes of the rows of states
+/// that share their class, and for the numbering the nodes of all rows.
 pub fn reduce(alloc: Global, a: &Auto) -> Result<Auto, AllocError>
     ensures tracks { IfOk result (λ m. m.tracks ≡ a.now.tracks) }
     ensures words { IfOk result (λ m. (word : List ℕ) → IsWord (length a.now.tracks) word → Accepts m word ↔ Accepts a.now word) }

@@ -1,6 +1,7 @@
 use Rattle.std.proofs.Common.{◌≤◌, ◌+◌, ◌-◌, length}
 use Rattle.auto_reduce.specs.Quotient.{IsOrderTo}
 use Rattle.auto_reduce.specs.Numbering.{IsNumberedTo}
+use Rattle.auto_reduce.specs.Unmet.{AreDone}
 use Rattle.auto_reduce.proofs.quotient.Led.order.Given as goal
 
 abbrev pub invariant-loop-place : goal.invariant-loop-place
@@ -8,6 +9,7 @@ invariant-loop-place l = record {
   order_to : IsOrderTo l.self.a.now l.self.canon.items l.order l.place;
   numbered : IsNumberedTo l.self.a.now l.self.canon.items l.order (l.place + 1);
   within : l.place ≤ length l.order;
+  done : AreDone l.self.diagrams l.order l.done;
 }
 
 abbrev pub decreases-loop-place : goal.decreases-loop-place

@@ -1,0 +1,91 @@
+//! The states to which a row leads and that were not met before it.
+ghost use Rattle.std.specs.Prelude.{◌≡◌, ◌≢◌, ◌<◌, ◌⊎◌, ℕ, length, IfOk, OnOk, Contains, AllPairs};
+ghost use Rattle.letter_diagram.specs.Diagram.{map_at, top_track, Grows};
+ghost use Rattle.auto_reduce.specs.Unmet.{AddsRow, IsMetLeaf, IsPruned, RemembersPruned, AreDone};
+
+use crate::order::Order;
+use letter_diagram::{Diagrams, Node, Shape};
+use std::alloc::{AllocError, Global};
+use std::collections::{HashMap, HashSet};
+
+/// The leaf of a state, or where it was met that of a state that was met.
+fn pruned_leaf(order: &Order, met: Node, to: &mut Diagrams, state: u32) -> Result<Node, AllocError>
+    requires { IsMetLeaf to.old order.now met }
+    ensures known { IfOk result (λ leaf. leaf < length to.new) }
+    ensures top { IfOk result (λ leaf. top_track to.new leaf ≡ 20) }
+    ensures map { IfOk result (λ leaf. (letter : ℕ) → (map_at to.new leaf letter ≡ state) ⊎ (Contains order.now (map_at to.new leaf letter) × Contains order.now state)) }
+    ensures grows { Grows to.old to.new }
+{
+    if order.has(state) {
+        return Ok(met);
+    }
+    let leaf = to.leaf(state)?;
+    Ok(leaf)
+}
+
+/// The node in `to` of a row of `from`, where states that were met may stand for one another. Nodes that lead to such states alone
+/// are noted as done, and passed over from then on: `met` stands for them.
+fn pruned(
+    from: &Diagrams,
+    node: Node,
+    order: &Order,
+    met: Node,
+    to: &mut Diagrams,
+    memo: &mut HashMap<Node, Node>,
+    done: &mut HashSet<Node>,
+) -> Result<Node, AllocError>
+    requires known { node < length from.now }
+    requires met { IsMetLeaf to.old order.now met }
+    requires remembered { RemembersPruned from.now to.old order.now memo.old }
+    requires done { AreDone from.now order.now done.old }
+    ensures pruned { IfOk result (λ pruned. IsPruned from.now to.new order.now node pruned) }
+    ensures remembered { OnOk result (RemembersPruned from.now to.new order.now memo.new) }
+    ensures done { OnOk result (AreDone from.now order.now done.new) }
+    ensures grows { Grows to.old to.new }
+{
+    let shape = from.shape(node);
+    if done.contains(&node) {
+        return Ok(met);
+    }
+    if let Some(known) = memo.get(&node) {
+        return Ok(*known);
+    }
+    let made = match shape {
+        Shape::Leaf(state) => pruned_leaf(order, met, to, state)?,
+        Shape::Test { track, low, high } => {
+            let low = pruned(from, low, order, met, to, memo, done)?;
+            let high = pruned(from, high, order, met, to, memo, done)?;
+            to.node(track, low, high)?
+        }
+    };
+    memo.insert(node, made)?;
+    if to.same_map(made, met) {
+        done.insert(node)?;
+    }
+    Ok(made)
+}
+
+/// Puts the states to which a row leads and that are not in the order at its end, by the least letters that lead to them.
+/// Costs the nodes of the row that are not done.
+pub fn add_row(
+    alloc: Global,
+    from: &Diagrams,
+    row: Node,
+    order: &mut Order,
+    done: &mut HashSet<Node>,
+) -> Result<(), AllocError>
+    requires known { row < length from.now }
+    requires some { 0 < length order.old }
+    requires done { AreDone from.now order.old done.old }
+    ensures adds { OnOk result (AddsRow from.now row order.old order.new) }
+    ensures different { OnOk result (AllPairs (λ j k. j ≢ k) order.new) }
+    ensures done { OnOk result (AreDone from.now order.new done.new) }
+{
+    let mut to = Diagrams::new(alloc);
+    let met = to.leaf(order.as_slice()[0])?;
+    let mut memo = HashMap::new(alloc);
+    let unmet = pruned(from, row, order, met, &mut to, &mut memo, done)?;
+    let leaves = to.leaves(unmet)?;
+    order.add_all(leaves.as_slice())?;
+    Ok(())
+}
