@@ -1,26 +1,23 @@
 -- Rounds of the closure of a row over repeated letters.
-use Rattle.std.proofs.Common.{◌≡◌, ◌≢◌, ◌⊎◌, ◌↔◌, ℕ, zero, suc, ◌<◌, ◌≤◌, ◌+◌, ◌^◌, List, [], ◌∷◌, ◌++◌, length, get_or, slice_get, slice_index, Option, None, Some, Contains, arith, refl, sym, ap, ◌∙◌, subst, inl, inr}
+use Rattle.std.proofs.Common.{◌≡◌, ◌⊎◌, ℕ, ◌<◌, ◌≤◌, ◌+◌, ◌^◌, List, [], ◌∷◌, ◌++◌, length, get_or, slice_get, slice_index, None, Some, Contains, arith, sym, ap, ◌∙◌, subst, inl, inr}
 use Rattle.std.specs.List.{All, range_with_len}
 use Rattle.std.specs.List.Sorted.{IsStrictlyIncreasing}
-use Rattle.std.specs.Int.{bit_at}
 use Rattle.std.proofs.lemmas.Bool.{cases_lt}
-use Rattle.std.proofs.lemmas.Option.{slice_get-get_or, slice_get_within, slice_get_past, get_or_from_slice_get, same_Some}
+use Rattle.std.proofs.lemmas.Option.{slice_get-get_or, slice_get_past, get_or_from_slice_get, same_Some}
 use Rattle.std.proofs.lemmas.List.{get_or_default}
 use Rattle.std.proofs.lemmas.List.Elements.{All-get_or, Contains-append_left, Contains-append_right}
 use Rattle.std.proofs.lemmas.List.FromFn.{length-range_with_len}
 use Rattle.track_word.specs.declared.tracks.Var.{Var}
-use Rattle.track_word.specs.Tracks.{without_var}
 use Rattle.letter_diagram.specs.declared.diagrams.Shape.{Shape}
 use Rattle.letter_diagram.specs.Diagram.{map_at, Grows}
 use Rattle.letter_diagram.specs.Sets.{set_at, SetsKept}
 use Rattle.letter_diagram.specs.Leaves.{AreLeaves}
 use Rattle.letter_diagram.specs.Merged.{HasSets}
-use Rattle.letter_diagram.proofs.SetNumbers.{SetsKept-refl, SetsKept-trans}
 use Rattle.letter_diagram.proofs.Mergings.{HasSets-grows}
 use Rattle.auto_core.specs.Automaton.{Automaton, IsAutomaton}
 use Rattle.auto_bool.proofs.States.{state_within}
-use Rattle.auto_project.specs.Lifted.{Begins, Follows, LiftLeads}
-use Rattle.auto_project.specs.SetMaps.{set_of, IsNarrow, IsSetRow, AreSetRows, IsLedRow, IsAllowed, IsJoinedSet, IsJoined, IsStepped, IsSwept}
+use Rattle.auto_project.specs.Lifted.{Begins, LiftLeads}
+use Rattle.auto_project.specs.SetMaps.{set_of, IsNarrow, IsSetRow, AreSetRows, IsLedRow, IsJoined, IsStepped, IsSwept}
 use Rattle.auto_project.proofs.Lists.{length-wider, all_in_or_one_not, in_or_not, Contains-range}
 use Rattle.auto_project.proofs.Lifts.{LiftLeads-begins, LiftLeads-follows, LiftLeads-in}
 use Rattle.auto_project.proofs.SetMapLemmas.{stays, has-kept, had, AreSetRows-kept, IsLedRow-kept}

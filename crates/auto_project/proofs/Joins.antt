@@ -1,18 +1,18 @@
 -- Tables of joined sets, and unions of rows.
-use Rattle.std.proofs.Common.{◌≡◌, ◌≢◌, ◌⊎◌, ◌↔◌, ℕ, zero, suc, ◌<◌, ◌≤◌, ◌+◌, ◌^◌, List, [], ◌∷◌, ◌++◌, length, get_or, slice_get, slice_index, Option, None, Some, Contains, arith, refl, sym, ap, ◌∙◌, subst, inl, inr}
+use Rattle.std.proofs.Common.{◌≡◌, ◌≢◌, ◌↔◌, ℕ, ◌<◌, ◌≤◌, ◌+◌, List, [], ◌∷◌, ◌++◌, length, get_or, slice_get, slice_index, Option, None, Some, Contains, arith, sym, ap, ◌∙◌, subst, inl, inr}
 use Rattle.std.specs.List.{All}
 use Rattle.std.proofs.Math.ListN.{set}
 use Rattle.std.proofs.lemmas.Bool.{cases_eq, cases_lt}
 use Rattle.std.proofs.lemmas.Option.{slice_get-get_or, slice_get_within, get_or_from_slice_get, same_Some}
 use Rattle.std.proofs.lemmas.List.{length_push, get_or_push, get_or_append_left, get_or_default, get_or-set_same, get_or-set_other}
-use Rattle.std.proofs.lemmas.List.Elements.{All-from_get_or, All-get_or, Contains-get_or}
+use Rattle.std.proofs.lemmas.List.Elements.{All-from_get_or, Contains-get_or}
 use Rattle.letter_diagram.specs.declared.diagrams.Shape.{Shape}
 use Rattle.letter_diagram.specs.Diagram.{map_at, Grows}
 use Rattle.letter_diagram.specs.Paired.{AreAnswers}
 use Rattle.letter_diagram.specs.Sets.{set_at, SetsKept, NumbersSet}
 use Rattle.letter_diagram.specs.Leaves.{AreLeaves}
 use Rattle.letter_diagram.specs.Merged.{HasSets}
-use Rattle.letter_diagram.proofs.SetNumbers.{set_at-kept, SetsKept-trans, SetsKept-numbers, slice_get-last, length-numbers}
+use Rattle.letter_diagram.proofs.SetNumbers.{SetsKept-trans, SetsKept-numbers, slice_get-last}
 use Rattle.letter_diagram.proofs.Mergings.{HasSets-grows}
 use Rattle.auto_project.specs.SetMaps.{set_of, AreSingletons, IsJoinedSet, AreJoinedSets, IsJoined, IsUnionRow, HasNumber, HasNumbers, IsNumbered}
 use Rattle.auto_project.proofs.SetMapLemmas.{has-kept, had, IsJoinedSet-kept}

@@ -1,5 +1,5 @@
 -- Sets of states follow the lifts of a word.
-use Rattle.std.proofs.Common.{◌≡◌, ◌≢◌, ◌⊎◌, ◌↔◌, ℕ, zero, suc, ◌<◌, ◌≤◌, ◌+◌, ◌^◌, Bool, true, false, true≢false, IsTrue, ◌||◌, nat_eq, List, [], ◌∷◌, ◌++◌, length, map, slice_index, replicate, Contains, arith, refl, sym, ap, ◌∙◌, subst, inl, inr}
+use Rattle.std.proofs.Common.{◌≡◌, ◌≢◌, ◌⊎◌, ◌↔◌, ℕ, zero, suc, ◌<◌, ◌^◌, Bool, true, false, true≢false, ◌||◌, nat_eq, List, [], ◌∷◌, ◌++◌, length, slice_index, replicate, Contains, arith, refl, sym, ap, ◌∙◌, subst, inl, inr}
 use Rattle.std.specs.List.{All, fold, AllZip, list_any}
 use Rattle.std.specs.List.Sorted.{IsStrictlyIncreasing}
 use Rattle.std.proofs.lemmas.Bool.{cases_lt}
@@ -9,14 +9,14 @@ use Rattle.std.proofs.lemmas.List.Elements.{All-get_or, All-nil, All-cons, All-h
 use Rattle.std.proofs.lemmas.List.Kept.{IsStrictlyIncreasing-filter}
 use Rattle.std.proofs.lemmas.List.Sums.{fold-append}
 use Rattle.track_word.specs.declared.tracks.Var.{Var}
-use Rattle.track_word.specs.Word.{IsWord, repeat_first, repeated}
-use Rattle.track_word.specs.Tracks.{IsAscending, without_var, restrict, part_of}
-use Rattle.auto_core.specs.Automaton.{Automaton, IsAutomaton, first_state, next_state, run, state_of, is_final}
+use Rattle.track_word.specs.Word.{repeat_first, repeated}
+use Rattle.track_word.specs.Tracks.{without_var, part_of}
+use Rattle.auto_core.specs.Automaton.{Automaton, IsAutomaton, first_state, next_state, run, state_of}
 use Rattle.auto_core.specs.Spread.{IsLift}
 use Rattle.auto_bool.proofs.TrackLemmas.{restrict-below}
 use Rattle.auto_project.specs.Lifted.{ReadsAs, Begins, Follows, LiftLeads}
 use Rattle.auto_project.specs.Subsets.{lengthened, leads_to, next_set}
-use Rattle.auto_project.proofs.Lists.{Contains-cons, Contains-cases, Contains-head, Contains-filter, Contains-from_filter, Contains-range, Contains-from_range, increasing-range}
+use Rattle.auto_project.proofs.Lists.{Contains-cons, Contains-cases, Contains-head, Contains-filter, Contains-from_filter, Contains-range, increasing-range}
 use Rattle.auto_project.proofs.Letters.{ReadsAs-lengthened, lengthened-or}
 
 -- a word with its first letter repeated
@@ -31,9 +31,6 @@ repeated-is (suc n) sign letters = ap repeat_first (repeated-is n sign letters) 
 replicate-shift : (n sign : ℕ) (letters : List ℕ) → replicate (suc n) sign ++ letters ≡ replicate n sign ++ sign ∷ letters
 replicate-shift zero sign letters = refl
 replicate-shift (suc n) sign letters = ap (λ l. sign ∷ l) (replicate-shift n sign letters)
-
-replicate-push : (n sign : ℕ) → replicate (suc n) sign ++ sign ∷ [] ≡ replicate (suc n) sign ++ sign ∷ []
-replicate-push n sign = refl
 
 -- some element passes
 pub any-from : (p : ℕ → Bool) (xs : List ℕ) → list_any p xs ≡ true → (t : ℕ) × Contains xs t × (p t ≡ true)

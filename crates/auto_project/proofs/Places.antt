@@ -1,11 +1,11 @@
 -- Rows of the walk over sets of states.
-use Rattle.std.proofs.Common.{◌≡◌, ◌≢◌, ◌⊎◌, ◌↔◌, ℕ, zero, suc, ◌<◌, ◌≤◌, ◌+◌, ◌*◌, ◌/◌, ◌%◌, ◌^◌, Bool, true, false, true≢false, ◌||◌, nat_eq, List, [], ◌∷◌, ◌++◌, length, get_or, slice_get, slice_index, Some, Contains, AllPairs, arith, refl, sym, ap, ◌∙◌, subst, inl, inr}
-use Rattle.std.specs.List.{All, fold, list_any, range_with_len}
+use Rattle.std.proofs.Common.{◌≡◌, ◌≢◌, ℕ, ◌<◌, ◌+◌, ◌*◌, ◌/◌, ◌%◌, ◌^◌, ◌||◌, nat_eq, List, [], ◌∷◌, length, get_or, slice_get, slice_index, Some, Contains, AllPairs, arith, refl, sym, ap, ◌∙◌, subst, inl, inr}
+use Rattle.std.specs.List.{All, fold, range_with_len}
 use Rattle.std.specs.List.Sorted.{IsStrictlyIncreasing}
 use Rattle.std.specs.Int.{bit_at}
 use Rattle.std.proofs.lemmas.Grind.{common_steps}
-use Rattle.std.proofs.lemmas.Option.{slice_get-get_or, slice_get_within, get_or_from_slice_get, same_Some}
-use Rattle.std.proofs.lemmas.List.Elements.{All-get_or, All-head, All-tail, All-from_get_or, Contains-get_or, All-contains}
+use Rattle.std.proofs.lemmas.Option.{slice_get-get_or}
+use Rattle.std.proofs.lemmas.List.Elements.{All-get_or, All-head, All-from_get_or, Contains-get_or, All-contains}
 use Rattle.std.proofs.lemmas.List.Kept.{IsStrictlyIncreasing-filter}
 use Rattle.std.proofs.lemmas.Nat.{mod_below, pow_pos}
 use Rattle.std.proofs.lemmas.Nat.Bits.{bit_at_cat_low}
@@ -14,7 +14,7 @@ use Rattle.track_word.specs.Word.{IsWord}
 use Rattle.track_word.specs.Tracks.{without_var}
 use Rattle.letter_diagram.specs.declared.diagrams.Shape.{Shape}
 use Rattle.letter_diagram.specs.Diagram.{map_at, Grows}
-use Rattle.letter_diagram.specs.Sets.{set_at, SetsKept}
+use Rattle.letter_diagram.specs.Sets.{SetsKept}
 use Rattle.letter_diagram.specs.Merged.{HasSets}
 use Rattle.letter_diagram.proofs.Mergings.{HasSets-grows}
 use Rattle.letter_diagram.proofs.SetNumbers.{SetsKept-refl}
@@ -26,10 +26,10 @@ use Rattle.auto_bool.proofs.States.{state_within}
 use Rattle.auto_project.specs.Lifted.{Follows, LiftLeads}
 use Rattle.auto_project.specs.Subsets.{lengthened, leads_to, next_set, set_walker}
 use Rattle.auto_project.specs.SetMaps.{set_of, IsSetRow, AreSetRows, HasSetRows, HasClosedRows, HasPlaceRows, IsUnionRow, IsNumbered}
-use Rattle.auto_project.proofs.Lists.{same_sets, Contains-head, Contains-cases, Contains-filter, Contains-from_filter, Contains-range, Contains-from_range, increasing-range}
+use Rattle.auto_project.proofs.Lists.{same_sets, Contains-head, Contains-cases, Contains-filter, Contains-from_filter, Contains-from_range, increasing-range}
 use Rattle.auto_project.proofs.Letters.{ascending-without, length-without}
 use Rattle.auto_project.proofs.Lifts.{any-from, any-to, steps-next, increasing-next}
-use Rattle.auto_project.proofs.SetMapLemmas.{stays, has-kept, had, AreSetRows-kept}
+use Rattle.auto_project.proofs.SetMapLemmas.{stays, had, AreSetRows-kept}
 
 set-ascends : (shapes : List Shape) (sets : List (List ℕ)) (node letter : ℕ) → HasSets shapes sets node → All IsStrictlyIncreasing sets → IsStrictlyIncreasing (set_of shapes sets node letter)
 set-ascends shapes sets node letter is all = All-get_or IsStrictlyIncreasing sets (map_at shapes node letter) [] (is.numbered letter) all

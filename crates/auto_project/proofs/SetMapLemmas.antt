@@ -1,23 +1,20 @@
 -- Maps to sets, as more nodes and sets are known, and joined ones.
-use Rattle.std.proofs.Common.{◌≡◌, ◌≢◌, ◌⊎◌, ◌↔◌, ℕ, zero, suc, ◌<◌, ◌≤◌, ◌+◌, ◌^◌, List, [], ◌∷◌, ◌++◌, length, map, take, get_or, slice_get, slice_index, Option, None, Some, Contains, arith, refl, sym, ap, ◌∙◌, subst, inl, inr}
+use Rattle.std.proofs.Common.{◌≡◌, ℕ, ◌<◌, List, [], ◌∷◌, length, get_or, Option, Contains, arith, sym, subst, inl, inr}
 use Rattle.std.specs.List.{All}
 use Rattle.std.specs.List.Sorted.{IsStrictlyIncreasing}
-use Rattle.std.specs.Int.{bit_at}
-use Rattle.std.proofs.lemmas.Option.{slice_get-get_or, slice_get_within, get_or_from_slice_get, same_Some}
-use Rattle.std.proofs.lemmas.List.{length_push, get_or_push, get_or_append_left}
+use Rattle.std.proofs.lemmas.Option.{slice_get-get_or}
 use Rattle.std.proofs.lemmas.List.Elements.{All-from_get_or}
 use Rattle.track_word.specs.declared.tracks.Var.{Var}
 use Rattle.letter_diagram.specs.declared.diagrams.Shape.{Shape}
-use Rattle.letter_diagram.specs.Diagram.{map_at, Grows}
-use Rattle.letter_diagram.specs.Paired.{AreAnswers}
+use Rattle.letter_diagram.specs.Diagram.{Grows}
 use Rattle.letter_diagram.specs.Sets.{set_at, SetsKept, IsUnion}
 use Rattle.letter_diagram.specs.Listed.{EachAnswers}
 use Rattle.letter_diagram.specs.Merged.{HasSets, IsMerged}
-use Rattle.letter_diagram.proofs.SetNumbers.{set_at-kept, SetsKept-refl, SetsKept-trans}
+use Rattle.letter_diagram.proofs.SetNumbers.{set_at-kept}
 use Rattle.letter_diagram.proofs.Mergings.{HasSets-grows, IsMerged-grows}
 use Rattle.auto_core.specs.Automaton.{Automaton}
 use Rattle.auto_project.specs.Lifted.{Follows, LiftLeads}
-use Rattle.auto_project.specs.SetMaps.{set_of, IsNarrow, IsSetRow, AreSetRows, IsLedRow, HasClosedRows, IsAllowed, IsJoinedSet, AreJoinedSets, IsJoined, IsStepped}
+use Rattle.auto_project.specs.SetMaps.{set_of, IsNarrow, IsSetRow, AreSetRows, IsLedRow, HasClosedRows, IsAllowed, IsJoinedSet}
 use Rattle.auto_project.proofs.Walks.{set_of-kept}
 
 module _ (shapes more : List Shape) (sets sets' : List (List ℕ)) (grows : Grows shapes more) (kept : SetsKept sets sets') where
@@ -50,14 +47,6 @@ module _ (shapes more : List Shape) (sets sets' : List (List ℕ)) (grows : Grow
     led = λ letter state below c. row.led letter state below (had node letter state row.is c);
   }
 
-  pub HasClosedRows-kept : (a : Automaton) (some : List Var) (first : ℕ) (rows : List ℕ) → All IsStrictlyIncreasing sets' → HasClosedRows shapes sets a some first rows → HasClosedRows more sets' a some first rows
-  HasClosedRows-kept a some first rows ascend closed = record {
-    valid = closed.valid;
-    ascend = ascend;
-    first_row = IsSetRow-kept (length some) first (λ letter state. LiftLeads a some (letter ∷ []) state) closed.first_row;
-    state_rows = AreSetRows-kept a some rows closed.state_rows;
-  }
-
 -- the nodes of rows
 pub rows-sets : (shapes : List Shape) (sets : List (List ℕ)) (a : Automaton) (some : List Var) (rows : List ℕ) → AreSetRows shapes sets a some rows → All (HasSets shapes sets) rows
 rows-sets shapes sets a some rows are = All-from_get_or (HasSets shapes sets) rows 0 (λ i h. (are.each i (get_or rows i 0) (slice_get-get_or rows i 0 h)).is)
@@ -73,15 +62,6 @@ IsJoinedSet-kept sets sets' only a b number kept is =
     let eb = set_at-kept sets sets' b kept is.b_known in
     let en = set_at-kept sets sets' number kept is.known in
     record { a_known = omega arith; b_known = omega arith; known = omega arith; members = λ state. rw (ea, eb, en) (is.members state) }
-
--- a set that is not allowed stays
-pub IsJoinedSet-alone : (sets : List (List ℕ)) (only : Option ℕ) (a b : ℕ) → a < length sets → b < length sets → (IsAllowed only (set_at sets a) → ⊥) → IsJoinedSet sets only a b a
-IsJoinedSet-alone sets only a b a_known b_known not_allowed = record {
-  a_known = a_known;
-  b_known = b_known;
-  known = a_known;
-  members = λ state. (λ c. inl c, λ e. elim e [ inl c ↦ c | inr both ↦ absurd (not_allowed both.0) ]);
-}
 
 pub IsAllowed-kept : (sets sets' : List (List ℕ)) (only : Option ℕ) (a : ℕ) → SetsKept sets sets' → a < length sets → IsAllowed only (set_at sets a) → IsAllowed only (set_at sets' a)
 IsAllowed-kept sets sets' only a kept known allowed = subst (IsAllowed only) (sym (set_at-kept sets sets' a kept known)) allowed

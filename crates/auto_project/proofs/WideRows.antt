@@ -1,31 +1,30 @@
 -- Rows over the tracks that are left and the lost one after them, and what merging that track makes of them.
-use Rattle.std.proofs.Common.{◌≡◌, ◌≢◌, ◌⊎◌, ◌↔◌, ℕ, zero, suc, ◌<◌, ◌≤◌, ◌+◌, ◌*◌, ◌%◌, ◌^◌, List, [], ◌∷◌, length, map, get_or, slice_get, slice_index, Some, Contains, arith, refl, sym, ap, ◌∙◌, subst, inl, inr}
+use Rattle.std.proofs.Common.{◌≡◌, ◌≢◌, ◌⊎◌, ◌↔◌, ℕ, ◌<◌, ◌+◌, ◌*◌, ◌%◌, ◌^◌, List, [], ◌∷◌, length, map, get_or, Contains, arith, refl, sym, ap, ◌∙◌, subst, inl, inr}
 use Rattle.std.specs.List.{All}
 use Rattle.std.specs.Int.{bit_at}
 use Rattle.std.proofs.lemmas.Bool.{cases_eq, cases_lt}
 use Rattle.std.proofs.lemmas.Grind.{common_steps}
-use Rattle.std.proofs.lemmas.List.{length-map}
-use Rattle.std.proofs.lemmas.List.Elements.{All-from_get_or, All-get_or, All-map}
-use Rattle.std.proofs.lemmas.Nat.Bits.{bit_at_above, bit_at_cat_low, bit_at_cat_high, bit_at-pow_same, bit_at-lt}
-use Rattle.std.proofs.lemmas.Option.{slice_get-get_or, slice_get_within, get_or_from_slice_get, same_Some}
+use Rattle.std.proofs.lemmas.List.Elements.{All-from_get_or}
+use Rattle.std.proofs.lemmas.Nat.Bits.{bit_at-lt}
+use Rattle.std.proofs.lemmas.Option.{slice_get-get_or, slice_get_within, get_or_from_slice_get}
 use Rattle.track_word.specs.declared.tracks.Var.{Var}
-use Rattle.track_word.specs.Tracks.{IsAscending, without_var, place, restrict}
+use Rattle.track_word.specs.Tracks.{without_var, place, restrict}
 use Rattle.letter_diagram.specs.declared.diagrams.Shape.{Shape}
 use Rattle.letter_diagram.specs.Diagram.{map_at, Grows, LooksBelow}
-use Rattle.letter_diagram.specs.Sets.{set_at, SetsKept, IsUnion}
+use Rattle.letter_diagram.specs.Sets.{set_at, SetsKept}
 use Rattle.letter_diagram.specs.Relabelled.{relabelled, IsRelabelled}
 use Rattle.letter_diagram.specs.Listed.{EachAnswers}
 use Rattle.letter_diagram.specs.Restricted.{IsWithBit}
 use Rattle.letter_diagram.specs.Merged.{HasSets, IsMerged}
 use Rattle.letter_diagram.proofs.Canonical.{flip, bit_at-flip_same, bit_at-flip_other}
 use Rattle.auto_core.specs.Automaton.{Automaton, IsAutomaton, width, first_state, next_state}
-use Rattle.auto_core.specs.Rows.{IsOverNodes, row_of, rows_of}
+use Rattle.auto_core.specs.Rows.{IsOverNodes}
 use Rattle.auto_core.proofs.RowLemmas.{get_or-row_of, get_or-rows_of}
 use Rattle.auto_bool.proofs.TrackLemmas.{relabelled-places, restrict-below}
 use Rattle.auto_project.specs.Lifted.{ReadsAs, Begins, Follows}
 use Rattle.auto_project.specs.Subsets.{lengthened}
-use Rattle.auto_project.specs.SetMaps.{set_of, IsNarrow, IsSetRow, AreSetRows, HasSetRows, AreSingletons, IsWideRow, AreWideRows, HasWideRows}
-use Rattle.auto_project.proofs.Lists.{Contains-cons, Contains-cases, Contains-head}
+use Rattle.auto_project.specs.SetMaps.{set_of, IsNarrow, IsSetRow, HasSetRows, AreSingletons, IsWideRow, AreWideRows, HasWideRows}
+use Rattle.auto_project.proofs.Lists.{Contains-cases, Contains-head}
 use Rattle.auto_project.proofs.Letters.{restrict-agree, places-left, ReadsAs-lengthened, lengthened-or, lengthened-only, lengthened-with, places-only}
 
 -- the rows as they are relabelled
@@ -69,10 +68,6 @@ module _ (a : Automaton) (valid : IsAutomaton a) (over : IsOverNodes a) (some : 
         };
       }
 
--- what a copy's nodes know
-pub all-known : (shapes copy : List Shape) (nodes listed : List ℕ) → copy ≡ shapes → listed ≡ nodes → All (λ node. node < length shapes) nodes → All (λ node. node < length copy) listed
-all-known shapes copy nodes listed same same_nodes all = subst (λ s. All (λ node. node < length s) listed) (sym same) (subst (All (λ node. node < length shapes)) (sym same_nodes) all)
-
 pub all-narrow : (shapes copy : List Shape) (nodes listed : List ℕ) (bound bound' : ℕ) → copy ≡ shapes → listed ≡ nodes → bound' ≡ bound → All (λ node. LooksBelow shapes node bound) nodes → All (λ node. LooksBelow copy node bound') listed
 all-narrow shapes copy nodes listed bound bound' same same_nodes same_bound all =
     subst (λ n. All (λ node. LooksBelow copy node n) listed) (sym same_bound) (subst (λ s. All (λ node. LooksBelow s node bound) listed) (sym same) (subst (All (λ node. LooksBelow shapes node bound)) (sym same_nodes) all))
@@ -90,10 +85,6 @@ module _ (a : Automaton) (x : Var) (valid : IsAutomaton a) where
     known = row.known;
     numbered = λ letter. let w = row.within letter in let e = singles.enough in omega (arith, w, e);
   }
-
-  wide-agree : (shapes : List Shape) (node : ℕ) (value : ℕ → ℕ) (m n : ℕ) → IsWideRow shapes a (without_var x a.tracks) node value → ((k : ℕ) → k < length (without_var x a.tracks) + 1 → bit_at m k ≡ bit_at n k) → map_at shapes node m ≡ map_at shapes node n
-  wide-agree shapes node value m n row agree =
-      row.reads m ∙ ap value (restrict-agree (without_var x a.tracks) a.tracks (length (without_var x a.tracks) + 1) m n (places-left a.tracks x valid.ascending) agree) ∙ sym (row.reads n)
 
   -- what a value of the letters that read as a letter is
   record Reads (letter state : ℕ) (value : ℕ → ℕ) : Type 0 where

@@ -1,5 +1,5 @@
 -- The sets of states to which the lifts of words lead.
-use Rattle.std.specs.Prelude.{◌≡◌, ℕ, ◌+◌, ◌*◌, ◌^◌, List, length, filter, nat_eq, ◌||◌, Bool}
+use Rattle.std.specs.Prelude.{ℕ, ◌+◌, ◌*◌, ◌^◌, List, length, filter, nat_eq, ◌||◌, Bool}
 use Rattle.std.specs.List.{list_any, range_with_len}
 use Rattle.track_word.specs.declared.tracks.Var.{Var}
 use Rattle.track_word.specs.Tracks.{restrict}

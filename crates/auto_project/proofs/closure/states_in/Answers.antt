@@ -1,5 +1,4 @@
-use Rattle.std.proofs.Common.{◌≡◌, arith, subst, sym, ap, length}
-use Rattle.letter_diagram.specs.Leaves.{AreLeaves}
+use Rattle.std.proofs.Common.{arith}
 use Rattle.auto_project.proofs.Joins.{leaves-known}
 use Rattle.auto_project.proofs.Closures.{states-so-far, states-all}
 use Rattle.auto_project.proofs.closure.states_in.Goals as goal

@@ -1,6 +1,6 @@
 use Rattle.std.proofs.Common.{◌≡◌, slice_get, Some, sym, ap, ◌∙◌, arith}
 use Rattle.std.proofs.lemmas.Option.{slice_get-get_or}
-use Rattle.auto_project.proofs.Closures.{IsStepped-joined, IsStepped-none, no-row}
+use Rattle.auto_project.proofs.Closures.{IsStepped-joined}
 use Rattle.auto_project.proofs.closure.with_row.Goals as goal
 
 pub returns-clause-stepped : goal.returns-clause-stepped

@@ -1,5 +1,5 @@
 use Rattle.letter_diagram.proofs.SetNumbers.{SetsKept-trans}
-use Rattle.std.proofs.Common.{arith, ◌∙◌, sym, ap, Some}
+use Rattle.std.proofs.Common.{arith}
 use Rattle.std.proofs.lemmas.Option.{slice_get-get_or}
 use Rattle.auto_project.proofs.Joins.{AreJoinedSoFar-push, AreJoinedSets-all}
 use Rattle.auto_project.proofs.join.joined_sets.Goals as goal

@@ -1,5 +1,5 @@
-use Rattle.std.proofs.Common.{get_or, sym, subst, ap, ◌∙◌, arith}
-use Rattle.letter_diagram.specs.Merged.{HasSets, IsMerged}
+use Rattle.std.proofs.Common.{sym, subst, ◌∙◌}
+use Rattle.letter_diagram.specs.Merged.{HasSets}
 use Rattle.letter_diagram.proofs.Maps.{Grows-trans}
 use Rattle.letter_diagram.proofs.SetNumbers.{SetsKept-trans}
 use Rattle.letter_diagram.proofs.Mergings.{IsMerged-grows, HasSets-grows}

@@ -1,8 +1,8 @@
-use Rattle.std.proofs.Common.{◌≡◌, ◌≤◌, ◌<◌, ◌∙◌, ap, sym, subst, length, map, arith}
+use Rattle.std.proofs.Common.{◌≡◌, ◌≤◌, ◌<◌, ◌∙◌, ap, sym, subst, length, arith}
 use Rattle.std.specs.List.{All}
 use Rattle.std.proofs.lemmas.List.Elements.{All-map}
-use Rattle.track_word.specs.Tracks.{place, without_var}
-use Rattle.letter_diagram.specs.Merged.{HasSets, IsMerged}
+use Rattle.track_word.specs.Tracks.{place}
+use Rattle.letter_diagram.specs.Merged.{IsMerged}
 use Rattle.letter_diagram.specs.Listed.{EachAnswers}
 use Rattle.auto_project.specs.SetMaps.{AreSingletons, HasSetRows, HasWideRows}
 use Rattle.auto_project.proofs.Letters.{length-without, places-fit}

@@ -1,4 +1,4 @@
-use Rattle.std.proofs.Common.{◌≡◌, ◌∙◌, ap, sym, length, arith, map}
+use Rattle.std.proofs.Common.{◌∙◌, ap, sym, length, map}
 use Rattle.std.proofs.lemmas.List.{length-map}
 use Rattle.track_word.specs.Tracks.{place}
 use Rattle.letter_diagram.specs.Diagram.{map_at}

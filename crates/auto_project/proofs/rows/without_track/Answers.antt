@@ -1,7 +1,3 @@
-use Rattle.std.proofs.Common.{◌≡◌, sym, subst, ap, ◌∙◌, rules}
-use Rattle.letter_diagram.specs.Diagram.{Grows}
-use Rattle.letter_diagram.specs.Listed.{EachAnswers}
-use Rattle.letter_diagram.specs.Merged.{IsMerged}
 use Rattle.letter_diagram.proofs.SetNumbers.{SetsKept-trans}
 use Rattle.auto_project.proofs.SetMapLemmas.{EachMerged-kept}
 use Rattle.auto_project.proofs.rows.without_track.Goals as goal

@@ -1,4 +1,4 @@
-use Rattle.std.proofs.Common.{◌≡◌, arith, get_or, slice_index, sym, ◌∙◌, ap, length}
+use Rattle.std.proofs.Common.{arith}
 use Rattle.std.proofs.lemmas.List.{get_or_read}
 use Rattle.letter_diagram.proofs.Maps.{Grows-refl, Grows-trans}
 use Rattle.letter_diagram.proofs.SetNumbers.{SetsKept-refl, SetsKept-trans}

@@ -1,4 +1,4 @@
-use Rattle.std.proofs.Common.{arith, ◌∙◌, sym, ap, subst, Contains, length}
+use Rattle.std.proofs.Common.{arith, sym, subst, Contains}
 use Rattle.letter_diagram.proofs.Maps.{Grows-refl, Grows-trans}
 use Rattle.letter_diagram.proofs.SetNumbers.{SetsKept-refl, SetsKept-trans}
 use Rattle.auto_project.proofs.SetMapLemmas.{rows-sets}

@@ -1,4 +1,4 @@
-use Rattle.std.proofs.Common.{◌≡◌, ◌∙◌, ap, subst, length, List, ℕ, ◌∷◌, []}
+use Rattle.std.proofs.Common.{◌∙◌, ap, subst, List}
 use Rattle.track_word.specs.declared.tracks.Var.{Var}
 use Rattle.track_word.specs.Tracks.{without_var}
 use Rattle.auto_project.specs.SetMaps.{HasClosedRows}

@@ -1,4 +1,3 @@
-use Rattle.letter_diagram.proofs.SetNumbers.{SetsKept-refl}
 use Rattle.auto_project.proofs.Places.{HasPlaceRows-kept, rows-have-sets}
 use Rattle.auto_project.proofs.subsets.Subsets.union_row.Goals as goal
 
