@@ -5,8 +5,6 @@
 mod explore;
 mod grown;
 mod residues;
-#[cfg(test)]
-mod tests;
 mod walk;
 
 pub use explore::walked;

@@ -1,8 +1,9 @@
+//! Residues of values agree with plain arithmetic.
 ghost use Rattle.std.specs.Prelude.{◌≡◌, ◌<ℤ◌, pos, length};
 ghost use Rattle.auto_core.specs.Integers.{DecidesIntegers};
 
-use crate::{Grown, residue};
 use auto_core::Auto;
+use auto_walk::{Grown, residue};
 use std::test::Fail;
 use track_word::Var;
 
