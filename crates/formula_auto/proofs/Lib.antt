@@ -12,3 +12,7 @@ pub mod Atoms
 pub mod Compiles
 pub mod Stable
 pub mod NoSets
+pub mod PlainLemmas
+pub mod MemoLemmas
+pub mod WithMemo
+pub mod Leaves

@@ -1,13 +1,11 @@
 -- An automaton that decides a formula decides a set of integers.
-use Rattle.std.proofs.Common.{◌≡◌, ◌↔◌, ℕ, ◌^◌, ◌<◌, List, length, sym, ap, subst}
-use Rattle.track_word.specs.Word.{IsWord, repeat_first, repeated}
+use Rattle.std.proofs.Common.{◌↔◌, ℕ, ◌^◌, List, length, sym, subst}
+use Rattle.track_word.specs.Word.{IsWord, repeat_first}
 use Rattle.track_word.specs.Tracks.{word_values, place}
-use Rattle.track_word.specs.declared.tracks.Var.{Var}
-use Rattle.auto_core.specs.Automaton.{Automaton, Accepts}
+use Rattle.auto_core.specs.Automaton.{Automaton}
 use Rattle.auto_core.specs.Integers.{DecidesIntegers}
 use Rattle.lin_formula.specs.Tree.{Tree, free_vars}
 use Rattle.lin_formula.specs.Holds.{Sets}
-use Rattle.lin_formula.specs.Free.{IsFree}
 use Rattle.lin_formula.proofs.Coincide.{coincide}
 use Rattle.formula_auto.specs.Step.{Says}
 use Rattle.formula_auto.specs.Decides.{Decides}

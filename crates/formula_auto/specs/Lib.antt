@@ -16,3 +16,8 @@ pub mod Compiled
 pub mod Distinct
 pub mod Ready
 pub mod StepError
+pub mod PlainParts
+pub mod MemoState
+pub mod Remembered
+pub mod MemoEntries
+pub mod Codes

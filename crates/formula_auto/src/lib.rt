@@ -1,9 +1,13 @@
 //! Formulas compiled to automata, step by step and within a budget (Büchi 1960). `specs/Decides` says when an automaton decides a formula,
 //! `specs/Step` how many words a step has to tell apart by what its parts mean, whatever the automata are. `specs/PlainParts` has the
+//! subformulas that a memo keeps, `specs/MemoState` how it changes.
 #![tactic(auto)]
 
 mod compiling;
 mod errors;
+mod memo;
+mod plain;
+mod remembering;
 mod steps;
 mod table;
 #[cfg(test)]
@@ -11,4 +15,5 @@ mod tests;
 
 pub use compiling::compile;
 pub use errors::CompileError;
+pub use memo::Memo;
 pub use table::SetTable;

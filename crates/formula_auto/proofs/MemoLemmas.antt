@@ -1,0 +1,207 @@
+-- What compiling does to a memo.
+use Rattle.std.proofs.Common.{◌≡◌, ◌≢◌, ℕ, ◌+◌, ◌-◌, ◌≤◌, ◌<◌, ◌^◌, Bool, true, false, ◌&&◌, nat_eq, nat_lt, if◌then◌else◌, List, [], ◌∷◌, ◌++◌, map, take, get_or, length, refl, sym, ap, ◌∙◌, subst, inl, inr, arith, length-append, append-nil}
+use Rattle.std.specs.List.{Contains, All}
+use Rattle.std.proofs.lemmas.List.Elements.{All-append, All-cons, All-map, All-contains}
+use Rattle.lin_formula.specs.TreeOf.{tree_of}
+use Rattle.formula_auto.specs.declared.memo.Entry.{Entry}
+use Rattle.formula_auto.specs.MemoEntries.{entry_of}
+use Rattle.std.proofs.lemmas.List.{map-append, length-map, take_all}
+use Rattle.std.proofs.Math.ListN.{get_or-map}
+use Rattle.auto_core.specs.Automaton.{Automaton}
+use Rattle.lin_formula.specs.Tree.{Tree, Lin, Value, Among, Not, And, Or, Ex, symbols, steps}
+use Rattle.lin_formula.specs.declared.formula.Formula.{Formula}
+use Rattle.lin_formula.specs.SetOf.{SetOf, members}
+use Rattle.formula_auto.specs.Compiled.{IsCompiled, IsCompileError}
+use Rattle.formula_auto.specs.PlainParts.{is_plain, plain_within, plain_parts}
+use Rattle.formula_auto.specs.MemoState.{MemoState, IsEntry, IsMemo, known, counted, with_entry, IsMemoAfter}
+use Rattle.formula_auto.specs.Remembered.{IsStopped}
+use Rattle.formula_auto.specs.declared.errors.CompileError.{CompileError}
+use Rattle.formula_auto.specs.declared.errors.CompileError.TheVariants.{Over, Memory}
+use Rattle.formula_auto.proofs.NoSets.{Decides-no_set, steps-no_set, FirstOver-no_set, FirstOver-number}
+use Rattle.formula_auto.proofs.PlainLemmas.{plain_later, plain_whole, within-zero, within-all, after-none}
+
+and_left : (a b : Bool) → (a && b) ≡ true → a ≡ true
+and_left true b h = refl
+and_left false b h = cc
+
+no_member : (xs : List ℕ) → nat_eq (length xs) 0 ≡ true → xs ≡ []
+no_member [] h = refl
+no_member (x ∷ xs) h = absurd (grind arith)
+
+pub plain-no_set : (f : Tree) → is_plain f ≡ true → symbols f ≡ []
+plain-no_set f h = no_member (symbols f) (and_left (nat_eq (length (symbols f)) 0) (nat_lt 0 (length (steps f))) h)
+
+pub plain-later : (f : Tree) (n : ℕ) → is_plain f ≡ true → n < length (steps f) → plain_within f n ≡ []
+plain-later (Lin terms rel bound) n h less = refl
+plain-later (Value x k) n h less = refl
+plain-later (Among set vars) n h less = refl
+plain-later (Not f) n h less = plain_later (Not f) n _ h less
+plain-later (And f g) n h less = plain_later (And f g) n _ h less
+plain-later (Or f g) n h less = plain_later (Or f g) n _ h less
+plain-later (Ex x f) n h less = plain_later (Ex x f) n _ h less
+
+pub plain-itself : (f : Tree) → is_plain f ≡ true → plain_parts f ≡ f ∷ []
+plain-itself (Lin terms rel bound) h = cc
+plain-itself (Value x k) h = cc
+plain-itself (Among set vars) h = cc
+plain-itself (Not f) h = plain_whole (Not f) (length (steps (Not f))) _ h (omega arith)
+plain-itself (And f g) h = plain_whole (And f g) (length (steps (And f g))) _ h (omega arith)
+plain-itself (Or f g) h = plain_whole (Or f g) (length (steps (Or f g))) _ h (omega arith)
+plain-itself (Ex x f) h = plain_whole (Ex x f) (length (steps (Ex x f))) _ h (omega arith)
+
+-- without a step there is no plain part
+pub stepless : (f : Tree) (n : ℕ) → steps f ≡ [] → plain_within f n ≡ []
+stepless f n none =
+    let size : length (steps f) ≡ 0 = ap length none in
+    within-all f n 0 (omega arith) (omega arith) ∙ within-zero f
+
+module _ (f : Tree) (e : ℕ → SetOf) (before budget : ℕ) (a : Automaton) where
+  -- what is made of a plain formula may be entered
+  pub entry_of-compiled : is_plain f ≡ true → IsCompiled f e before budget a → IsEntry budget f a
+  entry_of-compiled plain made = record {
+    plain = plain;
+    reduced = made.reduced;
+    decides = λ d. Decides-no_set f (members e) (members d) a (plain-no_set f plain) made.decides;
+    within = λ d. FirstOver-no_set (steps f) (members e) (members d) budget (before + 1) 1 (steps-no_set f (plain-no_set f plain)) made.within;
+  }
+
+  -- and what was entered serves again
+  pub compiled-of_entry : IsEntry budget f a → IsCompiled f e before budget a
+  compiled-of_entry entry = record {
+    reduced = entry.reduced;
+    decides = entry.decides e;
+    within = FirstOver-no_set (steps f) (members e) (members e) budget 1 (before + 1) (steps-no_set f (plain-no_set f entry.plain)) (entry.within e);
+  }
+
+module _ (m : MemoState) (f : Tree) (before : ℕ) where
+  -- memory ran out before a step of the formula
+  pub stopped-memory : IsStopped m m f before Memory
+  stopped-memory = record {
+    done = 0;
+    few = omega arith;
+    number = λ step over. cc;
+    after = subst (IsMemoAfter m m) (sym (within-zero f)) (after-none m);
+  }
+
+  -- it was compiled without the memo
+  pub stopped-without : (e : ℕ → SetOf) (budget : ℕ) (why : CompileError) → ((n : ℕ) → n < length (steps f) → plain_within f n ≡ []) → IsCompileError f e before budget why → IsStopped m m f before why
+  stopped-without e budget (Over step) none h =
+      let number = FirstOver-number (steps f) (members e) budget (before + 1) step h in
+      record {
+        done = step - before - 1;
+        few = omega (arith, number);
+        number = λ other over. (let same : step ≡ other = cc in omega (arith, number, same));
+        after = subst (IsMemoAfter m m) (sym (none (step - before - 1) (omega (arith, number)))) (after-none m);
+      }
+  stopped-without e budget Memory none h = stopped-memory
+
+-- a formula that is known
+pub after-known : (m : MemoState) (f : Tree) → Contains (known m) f → IsMemoAfter m (record m { found = counted m.found }) (f ∷ [])
+after-known m f there = record {
+  budget = refl;
+  added = [];
+  entries = sym (append-nil m.entries);
+  passes = inl (there, (refl, refl));
+}
+
+abbrev pub tree_in : Formula × Automaton → Tree
+tree_in entry = tree_of entry.0
+
+map-chosen : (b : Bool) (entries : List (Formula × Automaton)) (entry : Formula × Automaton) → map tree_in (if b then entries ++ entry ∷ [] else entries) ≡ (if b then map tree_in entries ++ tree_in entry ∷ [] else map tree_in entries)
+map-chosen true entries entry = map-append tree_in entries (entry ∷ [])
+map-chosen false entries entry = refl
+
+map-with_entry : (entries : List (Formula × Automaton)) (entry : Formula × Automaton) → map tree_in (with_entry entries entry) ≡ with_entry (map tree_in entries) (tree_in entry)
+map-with_entry entries entry =
+    let size : length (map tree_in entries) ≡ length entries = length-map entries tree_in in
+    rw size (map-chosen (nat_lt (length entries) (2 ^ 32 - 1)) entries entry)
+
+added_one : (b : Bool) (entries : List (Formula × Automaton)) (entry : Formula × Automaton) → (if b then entries ++ entry ∷ [] else entries) ≡ entries ++ (if b then entry ∷ [] else [])
+added_one true entries entry = refl
+added_one false entries entry = sym (append-nil entries)
+
+-- a formula that was entered
+after-with_entry : (m : MemoState) (f : Formula) (a : Automaton) → (Contains (known m) (tree_of f) → ⊥) → IsMemoAfter m (record m { entries = with_entry m.entries (f, a) }) (tree_of f ∷ [])
+after-with_entry m f a unknown = record {
+  budget = refl;
+  added = if nat_lt (length m.entries) (2 ^ 32 - 1) then (f, a) ∷ [] else [];
+  entries = added_one (nat_lt (length m.entries) (2 ^ 32 - 1)) m.entries (f, a);
+  passes = inr (unknown, (map-with_entry m.entries (f, a), refl));
+}
+
+-- where no entry has the formula, it is not known
+pub not_known : (items : List Entry) (f : Tree) → All (λ en. tree_of en.formula ≢ f) items → Contains (map tree_in (map entry_of items)) f → ⊥
+not_known items f none there =
+    let trees : All (λ t. t ≢ f) (map tree_in (map entry_of items)) =
+    All-map (λ t. t ≢ f) tree_in (map entry_of items) (All-map (λ (en : Formula × Automaton). tree_in en ≢ f) entry_of items none) in
+    All-contains (λ t. t ≢ f) (map tree_in (map entry_of items)) f trees there refl
+
+-- the fields of a memo as contracts see them
+abbrev pub state_of : ℕ → List Entry → ℕ → MemoState
+state_of budget items found = record { budget = budget; entries = map entry_of items; found = found }
+
+module _ (budget found : ℕ) (items fields : List Entry) (m : MemoState) (same_items : items ≡ fields) (view_is : state_of budget fields found ≡ m) where
+  view : state_of budget items found ≡ m
+  view = subst (λ l. state_of budget l found ≡ m) (sym same_items) view_is
+
+  pub none_found : (f : Tree) (index : ℕ) → length items ≤ index → All (λ en. tree_of en.formula ≢ f) (take index items) → Contains (known m) f → ⊥
+  none_found f index past none there =
+      not_known items f (subst (All (λ (en : Entry). tree_of en.formula ≢ f)) (take_all index items past) none) (subst (λ n. Contains (known n) f) (sym view) there)
+
+  pub one_found : (f : Tree) (k : ℕ) (en : Entry) → IsMemo (state_of budget fields found) → k < length items → en ≡ get_or items k en → tree_of en.formula ≡ f → Contains (known m) f × IsEntry m.budget f en.auto
+  one_found f k en memo_fields within is same =
+      let memo : IsMemo (state_of budget items found) = subst (λ l. IsMemo (state_of budget l found)) (sym same_items) memo_fields in
+      let P : Formula × Automaton → Type 0 = λ entry. IsEntry budget (tree_of entry.0) entry.1 in
+      let size : length (map entry_of items) ≡ length items = length-map items entry_of in
+      let more : length (map tree_in (map entry_of items)) ≡ length (map entry_of items) = length-map (map entry_of items) tree_in in
+      let at : get_or (map entry_of items) k (entry_of en) ≡ entry_of en = get_or-map entry_of items k en ∙ ap entry_of (sym is) in
+      let tree : get_or (map tree_in (map entry_of items)) k (tree_of en.formula) ≡ tree_of en.formula = get_or-map tree_in (map entry_of items) k (entry_of en) ∙ ap tree_in at in
+      let there : Contains (map tree_in (map entry_of items)) (tree_of en.formula) = (k, (omega (arith, size, more, within)), tree) in
+      let good : IsEntry budget (tree_of en.formula) en.auto = subst P at (memo.entries k (entry_of en) (omega (arith, size, within))) in
+      subst (λ t. Contains (known m) t × IsEntry m.budget t en.auto) same (subst (λ n. Contains (known n) (tree_of en.formula) × IsEntry n.budget (tree_of en.formula) en.auto) view (there, good))
+
+module _ (budget found : ℕ) (items longer : List Entry) (m : MemoState) (en : Entry) (f : Tree) (a : Automaton) (view : state_of budget items found ≡ m) (pushed : longer ≡ items ++ en ∷ [])
+    (some_room : length m.entries < 2 ^ 32 - 1) (tree : tree_of en.formula ≡ f) (auto : en.auto ≡ a) where
+  entries_is : map entry_of longer ≡ map entry_of items ++ entry_of en ∷ []
+  entries_is = ap (map entry_of) pushed ∙ map-append entry_of items (en ∷ [])
+
+  room : length (map entry_of items) < 2 ^ 32 - 1
+  room = subst (λ n. length n.entries < 2 ^ 32 - 1) (sym view) some_room
+
+  -- with one more entry it is a memo still
+  pub memo-entered : IsMemo (state_of budget items found) → IsEntry m.budget f a → IsMemo (state_of budget longer found)
+  memo-entered memo entry =
+      let P : Formula × Automaton → Type 0 = λ e. IsEntry budget (tree_of e.0) e.1 in
+      let here : IsEntry budget f a = subst (λ n. IsEntry n.budget f a) (sym view) entry in
+      let there : P (entry_of en) = subst (λ t. IsEntry budget t en.auto) (sym tree) (subst (IsEntry budget f) (sym auto) here) in
+      let size : length (map entry_of longer) ≡ length (map entry_of items) + 1 = ap length entries_is ∙ length-append (map entry_of items) (entry_of en ∷ []) in
+      record {
+        least = memo.least;
+        most = memo.most;
+        few = omega (arith, size, room);
+        entries = subst (All P) (sym entries_is) (All-append P (map entry_of items) (entry_of en ∷ []) memo.entries (All-cons P (entry_of en) [] there (λ k d within. absurd (omega arith))));
+      }
+
+  -- and the formula has passed
+  pub after-entered : (Contains (known m) f → ⊥) → IsMemoAfter m (state_of budget longer found) (f ∷ [])
+  after-entered unknown =
+      let old : MemoState = state_of budget items found in
+      let new_to : Contains (known old) (tree_of en.formula) → ⊥ = subst (λ t. Contains (known old) t → ⊥) (sym tree) (subst (λ n. Contains (known n) f → ⊥) (sym view) unknown) in
+      let yes : nat_lt (length (map entry_of items)) (2 ^ 32 - 1) ≡ true = (let fits = room in grind (arith, fits)) in
+      let entered : with_entry (map entry_of items) (entry_of en) ≡ map entry_of longer = ap (λ b. if b then map entry_of items ++ entry_of en ∷ [] else map entry_of items) yes ∙ sym entries_is in
+      let after : IsMemoAfter old (record { budget = budget; entries = with_entry (map entry_of items) (entry_of en); found = found }) (tree_of en.formula ∷ []) = after-with_entry old en.formula en.auto new_to in
+      let whole : IsMemoAfter old (state_of budget longer found) (tree_of en.formula ∷ []) =
+      subst (λ es. IsMemoAfter old (record { budget = budget; entries = es; found = found }) (tree_of en.formula ∷ [])) entered after in
+      subst (λ t. IsMemoAfter m (state_of budget longer found) (t ∷ [])) tree (subst (λ n. IsMemoAfter n (state_of budget longer found) (tree_of en.formula ∷ [])) view whole)
+
+-- a full memo takes no entry
+pub after-full : (m : MemoState) (f : Tree) → length m.entries ≡ 2 ^ 32 - 1 → (Contains (known m) f → ⊥) → IsMemoAfter m m (f ∷ [])
+after-full m f full unknown =
+    let size : length (known m) ≡ length m.entries = length-map m.entries tree_in in
+    let no : nat_lt (length (known m)) (2 ^ 32 - 1) ≡ false = grind (arith, size, full) in
+    record {
+      budget = refl;
+      added = [];
+      entries = sym (append-nil m.entries);
+      passes = inr (unknown, (ap (λ b. if b then known m ++ f ∷ [] else known m) (sym no), refl));
+    }

@@ -1,0 +1,199 @@
+-- Which plain subformulas end within the first steps of a formula.
+use Rattle.std.proofs.Common.{◌≡◌, ℕ, ◌+◌, ◌-◌, ◌≤◌, ◌<◌, Bool, true, false, ◌&&◌, nat_eq, nat_lt, nat_le, List, [], ◌∷◌, ◌++◌, length, refl, sym, ap, ◌∙◌, subst, inl, inr, arith, length-append, append_assoc, append-nil}
+use Rattle.lin_formula.specs.Tree.{Tree, Lin, Value, Among, Not, And, Or, Ex, symbols, steps}
+use Rattle.formula_auto.specs.PlainParts.{is_plain, plain_or, plain_within}
+use Rattle.formula_auto.specs.MemoState.{MemoState, known, counted, with_entry, Passes, IsMemoAfter}
+use Rattle.formula_auto.specs.Remembered.{IsStopped}
+use Rattle.formula_auto.specs.declared.errors.CompileError.{CompileError}
+use Rattle.formula_auto.specs.declared.errors.CompileError.TheVariants.{Over}
+use Rattle.track_word.specs.declared.tracks.Var.{Var}
+
+and_right : (a b : Bool) → (a && b) ≡ true → b ≡ true
+and_right true b h = h
+and_right false b h = cc
+
+some_step : (f : Tree) → is_plain f ≡ true → 0 < length (steps f)
+some_step f h = let k = and_right (nat_eq (length (symbols f)) 0) (nat_lt 0 (length (steps f))) h in grind (arith, k)
+
+-- a plain formula that ends later is not among them
+pub plain_later : (f : Tree) (n : ℕ) (parts : List Tree) → is_plain f ≡ true → n < length (steps f) → plain_or f n parts ≡ []
+plain_later f n parts h less =
+    let k : nat_le (length (steps f)) n ≡ false = grind arith in
+    rw (h, k)
+
+-- a plain formula is, where it ends in time
+pub plain_whole : (f : Tree) (n : ℕ) (parts : List Tree) → is_plain f ≡ true → length (steps f) ≤ n → plain_or f n parts ≡ f ∷ []
+plain_whole f n parts h less =
+    let k : nat_le (length (steps f)) n ≡ true = grind arith in
+    rw (h, k)
+
+pub not_plain : (f : Tree) (n : ℕ) (parts : List Tree) → is_plain f ≡ false → plain_or f n parts ≡ parts
+not_plain f n parts h = rw h
+
+by_plain : (P : Bool → Type 0) (b : Bool) → (b ≡ true → P true) → (b ≡ false → P false) → P b
+by_plain P true h k = h refl
+by_plain P false h k = k refl
+
+-- nothing ends before the first step
+or_none : (f : Tree) (parts : List Tree) → parts ≡ [] → plain_or f 0 parts ≡ []
+or_none f parts none =
+    by_plain (λ b. is_plain f ≡ b → plain_or f 0 parts ≡ []) (is_plain f)
+    (λ yes h. plain_later f 0 parts h (some_step f h))
+    (λ no h. not_plain f 0 parts h ∙ none) refl
+
+both_none : (f g : Tree) → plain_within f 0 ≡ [] → plain_within g 0 ≡ [] → plain_within f 0 ++ plain_within g (0 - length (steps f)) ≡ []
+both_none f g left right =
+    let at : 0 - length (steps f) ≡ 0 = omega arith in
+    ap (λ xs. xs ++ plain_within g (0 - length (steps f))) left ∙ (ap (plain_within g) at ∙ right)
+
+pub within-zero : (f : Tree) → plain_within f 0 ≡ []
+within-zero (Lin terms rel bound) = refl
+within-zero (Value x k) = refl
+within-zero (Among set vars) = refl
+within-zero (Not f) = or_none (Not f) (plain_within f 0) (within-zero f)
+within-zero (And f g) = or_none (And f g) (plain_within f 0 ++ plain_within g (0 - length (steps f))) (both_none f g (within-zero f) (within-zero g))
+within-zero (Or f g) = or_none (Or f g) (plain_within f 0 ++ plain_within g (0 - length (steps f))) (both_none f g (within-zero f) (within-zero g))
+within-zero (Ex x f) = or_none (Ex x f) (plain_within f 0) (within-zero f)
+
+-- all that there are end within as many steps as there are, or more
+or_all : (f : Tree) (n m : ℕ) (xs ys : List Tree) → length (steps f) ≤ n → length (steps f) ≤ m → xs ≡ ys → plain_or f n xs ≡ plain_or f m ys
+or_all f n m xs ys fits also same =
+    by_plain (λ b. is_plain f ≡ b → plain_or f n xs ≡ plain_or f m ys) (is_plain f)
+    (λ yes h. plain_whole f n xs h fits ∙ sym (plain_whole f m ys h also))
+    (λ no h. not_plain f n xs h ∙ (same ∙ sym (not_plain f m ys h))) refl
+
+pub both_fit : (f g last : Tree) → length (steps f ++ steps g ++ last ∷ []) ≡ length (steps f) + length (steps g) + 1
+both_fit f g last = omega (arith, length-append (steps f ++ steps g) (last ∷ []), length-append (steps f) (steps g))
+
+both_all : (f g : Tree) (n m : ℕ) → length (steps f) + length (steps g) ≤ n → length (steps f) + length (steps g) ≤ m
+    → ((i j : ℕ) → length (steps f) ≤ i → length (steps f) ≤ j → plain_within f i ≡ plain_within f j)
+    → ((i j : ℕ) → length (steps g) ≤ i → length (steps g) ≤ j → plain_within g i ≡ plain_within g j)
+    → plain_within f n ++ plain_within g (n - length (steps f)) ≡ plain_within f m ++ plain_within g (m - length (steps f))
+both_all f g n m fits also left right =
+    ap (λ xs. xs ++ plain_within g (n - length (steps f))) (left n m (omega arith) (omega arith))
+    ∙ ap (λ ys. plain_within f m ++ ys) (right (n - length (steps f)) (m - length (steps f)) (omega arith) (omega arith))
+
+pub within-all : (f : Tree) (n m : ℕ) → length (steps f) ≤ n → length (steps f) ≤ m → plain_within f n ≡ plain_within f m
+within-all (Lin terms rel bound) n m fits also = refl
+within-all (Value x k) n m fits also = refl
+within-all (Among set vars) n m fits also = refl
+within-all (Not f) n m fits also = or_all (Not f) n m _ _ fits also (within-all f n m fits also)
+within-all (And f g) n m fits also =
+    let size = both_fit f g (And f g) in
+    or_all (And f g) n m _ _ fits also (both_all f g n m (omega (arith, size)) (omega (arith, size)) (within-all f) (within-all g))
+within-all (Or f g) n m fits also =
+    let size = both_fit f g (Or f g) in
+    or_all (Or f g) n m _ _ fits also (both_all f g n m (omega (arith, size)) (omega (arith, size)) (within-all f) (within-all g))
+within-all (Ex x f) n m fits also =
+    let size = length-append (steps f) (Ex x f ∷ []) in
+    or_all (Ex x f) n m _ _ fits also (within-all f n m (omega (arith, size)) (omega (arith, size)))
+
+-- one list of formulas after another
+pub Passes-append : (fs gs hs : List Tree) (n m k : ℕ) (xs ys : List Tree) → Passes fs n xs gs m → Passes gs m ys hs k → Passes fs n (xs ++ ys) hs k
+Passes-append fs gs hs n m k [] ys (same, also) further = subst (λ l. Passes l n ys hs k) same (subst (λ j. Passes gs j ys hs k) also further)
+Passes-append fs gs hs n m k (x ∷ xs) ys h further =
+    elim h [
+      | inl (known, rest) ↦ inl (known, Passes-append fs gs hs (counted n) m k xs ys rest further)
+      | inr (unknown, rest) ↦ inr (unknown, Passes-append (with_entry fs x) gs hs n m k xs ys rest further)
+    ]
+
+pub after-append : (a b c : MemoState) (xs ys : List Tree) → IsMemoAfter a b xs → IsMemoAfter b c ys → IsMemoAfter a c (xs ++ ys)
+after-append a b c xs ys first second = record {
+  budget = second.budget ∙ first.budget;
+  added = first.added ++ second.added;
+  entries = second.entries ∙ (ap (λ l. l ++ second.added) first.entries ∙ append_assoc a.entries first.added second.added);
+  passes = Passes-append (known a) (known b) (known c) a.found b.found c.found xs ys first.passes second.passes;
+}
+
+pub after-none : (a : MemoState) → IsMemoAfter a a []
+after-none a = record { budget = refl; added = []; entries = sym (append-nil a.entries); passes = (refl, refl) }
+
+-- a formula that is not plain, of two parts
+pub record IsOfTwo (h f g : Tree) : Type 0 where
+  pub parts : (n : ℕ) → plain_within h n ≡ plain_within f n ++ plain_within g (n - length (steps f))
+  pub size : length (steps h) ≡ length (steps f) + length (steps g) + 1
+
+pub of_two-and : (f g : Tree) → is_plain (And f g) ≡ false → IsOfTwo (And f g) f g
+of_two-and f g h = record { parts = λ n. not_plain (And f g) n (plain_within f n ++ plain_within g (n - length (steps f))) h; size = both_fit f g (And f g) }
+
+pub of_two-or : (f g : Tree) → is_plain (Or f g) ≡ false → IsOfTwo (Or f g) f g
+of_two-or f g h = record { parts = λ n. not_plain (Or f g) n (plain_within f n ++ plain_within g (n - length (steps f))) h; size = both_fit f g (Or f g) }
+
+-- a formula that is not plain, of one part
+pub record IsOfOne (h f : Tree) : Type 0 where
+  pub parts : (n : ℕ) → plain_within h n ≡ plain_within f n
+  pub size : length (steps f) ≤ length (steps h)
+
+pub of_one-not : (f : Tree) → is_plain (Not f) ≡ false → IsOfOne (Not f) f
+of_one-not f h = record { parts = λ n. not_plain (Not f) n (plain_within f n) h; size = omega arith }
+
+pub of_one-ex : (x : Var) (f : Tree) → is_plain (Ex x f) ≡ false → IsOfOne (Ex x f) f
+of_one-ex x f h = record { parts = λ n. not_plain (Ex x f) n (plain_within f n) h; size = omega (arith, length-append (steps f) (Ex x f ∷ [])) }
+
+module _ (a b : MemoState) (before : ℕ) (why : CompileError) (h f : Tree) (one : IsOfOne h f) where
+  pub stopped_one : IsStopped a b f before why → IsStopped a b h before why
+  stopped_one part = record {
+    done = part.done;
+    few = omega (arith, part.few, one.size);
+    number = part.number;
+    after = subst (IsMemoAfter a b) (sym (one.parts part.done)) part.after;
+  }
+
+  pub stopped_at_one : IsMemoAfter a b (plain_within f (length (steps f))) → ((step : ℕ) → why ≡ Over step → step ≡ before + length (steps f) + 1) → IsStopped a b h before why
+  stopped_at_one after number = record {
+    done = length (steps f);
+    few = one.size;
+    number = number;
+    after = subst (IsMemoAfter a b) (sym (one.parts (length (steps f)))) after;
+  }
+
+pub after_one : (a b : MemoState) (h f : Tree) → IsOfOne h f → IsMemoAfter a b (plain_within f (length (steps f))) → IsMemoAfter a b (plain_within h (length (steps h)))
+after_one a b h f one after =
+    let all : plain_within f (length (steps f)) ≡ plain_within f (length (steps h)) = within-all f (length (steps f)) (length (steps h)) (omega arith) one.size in
+    subst (IsMemoAfter a b) (all ∙ sym (one.parts (length (steps h)))) after
+
+module _ (h f g : Tree) (two : IsOfTwo h f g) where
+  two_left : (n : ℕ) → n ≤ length (steps f) → plain_within f n ≡ plain_within h n
+  two_left n few =
+      let at : n - length (steps f) ≡ 0 = omega arith in
+      let none : plain_within g (n - length (steps f)) ≡ [] = ap (plain_within g) at ∙ within-zero g in
+      sym (two.parts n ∙ (ap (λ ys. plain_within f n ++ ys) none ∙ append-nil (plain_within f n)))
+
+  two_right : (n m : ℕ) → m ≡ length (steps f) + n → plain_within f (length (steps f)) ++ plain_within g n ≡ plain_within h m
+  two_right n m is =
+      let at : n ≡ m - length (steps f) = omega arith in
+      let all : plain_within f (length (steps f)) ≡ plain_within f m = within-all f (length (steps f)) m (omega arith) (omega arith) in
+      ap (λ xs. xs ++ plain_within g n) all ∙ (ap (λ k. plain_within f m ++ plain_within g k) at ∙ sym (two.parts m))
+
+  two_all : plain_within f (length (steps f)) ++ plain_within g (length (steps g)) ≡ plain_within h (length (steps h))
+  two_all =
+      let more : plain_within g (length (steps g)) ≡ plain_within g (length (steps g) + 1) = within-all g (length (steps g)) (length (steps g) + 1) (omega arith) (omega arith) in
+      ap (λ ys. plain_within f (length (steps f)) ++ ys) more ∙ two_right (length (steps g) + 1) (length (steps h)) (omega (arith, two.size))
+
+  pub after_two : (a b c : MemoState) → IsMemoAfter a b (plain_within f (length (steps f))) → IsMemoAfter b c (plain_within g (length (steps g))) → IsMemoAfter a c (plain_within h (length (steps h)))
+  after_two a b c left right = subst (IsMemoAfter a c) two_all (after-append a b c (plain_within f (length (steps f))) (plain_within g (length (steps g))) left right)
+
+  pub stopped_left : (a b : MemoState) (before : ℕ) (why : CompileError) → IsStopped a b f before why → IsStopped a b h before why
+  stopped_left a b before why part = record {
+    done = part.done;
+    few = omega (arith, part.few, two.size);
+    number = part.number;
+    after = subst (IsMemoAfter a b) (two_left part.done part.few) part.after;
+  }
+
+  pub stopped_right : (a b c : MemoState) (before done : ℕ) (why : CompileError) → done ≡ before + length (steps f) → IsMemoAfter a b (plain_within f (length (steps f))) → IsStopped b c g done why → IsStopped a c h before why
+  stopped_right a b c before done why counts left part = record {
+    done = length (steps f) + part.done;
+    few = omega (arith, part.few, two.size);
+    number = λ step over. omega (arith, part.number step over, counts);
+    after = subst (IsMemoAfter a c) (two_right part.done (length (steps f) + part.done) refl) (after-append a b c (plain_within f (length (steps f))) (plain_within g part.done) left part.after);
+  }
+
+  pub stopped_at_two : (a b c : MemoState) (before : ℕ) (why : CompileError) → IsMemoAfter a b (plain_within f (length (steps f))) → IsMemoAfter b c (plain_within g (length (steps g)))
+      → ((step : ℕ) → why ≡ Over step → step ≡ before + length (steps f) + length (steps g) + 1) → IsStopped a c h before why
+  stopped_at_two a b c before why left right number = record {
+    done = length (steps f) + length (steps g);
+    few = omega (arith, two.size);
+    number = λ step over. omega (arith, number step over);
+    after = subst (IsMemoAfter a c) (two_right (length (steps g)) (length (steps f) + length (steps g)) refl) (after-append a b c (plain_within f (length (steps f))) (plain_within g (length (steps g))) left right);
+  }

@@ -1,0 +1,70 @@
+use Rattle.std.proofs.Common.{arith}
+use Rattle.std.proofs.lemmas.Result.{err_from_is_err_and}
+use Rattle.lin_formula.specs.TreeOf.{tree_of}
+use Rattle.lin_formula.specs.SetOf.{tables, members}
+use Rattle.formula_auto.proofs.Rooms.{ready}
+use Rattle.formula_auto.proofs.Stable.{Decides-integers}
+use Rattle.formula_auto.proofs.WithMemo.{stopped-first}
+use Rattle.formula_auto.proofs.memo.Memo.compile.Goals as goal
+
+pub compiled-requires-clause-ready : goal.compiled-requires-clause-ready
+compiled-requires-clause-ready c = ready (tree_of c.args.f.now) c.args.sets.now c.requires.compilable
+
+pub compiled-requires-clause-room : goal.compiled-requires-clause-room
+compiled-requires-clause-room c = omega (arith, c.requires.few_steps)
+
+pub returns-in_err-made-clause-reduced : goal.returns-in_err-made-clause-reduced
+returns-in_err-made-clause-reduced c =
+    let p = err_from_is_err_and c.from_residual.result c.from_residual.ensures.1 in
+    rw p.1 tt
+
+pub returns-in_err-made-clause-decides : goal.returns-in_err-made-clause-decides
+returns-in_err-made-clause-decides c =
+    let p = err_from_is_err_and c.from_residual.result c.from_residual.ensures.1 in
+    rw p.1 tt
+
+pub returns-in_err-made-clause-integers : goal.returns-in_err-made-clause-integers
+returns-in_err-made-clause-integers c =
+    let p = err_from_is_err_and c.from_residual.result c.from_residual.ensures.1 in
+    rw p.1 tt
+
+pub returns-in_err-made-clause-within : goal.returns-in_err-made-clause-within
+returns-in_err-made-clause-within c =
+    let p = err_from_is_err_and c.from_residual.result c.from_residual.ensures.1 in
+    rw p.1 tt
+
+pub returns-in_err-made-clause-after : goal.returns-in_err-made-clause-after
+returns-in_err-made-clause-after c =
+    let p = err_from_is_err_and c.from_residual.result c.from_residual.ensures.1 in
+    rw p.1 tt
+
+pub returns-in_err-made-clause-over : goal.returns-in_err-made-clause-over
+returns-in_err-made-clause-over c =
+    let p = err_from_is_err_and c.from_residual.result c.from_residual.ensures.1 in
+    rw (p.1, p.2) c.in_err-made.ensures.err.0
+
+pub returns-in_err-made-clause-stopped : goal.returns-in_err-made-clause-stopped
+returns-in_err-made-clause-stopped c =
+    let p = err_from_is_err_and c.from_residual.result c.from_residual.ensures.1 in
+    rw (p.1, p.2) (stopped-first (tree_of c.args.f.now) c.args.self.now c.compiled.new.self c.in_err-made.field-0.0 c.in_err-made.ensures.err.1)
+
+pub returns-clause-reduced : goal.returns-clause-reduced
+returns-clause-reduced c = c.in_ok-made.ensures.ok.compiled.reduced
+
+pub returns-clause-decides : goal.returns-clause-decides
+returns-clause-decides c = c.in_ok-made.ensures.ok.compiled.decides
+
+pub returns-clause-integers : goal.returns-clause-integers
+returns-clause-integers c = Decides-integers (tree_of c.args.f.now) (members (tables c.args.sets.now)) c.in_ok-made.made.auto c.in_ok-made.ensures.ok.compiled.decides
+
+pub returns-clause-within : goal.returns-clause-within
+returns-clause-within c = c.in_ok-made.ensures.ok.compiled.within
+
+pub returns-clause-after : goal.returns-clause-after
+returns-clause-after c = c.in_ok-made.ensures.ok.after
+
+pub returns-in_err-made-clause-budget : goal.returns-in_err-made-clause-budget
+returns-in_err-made-clause-budget c = c.in_err-made.ensures.err.1.after.budget
+
+pub returns-clause-budget : goal.returns-clause-budget
+returns-clause-budget c = c.in_ok-made.ensures.ok.after.budget

@@ -1,0 +1,13 @@
+-- How the logic stores what a memo keeps.
+use Rattle.std.specs.Prelude.{ℕ, List, refl}
+use Rattle.std.specs.Coded.{Coded, code_by, coded×, coded_ℕ, coded_list}
+use Rattle.auto_core.specs.Automaton.{Automaton}
+use Rattle.auto_core.specs.contracts.auto.Auto as auto
+use Rattle.lin_formula.specs.declared.formula.Formula.{Formula}
+use Rattle.lin_formula.specs.contracts.formula.Formula as formula
+use Rattle.formula_auto.specs.MemoState.{MemoState}
+
+abbrev pub coded_state : Coded MemoState
+coded_state =
+    code_by (ℕ × (List (Formula × Automaton) × ℕ)) (coded× coded_ℕ (coded× (coded_list (coded× formula.the_row.coded auto.the_row.coded)) coded_ℕ))
+    (λ m. (m.budget, (m.entries, m.found))) (λ p. record { budget = p.0; entries = p.1.0; found = p.1.1 }) (λ _. refl)

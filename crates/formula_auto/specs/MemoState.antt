@@ -1,0 +1,62 @@
+-- What a memo keeps, and how that changes.
+use Rattle.std.specs.Prelude.{◌≡◌, ◌⊎◌, ℕ, ◌+◌, ◌-◌, ◌≤◌, ◌<◌, ◌^◌, min, nat_lt, if◌then◌else◌, IsTrue, List, [], ◌∷◌, ◌++◌, map, length, All, Contains, None}
+use Rattle.auto_core.specs.Automaton.{Automaton}
+use Rattle.auto_core.specs.Reduced.{IsReduced}
+use Rattle.lin_formula.specs.Tree.{Tree, steps}
+use Rattle.lin_formula.specs.TreeOf.{tree_of}
+use Rattle.lin_formula.specs.declared.formula.Formula.{Formula}
+use Rattle.lin_formula.specs.SetOf.{SetOf, members}
+use Rattle.formula_auto.specs.Step.{FirstOver}
+use Rattle.formula_auto.specs.Decides.{Decides}
+use Rattle.formula_auto.specs.PlainParts.{is_plain, plain_within}
+use Rattle.formula_auto.specs.declared.errors.CompileError.{CompileError}
+use Rattle.formula_auto.specs.declared.errors.CompileError.TheVariants as compile_error
+
+-- a budget, formulas with their automata in the order in which they came, and how often one of these was taken
+pub record MemoState : Type 0 where
+  pub budget : ℕ
+  pub entries : List (Formula × Automaton)
+  pub found : ℕ
+
+-- a plain formula whose steps are all within the budget, and a reduced automaton that decides it, whatever sets there are
+pub record IsEntry (budget : ℕ) (f : Tree) (a : Automaton) : Type 0 where
+  pub plain : IsTrue (is_plain f)
+  pub reduced : IsReduced a
+  pub decides : (e : ℕ → SetOf) → Decides a f (members e)
+  pub within : (e : ℕ → SetOf) → FirstOver (steps f) (members e) budget 1 None
+
+pub record IsMemo (m : MemoState) : Type 0 where
+  pub least : 1 ≤ m.budget
+  pub most : m.budget ≤ 200000
+  pub few : length m.entries < 2 ^ 32
+  pub entries : All (λ entry. IsEntry m.budget (tree_of entry.0) entry.1) m.entries
+
+-- the formulas of the entries
+abbrev pub known : MemoState → List Tree
+known m = map (λ entry. tree_of entry.0) m.entries
+
+-- one more, but no more than 64 bits hold
+abbrev pub counted : ℕ → ℕ
+counted n = min (n + 1) (2 ^ 64 - 1)
+
+-- with another one at the end, unless there are 2^32 - 1 already
+abbrev pub with_entry : {X : Type 0} → List X → X → List X
+with_entry xs x = if nat_lt (length xs) (2 ^ 32 - 1) then xs ++ x ∷ [] else xs
+
+-- from what is known and the count of what was found to the same after these formulas in order: one that is known counts as found, another one is entered
+abbrev pub Passes : List Tree → ℕ → List Tree → List Tree → ℕ → Type 0
+Passes fs found [] gs then_found = (gs ≡ fs) × (then_found ≡ found)
+Passes fs found (f ∷ more) gs then_found =
+    (Contains fs f × Passes fs (counted found) more gs then_found) ⊎ ((¬ Contains fs f) × Passes (with_entry fs f) found more gs then_found)
+
+-- the memo after these formulas in order: the same budget, the old entries and more after them
+pub record IsMemoAfter (old new : MemoState) (fs : List Tree) : Type 0 where
+  pub budget : new.budget ≡ old.budget
+  pub added : List (Formula × Automaton)
+  pub entries : new.entries ≡ old.entries ++ added
+  pub passes : Passes (known old) old.found fs (known new) new.found
+
+-- where a step is over the budget, the plain subformulas that ended before it have passed; where memory ran out, those that ended within some steps
+abbrev pub IsMemoStopped : MemoState → MemoState → Tree → CompileError → Type 0
+IsMemoStopped old new f (compile_error.Over step) = IsMemoAfter old new (plain_within f (step - 1))
+IsMemoStopped old new f compile_error.Memory = (done : ℕ) × IsMemoAfter old new (plain_within f done)
