@@ -1,12 +1,11 @@
 -- The list of bearings has each bearing on the king, and nothing else; and a check is one by a bearing.
-use Rattle.std.proofs.Common.{◌≡◌, ◌≢◌, ◌⊎◌, ◌↔◌, ℕ, zero, suc, ◌<◌, ◌≤◌, Bool, true, false, ◌&&◌, List, [], ◌∷◌, ◌++◌, length, Option, Some, None, inl, inr, refl, subst, sym, ap, ◌∙◌, arith}
+use Rattle.std.proofs.Common.{◌≡◌, ◌≢◌, ◌↔◌, ℕ, zero, suc, ◌<◌, ◌≤◌, Bool, true, false, ◌&&◌, List, [], ◌∷◌, length, Some, None, inl, inr, refl, subst, sym, ap, ◌∙◌, arith}
 use Rattle.std.specs.Prelude.{if◌then◌else◌, slice_get, IsSomeAnd}
 use Rattle.std.specs.List.{Contains}
 use Rattle.std.proofs.lemmas.Option.{slice_get_within}
 use Rattle.game_rules.specs.declared.men.Kind.{Kind}
 use Rattle.game_rules.specs.declared.men.Kind.TheVariants.{King, Queen, Rook, Bishop, Knight, Pawn}
 use Rattle.game_rules.specs.declared.men.Side.{Side}
-use Rattle.game_rules.specs.declared.men.Side.TheVariants.{White, Black}
 use Rattle.game_rules.specs.declared.men.Man.{Man}
 use Rattle.game_rules.specs.declared.men.Ray.{Ray}
 use Rattle.game_rules.specs.declared.men.Place.TheVariants.{Gone}
@@ -16,7 +15,7 @@ use Rattle.game_rules.specs.Rays.{ray_of, rays_of, serves_captures}
 use Rattle.rule_formula.specs.declared.opt.Bearing.{Bearing}
 use Rattle.rule_formula.specs.Bearings.{IsBearingOf, along_rays, bearing, bearings_of, bearings_to, is_king_man, king_number, king_to, man_bearings}
 use Rattle.rule_formula.specs.Fits.{Fits, IsGameMask, mask_of}
-use Rattle.rule_formula.specs.Meaning.{BearsAlong, BearsBy, IsBearer, IsBearing}
+use Rattle.rule_formula.specs.Meaning.{BearsBy}
 use Rattle.rule_formula.specs.Options.{is_king, is_side}
 use Rattle.rule_formula.specs.Placed.{is_live, stock_man}
 use Rattle.rule_formula.proofs.BearLemmas.{stock_number}

@@ -1,5 +1,5 @@
 -- Positions of one game as positions of its stock.
-use Rattle.std.proofs.Common.{◌≡◌, ◌≢◌, ◌⊎◌, ◌↔◌, ℕ, zero, suc, ◌+◌, ◌*◌, ◌-◌, ◌%◌, ◌/◌, ◌^◌, ◌<◌, ◌≤◌, ℤ, Bool, true, false, List, [], ◌∷◌, map, length, Some, inl, inr, refl, subst, sym, ap, ◌∙◌, arith}
+use Rattle.std.proofs.Common.{◌≡◌, ◌≢◌, ◌⊎◌, ◌↔◌, ℕ, zero, suc, ◌+◌, ◌*◌, ◌-◌, ◌%◌, ◌/◌, ◌^◌, ◌<◌, Bool, List, [], ◌∷◌, length, Some, inl, inr, refl, sym, ap, ◌∙◌, arith}
 use Rattle.std.specs.Prelude.{◌==◌, if◌then◌else◌, slice_get}
 use Rattle.std.specs.Int.{bit_at}
 use Rattle.std.proofs.Math.Nat.{pow-succ'}
@@ -9,19 +9,18 @@ use Rattle.game_rules.specs.declared.men.Man.{Man}
 use Rattle.game_rules.specs.declared.men.Place.{Place}
 use Rattle.game_rules.specs.declared.men.Place.TheVariants.{Gone, At}
 use Rattle.game_rules.specs.declared.men.Square.{Square}
-use Rattle.game_rules.specs.Game.{HasOneKing, IsMaskOf, Position, man_at, place_square, square_of}
+use Rattle.game_rules.specs.Game.{IsMaskOf, Position, place_square, square_of}
 use Rattle.track_word.specs.declared.tracks.Var.{Var}
 use Rattle.track_word.specs.Tracks.{Values, values_at}
 use Rattle.lin_formula.specs.Free.{IsOneOf}
 use Rattle.rule_formula.specs.Fits.{Fits, HasStock, live_bit, mask_of, mask_of_men}
-use Rattle.rule_formula.specs.Placed.{is_live, men_from, place_at, placed, stock_man, tuple_of, tuple_to}
-use Rattle.rule_formula.specs.Seats.{own, squares, vars_to}
+use Rattle.rule_formula.specs.Placed.{is_live, men_from, place_at, placed, tuple_of, tuple_to}
+use Rattle.rule_formula.specs.Seats.{own, squares}
 use Rattle.rule_formula.specs.Trees.{tracks_of}
-use Rattle.rule_formula.proofs.BearLemmas.{stock_has}
 use Rattle.rule_formula.proofs.FormulaLemmas.{tuple_is}
 use Rattle.rule_formula.proofs.LawTheorem.{self_placed, squares_of}
 use Rattle.rule_formula.proofs.MoveTheorem.{if_other, if_same}
-use Rattle.rule_formula.proofs.PlacedLemmas.{length_placed, stock_man-men}
+use Rattle.rule_formula.proofs.PlacedLemmas.{length_placed}
 use Rattle.rule_formula.proofs.RayLemmas.{square_at}
 use Rattle.rule_formula.proofs.SweptLemmas.{placed_same}
 use Rattle.rule_formula.proofs.TracksTheorem.{seat_in}

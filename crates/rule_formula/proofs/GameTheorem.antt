@@ -1,26 +1,23 @@
 -- A step by an option leads from a position of a game to another of the same game.
-use Rattle.std.proofs.Common.{◌≡◌, ◌≢◌, ◌↔◌, ℕ, zero, suc, ◌+◌, ◌-◌, ◌^◌, ◌<◌, ◌≤◌, Bool, true, false, List, length, Some, inl, inr, refl, subst, sym, ap, ◌∙◌, arith}
-use Rattle.std.specs.Prelude.{◌==◌, slice_get}
-use Rattle.std.specs.Int.{bit_at}
-use Rattle.std.proofs.lemmas.Bool.{eqb-true, eq-eqb}
+use Rattle.std.proofs.Common.{◌≡◌, ◌≢◌, ℕ, zero, suc, ◌^◌, ◌<◌, ◌≤◌, Bool, true, false, List, length, Some, inl, inr, refl, subst, sym, ap, ◌∙◌, arith}
 use Rattle.game_rules.specs.declared.men.Kind.TheVariants.{King}
 use Rattle.game_rules.specs.declared.men.Side.{Side}
 use Rattle.game_rules.specs.declared.men.Man.{Man}
-use Rattle.game_rules.specs.declared.men.Place.TheVariants.{Gone, At}
+use Rattle.game_rules.specs.declared.men.Place.TheVariants.{Gone}
 use Rattle.game_rules.specs.declared.men.Ray.{Ray}
 use Rattle.game_rules.specs.declared.men.Square.{Square}
 use Rattle.game_rules.specs.Game.{HasOneKing, IsApart, IsMaskOf, Position, Sound, StandsOn, man_at, other}
 use Rattle.rule_formula.specs.declared.opt.Opt.{Opt}
-use Rattle.rule_formula.specs.Fits.{Fits, HasStock, IsGameMask, mask_of, mask_without, target_of}
-use Rattle.rule_formula.specs.Meaning.{IsOption, IsOptionOf, IsOptionOfSide, IsPrey, StepsBy, TakesOption}
-use Rattle.rule_formula.specs.Placed.{is_live, men_from, place_at, placed, stock_man, without}
+use Rattle.rule_formula.specs.Fits.{Fits, HasStock, IsGameMask, mask_of, target_of}
+use Rattle.rule_formula.specs.Meaning.{IsOptionOf, IsOptionOfSide, IsPrey, StepsBy, TakesOption}
+use Rattle.rule_formula.specs.Placed.{is_live, place_at, placed, stock_man, without}
 use Rattle.rule_formula.proofs.AfterTheorem.{after_is, moved, moved_other, moved_same}
 use Rattle.rule_formula.proofs.BearLemmas.{far_or_near, man_placed, stands_at, stock_has, stock_number}
 use Rattle.rule_formula.proofs.FitLemmas.{fits_placed, mask_one, mask_small, mask_tells}
 use Rattle.rule_formula.proofs.LawTheorem.{live_at, squares_of}
 use Rattle.rule_formula.proofs.MaskLemmas.{live_bit_is, without_is, without_less}
 use Rattle.rule_formula.proofs.MeaningLemmas.{takes_is}
-use Rattle.rule_formula.proofs.MoveLemmas.{kept_live, nobody_there, place_gone, place_is, same_man, same_number}
+use Rattle.rule_formula.proofs.MoveLemmas.{kept_live, nobody_there, place_gone, same_man, same_number}
 use Rattle.rule_formula.proofs.MoveTheorem.{was_live}
 use Rattle.rule_formula.proofs.PlacedLemmas.{from_placed, length_placed, placed_man, stands_placed, stock_man-men}
 

@@ -1,30 +1,25 @@
 -- What the formulas mean at the positions of one game.
-use Rattle.std.proofs.Common.{◌≡◌, ◌≢◌, ◌⊎◌, ◌↔◌, ℕ, zero, suc, ◌*◌, ◌<◌, ◌≤◌, ℤ, Bool, true, false, List, [], ◌∷◌, length, Option, Some, None, inl, inr, refl, subst, sym, ap, ◌∙◌, arith}
-use Rattle.std.specs.Prelude.{Contains, if◌then◌else◌}
+use Rattle.std.proofs.Common.{◌≡◌, ◌↔◌, ℕ, zero, suc, ◌<◌, ◌≤◌, ℤ, Bool, List, length, Some, refl, subst, sym, ap, ◌∙◌, arith}
+use Rattle.std.specs.Prelude.{Contains}
 use Rattle.game_rules.specs.declared.men.Side.{Side}
 use Rattle.game_rules.specs.declared.men.Man.{Man}
-use Rattle.game_rules.specs.declared.men.Place.TheVariants.{Gone}
 use Rattle.game_rules.specs.declared.men.Square.{Square}
-use Rattle.game_rules.specs.Game.{HasOneKing, InCheck, IsApart, Position, Sound, StandsOn, man_at, other}
-use Rattle.track_word.specs.declared.tracks.Var.{Var}
+use Rattle.game_rules.specs.Game.{HasOneKing, IsApart, Position, Sound, StandsOn, other}
 use Rattle.track_word.specs.Tracks.{Values, values_at}
 use Rattle.lin_formula.specs.Tree.{Tree, free_vars}
-use Rattle.lin_formula.specs.Tree as tree
-use Rattle.lin_formula.specs.Free.{IsFree, IsOneOf}
 use Rattle.lin_formula.specs.Holds.{Holds}
 use Rattle.lin_formula.specs.SetOf.{Member, SetOf, Where, members}
 use Rattle.rule_formula.specs.declared.opt.Bearing.{Bearing}
 use Rattle.rule_formula.specs.declared.opt.Opt.{Opt}
-use Rattle.rule_formula.specs.Bearings.{IsBearingOf, bearings_of}
-use Rattle.rule_formula.specs.Fits.{Fits, HasStock, IsGameMask, mask_of, target_of}
+use Rattle.rule_formula.specs.Fits.{Fits, mask_of, target_of}
 use Rattle.rule_formula.specs.Laws.{StepsTo}
 use Rattle.rule_formula.specs.Mean.{BearingsMean, BearsOnKing, GameMeans, HoldsFitting, IsBefore, IsGame, IsImageOf, OptionsMean, PointMeans, RulesMean, mask_tracks}
-use Rattle.rule_formula.specs.Meaning.{BearsBy, IsBearer, IsOption, IsOptionOf, IsOptionOfSide, IsPrey, IsReached, Reaches, TakesOption, Serves}
+use Rattle.rule_formula.specs.Meaning.{IsBearer, IsOptionOf, IsOptionOfSide, IsPrey, IsReached, TakesOption, Serves}
 use Rattle.rule_formula.specs.Options.{options_of}
 use Rattle.rule_formula.specs.Placed.{HoldsApart, IsLiveIn, is_live, placed, stock_man, tuple_of, without}
-use Rattle.rule_formula.specs.Seats.{own, squares, vars_to}
-use Rattle.rule_formula.specs.Trees.{bear_of, image_of, man_square, point_of, pre_of, safe_of, tracks_of}
-use Rattle.rule_formula.proofs.BearLemmas.{stock_has, stock_number}
+use Rattle.rule_formula.specs.Seats.{squares}
+use Rattle.rule_formula.specs.Trees.{bear_of, image_of, point_of, pre_of, safe_of, tracks_of}
+use Rattle.rule_formula.proofs.BearLemmas.{stock_number}
 use Rattle.rule_formula.proofs.BearingTheorem.{alike_man, alike_ray, bearings_are, checks_are}
 use Rattle.rule_formula.proofs.FitLemmas.{AreAlike, alike_back, alike_of, fits_placed, fits_unique, fits_values, mask_tells, placed_values, tuple_placed, values_of, squares_values}
 use Rattle.rule_formula.proofs.GameTheorem.{Arrives, arrives, fits_mask, live_by_mask, prey_live, sound_fits, target_mask}

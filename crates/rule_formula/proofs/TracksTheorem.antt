@@ -1,5 +1,5 @@
 -- The free variables of a formula are those of the live men.
-use Rattle.std.proofs.Common.{◌≡◌, ◌≢◌, ◌⊎◌, ◌↔◌, ℕ, zero, suc, ◌+◌, ◌*◌, ◌-◌, ◌<◌, ◌≤◌, ℤ, pos, negsuc, Bool, true, false, List, [], ◌∷◌, ◌++◌, length, nat_lt, ◌==◌, ◌&&◌, not, if◌then◌else◌, Some, inl, inr, refl, sym, ap, ◌∙◌, subst, arith}
+use Rattle.std.proofs.Common.{◌≡◌, ◌≢◌, ◌⊎◌, ◌↔◌, ℕ, zero, suc, ◌+◌, ◌*◌, ◌<◌, ◌≤◌, ℤ, pos, negsuc, Bool, true, false, List, [], ◌∷◌, ◌++◌, length, nat_lt, ◌==◌, ◌&&◌, not, if◌then◌else◌, inl, inr, refl, sym, ap, ◌∙◌, subst, arith}
 use Rattle.std.proofs.lemmas.Int.{ints}
 use Rattle.std.proofs.lemmas.Bool.Decides.{nat_tests}
 use Rattle.track_word.specs.declared.tracks.Var.{Var}
@@ -16,9 +16,9 @@ use Rattle.game_rules.specs.declared.men.Ray.{Ray}
 use Rattle.game_rules.specs.declared.men.Side.{Side}
 use Rattle.rule_formula.specs.declared.opt.Opt.{Opt}
 use Rattle.rule_formula.specs.declared.seats.Seat.{Seat}
-use Rattle.rule_formula.specs.Placed.{is_live, stock_man, without}
+use Rattle.rule_formula.specs.Placed.{is_live, without}
 use Rattle.rule_formula.specs.Seats.{new_seat, new_seats, old_seats, own, seats_with, spare, swept, var, vars_to}
-use Rattle.rule_formula.specs.Trees.{ahead, and_all, atoms_as, bear_of, bear_tree, clear, clear_as, difference, ex_swept, image_body, image_of, image_tree, is_other, line, line_atoms, on, on_as, ordered, pre_body, pre_of, pre_tree, ray_at, ray_atoms, safe_of, safe_tree, tracks_of, unless_same}
+use Rattle.rule_formula.specs.Trees.{ahead, and_all, atoms_as, bear_of, bear_tree, clear, clear_as, difference, ex_swept, image_body, image_of, image_tree, is_other, line, line_atoms, on, on_as, ordered, pre_body, pre_of, pre_tree, ray_at, ray_atoms, safe_of, tracks_of, unless_same}
 use Rattle.rule_formula.specs.Meaning.{IsBearer, IsOptionOf, IsPrey}
 use Rattle.rule_formula.proofs.BearLemmas.{IsNumber, stock_number}
 use Rattle.rule_formula.proofs.MoveLemmas.{option_untaken, same_number}
