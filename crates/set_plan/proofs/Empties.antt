@@ -1,0 +1,40 @@
+-- Whether sets are empty.
+use Rattle.std.proofs.Common.{◌≡◌, ◌↔◌, ℕ, ◌≤◌, List, [], ◌∷◌, ◌++◌, map, length, Option, Some, None, slice_get, refl, sym, ◌∙◌, subst, inl, inr, ℤ}
+use Rattle.std.proofs.lemmas.Option.{slice_get_past}
+use Rattle.track_word.specs.Word.{IsWord}
+use Rattle.auto_core.specs.Automaton.{Automaton, Accepts}
+use Rattle.auto_core.specs.Reduced.{IsReduced}
+use Rattle.formula_auto.specs.Compiled.{IsSetFor}
+use Rattle.lin_formula.specs.SetOf.{SetOf, Table, IsEmpty, SomeEmpty, NoneEmpty}
+
+-- an automaton of an empty set accepts no word
+pub accepts-none : (a : Automaton) → IsEmpty (Table a) → (word : List ℕ) → IsWord (length a.tracks) word → ¬ Accepts a word
+accepts-none a empty word is h = empty _ (record { word = word; is_word = is; values = refl; accepts = h })
+
+pub is-empty : (a : Automaton) → ((word : List ℕ) → IsWord (length a.tracks) word → ¬ Accepts a word) → IsEmpty (Table a)
+is-empty a none tuple h = none h.word h.is_word h.accepts
+
+pub some-left : (e : ℕ → SetOf) (xs ys : List ℕ) → SomeEmpty (map e xs) → SomeEmpty (map e (xs ++ ys))
+some-left e [] ys h = absurd h
+some-left e (x ∷ xs) ys (inl empty) = inl empty
+some-left e (x ∷ xs) ys (inr rest) = inr (some-left e xs ys rest)
+
+pub some-right : (e : ℕ → SetOf) (xs ys : List ℕ) → SomeEmpty (map e ys) → SomeEmpty (map e (xs ++ ys))
+some-right e [] ys h = h
+some-right e (x ∷ xs) ys h = inr (some-right e xs ys h)
+
+pub none-both : (e : ℕ → SetOf) (xs ys : List ℕ) → NoneEmpty (map e xs) → NoneEmpty (map e ys) → NoneEmpty (map e (xs ++ ys))
+none-both e [] ys h k = k
+none-both e (x ∷ xs) ys h k = (h.0, none-both e xs ys h.1 k)
+
+-- the set of a name that a formula uses
+pub set-reduced : (sets : List Automaton) (number size : ℕ) (a : Automaton) → IsSetFor sets number size → slice_get sets number ≡ Some a → IsReduced a
+set-reduced sets number size a fits e =
+    let same : fits.set ≡ a = cc (fits.is_there, e) in
+    subst IsReduced same fits.reduced
+
+pub set-there : (sets : List Automaton) (number size : ℕ) → IsSetFor sets number size → length sets ≤ number → ⊥
+set-there sets number size fits past =
+    let none : slice_get sets number ≡ None = slice_get_past sets number past in
+    let never : Some fits.set ≡ None = sym fits.is_there ∙ none in
+    (cc)

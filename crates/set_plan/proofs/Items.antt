@@ -1,0 +1,21 @@
+-- Lists of formulas.
+use Rattle.std.proofs.Common.{◌≡◌, ℕ, zero, suc, ◌+◌, ◌<◌, List, [], ◌∷◌, length, map, All, drop, drop-cons, add-one, get_or, sym, ap, ◌∙◌, subst, arith}
+use Rattle.std.proofs.lemmas.List.Elements.{All-head}
+use Rattle.track_word.specs.declared.tracks.Var.{Var}
+use Rattle.auto_core.specs.Automaton.{Automaton}
+use Rattle.lin_formula.specs.declared.formula.Formula.{Formula}
+use Rattle.lin_formula.specs.Tree.{Tree}
+use Rattle.lin_formula.specs.TreeOf.{tree_of}
+use Rattle.set_plan.specs.Sets.{IsItemOn}
+
+-- the front of what is left of a list
+pub drop_front : {X : Type 0} (xs : List X) (i : ℕ) (x : X) → i < length xs → x ≡ get_or xs i x → drop i xs ≡ x ∷ drop (i + 1) xs
+drop_front xs i x less e = rw add-one (drop-cons xs i x less ∙ ap (λ y. y ∷ drop (suc i) xs) (sym e))
+
+all-at : (P : Tree → Type 0) (fs : List Formula) (i : ℕ) (f : Formula) → All P (map tree_of fs) → i < length fs → f ≡ get_or fs i f → P (tree_of f)
+all-at P [] i f h less e = absurd (omega arith)
+all-at P (g ∷ fs) zero f h less e = subst (λ (k : Formula). P (tree_of k)) (sym e) (All-head P (tree_of g) (map tree_of fs) h)
+all-at P (g ∷ fs) (suc i) f h less e = all-at P fs i f (λ k d within. h (suc k) d (omega arith)) (omega arith) e
+
+pub item-at : (tracks : List Var) (sets : List Automaton) (fs : List Formula) (i : ℕ) (f : Formula) → All (IsItemOn tracks sets) (map tree_of fs) → i < length fs → f ≡ get_or fs i f → IsItemOn tracks sets (tree_of f)
+item-at tracks sets fs i f h less e = all-at (IsItemOn tracks sets) fs i f h less e

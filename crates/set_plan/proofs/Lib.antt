@@ -1,0 +1,12 @@
+pub mod Composition
+pub mod Alike
+pub mod SameSets
+pub mod Combined
+pub mod Unique
+pub mod Decided
+pub mod Makes
+pub mod Thinned
+pub mod Empties
+pub mod BothSets
+pub mod Kept
+pub mod Items

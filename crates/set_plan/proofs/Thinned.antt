@@ -1,0 +1,96 @@
+-- A union of some items is the union of those that lack nothing, under other numbers for their sets.
+use Rattle.std.proofs.Common.{◌≡◌, ◌⊎◌, ℕ, ◌+◌, List, [], ◌∷◌, ◌++◌, length, map, Some, None, refl, sym, ap, subst, inl, inr}
+use Rattle.track_word.specs.declared.tracks.Var.{Var}
+use Rattle.lin_formula.specs.Tree.{steps}
+use Rattle.lin_formula.specs.SetOf.{SetOf, Nothing, SomeEmpty}
+use Rattle.set_plan.specs.Program.{Item, Program, Give, Empty, bind, Takes, Entry}
+use Rattle.set_plan.specs.Past.{numbered, all_steps, PastStep, Past}
+use Rattle.set_plan.specs.Outcome.{Ends, Stops}
+use Rattle.set_plan.specs.Unite.{Made, compute, make, join, unite, positives}
+use Rattle.set_plan.specs.declared.stop.StepName.{StepName}
+use Rattle.set_plan.proofs.Composition.{none_some, Ends-ask_yes, Ends-ask_no, Ends-give, Ends-bind, Stops-bind, Stops-bind_later, Ends-split, Stops-split, PastStep-split, PastStep-append}
+use Rattle.set_plan.specs.Same.{IsLacking, SameItem, Thinned}
+use Rattle.set_plan.proofs.Alike.{IsSetOf-same, numbered-same, Stops-alike}
+use Rattle.set_plan.proofs.Combined.{SameMade, make-alike, same-count}
+use Rattle.set_plan.proofs.Makes.{Ends-join_left}
+
+pub Thinned-append : (is js : List Item) (i j : Item) → Thinned is js → SameItem i j → Thinned (is ++ i ∷ []) (js ++ j ∷ [])
+Thinned-append is [] i j e same = inr (i, [], ap (λ (l : List Item). l ++ i ∷ []) e, same, refl)
+Thinned-append is (k ∷ js) i j (inl (lacks, rest)) same = inl (lacks, Thinned-append is js i j rest same)
+Thinned-append is (k ∷ js) i j (inr (h, rest, e, here, thin)) same =
+    inr (h, rest ++ i ∷ [], ap (λ (l : List Item). l ++ i ∷ []) e, here, Thinned-append rest js i j thin same)
+
+pub Thinned-skip : (is js : List Item) (j : Item) → Thinned is js → IsLacking j → Thinned is (js ++ j ∷ [])
+Thinned-skip is [] j e lacks = inl (lacks, e)
+Thinned-skip is (k ∷ js) j (inl (here, rest)) lacks = inl (here, Thinned-skip is js j rest lacks)
+Thinned-skip is (k ∷ js) j (inr (h, rest, e, here, thin)) lacks = inr (h, rest, e, here, Thinned-skip rest js j thin lacks)
+
+module _ {P : Type 0} (part : P) (budget : ℕ) where
+  compute-same : (at : ℕ) (i j : Item) (v : Made) (xs : List (Entry P)) → SameItem i j → Takes (compute part at i) xs (Some v) → Past xs budget None → Ends (compute part at j) budget v
+  compute-same at i j v xs same (inl (e, o)) past = none_some o
+  compute-same at i j v xs same (inr (rest, s, whole, is, t)) past =
+      let all : PastStep (numbered part at i.sets (steps i.formula) ++ all_steps rest) budget None = subst (λ (l : List (Entry P)). Past l budget None) whole past in
+      let (front, back) = PastStep-split (numbered part at i.sets (steps i.formula)) (all_steps rest) budget all in
+      let Gives : ℕ → Type 0 = λ n. Takes {P = P} (Give (s, at + n)) rest (Some v) in
+      record {
+        entries = record { part = part; at = at; item = j } ∷ rest;
+        takes = inr (rest, s, refl, IsSetOf-same i j s same is, subst Gives (same-count (steps i.formula) (steps j.formula) i.sets j.sets same.steps) t);
+        past = PastStep-append (numbered part at j.sets (steps j.formula)) (all_steps rest) budget None (numbered-same part at (steps i.formula) (steps j.formula) i.sets j.sets budget None same.steps front) back;
+      }
+
+  make-same : (at : ℕ) (i j : Item) (v : Made) (xs : List (Entry P)) → SameItem i j → Takes (make part at i) xs (Some v) → Past xs budget None → Ends (make part at j) budget v
+  make-same at i j v xs same (inl (e, o)) past = none_some o
+  make-same at i j v xs same (inr (inl (is, t))) past =
+      Ends-ask_yes (Empty (map j.sets (positives j.formula))) (Give (Nothing, at)) (compute part at j) budget v (same.positives.some.0 is) (record { entries = xs; takes = t; past = past })
+  make-same at i j v xs same (inr (inr (is, t))) past =
+      Ends-ask_no (Empty (map j.sets (positives j.formula))) (Give (Nothing, at)) (compute part at j) budget v (same.positives.none.0 is) (compute-same at i j v xs same t past)
+
+  pub Ends-make_same : (at : ℕ) (i j : Item) (v : Made) → SameItem i j → Ends (make part at i) budget v → Ends (make part at j) budget v
+  Ends-make_same at i j v same h = make-same at i j v h.entries same h.takes h.past
+
+  pub Stops-make_same : (at : ℕ) (i j : Item) (name : StepName P) → SameItem i j → Stops (make part at i) budget name → Stops (make part at j) budget name
+  Stops-make_same at i j name same h = Stops-alike SameMade (make part at i) (make part at j) budget name (make-alike part at i j same) h
+
+  module _ (tracks : List Var) where
+    abbrev after_item : Made → List Item → Made → Program P Made
+    after_item so_far items next = bind (join tracks part so_far.0 next) (λ more. unite tracks part more items)
+
+    -- an item that lacks a set adds nothing
+    Ends-lacking : (so_far v : Made) (j : Item) (js : List Item) → IsLacking j → Ends (unite tracks part so_far js) budget v → Ends (unite tracks part so_far (j ∷ js)) budget v
+    Ends-lacking so_far v j js lacks h =
+        Ends-bind (make part so_far.1 j) (after_item so_far js) budget (Nothing, so_far.1) v
+        (Ends-ask_yes (Empty (map j.sets (positives j.formula))) (Give (Nothing, so_far.1)) (compute part so_far.1 j) budget _ lacks (Ends-give budget _))
+        (Ends-bind (join tracks part so_far.0 (Nothing, so_far.1)) (λ more. unite tracks part more js) budget so_far v (Ends-join_left tracks part budget so_far.0 (Nothing, so_far.1) (λ tuple never. never)) h)
+
+    Stops-lacking : (so_far : Made) (name : StepName P) (j : Item) (js : List Item) → IsLacking j → Stops (unite tracks part so_far js) budget name → Stops (unite tracks part so_far (j ∷ js)) budget name
+    Stops-lacking so_far name j js lacks h =
+        Stops-bind_later (make part so_far.1 j) (after_item so_far js) budget (Nothing, so_far.1) name
+        (Ends-ask_yes (Empty (map j.sets (positives j.formula))) (Give (Nothing, so_far.1)) (compute part so_far.1 j) budget _ lacks (Ends-give budget _))
+        (Stops-bind_later (join tracks part so_far.0 (Nothing, so_far.1)) (λ more. unite tracks part more js) budget so_far name (Ends-join_left tracks part budget so_far.0 (Nothing, so_far.1) (λ tuple never. never)) h)
+
+    pub Ends-thinned : (is js : List Item) (so_far v : Made) → Thinned is js → Ends (unite tracks part so_far is) budget v → Ends (unite tracks part so_far js) budget v
+    Ends-thinned is [] so_far v e h = subst (λ (l : List Item). Ends (unite tracks part so_far l) budget v) e h
+    Ends-thinned is (j ∷ js) so_far v (inl (lacks, rest)) h = Ends-lacking so_far v j js lacks (Ends-thinned is js so_far v rest h)
+    Ends-thinned is (j ∷ js) so_far v (inr (i, rest, e, same, thin)) h =
+        let all : Ends (unite tracks part so_far (i ∷ rest)) budget v = subst (λ (l : List Item). Ends (unite tracks part so_far l) budget v) e h in
+        let (next, made, left) = Ends-split (make part so_far.1 i) (after_item so_far rest) budget v all in
+        let (more, joined, last) = Ends-split (join tracks part so_far.0 next) (λ more. unite tracks part more rest) budget v left in
+        Ends-bind (make part so_far.1 j) (after_item so_far js) budget next v (Ends-make_same so_far.1 i j next same made)
+        (Ends-bind (join tracks part so_far.0 next) (λ more. unite tracks part more js) budget more v joined (Ends-thinned rest js more v thin last))
+
+    pub Stops-thinned : (is js : List Item) (so_far : Made) (name : StepName P) → Thinned is js → Stops (unite tracks part so_far is) budget name → Stops (unite tracks part so_far js) budget name
+    Stops-thinned is [] so_far name e h = subst (λ (l : List Item). Stops (unite tracks part so_far l) budget name) e h
+    Stops-thinned is (j ∷ js) so_far name (inl (lacks, rest)) h = Stops-lacking so_far name j js lacks (Stops-thinned is js so_far name rest h)
+    Stops-thinned is (j ∷ js) so_far name (inr (i, rest, e, same, thin)) h =
+        let all : Stops (unite tracks part so_far (i ∷ rest)) budget name = subst (λ (l : List Item). Stops (unite tracks part so_far l) budget name) e h in
+        elim (Stops-split (make part so_far.1 i) (after_item so_far rest) budget name all) [
+          | inl here ↦ Stops-bind (make part so_far.1 j) (after_item so_far js) budget name (Stops-make_same so_far.1 i j name same here)
+          | inr (next, made, left) ↦ elim (Stops-split (join tracks part so_far.0 next) (λ more. unite tracks part more rest) budget name left) [
+            | inl here ↦
+                Stops-bind_later (make part so_far.1 j) (after_item so_far js) budget next name (Ends-make_same so_far.1 i j next same made)
+                (Stops-bind (join tracks part so_far.0 next) (λ more. unite tracks part more js) budget name here)
+            | inr (more, joined, last) ↦
+                Stops-bind_later (make part so_far.1 j) (after_item so_far js) budget next name (Ends-make_same so_far.1 i j next same made)
+                (Stops-bind_later (join tracks part so_far.0 next) (λ more. unite tracks part more js) budget more name joined (Stops-thinned rest js more name thin last))
+          ]
+        ]

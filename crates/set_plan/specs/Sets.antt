@@ -1,0 +1,62 @@
+-- Sets that a program has made.
+use Rattle.std.specs.Prelude.{◌≡◌, ◌<◌, ℕ, List, length, Option, Some, None, IfSome, slice_get}
+use Rattle.std.specs.Borrow.{Bor}
+use Rattle.track_word.specs.declared.tracks.Var.{Var}
+use Rattle.auto_core.specs.Automaton.{Automaton}
+use Rattle.auto_core.specs.Integers.{DecidesIntegers}
+use Rattle.auto_core.specs.Reduced.{IsReduced}
+use Rattle.lin_formula.specs.Tree.{Tree, free_vars, steps}
+use Rattle.lin_formula.specs.declared.formula.SetId.{SetId}
+use Rattle.lin_formula.specs.SetOf.{SetOf, Nothing, Table, as_set, tables}
+use Rattle.formula_auto.specs.Compiled.{IsCompilable}
+use Rattle.set_plan.specs.Program.{Item}
+use Rattle.set_plan.specs.declared.left.Left.{Left}
+use Rattle.set_plan.specs.declared.left.Left.TheVariants.{Whole, Part}
+use Rattle.set_plan.specs.declared.made.Made.{Made}
+
+-- the automaton is reduced and decides a set of tuples of integers, one for each of the tracks
+pub record IsSetOn (tracks : List Var) (a : Automaton) : Type 0 where
+  pub reduced : IsReduced a
+  pub integers : DecidesIntegers a
+  pub tracks_are : a.tracks ≡ tracks
+
+-- an item whose symbols stand for the automata of a table
+abbrev pub item_of : List Automaton → Tree → Item
+item_of sets f = record { formula = f; sets = tables sets }
+
+-- the set, and the number of the next step
+abbrev pub made_of : Made → SetOf × ℕ
+made_of made = (as_set made.set, made.at)
+
+-- a formula over these tracks that can be compiled over the table, of fewer than a thousand steps
+pub record IsItemOn (tracks : List Var) (sets : List Automaton) (f : Tree) : Type 0 where
+  pub compilable : IsCompilable f sets
+  pub few : length (steps f) < 1000
+  pub over : free_vars f ≡ tracks
+
+-- the set of an automaton that is lent, if there is one
+abbrev pub lent : Option (Bor Automaton) → SetOf
+lent None = Nothing
+lent (Some a) = Table a.now
+
+abbrev pub left_of : SetOf → Left → SetOf
+left_of s Whole = s
+left_of s (Part set) = as_set set
+
+abbrev pub IsLeftOn : List Var → Left → Type 0
+IsLeftOn tracks Whole = Unit {0}
+IsLeftOn tracks (Part set) = IfSome set (IsSetOn tracks)
+
+-- each set of the one table is in the other under its number
+abbrev pub Grows : List Automaton → List Automaton → Type 0
+Grows old new = (k : ℕ) (a : Automaton) → slice_get old k ≡ Some a → slice_get new k ≡ Some a
+
+-- the set of a name, if there is one
+abbrev pub set_at : List Automaton → Option SetId → SetOf
+set_at sets None = Nothing
+set_at sets (Some id) = tables sets id.0
+
+-- there is no name, or it is that of a set over these tracks
+abbrev pub IsNameOn : List Var → List Automaton → Option SetId → Type 0
+IsNameOn tracks sets None = Unit {0}
+IsNameOn tracks sets (Some id) = (a : Automaton) × (slice_get sets id.0 ≡ Some a) × IsSetOn tracks a

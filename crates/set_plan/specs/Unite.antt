@@ -1,0 +1,67 @@
+-- Unions of lists of items, and differences.
+use Rattle.std.specs.Prelude.{ℕ, zero, suc, ◌+◌, List, [], ◌∷◌, ◌++◌, length, map}
+use Rattle.track_word.specs.declared.tracks.Var.{Var}
+use Rattle.lin_formula.specs.Tree.{Tree, Lin, Value, Among, Not, And, Or, Ex, steps}
+use Rattle.lin_formula.specs.SetOf.{SetOf, Nothing}
+use Rattle.set_plan.specs.Program.{Item, Program, Give, Compute, Ask, Empty, bind}
+
+-- two symbols
+abbrev pub two : SetOf → SetOf → ℕ → SetOf
+two s t zero = s
+two s t (suc k) = t
+
+-- the symbols that stand outside of any Not
+abbrev pub positives : Tree → List ℕ
+positives (Lin terms rel bound) = []
+positives (Value x n) = []
+positives (Among set vars) = set ∷ []
+positives (Not f) = []
+positives (And f g) = positives f ++ positives g
+positives (Or f g) = []
+positives (Ex x f) = positives f
+
+-- a set, and the number of the next step of the part
+abbrev pub Made : Type 0
+Made = SetOf × ℕ
+
+abbrev pub compute : {P : Type 0} → P → ℕ → Item → Program P Made
+compute part at item = Compute (record { part = part; at = at; item = item }) (λ s. Give (s, at + length (steps item.formula)))
+
+-- the set of the item, which is left out where one of the sets that stand outside of any Not is empty
+abbrev pub make : {P : Type 0} → P → ℕ → Item → Program P Made
+make part at item = Ask (Empty (map item.sets (positives item.formula))) (Give (Nothing, at)) (compute part at item)
+
+-- one set or the other, over these tracks
+abbrev pub either : List Var → SetOf → SetOf → Item
+either tracks s t = record { formula = Or (Among 0 tracks) (Among 1 tracks); sets = two s t }
+
+-- a further set joined to what is there so far
+abbrev pub join : {P : Type 0} → List Var → P → SetOf → Made → Program P Made
+join tracks part so_far (next, at) =
+    Ask (Empty (next ∷ [])) (Give (so_far, at)) (Ask (Empty (so_far ∷ [])) (Give (next, at)) (compute part at (either tracks so_far next)))
+
+-- the union of the items' sets and of what is there so far: each is joined directly after its own steps
+abbrev pub unite : {P : Type 0} → List Var → P → Made → List Item → Program P Made
+unite tracks part so_far [] = Give so_far
+unite tracks part (so_far, at) (item ∷ items) =
+    bind (make part at item) (λ next. bind (join tracks part so_far next) (λ more. unite tracks part more items))
+
+-- one set without the other, over these tracks
+abbrev pub difference : List Var → SetOf → SetOf → Item
+difference tracks s t = record { formula = And (Among 0 tracks) (Not (Among 1 tracks)); sets = two s t }
+
+-- one set without the other, with no step where the other is empty
+abbrev pub without : {P : Type 0} → List Var → P → SetOf → SetOf → Program P Made
+without tracks part s t = Ask (Empty (t ∷ [])) (Give (s, 1)) (make part 1 (difference tracks s t))
+
+-- the union of the items' sets, as a part of its own
+abbrev pub union : {P : Type 0} → List Var → P → List Item → Program P SetOf
+union tracks part items = bind (unite tracks part (Nothing, 1) items) (λ made. Give made.0)
+
+-- one set without the other, as a part of its own
+abbrev pub remainder : {P : Type 0} → List Var → P → SetOf → SetOf → Program P SetOf
+remainder tracks part s t = bind (without tracks part s t) (λ made. Give made.0)
+
+-- one set and the other together, as a part of its own
+abbrev pub together : {P : Type 0} → List Var → P → SetOf → SetOf → Program P SetOf
+together tracks part s t = bind (join tracks part s (t, 1)) (λ made. Give made.0)

@@ -1,0 +1,52 @@
+//! Whether sets are empty.
+ghost use Rattle.std.specs.Prelude.{◌≡◌, IfSome, length, map};
+ghost use Rattle.std.specs.Bool.{OnTrue, OnFalse};
+ghost use Rattle.auto_core.specs.Reduced.{IsReduced};
+ghost use Rattle.lin_formula.specs.SetOf.{Table, as_set, tables, IsEmpty, SomeEmpty, NoneEmpty};
+ghost use Rattle.lin_formula.specs.TreeOf.{tree_of};
+ghost use Rattle.formula_auto.specs.Ready.{IsReady};
+ghost use Rattle.set_plan.specs.Unite.{positives};
+
+use auto_core::Auto;
+use auto_reduce::is_empty;
+use formula_auto::SetTable;
+use lin_formula::Formula;
+
+/// Whether a set has no tuple.
+pub fn is_empty_set(a: &Auto) -> bool
+    requires { IsReduced a.now }
+    ensures yes { OnTrue result (IsEmpty (Table a.now)) }
+    ensures none { OnFalse result (¬ IsEmpty (Table a.now)) }
+{
+    let _ = a.tracks();
+    is_empty(a)
+}
+
+/// Whether there is no set, or one that has no tuple.
+pub fn is_none_or_empty(set: &Option<Auto>) -> bool
+    requires { IfSome set.now IsReduced }
+    ensures yes { OnTrue result (IsEmpty (as_set set.now)) }
+    ensures none { OnFalse result (¬ IsEmpty (as_set set.now)) }
+{
+    match set {
+        None => true,
+        Some(a) => is_empty_set(a),
+    }
+}
+
+/// Whether one of the sets is empty that the formula names outside of any Not and Or. Goes down the formula, a call a level.
+pub fn lacks_a_set(f: &Formula, sets: &SetTable) -> bool
+    requires { IsReady (tree_of f.now) sets.now }
+    ensures yes { OnTrue result (SomeEmpty (map (tables sets.now) (positives (tree_of f.now)))) }
+    ensures none { OnFalse result (NoneEmpty (map (tables sets.now) (positives (tree_of f.now)))) }
+{
+    match f {
+        Formula::Among { set, .. } => match sets.get(*set) {
+            Some(a) => is_empty_set(a),
+            None => unreachable!(),
+        },
+        Formula::And(g, h) => lacks_a_set(g, sets) || lacks_a_set(h, sets),
+        Formula::Ex { body, .. } => lacks_a_set(body, sets),
+        _ => false,
+    }
+}

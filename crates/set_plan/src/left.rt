@@ -1,0 +1,56 @@
+//! What is left of a set without another.
+ghost use Rattle.std.specs.Prelude.{◌≡◌, ◌≤◌, IfOk, IfSome};
+ghost use Rattle.set_plan.specs.Outcome.{Answers};
+ghost use Rattle.set_plan.specs.Sets.{IsSetOn, lent, left_of, IsLeftOn};
+ghost use Rattle.set_plan.specs.Unite.{remainder as remainder_of};
+
+use crate::empty::is_empty_set;
+use crate::pairs::except;
+use crate::stop::{PlanError, StepName};
+use auto_core::Auto;
+use auto_walk::Grown;
+use std::alloc::Global;
+use track_word::Var;
+
+/// What is left of a set without another.
+#[derive(Drop)]
+pub enum Left {
+    /// The whole set, since the other is empty.
+    Whole,
+    /// This set, or nothing, since the one is empty.
+    Part(Option<Auto>),
+}
+
+/// What the one set has and the other has not, in a part of its own. There is no step where one of the two is empty.
+pub fn remainder<P: Copy>(
+    alloc: Global,
+    tracks: &[Var],
+    part: P,
+    one: Option<&Auto>,
+    other: Option<&Auto>,
+    budget: u32,
+) -> Result<Left, PlanError<P>>
+    requires one { IfSome one (λ a. IsSetOn tracks.now a.now) }
+    requires other { IfSome other (λ a. IsSetOn tracks.now a.now) }
+    requires budget { (1 ≤ budget) × (budget ≤ 200000) }
+    ensures answers { Answers (remainder_of tracks.now part (lent one.entry) (lent other.entry)) budget (left_of (lent one.entry)) result }
+    ensures set { IfOk result (IsLeftOn tracks.now) }
+{
+    let Some(b) = other else {
+        return Ok(Left::Whole);
+    };
+    if is_empty_set(b) {
+        return Ok(Left::Whole);
+    }
+    let Some(a) = one else {
+        return Ok(Left::Part(None));
+    };
+    if is_empty_set(a) {
+        return Ok(Left::Part(None));
+    }
+    match except(alloc, tracks, a, b, budget) {
+        Ok(c) => Ok(Left::Part(Some(c))),
+        Err(Grown::Over) => Err(PlanError::Over(StepName { part, at: 1 })),
+        Err(Grown::Memory) => Err(PlanError::Memory),
+    }
+}

@@ -1,0 +1,20 @@
+//! Programs that compute sets of tuples of integers by named steps, within a budget. `specs/Program` says what a program is and which
+//! entries it takes, `specs/Past` which step is the first past a budget, `specs/Unite` what the union of a list of formulas is.
+//! A function here answers a program: with its value where no step passes the budget, and else with the first step that does.
+#![tactic(auto)]
+
+mod empty;
+mod left;
+mod made;
+mod pairs;
+mod parts;
+mod sets;
+mod steps;
+mod stop;
+
+pub use empty::is_empty_set;
+pub use left::{Left, remainder};
+pub use made::Made;
+pub use parts::{make, together, unite};
+pub use sets::Sets;
+pub use stop::{PlanError, StepName};

@@ -1,0 +1,10 @@
+//! Sets that are made.
+use auto_core::Auto;
+
+/// A set, and the number of the next step of its part.
+#[derive(Drop)]
+pub struct Made {
+    /// None where it takes no step to see that the set is empty.
+    pub set: Option<Auto>,
+    pub at: u32,
+}

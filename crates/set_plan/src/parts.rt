@@ -1,0 +1,162 @@
+//! Items, and the union of a list of items.
+ghost use Rattle.std.specs.Prelude.{ℕ, ◌≡◌, ◌<◌, ◌+◌, ◌≤◌, ◌^◌, length, map, All, IfOk, IfSome, ◌∷◌, []};
+ghost use Rattle.auto_core.specs.Reduced.{IsReduced};
+ghost use Rattle.lin_formula.specs.Tree.{free_vars, steps};
+ghost use Rattle.lin_formula.specs.TreeOf.{tree_of};
+ghost use Rattle.lin_formula.specs.SetOf.{Nothing, as_set};
+ghost use Rattle.formula_auto.specs.Compiled.{IsCompilable};
+ghost use Rattle.set_plan.specs.Outcome.{Answers};
+ghost use Rattle.set_plan.specs.Sets.{IsSetOn, IsItemOn, item_of, made_of};
+ghost use Rattle.set_plan.specs.Unite as plan;
+
+use crate::empty::{is_none_or_empty, lacks_a_set};
+use crate::made::Made;
+use crate::pairs::either;
+use crate::steps::step_count;
+use crate::stop::{PlanError, StepName};
+use auto_core::Auto;
+use auto_walk::Grown;
+use formula_auto::{CompileError, Memo, SetTable};
+use lin_formula::Formula;
+use std::alloc::Global;
+use track_word::Var;
+
+/// The set of one formula, left out where a set that it needs is empty. Its first step has this number in the part.
+pub fn make<P: Copy>(
+    alloc: Global,
+    memo: &mut Memo,
+    part: P,
+    at: u32,
+    f: &Formula,
+    sets: &SetTable,
+) -> Result<Made, PlanError<P>>
+    requires compilable { IsCompilable (tree_of f.now) sets.now }
+    requires few { length (steps (tree_of f.now)) < 1000 }
+    requires room { at < 2 ^ 31 }
+    ensures answers { Answers (plan.make part at (item_of sets.now (tree_of f.now))) memo.old.budget made_of result }
+    ensures set { IfOk result (λ made. IfSome made.set (IsSetOn (free_vars (tree_of f.now)))) }
+    ensures room { IfOk result (λ made. made.at < at + 1000) }
+    ensures budget { memo.new.budget ≡ memo.old.budget }
+{
+    if lacks_a_set(f, sets) {
+        return Ok(Made { set: None, at });
+    }
+    let count = step_count(f);
+    match memo.compile(alloc, f, sets) {
+        Ok(a) => Ok(Made {
+            set: Some(a),
+            at: at + count,
+        }),
+        Err(CompileError::Over { step }) => Err(PlanError::Over(StepName {
+            part,
+            at: at + step - 1,
+        })),
+        Err(CompileError::Memory) => Err(PlanError::Memory),
+    }
+}
+
+/// What there is so far with a further set.
+fn join<P: Copy>(
+    alloc: Global,
+    tracks: &[Var],
+    part: P,
+    so_far: Option<Auto>,
+    next: Made,
+    budget: u32,
+) -> Result<Made, PlanError<P>>
+    requires so_far { IfSome so_far (IsSetOn tracks.now) }
+    requires next { IfSome next.set (IsSetOn tracks.now) }
+    requires room { next.at < 2 ^ 31 }
+    requires budget { (1 ≤ budget) × (budget ≤ 200000) }
+    ensures answers { Answers (plan.join tracks.now part (as_set so_far) (made_of next)) budget made_of result }
+    ensures set { IfOk result (λ made. IfSome made.set (IsSetOn tracks.now)) }
+    ensures room { IfOk result (λ made. made.at ≤ next.at + 1) }
+{
+    let Made { set, at } = next;
+    if is_none_or_empty(&set) {
+        return Ok(Made { set: so_far, at });
+    }
+    if is_none_or_empty(&so_far) {
+        return Ok(Made { set, at });
+    }
+    match (so_far, set) {
+        (Some(a), Some(b)) => match either(alloc, tracks, &a, &b, budget) {
+            Ok(c) => Ok(Made {
+                set: Some(c),
+                at: at + 1,
+            }),
+            Err(Grown::Over) => Err(PlanError::Over(StepName { part, at })),
+            Err(Grown::Memory) => Err(PlanError::Memory),
+        },
+        _ => unreachable!(),
+    }
+}
+
+/// The union of the sets of the formulas and the number of the step after it.
+fn unite_all<P: Copy>(
+    alloc: Global,
+    memo: &mut Memo,
+    tracks: &[Var],
+    part: P,
+    formulas: &[Formula],
+    sets: &SetTable,
+) -> Result<Made, PlanError<P>>
+    requires items { All (IsItemOn tracks.now sets.now) (map tree_of formulas.now) }
+    requires few { length formulas.now < 2 ^ 16 }
+    ensures answers { Answers (plan.unite tracks.now part (Nothing, 1) (map (item_of sets.now) (map tree_of formulas.now))) memo.old.budget made_of result }
+    ensures set { IfOk result (λ made. IfSome made.set (IsSetOn tracks.now)) }
+    ensures budget { memo.new.budget ≡ memo.old.budget }
+{
+    let mut made = Made { set: None, at: 1 };
+    for f in formulas {
+        let next = make(alloc, memo, part, made.at, f, sets)?;
+        made = join(alloc, tracks, part, made.set, next, memo.budget())?;
+    }
+    Ok(made)
+}
+
+/// The union of the sets of the formulas, which are over these tracks: an item is left out where a set that it needs is empty, the
+/// first set that is not empty is taken, and each further one is joined directly after its own steps.
+pub fn unite<P: Copy>(
+    alloc: Global,
+    memo: &mut Memo,
+    tracks: &[Var],
+    part: P,
+    formulas: &[Formula],
+    sets: &SetTable,
+) -> Result<Option<Auto>, PlanError<P>>
+    requires items { All (IsItemOn tracks.now sets.now) (map tree_of formulas.now) }
+    requires few { length formulas.now < 2 ^ 16 }
+    ensures answers { Answers (plan.union tracks.now part (map (item_of sets.now) (map tree_of formulas.now))) memo.old.budget as_set result }
+    ensures set { IfOk result (λ set. IfSome set (IsSetOn tracks.now)) }
+    ensures budget { memo.new.budget ≡ memo.old.budget }
+{
+    let made = unite_all(alloc, memo, tracks, part, formulas, sets)?;
+    Ok(made.set)
+}
+
+/// Two sets over these tracks together, in a part of their own.
+pub fn together<P: Copy>(
+    alloc: Global,
+    tracks: &[Var],
+    part: P,
+    first: Option<Auto>,
+    second: Option<Auto>,
+    budget: u32,
+) -> Result<Option<Auto>, PlanError<P>>
+    requires first { IfSome first (IsSetOn tracks.now) }
+    requires second { IfSome second (IsSetOn tracks.now) }
+    requires budget { (1 ≤ budget) × (budget ≤ 200000) }
+    ensures answers { Answers (plan.together tracks.now part (as_set first) (as_set second)) budget as_set result }
+    ensures set { IfOk result (λ set. IfSome set (IsSetOn tracks.now)) }
+{
+    let made = join(
+        alloc,
+        tracks,
+        part,
+        first,
+        Made { set: second, at: 1 },
+        budget,
+    )?;
+    Ok(made.set)
+}

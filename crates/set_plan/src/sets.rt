@@ -1,0 +1,86 @@
+//! Sets that are kept.
+ghost use Rattle.std.specs.Prelude.{◌≡◌, ◌<◌, ◌≤◌, length, IfOk, IfSome, OnErr, [], slice_get, Some};
+ghost use Rattle.lin_formula.specs.SetOf.{as_set};
+ghost use Rattle.set_plan.specs.Sets.{Grows, set_at};
+
+use auto_core::Auto;
+use formula_auto::SetTable;
+use lin_formula::SetId;
+use std::alloc::{AllocError, Global};
+use std::marker::Model;
+
+/// Sets that are kept, under the names that formulas use.
+#[derive(Drop)]
+pub struct Sets {
+    table: SetTable,
+    count: u32,
+    ghost counted: { length table ≡ count },
+}
+
+impl Model for Sets {
+    ghost use Rattle.std.specs.Prelude.{List};
+    ghost use Rattle.auto_core.specs.Automaton.{Automaton};
+
+    ghost Value = { List Automaton };
+
+    ghost view = { λ s. s.table };
+}
+
+impl Sets {
+    /// No sets.
+    pub fn new(alloc: Global) -> Sets
+        ensures { result ≡ [] }
+    {
+        Sets {
+            table: SetTable::new(alloc),
+            count: 0,
+        }
+    }
+
+    /// The table that formulas are compiled over.
+    pub fn table(&self) -> &SetTable
+        ensures { result.now ≡ self.now }
+    {
+        &self.table
+    }
+
+    /// The set of a name.
+    pub fn get(&self, id: SetId) -> &Auto
+        requires { id.0 < length self.now }
+        ensures { slice_get self.now id.0 ≡ Some result.now }
+    {
+        match self.table.get(id) {
+            Some(a) => a,
+            None => unreachable!(),
+        }
+    }
+
+    /// Keeps a set, and gives its name. Where there is none, none is kept.
+    pub fn keep(&mut self, set: Option<Auto>) -> Result<Option<SetId>, AllocError>
+        ensures ok { IfOk result (λ id. set_at self.new id ≡ as_set set) }
+        ensures within { IfOk result (λ id. IfSome id (λ k. k.0 < length self.new)) }
+        ensures grows { Grows self.old self.new }
+    {
+        match set {
+            None => Ok(None),
+            Some(a) => Ok(Some(self.put(a)?)),
+        }
+    }
+
+    fn put(&mut self, a: Auto) -> Result<SetId, AllocError>
+        ensures ok { IfOk result (λ id. slice_get self.new id.0 ≡ Some a) }
+        ensures within { IfOk result (λ id. id.0 < length self.new) }
+        ensures grows { Grows self.old self.new }
+    {
+        if self.count == u32::MAX {
+            return Err(AllocError);
+        }
+        match self.table.put(a) {
+            Ok(id) => {
+                self.count += 1;
+                Ok(id)
+            }
+            Err(_) => Err(AllocError),
+        }
+    }
+}
