@@ -16,5 +16,10 @@ fn a_set_is_found_under_its_name(rt: HostRuntime) -> Result<(), Fail> {
     let found = sets.get(three).ok_or("no set")?;
     assert_eq!(rt; found.states(), Auto::value(alloc, Var(0), 3)?.states());
     assert!(rt; sets.get(four).is_some());
+    assert_eq!(rt; sets.len(), 2);
+    assert!(rt; sets.pop().is_some());
+    assert!(rt; sets.get(four).is_none());
+    sets.truncate(0);
+    assert!(rt; sets.get(three).is_none());
     Ok(())
 }
