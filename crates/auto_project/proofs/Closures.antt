@@ -5,7 +5,7 @@ use Rattle.std.specs.List.Sorted.{IsStrictlyIncreasing}
 use Rattle.std.proofs.lemmas.Bool.{cases_lt}
 use Rattle.std.proofs.lemmas.Option.{slice_get-get_or, slice_get_past, get_or_from_slice_get, same_Some}
 use Rattle.std.proofs.lemmas.List.{get_or_default}
-use Rattle.std.proofs.lemmas.List.Elements.{All-get_or, Contains-append_left, Contains-append_right}
+use Rattle.std.proofs.lemmas.List.Elements.{All-get_or, All-nil, All-cons, All-push, All-contains, Contains-get_or, Contains-push, Contains-push_cases, Contains-append_left, Contains-append_right}
 use Rattle.std.proofs.lemmas.List.FromFn.{length-range_with_len}
 use Rattle.track_word.specs.declared.tracks.Var.{Var}
 use Rattle.letter_diagram.specs.declared.diagrams.Shape.{Shape}
@@ -17,115 +17,179 @@ use Rattle.letter_diagram.proofs.Mergings.{HasSets-grows}
 use Rattle.auto_core.specs.Automaton.{Automaton, IsAutomaton}
 use Rattle.auto_bool.proofs.States.{state_within}
 use Rattle.auto_project.specs.Lifted.{Begins, LiftLeads}
-use Rattle.auto_project.specs.SetMaps.{set_of, IsNarrow, IsSetRow, AreSetRows, IsLedRow, IsJoined, IsStepped, IsSwept}
-use Rattle.auto_project.proofs.Lists.{length-wider, all_in_or_one_not, in_or_not, Contains-range}
+use Rattle.auto_project.specs.SetMaps.{set_of, IsSetRow, AreSetRows, IsLedRow, IsJoined, IsNothing, IsUnionOf, IsGuarded, IsSwept}
+use Rattle.auto_project.proofs.Lists.{length-wider, all_in_or_one_not, in_or_not, Contains-range, Contains-head, Contains-cases}
 use Rattle.auto_project.proofs.Lifts.{LiftLeads-begins, LiftLeads-follows, LiftLeads-in}
 use Rattle.auto_project.proofs.SetMapLemmas.{stays, has-kept, had, AreSetRows-kept, IsLedRow-kept}
-
--- nothing is added where there is no row
-pub IsStepped-none : (shapes : List Shape) (sets : List (List ℕ)) (rows : List ℕ) (from node : ℕ) → HasSets shapes sets node → slice_get rows from ≡ None → IsStepped shapes sets rows from node node
-IsStepped-none shapes sets rows from node is none = record {
-  is = is;
-  next_is = is;
-  wider = λ letter state c. c;
-  has = λ row letter state at c d. cc;
-  only = λ letter state c. inl c;
-}
 
 pub no-row : (rows : List ℕ) (from : ℕ) → length rows ≤ from → slice_get rows from ≡ None
 no-row rows from h = slice_get_past rows from h
 
+-- nothing is given where there is no row
+pub IsGuarded-none : (shapes : List Shape) (sets : List (List ℕ)) (rows : List ℕ) (from node guarded : ℕ) → IsNothing shapes sets guarded → slice_get rows from ≡ None → IsGuarded shapes sets rows from node guarded
+IsGuarded-none shapes sets rows from node guarded nothing none = record {
+  is = nothing.is;
+  has = λ row letter state at c d. cc;
+  only = λ letter state c. absurd (nothing.none letter state c);
+}
+
 -- what joining a state's row gives
-pub IsStepped-joined : (old shapes : List Shape) (before sets : List (List ℕ)) (rows : List ℕ) (from row node next : ℕ) → Grows old shapes → SetsKept before sets → HasSets old before node → slice_get rows from ≡ Some row → IsJoined shapes sets (Some from) node row next
-    → IsStepped shapes sets rows from node next
-IsStepped-joined old shapes before sets rows from row node next grows kept is at joined = record {
-  is = HasSets-grows old shapes before sets node grows kept is;
-  next_is = record { known = joined.known; numbered = λ letter. (joined.joins letter).known };
-  wider = λ letter state c. ((joined.joins letter).members state).1 (inl c);
-  has = λ other letter state at' allowed c.
+pub IsGuarded-joined : (shapes : List Shape) (sets : List (List ℕ)) (rows : List ℕ) (from row node guarded : ℕ) → slice_get rows from ≡ Some row → IsJoined shapes sets (Some from) node row guarded → IsGuarded shapes sets rows from node guarded
+IsGuarded-joined shapes sets rows from row node guarded at joined = record {
+  is = record { known = joined.known; numbered = λ letter. (joined.joins letter).known };
+  has = λ other letter state at' there c.
       let same : other ≡ row = same_Some _ _ (sym at' ∙ at) in
-      ((joined.joins letter).members state).1 (inr (allowed, subst (λ r. Contains (set_of shapes sets r letter) state) same c));
-  only = λ letter state c. elim (((joined.joins letter).members state).0 c) [ inl l ↦ inl l | inr both ↦ inr (row, at, both.0, both.1) ];
+      ((joined.joins letter).members state).1 (there, subst (λ r. Contains (set_of shapes sets r letter) state) same c);
+  only = λ letter state c. let both = ((joined.joins letter).members state).0 c in (row, at, both.0, both.1);
 }
 
--- the node so far, after the rows of so many states
-pub record IsSweeping (shapes : List Shape) (sets : List (List ℕ)) (a : Automaton) (some : List Var) (rows : List ℕ) (states : List ℕ) (node next count : ℕ) : Type 0 where
+-- what a state's row gives at a letter where the node's sets have the state
+pub record Gives (shapes : List Shape) (sets : List (List ℕ)) (rows : List ℕ) (node letter state : ℕ) : Type 0 where
+  pub from : ℕ
+  pub row : ℕ
+  pub is : slice_get rows from ≡ Some row
+  pub there : Contains (set_of shapes sets node letter) from
+  pub given : Contains (set_of shapes sets row letter) state
+
+-- a node among some whose sets have a state at a letter
+pub record HasOne (shapes : List Shape) (sets : List (List ℕ)) (nodes : List ℕ) (letter state : ℕ) : Type 0 where
+  pub one : ℕ
+  pub among : Contains nodes one
+  pub has : Contains (set_of shapes sets one letter) state
+
+-- the nodes so far, after the guarded rows of so many states
+pub record IsSweeping (shapes : List Shape) (sets : List (List ℕ)) (a : Automaton) (some : List Var) (rows states : List ℕ) (node : ℕ) (nodes : List ℕ) (count : ℕ) : Type 0 where
   pub are_rows : AreSetRows shapes sets a some rows
-  pub source : HasSets shapes sets node
-  pub led : IsLedRow shapes sets a some next
-  pub wider : (letter state : ℕ) → Contains (set_of shapes sets node letter) state → Contains (set_of shapes sets next letter) state
+  pub led : IsLedRow shapes sets a some node
   pub all : (letter state : ℕ) → Contains (set_of shapes sets node letter) state → Contains states state
-  pub done : (i row letter state : ℕ) → i < count → i < length states → slice_get rows (slice_index states i) ≡ Some row → Contains (set_of shapes sets node letter) (slice_index states i) → Contains (set_of shapes sets row letter) state → Contains (set_of shapes sets next letter) state
+  pub have_sets : All (HasSets shapes sets) nodes
+  pub own : Contains nodes node
+  pub from : (one letter state : ℕ) → Contains nodes one → Contains (set_of shapes sets one letter) state → Contains (set_of shapes sets node letter) state ⊎ Gives shapes sets rows node letter state
+  pub done : (i row letter state : ℕ) → i < count → i < length states → slice_get rows (slice_index states i) ≡ Some row → Contains (set_of shapes sets node letter) (slice_index states i) → Contains (set_of shapes sets row letter) state → HasOne shapes sets nodes letter state
 
-pub IsSweeping-first : (shapes : List Shape) (sets : List (List ℕ)) (a : Automaton) (some : List Var) (rows states : List ℕ) (node : ℕ) → AreSetRows shapes sets a some rows → IsLedRow shapes sets a some node
-    → ((letter state : ℕ) → Contains (set_of shapes sets node letter) state → Contains states state) → IsSweeping shapes sets a some rows states node node 0
-IsSweeping-first shapes sets a some rows states node are led all = record {
+pub IsSweeping-first : (shapes : List Shape) (sets : List (List ℕ)) (a : Automaton) (some : List Var) (rows states : List ℕ) (node : ℕ) (nodes : List ℕ) → AreSetRows shapes sets a some rows → IsLedRow shapes sets a some node
+    → ((letter state : ℕ) → Contains (set_of shapes sets node letter) state → Contains states state) → nodes ≡ node ∷ [] → IsSweeping shapes sets a some rows states node nodes 0
+IsSweeping-first shapes sets a some rows states node nodes are led all e = subst (λ l. IsSweeping shapes sets a some rows states node l 0) (sym e) (record {
   are_rows = are;
-  source = led.is;
   led = led;
-  wider = λ letter state c. c;
   all = all;
+  have_sets = All-cons (HasSets shapes sets) node [] led.is (All-nil (HasSets shapes sets));
+  own = Contains-head node [];
+  from = λ one letter state c d. inl (subst (λ n. Contains (set_of shapes sets n letter) state) (sym (only-one one c)) d);
   done = λ i row letter state h within at c d. absurd (omega arith);
-}
+})
+  where
+    only-one : (one : ℕ) → Contains (node ∷ []) one → node ≡ one
+    only-one one c = elim (Contains-cases node [] one c) [ inl e ↦ e | inr none ↦ let h = none.1 in absurd (omega arith) ]
 
-module _ (shapes more : List Shape) (sets sets' : List (List ℕ)) (a : Automaton) (some : List Var) (rows states : List ℕ) (node next after count : ℕ) (grows : Grows shapes more) (kept : SetsKept sets sets')
-    (so_far : IsSweeping shapes sets a some rows states node next count) (step : IsStepped more sets' rows (slice_index states count) next after) where
+module _ (shapes more : List Shape) (sets sets' : List (List ℕ)) (a : Automaton) (some : List Var) (rows states : List ℕ) (node : ℕ) (nodes : List ℕ) (count : ℕ) (grows : Grows shapes more) (kept : SetsKept sets sets')
+    (so_far : IsSweeping shapes sets a some rows states node nodes count) where
+  sets-of : (one : ℕ) → Contains nodes one → HasSets shapes sets one
+  sets-of one c = All-contains (HasSets shapes sets) nodes one so_far.have_sets c
+
   rows_now : AreSetRows more sets' a some rows
   rows_now = AreSetRows-kept shapes more sets sets' grows kept a some rows so_far.are_rows
 
-  led_now : IsLedRow more sets' a some next
-  led_now = IsLedRow-kept shapes more sets sets' grows kept a some next so_far.led
+  led_now : IsLedRow more sets' a some node
+  led_now = IsLedRow-kept shapes more sets sets' grows kept a some node so_far.led
 
-  narrow-after : IsNarrow more sets' (length some) after
-  narrow-after = record {
-    same = λ x y state agree c. elim (step.only x state c) [
-      | inl l ↦ step.wider y state (led_now.narrow.same x y state agree l)
-      | inr r ↦
-          let row = rows_now.each (slice_index states count) r.0 r.1 in
-          step.has r.0 y state r.1 (led_now.narrow.same x y (slice_index states count) agree r.2) (row.narrow.same x y state agree r.3)
-    ];
-  }
+  nodes-kept : (one : ℕ) → Contains nodes one → HasSets more sets' one
+  nodes-kept one c = HasSets-grows shapes more sets sets' one grows kept (sets-of one c)
 
-  led-after : (letter state : ℕ) → letter < 2 ^ length some → Contains (set_of more sets' after letter) state → LiftLeads a some (letter ∷ []) state
-  led-after letter state below c = elim (step.only letter state c) [
-    | inl l ↦ led_now.led letter state below l
-    | inr r ↦
-        let row = rows_now.each (slice_index states count) r.0 r.1 in
-        LiftLeads-follows a some letter (slice_index states count) state (led_now.led letter (slice_index states count) below r.2) ((row.members letter state below).0 r.3)
+  all_now : (letter state : ℕ) → Contains (set_of more sets' node letter) state → Contains states state
+  all_now letter state c = so_far.all letter state (had shapes more sets sets' grows kept node letter state so_far.led.is c)
+
+  from_now : (one letter state : ℕ) → Contains nodes one → Contains (set_of more sets' one letter) state → Contains (set_of more sets' node letter) state ⊎ Gives more sets' rows node letter state
+  from_now one letter state c d = elim (so_far.from one letter state c (had shapes more sets sets' grows kept one letter state (sets-of one c) d)) [
+    | inl e ↦ inl (has-kept shapes more sets sets' grows kept node letter state so_far.led.is e)
+    | inr g ↦ inr (record {
+      from = g.from;
+      row = g.row;
+      is = g.is;
+      there = has-kept shapes more sets sets' grows kept node letter g.from so_far.led.is g.there;
+      given = has-kept shapes more sets sets' grows kept g.row letter state (so_far.are_rows.each g.from g.row g.is).is g.given;
+    })
   ]
 
-  pub IsSweeping-step : IsSweeping more sets' a some rows states node after (count + 1)
-  IsSweeping-step =
-      let source = HasSets-grows shapes more sets sets' node grows kept so_far.source in
-      let wider_now = λ (letter state : ℕ) (c : Contains (set_of more sets' node letter) state). has-kept shapes more sets sets' grows kept next letter state so_far.led.is (so_far.wider letter state (had shapes more sets sets' grows kept node letter state so_far.source c)) in
-      record {
-        are_rows = rows_now;
-        source = source;
-        led = record { is = step.next_is; narrow = narrow-after; led = led-after };
-        wider = λ letter state c. step.wider letter state (wider_now letter state c);
-        all = λ letter state c. so_far.all letter state (had shapes more sets sets' grows kept node letter state so_far.source c);
-        done = λ i row letter state h within at c d. elim (cases_lt i count) [
-          | inl less ↦
-              let row_is = (so_far.are_rows.each (slice_index states i) row at).is in
-              step.wider letter state (has-kept shapes more sets sets' grows kept next letter state so_far.led.is
-              (so_far.done i row letter state less within at (had shapes more sets sets' grows kept node letter (slice_index states i) so_far.source c) (had shapes more sets sets' grows kept row letter state row_is d)))
-          | inr from ↦
-              let here : i ≡ count = omega arith in
-              let same = ap (slice_index states) here in
-              step.has row letter state (subst (λ s. slice_get rows s ≡ Some row) same at) (subst (λ s. Contains (set_of more sets' next letter) s) same (wider_now letter (slice_index states i) c)) d
-        ];
-      }
+  done_now : (i row letter state : ℕ) → i < count → i < length states → slice_get rows (slice_index states i) ≡ Some row → Contains (set_of more sets' node letter) (slice_index states i) → Contains (set_of more sets' row letter) state → HasOne more sets' nodes letter state
+  done_now i row letter state h within at c d =
+      let h' = so_far.done i row letter state h within at (had shapes more sets sets' grows kept node letter (slice_index states i) so_far.led.is c) (had shapes more sets sets' grows kept row letter state (so_far.are_rows.each (slice_index states i) row at).is d) in
+      record { one = h'.one; among = h'.among; has = has-kept shapes more sets sets' grows kept h'.one letter state (sets-of h'.one h'.among) h'.has }
 
--- all states' rows are done
-pub IsSwept-done : (shapes : List Shape) (sets : List (List ℕ)) (a : Automaton) (some : List Var) (rows states : List ℕ) (node next count : ℕ) → length states ≤ count → IsSweeping shapes sets a some rows states node next count → IsSwept shapes sets rows node next
-IsSwept-done shapes sets a some rows states node next count enough so_far = record {
-  is = so_far.source;
-  wider = so_far.wider;
-  has = λ from row letter state at c d.
-      let there = so_far.all letter from c in
-      let place : slice_index states there.0 ≡ from = get_or_from_slice_get states there.0 from 0 (slice_get-get_or states there.0 from there.1 ∙ ap Some there.2) in
-      so_far.done there.0 row letter state (let h = there.1 in omega arith) there.1 (subst (λ s. slice_get rows s ≡ Some row) (sym place) at) (subst (λ s. Contains (set_of shapes sets node letter) s) (sym place) c) d;
-}
+  -- one more guarded row
+  pub IsSweeping-step : (guarded : ℕ) → IsGuarded more sets' rows (slice_index states count) node guarded → IsSweeping more sets' a some rows states node (nodes ++ guarded ∷ []) (count + 1)
+  IsSweeping-step guarded step = record {
+    are_rows = rows_now;
+    led = led_now;
+    all = all_now;
+    have_sets = All-push (HasSets more sets') nodes guarded (λ i d h. nodes-kept (get_or nodes i d) (Contains-get_or nodes i d h)) step.is;
+    own = Contains-append_left nodes (guarded ∷ []) node so_far.own;
+    from = λ one letter state c d. elim (Contains-push_cases nodes guarded one c) [
+      | inl old ↦ from_now one letter state old d
+      | inr e ↦
+          let g = step.only letter state (subst (λ n. Contains (set_of more sets' n letter) state) (sym e) d) in
+          inr (record { from = slice_index states count; row = g.0; is = g.1; there = g.2; given = g.3 })
+    ];
+    done = λ i row letter state h within at c d. elim (cases_lt i count) [
+      | inl less ↦
+          let o = done_now i row letter state less within at c d in
+          record { one = o.one; among = Contains-append_left nodes (guarded ∷ []) o.one o.among; has = o.has }
+      | inr past ↦
+          let same = ap (slice_index states) (same_place i count past h) in
+          record {
+            one = guarded;
+            among = Contains-push nodes guarded;
+            has = step.has row letter state (subst (λ s. slice_get rows s ≡ Some row) same at) (subst (λ s. Contains (set_of more sets' node letter) s) same c) d;
+          }
+    ];
+  }
+    where
+      same_place : (i count : ℕ) → count ≤ i → i < count + 1 → i ≡ count
+      same_place i count past h = omega arith
+
+  -- the union of all the nodes
+  module _ (next : ℕ) (enough : length states ≤ count) (union : IsUnionOf more sets' nodes next) where
+    gives-in : (letter state : ℕ) → Gives more sets' rows node letter state → Contains (set_of more sets' next letter) state
+    gives-in letter state g =
+        let there = all_now letter g.from g.there in
+        let place : slice_index states there.0 ≡ g.from = get_or_from_slice_get states there.0 g.from 0 (slice_get-get_or states there.0 g.from there.1 ∙ ap Some there.2) in
+        let o = done_now there.0 g.row letter state (let h = there.1 in omega (arith, h, enough)) there.1 (subst (λ s. slice_get rows s ≡ Some g.row) (sym place) g.is)
+        (subst (λ s. Contains (set_of more sets' node letter) s) (sym place) g.there) g.given in
+        (union.members letter state).1 (o.one, o.among, o.has)
+
+    own-in : (letter state : ℕ) → Contains (set_of more sets' node letter) state → Contains (set_of more sets' next letter) state
+    own-in letter state c = (union.members letter state).1 (node, so_far.own, c)
+
+    either : (letter state : ℕ) → Contains (set_of more sets' next letter) state → Contains (set_of more sets' node letter) state ⊎ Gives more sets' rows node letter state
+    either letter state c = let o = (union.members letter state).0 c in from_now o.0 letter state o.1 o.2
+
+    pub IsLedRow-united : IsLedRow more sets' a some next
+    IsLedRow-united = record {
+      is = union.is;
+      narrow = record {
+        same = λ x y state agree c. elim (either x state c) [
+          | inl l ↦ own-in y state (led_now.narrow.same x y state agree l)
+          | inr g ↦ gives-in y state (record {
+            from = g.from;
+            row = g.row;
+            is = g.is;
+            there = led_now.narrow.same x y g.from agree g.there;
+            given = (rows_now.each g.from g.row g.is).narrow.same x y state agree g.given;
+          })
+        ];
+      };
+      led = λ letter state below c. elim (either letter state c) [
+        | inl l ↦ led_now.led letter state below l
+        | inr g ↦ LiftLeads-follows a some letter g.from state (led_now.led letter g.from below g.there) (((rows_now.each g.from g.row g.is).members letter state below).0 g.given)
+      ];
+    }
+
+    pub IsSwept-united : IsSwept more sets' rows node next
+    IsSwept-united = record {
+      is = led_now.is;
+      wider = own-in;
+      has = λ from row letter state at c d. gives-in letter state (record { from = from; row = row; is = at; there = c; given = d });
+    }
 
 -- after so many rounds: each set is closed or has at least so many states
 pub record IsClosing (shapes : List Shape) (sets : List (List ℕ)) (a : Automaton) (some : List Var) (rows : List ℕ) (node round : ℕ) : Type 0 where

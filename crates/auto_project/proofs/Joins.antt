@@ -1,11 +1,11 @@
 -- Tables of joined sets, and unions of rows.
-use Rattle.std.proofs.Common.{◌≡◌, ◌≢◌, ◌↔◌, ℕ, ◌<◌, ◌≤◌, ◌+◌, List, [], ◌∷◌, ◌++◌, length, get_or, slice_get, slice_index, Option, None, Some, Contains, arith, sym, ap, ◌∙◌, subst, inl, inr}
+use Rattle.std.proofs.Common.{◌≡◌, ◌≢◌, ℕ, ◌<◌, ◌≤◌, ◌+◌, List, [], ◌∷◌, ◌++◌, length, map, get_or, slice_get, slice_index, Option, None, Some, Contains, arith, sym, ap, ◌∙◌, subst, inl, inr}
 use Rattle.std.specs.List.{All}
 use Rattle.std.proofs.Math.ListN.{set}
 use Rattle.std.proofs.lemmas.Bool.{cases_eq, cases_lt}
 use Rattle.std.proofs.lemmas.Option.{slice_get-get_or, slice_get_within, get_or_from_slice_get, same_Some}
 use Rattle.std.proofs.lemmas.List.{length_push, get_or_push, get_or_append_left, get_or_default, get_or-set_same, get_or-set_other}
-use Rattle.std.proofs.lemmas.List.Elements.{All-from_get_or, Contains-get_or}
+use Rattle.std.proofs.lemmas.List.Elements.{All-from_get_or, All-contains, Contains-get_or, Contains-append_left, Contains-append_right, Contains-append_cases}
 use Rattle.letter_diagram.specs.declared.diagrams.Shape.{Shape}
 use Rattle.letter_diagram.specs.Diagram.{map_at, Grows}
 use Rattle.letter_diagram.specs.Paired.{AreAnswers}
@@ -14,7 +14,9 @@ use Rattle.letter_diagram.specs.Leaves.{AreLeaves}
 use Rattle.letter_diagram.specs.Merged.{HasSets}
 use Rattle.letter_diagram.proofs.SetNumbers.{SetsKept-trans, SetsKept-numbers, slice_get-last}
 use Rattle.letter_diagram.proofs.Mergings.{HasSets-grows}
-use Rattle.auto_project.specs.SetMaps.{set_of, AreSingletons, IsJoinedSet, AreJoinedSets, IsJoined, IsUnionRow, HasNumber, HasNumbers, IsNumbered}
+use Rattle.auto_project.specs.SetMaps.{set_of, AreSingletons, IsJoinedSet, AreJoinedSets, IsJoined, IsNothing, IsUnionOf, IsUnionRow, HasNumber, HasNumbers, IsNumbered}
+use Rattle.letter_diagram.proofs.Maps.{Grows-trans}
+use Rattle.auto_project.proofs.Lists.{Contains-head, Contains-cases, Contains-cons}
 use Rattle.auto_project.proofs.SetMapLemmas.{has-kept, had, IsJoinedSet-kept}
 
 -- the sets of the states below a count, in order
@@ -103,86 +105,105 @@ IsJoined-made old mid shapes sets only pairs table a b both node a_known b_known
 pub table-covers : (mid : List Shape) (pairs : List (ℕ × ℕ)) (table : List ℕ) (both : ℕ) (letter : ℕ) (pair : ℕ × ℕ) → length table ≡ length pairs → slice_get pairs (map_at mid both letter) ≡ Some pair → map_at mid both letter < length table
 table-covers mid pairs table both letter pair size at = let h = slice_get_within pairs (map_at mid both letter) pair at in omega (arith, h, size)
 
--- the union of the rows of the first states of a set
-pub record IsUnionSoFar (shapes : List Shape) (sets : List (List ℕ)) (rows set : List ℕ) (node count : ℕ) : Type 0 where
-  pub all : All (HasSets shapes sets) rows
-  pub is : HasSets shapes sets node
-  pub inside : (k : ℕ) → k < count → slice_index set k < length rows
-  pub members : (letter state : ℕ) → Contains (set_of shapes sets node letter) state ↔ ((k : ℕ) × (k < count) × Contains (set_of shapes sets (slice_index rows (slice_index set k)) letter) state)
-
-pub rows-kept : (shapes more : List Shape) (sets sets' : List (List ℕ)) (rows : List ℕ) → Grows shapes more → SetsKept sets sets' → All (HasSets shapes sets) rows → All (HasSets more sets') rows
-rows-kept shapes more sets sets' rows grows kept all = λ i d h. HasSets-grows shapes more sets sets' (get_or rows i d) grows kept (all i d h)
-
-pub IsUnionSoFar-first : (shapes more : List Shape) (sets sets' : List (List ℕ)) (rows set : List ℕ) (empty node : ℕ) → Grows shapes more → SetsKept sets sets' → All (HasSets shapes sets) rows → slice_get sets' empty ≡ Some [] → node < length more → ((letter : ℕ) → map_at more node letter ≡ empty)
-    → IsUnionSoFar more sets' rows set node 0
-IsUnionSoFar-first shapes more sets sets' rows set empty node grows kept all at known constant =
-    let within = slice_get_within sets' empty [] at in
+-- a node whose sets are empty
+pub IsNothing-made : (shapes : List Shape) (sets : List (List ℕ)) (empty node : ℕ) → slice_get sets empty ≡ Some [] → node < length shapes → ((letter : ℕ) → map_at shapes node letter ≡ empty) → IsNothing shapes sets node
+IsNothing-made shapes sets empty node at known constant =
+    let within = slice_get_within sets empty [] at in
     record {
-      all = rows-kept shapes more sets sets' rows grows kept all;
       is = record { known = known; numbered = λ letter. let e = constant letter in omega (arith, e, within) };
-      inside = λ k h. absurd (omega arith);
-      members = λ letter state. (
-        λ c.
-            let e : set_of more sets' node letter ≡ [] = ap (set_at sets') (constant letter) ∙ get_or_from_slice_get sets' empty [] [] at in
-            let d = subst (λ l. Contains l state) e c in
-            let h = d.1 in
-            absurd (omega arith),
-        λ one. let h = one.1 in absurd (omega arith),
-      );
+      none = λ letter state c.
+          let e : set_of shapes sets node letter ≡ [] = ap (set_at sets) (constant letter) ∙ get_or_from_slice_get sets empty [] [] at in
+          let d = subst (λ l. Contains l state) e c in
+          let h = d.1 in
+          absurd (omega arith);
     }
 
-same_place : (count k : ℕ) → k < count + 1 → count ≤ k → count ≡ k
-same_place count k h past = omega arith
-
-pub IsUnionSoFar-step : (shapes more : List Shape) (sets sets' : List (List ℕ)) (rows set : List ℕ) (node row after count : ℕ) → Grows shapes more → SetsKept sets sets' → IsUnionSoFar shapes sets rows set node count → slice_index set count < length rows
-    → row ≡ slice_index rows (slice_index set count) → IsJoined more sets' None node row after → IsUnionSoFar more sets' rows set after (count + 1)
-IsUnionSoFar-step shapes more sets sets' rows set node row after count grows kept so_far within row_is joined = record {
-  all = rows-kept shapes more sets sets' rows grows kept so_far.all;
-  is = record { known = joined.known; numbered = λ letter. (joined.joins letter).known };
-  inside = inside;
-  members = λ letter state. (to letter state, from letter state);
+-- unions of no node
+pub IsUnionOf-none : (shapes : List Shape) (sets : List (List ℕ)) (nodes : List ℕ) (node : ℕ) → length nodes ≡ 0 → IsNothing shapes sets node → IsUnionOf shapes sets nodes node
+IsUnionOf-none shapes sets nodes node none nothing = record {
+  is = nothing.is;
+  members = λ letter state. (λ c. absurd (nothing.none letter state c), λ o. let there = o.1 in let h = there.1 in absurd (omega (arith, h, none)));
 }
-  where
-    inside : (k : ℕ) → k < count + 1 → slice_index set k < length rows
-    inside k h = elim (cases_lt k count) [
-      | inl less ↦ so_far.inside k less
-      | inr past ↦ subst (λ n. slice_index set n < length rows) (same_place count k h past) within
-    ]
 
-    to : (letter state : ℕ) → Contains (set_of more sets' after letter) state → (k : ℕ) × (k < count + 1) × Contains (set_of more sets' (slice_index rows (slice_index set k)) letter) state
+-- the union of two unions
+pub IsUnionOf-both : (s1 s2 s3 : List Shape) (t1 t2 t3 : List (List ℕ)) (s0 : List Shape) (t0 : List (List ℕ)) (nodes front back : List ℕ) (a b node : ℕ) → nodes ≡ front ++ back → All (HasSets s0 t0) front → All (HasSets s0 t0) back
+    → Grows s0 s1 → SetsKept t0 t1 → Grows s1 s2 → SetsKept t1 t2 → Grows s2 s3 → SetsKept t2 t3 → IsUnionOf s1 t1 front a → IsUnionOf s2 t2 back b → IsJoined s3 t3 None a b node → IsUnionOf s3 t3 nodes node
+IsUnionOf-both s1 s2 s3 t1 t2 t3 s0 t0 nodes front back a b node same front_sets back_sets g1 k1 g2 k2 g3 k3 of_front of_back joined =
+    subst (λ l. IsUnionOf s3 t3 l node) (sym same) (record {
+      is = record { known = joined.known; numbered = λ letter. (joined.joins letter).known };
+      members = λ letter state. (to letter state, from letter state);
+    })
+  where
+    front_at : (one : ℕ) → Contains front one → HasSets s1 t1 one
+    front_at one c = HasSets-grows s0 s1 t0 t1 one g1 k1 (All-contains (HasSets s0 t0) front one front_sets c)
+
+    back_at : (one : ℕ) → Contains back one → HasSets s2 t2 one
+    back_at one c = HasSets-grows s1 s2 t1 t2 one g2 k2 (HasSets-grows s0 s1 t0 t1 one g1 k1 (All-contains (HasSets s0 t0) back one back_sets c))
+
+    far : Grows s1 s3
+    far = Grows-trans s1 s2 s3 g2 g3
+
+    far_kept : SetsKept t1 t3
+    far_kept = SetsKept-trans t1 t2 t3 k2 k3
+
+    to : (letter state : ℕ) → Contains (set_of s3 t3 node letter) state → (one : ℕ) × Contains (front ++ back) one × Contains (set_of s3 t3 one letter) state
     to letter state c = elim (((joined.joins letter).members state).0 c) [
       | inl l ↦
-          let one = (so_far.members letter state).0 (had shapes more sets sets' grows kept node letter state so_far.is l) in
-          let h = one.1 in
-          (one.0, omega arith, has-kept shapes more sets sets' grows kept (slice_index rows (slice_index set one.0)) letter state (so_far.all (slice_index set one.0) 0 (so_far.inside one.0 one.1)) one.2)
-      | inr r ↦ (count, omega arith, subst (λ n. Contains (set_of more sets' n letter) state) row_is r.1)
+          let o = (of_front.members letter state).0 (had s1 s3 t1 t3 far far_kept a letter state of_front.is l) in
+          (o.0, Contains-append_left front back o.0 o.1, has-kept s1 s3 t1 t3 far far_kept o.0 letter state (front_at o.0 o.1) o.2)
+      | inr r ↦
+          let o = (of_back.members letter state).0 (had s2 s3 t2 t3 g3 k3 b letter state of_back.is r) in
+          (o.0, Contains-append_right front back o.0 o.1, has-kept s2 s3 t2 t3 g3 k3 o.0 letter state (back_at o.0 o.1) o.2)
     ]
 
-    from : (letter state : ℕ) → ((k : ℕ) × (k < count + 1) × Contains (set_of more sets' (slice_index rows (slice_index set k)) letter) state) → Contains (set_of more sets' after letter) state
-    from letter state (k, h, c) = elim (cases_lt k count) [
-      | inl less ↦
-          let d = had shapes more sets sets' grows kept (slice_index rows (slice_index set k)) letter state (so_far.all (slice_index set k) 0 (so_far.inside k less)) c in
-          ((joined.joins letter).members state).1 (inl (has-kept shapes more sets sets' grows kept node letter state so_far.is ((so_far.members letter state).1 (k, less, d))))
-      | inr past ↦
-          let e : k ≡ count = sym (same_place count k h past) in
-          ((joined.joins letter).members state).1 (inr (tt, subst (λ n. Contains (set_of more sets' n letter) state) (ap (λ n. slice_index rows (slice_index set n)) e ∙ sym row_is) c))
+    from : (letter state : ℕ) → ((one : ℕ) × Contains (front ++ back) one × Contains (set_of s3 t3 one letter) state) → Contains (set_of s3 t3 node letter) state
+    from letter state (one, c, d) = elim (Contains-append_cases front back one c) [
+      | inl l ↦
+          ((joined.joins letter).members state).1 (inl (has-kept s1 s3 t1 t3 far far_kept a letter state of_front.is ((of_front.members letter state).1 (one, l, had s1 s3 t1 t3 far far_kept one letter state (front_at one l) d))))
+      | inr r ↦ ((joined.joins letter).members state).1 (inr (has-kept s2 s3 t2 t3 g3 k3 b letter state of_back.is ((of_back.members letter state).1 (one, r, had s2 s3 t2 t3 g3 k3 one letter state (back_at one r) d))))
     ]
 
-pub IsUnionRow-all : (shapes : List Shape) (sets : List (List ℕ)) (rows set : List ℕ) (node count : ℕ) → count ≡ length set → IsUnionSoFar shapes sets rows set node count → IsUnionRow shapes sets rows set node
-IsUnionRow-all shapes sets rows set node count all so_far = record {
-  is = so_far.is;
+-- a part of nodes with sets
+pub front-sets : (shapes : List Shape) (sets : List (List ℕ)) (nodes front back : List ℕ) → nodes ≡ front ++ back → All (HasSets shapes sets) nodes → All (HasSets shapes sets) front
+front-sets shapes sets nodes front back same all =
+    All-from_get_or (HasSets shapes sets) front 0 (λ i h. All-contains (HasSets shapes sets) nodes (get_or front i 0) all (subst (λ l. Contains l (get_or front i 0)) (sym same) (Contains-append_left front back (get_or front i 0) (Contains-get_or front i 0 h))))
+
+pub back-sets : (shapes : List Shape) (sets : List (List ℕ)) (nodes front back : List ℕ) → nodes ≡ front ++ back → All (HasSets shapes sets) nodes → All (HasSets shapes sets) back
+back-sets shapes sets nodes front back same all =
+    All-from_get_or (HasSets shapes sets) back 0 (λ i h. All-contains (HasSets shapes sets) nodes (get_or back i 0) all (subst (λ l. Contains l (get_or back i 0)) (sym same) (Contains-append_right front back (get_or back i 0) (Contains-get_or back i 0 h))))
+
+-- the rows of some states
+Contains-map : (f : ℕ → ℕ) (xs : List ℕ) (y : ℕ) → Contains (map f xs) y → (x : ℕ) × Contains xs x × (f x ≡ y)
+Contains-map f [] y c = let h = c.1 in absurd (omega arith)
+Contains-map f (x ∷ xs) y c = elim (Contains-cases (f x) (map f xs) y c) [
+  | inl e ↦ (x, Contains-head x xs, e)
+  | inr later ↦ let o = Contains-map f xs y later in (o.0, Contains-cons x xs o.0 o.1, o.2)
+]
+
+map-contains : (f : ℕ → ℕ) (xs : List ℕ) (x : ℕ) → Contains xs x → Contains (map f xs) (f x)
+map-contains f [] x c = let h = c.1 in absurd (omega arith)
+map-contains f (y ∷ ys) x c = elim (Contains-cases y ys x c) [
+  | inl e ↦ subst (λ n. Contains (map f (y ∷ ys)) (f n)) e (Contains-head (f y) (map f ys))
+  | inr later ↦ Contains-cons (f y) (map f ys) (f x) (map-contains f ys x later)
+]
+
+pub IsUnionRow-from : (shapes : List Shape) (sets : List (List ℕ)) (rows set nodes : List ℕ) (node : ℕ) → nodes ≡ map (slice_index rows) set → IsUnionOf shapes sets nodes node → IsUnionRow shapes sets rows set node
+IsUnionRow-from shapes sets rows set nodes node same union = record {
+  is = union.is;
   members = λ letter state. (
     λ c.
-        let one = (so_far.members letter state).0 c in
-        let h = one.1 in
-        (slice_index set one.0, Contains-get_or set one.0 0 (omega (arith, h, all)), one.2),
-    λ one.
-        let from = one.1 in
-        let h = from.1 in
-        let e : slice_index set from.0 ≡ one.0 = get_or_default set from.0 0 one.0 from.1 ∙ from.2 in
-        (so_far.members letter state).1 (from.0, omega (arith, h, all), subst (λ s. Contains (set_of shapes sets (slice_index rows s) letter) state) (sym e) one.2),
+        let o = (union.members letter state).0 c in
+        let p = Contains-map (slice_index rows) set o.0 (subst (λ l. Contains l o.0) same o.1) in
+        (p.0, p.1, subst (λ n. Contains (set_of shapes sets n letter) state) (sym p.2) o.2),
+    λ o. (union.members letter state).1 (slice_index rows o.0, subst (λ l. Contains l (slice_index rows o.0)) (sym same) (map-contains (slice_index rows) set o.0 o.1), o.2),
   );
 }
+
+pub picked-sets : (shapes : List Shape) (sets : List (List ℕ)) (rows set nodes : List ℕ) → nodes ≡ map (slice_index rows) set → All (λ state. state < length rows) set → All (HasSets shapes sets) rows → All (HasSets shapes sets) nodes
+picked-sets shapes sets rows set nodes same within all =
+    All-from_get_or (HasSets shapes sets) nodes 0 (λ i h.
+    let p = Contains-map (slice_index rows) set (get_or nodes i 0) (subst (λ l. Contains l (get_or nodes i 0)) same (Contains-get_or nodes i 0 h)) in
+    subst (HasSets shapes sets) p.2 (all p.0 0 (All-contains (λ state. state < length rows) set p.0 within p.1)))
 
 -- the places of the first leaves
 pub record HasNumbersSoFar (sets : List (List ℕ)) (numbers : List ℕ) (before places : List (List ℕ)) (leaves : List ℕ) (count : ℕ) : Type 0 where

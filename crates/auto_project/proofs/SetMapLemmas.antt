@@ -1,8 +1,7 @@
 -- Maps to sets, as more nodes and sets are known, and joined ones.
-use Rattle.std.proofs.Common.{◌≡◌, ℕ, ◌<◌, List, [], ◌∷◌, length, get_or, Option, Contains, arith, sym, subst, inl, inr}
+use Rattle.std.proofs.Common.{◌≡◌, ◌↔◌, ℕ, ◌<◌, List, [], length, get_or, slice_get, Option, None, Some, Contains, arith, sym, subst}
 use Rattle.std.specs.List.{All}
-use Rattle.std.specs.List.Sorted.{IsStrictlyIncreasing}
-use Rattle.std.proofs.lemmas.Option.{slice_get-get_or}
+use Rattle.std.proofs.lemmas.Option.{slice_get-get_or, slice_get_within, get_or_from_slice_get}
 use Rattle.std.proofs.lemmas.List.Elements.{All-from_get_or}
 use Rattle.track_word.specs.declared.tracks.Var.{Var}
 use Rattle.letter_diagram.specs.declared.diagrams.Shape.{Shape}
@@ -13,8 +12,8 @@ use Rattle.letter_diagram.specs.Merged.{HasSets, IsMerged}
 use Rattle.letter_diagram.proofs.SetNumbers.{set_at-kept}
 use Rattle.letter_diagram.proofs.Mergings.{HasSets-grows, IsMerged-grows}
 use Rattle.auto_core.specs.Automaton.{Automaton}
-use Rattle.auto_project.specs.Lifted.{Follows, LiftLeads}
-use Rattle.auto_project.specs.SetMaps.{set_of, IsNarrow, IsSetRow, AreSetRows, IsLedRow, HasClosedRows, IsAllowed, IsJoinedSet}
+use Rattle.auto_project.specs.Lifted.{Follows}
+use Rattle.auto_project.specs.SetMaps.{set_of, IsNarrow, IsSetRow, AreSetRows, IsLedRow, Joins, IsJoinedSet}
 use Rattle.auto_project.proofs.Walks.{set_of-kept}
 
 module _ (shapes more : List Shape) (sets sets' : List (List ℕ)) (grows : Grows shapes more) (kept : SetsKept sets sets') where
@@ -61,21 +60,34 @@ IsJoinedSet-kept sets sets' only a b number kept is =
     let ea = set_at-kept sets sets' a kept is.a_known in
     let eb = set_at-kept sets sets' b kept is.b_known in
     let en = set_at-kept sets sets' number kept is.known in
-    record { a_known = omega arith; b_known = omega arith; known = omega arith; members = λ state. rw (ea, eb, en) (is.members state) }
+    record {
+      a_known = omega arith;
+      b_known = omega arith;
+      known = omega arith;
+      members = λ state.
+          subst (λ set. Contains set state ↔ Joins only (set_at sets' a) (set_at sets' b) state) (sym en)
+          (subst (λ set. Contains (set_at sets number) state ↔ Joins only set (set_at sets' b) state) (sym ea) (subst (λ set. Contains (set_at sets number) state ↔ Joins only (set_at sets a) set state) (sym eb) (is.members state)));
+    }
 
-pub IsAllowed-kept : (sets sets' : List (List ℕ)) (only : Option ℕ) (a : ℕ) → SetsKept sets sets' → a < length sets → IsAllowed only (set_at sets a) → IsAllowed only (set_at sets' a)
-IsAllowed-kept sets sets' only a kept known allowed = subst (IsAllowed only) (sym (set_at-kept sets sets' a kept known)) allowed
+pub IsJoinedSet-union : (sets : List (List ℕ)) (a b number : ℕ) → a < length sets → b < length sets → IsUnion sets a b number → IsJoinedSet sets None a b number
+IsJoinedSet-union sets a b number a_known b_known is = record { a_known = a_known; b_known = b_known; known = is.known; members = is.members }
 
-pub IsJoinedSet-union : (sets : List (List ℕ)) (only : Option ℕ) (a b number : ℕ) → a < length sets → b < length sets → IsAllowed only (set_at sets a) → IsUnion sets a b number → IsJoinedSet sets only a b number
-IsJoinedSet-union sets only a b number a_known b_known allowed is = record {
-  a_known = a_known;
-  b_known = b_known;
-  known = is.known;
-  members = λ state. (
-    λ c. elim ((is.members state).0 c) [ inl l ↦ inl l | inr r ↦ inr (allowed, r) ],
-    λ e. (is.members state).1 (elim e [ inl l ↦ inl l | inr both ↦ inr both.1 ]),
-  );
-}
+-- the second set where the first has the state, else nothing
+pub IsJoinedSet-second : (sets : List (List ℕ)) (only a b : ℕ) → a < length sets → b < length sets → Contains (set_at sets a) only → IsJoinedSet sets (Some only) a b b
+IsJoinedSet-second sets only a b a_known b_known there = record { a_known = a_known; b_known = b_known; known = b_known; members = λ state. (λ c. (there, c), λ e. e.1) }
+
+pub IsJoinedSet-nothing : (sets sets' : List (List ℕ)) (only a b number : ℕ) → SetsKept sets sets' → a < length sets → b < length sets → (Contains (set_at sets a) only → ⊥) → slice_get sets' number ≡ Some [] → IsJoinedSet sets' (Some only) a b number
+IsJoinedSet-nothing sets sets' only a b number kept a_known b_known absent at =
+    let longer = kept.longer in
+    record {
+      a_known = omega arith;
+      b_known = omega arith;
+      known = slice_get_within sets' number [] at;
+      members = λ state. (
+        λ c. let d = subst (λ set. Contains set state) (get_or_from_slice_get sets' number [] [] at) c in let h = d.1 in absurd (omega arith),
+        λ e. absurd (absent (subst (λ set. Contains set only) (set_at-kept sets sets' a kept a_known) e.0)),
+      );
+    }
 
 -- merged rows, as more nodes and sets are known
 pub EachMerged-kept : (shapes more : List Shape) (sets sets' : List (List ℕ)) (track : ℕ) (nodes answers : List ℕ) → Grows shapes more → SetsKept sets sets' → EachAnswers (IsMerged shapes sets track) nodes answers → EachAnswers (IsMerged more sets' track) nodes answers

@@ -21,17 +21,17 @@ pub record AreSingletons (sets : List (List ℕ)) (count : ℕ) : Type 0 where
 abbrev pub set_of : List Shape → List (List ℕ) → ℕ → ℕ → List ℕ
 set_of shapes sets node letter = set_at sets (map_at shapes node letter)
 
--- whatever the set, or one that has this state
-abbrev pub IsAllowed : Option ℕ → List ℕ → Type 0
-IsAllowed None set = Unit {0}
-IsAllowed (Some state) set = Contains set state
+-- what two sets have together, or where a state is given what the second has if the first has the state
+abbrev pub Joins : Option ℕ → List ℕ → List ℕ → ℕ → Type 0
+Joins None a b state = Contains a state ⊎ Contains b state
+Joins (Some only) a b state = Contains a only × Contains b state
 
--- what set a has, and where it is allowed what set b has
+-- the number of what two numbered sets are joined to
 pub record IsJoinedSet (sets : List (List ℕ)) (only : Option ℕ) (a b number : ℕ) : Type 0 where
   pub a_known : a < length sets
   pub b_known : b < length sets
   pub known : number < length sets
-  pub members : (state : ℕ) → Contains (set_at sets number) state ↔ (Contains (set_at sets a) state ⊎ (IsAllowed only (set_at sets a) × Contains (set_at sets b) state))
+  pub members : (state : ℕ) → Contains (set_at sets number) state ↔ Joins only (set_at sets a) (set_at sets b) state
 
 -- for each pair of numbers that of the joined set
 pub record AreJoinedSets (sets : List (List ℕ)) (only : Option ℕ) (pairs : List (ℕ × ℕ)) (table : List ℕ) : Type 0 where
@@ -105,14 +105,21 @@ pub record IsLedRow (shapes : List Shape) (sets : List (List ℕ)) (a : Automato
   pub narrow : IsNarrow shapes sets (length some) node
   pub led : (letter state : ℕ) → letter < 2 ^ length some → Contains (set_of shapes sets node letter) state → LiftLeads a some (letter ∷ []) state
 
--- the next node's sets have what the node's sets have, and where they have a state what its row gives
-pub record IsStepped (shapes : List Shape) (sets : List (List ℕ)) (rows : List ℕ) (from node next : ℕ) : Type 0 where
+-- the node's sets have no state
+pub record IsNothing (shapes : List Shape) (sets : List (List ℕ)) (node : ℕ) : Type 0 where
   pub is : HasSets shapes sets node
-  pub next_is : HasSets shapes sets next
-  pub wider : (letter state : ℕ) → Contains (set_of shapes sets node letter) state → Contains (set_of shapes sets next letter) state
-  pub has : (row letter state : ℕ) → slice_get rows from ≡ Some row → Contains (set_of shapes sets node letter) from → Contains (set_of shapes sets row letter) state → Contains (set_of shapes sets next letter) state
-  pub only : (letter state : ℕ) → Contains (set_of shapes sets next letter) state
-      → Contains (set_of shapes sets node letter) state ⊎ ((row : ℕ) × (slice_get rows from ≡ Some row) × Contains (set_of shapes sets node letter) from × Contains (set_of shapes sets row letter) state)
+  pub none : (letter state : ℕ) → Contains (set_of shapes sets node letter) state → ⊥
+
+-- the node's sets have just what the sets of some nodes have
+pub record IsUnionOf (shapes : List Shape) (sets : List (List ℕ)) (nodes : List ℕ) (node : ℕ) : Type 0 where
+  pub is : HasSets shapes sets node
+  pub members : (letter state : ℕ) → Contains (set_of shapes sets node letter) state ↔ ((one : ℕ) × Contains nodes one × Contains (set_of shapes sets one letter) state)
+
+-- the guarded row's sets have what the row of a state gives where the node's sets have the state
+pub record IsGuarded (shapes : List Shape) (sets : List (List ℕ)) (rows : List ℕ) (from node guarded : ℕ) : Type 0 where
+  pub is : HasSets shapes sets guarded
+  pub has : (row letter state : ℕ) → slice_get rows from ≡ Some row → Contains (set_of shapes sets node letter) from → Contains (set_of shapes sets row letter) state → Contains (set_of shapes sets guarded letter) state
+  pub only : (letter state : ℕ) → Contains (set_of shapes sets guarded letter) state → (row : ℕ) × (slice_get rows from ≡ Some row) × Contains (set_of shapes sets node letter) from × Contains (set_of shapes sets row letter) state
 
 -- the swept node's sets have what the node's sets have, and what the rows of their states give
 pub record IsSwept (shapes : List Shape) (sets : List (List ℕ)) (rows : List ℕ) (node swept : ℕ) : Type 0 where

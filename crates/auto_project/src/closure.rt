@@ -6,9 +6,9 @@ ghost use Rattle.letter_diagram.specs.Sets.{SetsKept, set_at};
 ghost use Rattle.letter_diagram.specs.Merged.{HasSets};
 ghost use Rattle.auto_core.specs.Automaton.{IsAutomaton};
 ghost use Rattle.auto_project.specs.Lifted.{Begins, LiftLeads};
-ghost use Rattle.auto_project.specs.SetMaps.{set_of, IsSetRow, AreSetRows, IsLedRow, IsStepped, IsSwept};
+ghost use Rattle.auto_project.specs.SetMaps.{set_of, IsSetRow, AreSetRows, IsLedRow, IsGuarded, IsSwept};
 
-use crate::join::joined;
+use crate::join::{joined, nothing, united};
 use auto_core::Auto;
 use letter_diagram::{Diagrams, Node, Sets};
 use std::alloc::AllocError;
@@ -47,8 +47,8 @@ fn states_in(diagrams: &Diagrams, sets: &Sets, node: Node) -> Result<Vec<u32>, A
     Ok(states)
 }
 
-/// The node whose sets have besides what follows on the state, if they have the state.
-fn with_row(
+/// The node that leads each letter to what follows on a state where the sets of `node` have the state, else to nothing.
+fn guarded_row(
     diagrams: &mut Diagrams,
     sets: &mut Sets,
     rows: &[Node],
@@ -57,15 +57,16 @@ fn with_row(
 ) -> Result<Node, AllocError>
     requires rows { All (HasSets diagrams.old sets.old) rows.now }
     requires node { HasSets diagrams.old sets.old node }
-    ensures stepped { IfOk result (λ next. IsStepped diagrams.new sets.new rows.now state node next) }
+    ensures guarded { IfOk result (λ row. IsGuarded diagrams.new sets.new rows.now state node row) }
     ensures grows { Grows diagrams.old diagrams.new }
     ensures kept { SetsKept sets.old sets.new }
 {
     if state as usize >= rows.len() {
-        return Ok(node);
+        let row = nothing(diagrams, sets)?;
+        return Ok(row);
     }
-    let next = joined(diagrams, sets, Some(state), node, rows[state as usize])?;
-    Ok(next)
+    let row = joined(diagrams, sets, Some(state), node, rows[state as usize])?;
+    Ok(row)
 }
 
 /// The rows of an automaton's states over some of its tracks.
@@ -93,10 +94,12 @@ impl<'a> Rows<'a> {
         ensures kept { SetsKept sets.old sets.new }
     {
         let states = states_in(diagrams, sets, node)?;
-        let mut next = node;
+        let mut nodes = vec![in diagrams.alloc(); node]?;
         for state in states.as_slice() {
-            next = with_row(diagrams, sets, self.nodes.as_slice(), *state, next)?;
+            let row = guarded_row(diagrams, sets, self.nodes.as_slice(), *state, node)?;
+            nodes.push(row)?;
         }
+        let next = united(diagrams, sets, nodes.as_slice())?;
         let _ = sets.len();
         Ok(next)
     }

@@ -1,8 +1,8 @@
 //! Numbers of sets of states, and why there are none.
-ghost use Rattle.std.specs.Prelude.{◌≡◌, ◌≤◌, ◌<◌, ◌↔◌, ◌⊎◌, ◌+◌, ℕ, [], ◌∷◌, length, slice_get, Some, IfOk, OnOk, IsTrue, Contains};
+ghost use Rattle.std.specs.Prelude.{◌≡◌, ◌≤◌, ◌<◌, ◌↔◌, ◌+◌, ℕ, [], ◌∷◌, length, slice_get, Some, None, IfOk, OnOk, IsTrue, Contains};
 ghost use Rattle.std.specs.List.Sorted.{IsStrictlyIncreasing};
 ghost use Rattle.letter_diagram.specs.Sets.{SetsKept, NumbersSet, set_at};
-ghost use Rattle.auto_project.specs.SetMaps.{AreSingletons, IsAllowed, IsJoinedSet};
+ghost use Rattle.auto_project.specs.SetMaps.{AreSingletons, IsJoinedSet};
 
 use letter_diagram::Sets;
 use std::alloc::{AllocError, Global};
@@ -42,29 +42,49 @@ fn has_state(sets: &Sets, number: u32, state: u32) -> bool
     }
 }
 
-fn is_allowed(sets: &Sets, only: Option<u32>, number: u32) -> bool
-    requires { number < length sets.now }
-    ensures { IsTrue result ↔ IsAllowed only (set_at sets.now number) }
+/// The number of what either set has.
+fn united(sets: &mut Sets, a: u32, b: u32) -> Result<u32, AllocError>
+    requires a_known { a < length sets.old }
+    requires b_known { b < length sets.old }
+    ensures joined { IfOk result (λ number. IsJoinedSet sets.new None a b number) }
+    ensures kept { SetsKept sets.old sets.new }
 {
-    match only {
-        None => true,
-        Some(state) => has_state(sets, number, state),
+    if sets.len() >= u32::MAX as usize {
+        return Err(AllocError);
     }
+    let number = sets.unite(a, b)?;
+    Ok(number)
 }
 
-/// The number of what set `a` has, and set `b` too unless only sets with a state that `a` does not have are joined.
+/// The number of what set `b` has, or of nothing unless set `a` has a state.
+fn guarded(sets: &mut Sets, state: u32, a: u32, b: u32) -> Result<u32, AllocError>
+    requires a_known { a < length sets.old }
+    requires b_known { b < length sets.old }
+    ensures joined { IfOk result (λ number. IsJoinedSet sets.new (Some state) a b number) }
+    ensures kept { SetsKept sets.old sets.new }
+{
+    if has_state(sets, a, state) {
+        return Ok(b);
+    }
+    let number = number_of(sets, &[])?;
+    Ok(number)
+}
+
+/// The number of what two sets have together, or where a state is given of what set `b` has if set `a` has the state.
 pub fn joined_set(sets: &mut Sets, only: Option<u32>, a: u32, b: u32) -> Result<u32, AllocError>
     requires a_known { a < length sets.old }
     requires b_known { b < length sets.old }
     ensures joined { IfOk result (λ number. IsJoinedSet sets.new only a b number) }
     ensures kept { SetsKept sets.old sets.new }
 {
-    if !is_allowed(sets, only, a) {
-        return Ok(a);
+    match only {
+        None => {
+            let number = united(sets, a, b)?;
+            Ok(number)
+        }
+        Some(state) => {
+            let number = guarded(sets, state, a, b)?;
+            Ok(number)
+        }
     }
-    if sets.len() >= u32::MAX as usize {
-        return Err(AllocError);
-    }
-    let number = sets.unite(a, b)?;
-    Ok(number)
 }

@@ -1,5 +1,5 @@
 //! The walk over the sets of states to which the lifts of words lead.
-ghost use Rattle.std.specs.Prelude.{◌≡◌, ◌≢◌, AllPairs, ◌<◌, ◌≤◌, ◌^◌, [], ℕ, length, slice_get, Some, All, Contains, IfOk, OnOk, slice_index_or, false};
+ghost use Rattle.std.specs.Prelude.{◌≡◌, map, slice_index, ◌≢◌, AllPairs, ◌<◌, ◌≤◌, ◌^◌, [], ℕ, length, slice_get, Some, All, Contains, IfOk, OnOk, slice_index_or, false};
 ghost use Rattle.std.specs.List.{list_any};
 ghost use Rattle.std.specs.List.Sorted.{IsStrictlyIncreasing};
 ghost use Rattle.track_word.specs.Tracks.{without_var};
@@ -11,7 +11,7 @@ ghost use Rattle.auto_walk.specs.Walker.{AreTracks};
 ghost use Rattle.auto_project.specs.SetMaps.{set_of, HasClosedRows, HasPlaceRows, IsUnionRow, IsNumbered, HasNumber, HasNumbers};
 
 use crate::closure::Rows;
-use crate::join::joined;
+use crate::join::united;
 use crate::rows::{SetRows, set_rows};
 use crate::sets::number_of;
 use crate::tracks::tracks_without;
@@ -20,6 +20,18 @@ use auto_walk::Walk;
 use letter_diagram::{Diagrams, Node, Sets};
 use std::alloc::{AllocError, Global};
 use track_word::Var;
+
+/// The rows of some states.
+fn rows_of(alloc: Global, rows: &[Node], set: &[u32]) -> Result<Vec<Node>, AllocError>
+    requires { All (λ state. state < length rows.now) set.now }
+    ensures { IfOk result (λ picked. picked.items ≡ map (slice_index rows.now) set.now) }
+{
+    let mut picked = Vec::new(alloc);
+    for state in set {
+        picked.push(rows[*state as usize])?;
+    }
+    Ok(picked)
+}
 
 /// The node that leads each letter to the states to which the states of a set lead.
 fn united_rows(
@@ -34,11 +46,8 @@ fn united_rows(
     ensures grows { Grows diagrams.old diagrams.new }
     ensures kept { SetsKept sets.old sets.new }
 {
-    let empty = number_of(sets, &[])?;
-    let mut node = diagrams.leaf(empty)?;
-    for state in set {
-        node = joined(diagrams, sets, None, node, rows[*state as usize])?;
-    }
+    let nodes = rows_of(diagrams.alloc(), rows, set)?;
+    let node = united(diagrams, sets, nodes.as_slice())?;
     Ok(node)
 }
 

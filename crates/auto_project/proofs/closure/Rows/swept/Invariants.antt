@@ -7,5 +7,5 @@ abbrev pub invariant-loop-state : goal.invariant-loop-state
 invariant-loop-state l = record {
   grows : Grows l.initial.diagrams l.diagrams;
   kept : SetsKept l.initial.sets l.sets;
-  so_far : IsSweeping l.diagrams l.sets l.self.automaton.now l.self.tracks.items l.self.nodes.items l.state-items l.fn.node l.next l.state-index;
+  so_far : IsSweeping l.diagrams l.sets l.self.automaton.now l.self.tracks.items l.self.nodes.items l.state-items l.fn.node l.nodes.items l.state-index;
 }
