@@ -1,0 +1,318 @@
+-- What the parts of a plan make of sets of positions, and that they give the sets that are reached and kept.
+use Rattle.std.proofs.Common.{◌/◌, ◌-◌, ◌≡◌, ◌↔◌, ℕ, zero, suc, ◌+◌, ◌*◌, ◌⊎◌, inl, inr, refl, sym, ap, ◌∙◌, subst, arith, add-one, zero-add, true, false, not}
+use Rattle.game_rules.specs.Game.{InCheck, Legal, Lost, Position, Sound, Value, Win, other}
+use Rattle.game_rules.specs.declared.men.Side.{Side}
+use Rattle.game_rules.specs.declared.men.Side.TheVariants.{White, Black}
+use Rattle.game_rules.specs.declared.men.Square.{Square}
+use Rattle.game_laws.proofs.DecideLemmas.{in_check}
+use Rattle.game_laws.proofs.SoundLemmas.{legal_sound, other_other}
+use Rattle.game_laws.proofs.ValueLemmas.{flat_lost, lost_flat}
+use Rattle.rule_formula.specs.Laws.{StepsTo}
+use Rattle.winning_sets.specs.Reach.{Moves, Reach}
+use Rattle.winning_sets.specs.Kept.{Kept, last_ply, moves_left}
+use Rattle.winning_sets.specs.Plan.{is_even, turn_at}
+
+abbrev pub Positions : Type 1
+Positions = Position → Type 0
+
+-- a step leads here from the set
+pub record Image (S : Positions) (q : Position) : Type 0 where
+  pub from : Position
+  pub is_in : S from
+  pub step : StepsTo from q
+
+-- the side that has moved is not in check
+pub record Safe (S : Positions) (q : Position) : Type 0 where
+  pub is_in : S q
+  pub safe : InCheck q (other q.turn) → ⊥
+
+-- a step leads from here, in the source, into the target
+pub record Pre (S Q : Positions) (p : Position) : Type 0 where
+  pub is_in : S p
+  pub next : Position
+  pub step : StepsTo p next
+  pub leads : Q next
+
+-- the side to move is in check
+pub record Checked (S : Positions) (q : Position) : Type 0 where
+  pub is_in : S q
+  pub check : InCheck q q.turn
+
+pub record Without (S Q : Positions) (q : Position) : Type 0 where
+  pub is_in : S q
+  pub not_in : Q q → ⊥
+
+-- the parts of a loser's ply: R is what is reached there, R1 and K1 what is reached and kept at the next ply
+abbrev pub Rest : Positions → Positions → Positions
+Rest R1 K1 = Without R1 K1
+
+abbrev pub Escape : Positions → Positions → Positions → Positions
+Escape R R1 K1 = Pre R (Rest R1 K1)
+
+abbrev pub Calm : Positions → Positions → Positions → Positions
+Calm R R1 K1 = Without R (Escape R R1 K1)
+
+abbrev pub Check : Positions → Positions → Positions → Positions
+Check R R1 K1 = Checked (Calm R R1 K1)
+
+abbrev pub Quiet : Positions → Positions → Positions → Positions
+Quiet R R1 K1 = Without (Calm R R1 K1) (Check R R1 K1)
+
+abbrev pub Reply : Positions → Positions → Positions → Positions
+Reply R R1 K1 = Pre (Quiet R R1 K1) R1
+
+abbrev pub LostPart : Positions → Positions → Positions → Positions
+LostPart R R1 K1 q = Check R R1 K1 q ⊎ Reply R R1 K1 q
+
+-- who has moved
+mover-is : (p q : Position) → StepsTo p q → other q.turn ≡ p.turn
+mover-is p q (i, z, step) = ap other step.after.turn ∙ other_other p.turn
+
+-- a step to a position in which the side that has moved is not in check is a move
+Moves-safe : (p q : Position) → StepsTo p q → (InCheck q (other q.turn) → ⊥) → Moves p q
+Moves-safe p q h safe =
+    let Safely : Side → Type 0 = λ s. InCheck q s → ⊥ in
+    (h.0, h.1, record { step = h.2; safe = subst Safely (mover-is p q h) safe })
+
+pub StepsTo-moves : (p q : Position) → Moves p q → StepsTo p q
+StepsTo-moves p q h = (h.0, h.1, h.2.step)
+
+safe-moves : (p q : Position) → Moves p q → InCheck q (other q.turn) → ⊥
+safe-moves p q h =
+    let Safely : Side → Type 0 = λ s. InCheck q s → ⊥ in
+    subst Safely (sym (mover-is p q (StepsTo-moves p q h))) h.2.safe
+
+-- each ply forward: image, and then safe
+pub Reach-image : (p q : Position) (j : ℕ) → Reach p (suc j) q ↔ Safe (Image (Reach p j)) q
+Reach-image p q j = (
+  λ (before, reached, moves). record {
+    is_in = record { from = before; is_in = reached; step = StepsTo-moves before q moves };
+    safe = safe-moves before q moves;
+  },
+  λ h. (h.is_in.from, h.is_in.is_in, Moves-safe h.is_in.from q h.is_in.step h.safe),
+)
+
+-- a step into what is reached is a move
+Moves-reached : (p q r : Position) (j : ℕ) → Reach p (suc j) r → StepsTo q r → Moves q r
+Moves-reached p q r j (before, reached, moves) step = Moves-safe q r step (safe-moves before r moves)
+
+-- what is reached is sound
+pub reached_sound : (p : Position) → Sound p → (j : ℕ) (q : Position) → Reach p j q → Sound q
+reached_sound p sound zero q is = subst Sound (sym is) sound
+reached_sound p sound (suc j) q (before, reached, (i, z, legal)) = legal_sound before i z q (reached_sound p sound j before reached) legal
+
+-- whose turn it is
+pub turn-reach : (p q : Position) (j : ℕ) → Reach p j q → q.turn ≡ turn_at p.turn j
+turn-reach p q zero e = ap (λ r. r.turn) e
+turn-reach p q (suc j) (before, reached, (i, z, legal)) = legal.step.after.turn ∙ ap other (turn-reach p before j reached)
+
+-- a ply of the winner
+module _ (winner : Side) (p : Position) (j r : ℕ) (K1 : Positions) (turn : (q : Position) → Reach p j q → q.turn ≡ winner)
+    (next : (q : Position) → K1 q ↔ (Reach p (suc j) q × Lost winner r q)) where
+  pub win-part : (q : Position) → Pre (Reach p j) K1 q ↔ (Reach p j q × Win winner (suc r) q)
+  win-part q = (
+    λ h.
+        let (reached, lost) = (next h.next).0 h.leads in
+        let (i, z, legal) = Moves-reached p q h.next j reached h.step in
+        (h.is_in, (turn q h.is_in, (i, z, h.next, legal, lost))),
+    λ (reached, (is, (i, z, q', legal, lost))).
+        let moves : Moves q q' = (i, z, legal) in
+        record {
+          is_in = reached;
+          next = q';
+          step = StepsTo-moves q q' moves;
+          leads = (next q').1 ((q, reached, moves), lost);
+        },
+  )
+
+-- a ply of the loser
+module _ (winner : Side) (p : Position) (sound : Sound p) (j r : ℕ) (K1 : Positions) (turn : (q : Position) → Reach p j q → q.turn ≡ other winner)
+    (next : (q : Position) → K1 q ↔ (Reach p (suc j) q × Win winner r q))
+    (kept_or_not : (q : Position) → Reach p (suc j) q → K1 q ⊎ (K1 q → ⊥)) where
+  -- from a calm position each move leads to a win of the other side
+  calm_wins : (q : Position) → Calm (Reach p j) (Reach p (suc j)) K1 q → (i : ℕ) (z : Square) (q' : Position) → Legal q i z q' → Win winner r q'
+  calm_wins q h i z q' legal =
+      let moves : Moves q q' = (i, z, legal) in
+      let reached : Reach p (suc j) q' = (q, h.is_in, moves) in
+      elim (kept_or_not q' reached) [
+        | inl kept ↦ ((next q').0 kept).1
+        | inr off ↦ absurd (h.not_in (record { is_in = h.is_in; next = q'; step = StepsTo-moves q q' moves; leads = record { is_in = reached; not_in = off } }))
+      ]
+
+  -- where each move leads to a win of the other side, the position is calm
+  wins_calm : (q : Position) → Reach p j q → ((i : ℕ) (z : Square) (q' : Position) → Legal q i z q' → Win winner r q') → Calm (Reach p j) (Reach p (suc j)) K1 q
+  wins_calm q reached wins = record {
+    is_in = reached;
+    not_in = λ e.
+        let (i, z, legal) = Moves-reached p q e.next j e.leads.is_in e.step in
+        e.leads.not_in ((next e.next).1 (e.leads.is_in, wins i z e.next legal));
+  }
+
+  lost_reached : (q : Position) → LostPart (Reach p j) (Reach p (suc j)) K1 q → Reach p j q
+  lost_reached q (inl c) = c.is_in.is_in
+  lost_reached q (inr h) = h.is_in.is_in.is_in
+
+  lost_from : (q : Position) → LostPart (Reach p j) (Reach p (suc j)) K1 q → Lost winner r q
+  lost_from q (inl c) =
+      flat_lost winner (Win winner r) q (reached_sound p sound j q c.is_in.is_in) (turn q c.is_in.is_in, inl c.check, calm_wins q c.is_in)
+  lost_from q (inr h) =
+      let (i, z, legal) = Moves-reached p q h.next j h.leads h.step in
+      flat_lost winner (Win winner r) q (reached_sound p sound j q h.is_in.is_in.is_in) (turn q h.is_in.is_in.is_in, inr (i, z, h.next, legal), calm_wins q h.is_in.is_in)
+
+  lost_to : (q : Position) → Reach p j q → Lost winner r q → LostPart (Reach p j) (Reach p (suc j)) K1 q
+  lost_to q reached lost =
+      let (is, first, wins) = lost_flat winner (Win winner r) q lost in
+      let calm = wins_calm q reached wins in
+      elim (in_check q q.turn) [
+        | inl check ↦ inl (record { is_in = calm; check = check })
+        | inr none ↦ elim first [
+          | inl check ↦ absurd (none check)
+          | inr (i, z, q', legal) ↦
+              let moves : Moves q q' = (i, z, legal) in
+              inr (record {
+                is_in = record { is_in = calm; not_in = λ c. none c.check };
+                next = q';
+                step = StepsTo-moves q q' moves;
+                leads = (q, reached, moves);
+              })
+        ]
+      ]
+
+  pub lost-part : (q : Position) → LostPart (Reach p j) (Reach p (suc j)) K1 q ↔ (Reach p j q × Lost winner r q)
+  lost-part q = (λ h. (lost_reached q h, lost_from q h), λ (reached, lost). lost_to q reached lost)
+
+turn_two : (s : Side) (k : ℕ) → turn_at s (2 * k) ≡ s
+turn_two s zero = refl
+turn_two s (suc k) =
+    let twice : 2 * suc k ≡ suc (suc (2 * k)) = omega arith in
+    ap (turn_at s) twice ∙ (other_other (turn_at s (2 * k)) ∙ turn_two s k)
+
+turn_more : (s : Side) (j d : ℕ) → turn_at s (d + j) ≡ turn_at (turn_at s j) d
+turn_more s j zero = ap (turn_at s) (zero-add j)
+turn_more s j (suc d) =
+    let more : suc d + j ≡ suc (d + j) = omega arith in
+    ap (turn_at s) more ∙ ap other (turn_more s j d)
+
+-- at the last ply the winner is to move
+turn-last : (winner s : Side) (n : ℕ) → turn_at s (last_ply winner s n) ≡ winner
+turn-last White White n = turn_two White n
+turn-last Black Black n = turn_two Black n
+turn-last White Black n = ap (turn_at Black) (add-one (2 * n)) ∙ ap other (turn_two Black n)
+turn-last Black White n = ap (turn_at White) (add-one (2 * n)) ∙ ap other (turn_two White n)
+
+-- so many plies before the last one the winner is to move where they are even
+turn_even : (winner s : Side) (n j k : ℕ) → j + 2 * k ≡ last_ply winner s n → turn_at s j ≡ winner
+turn_even winner s n j k e =
+    let swap : 2 * k + j ≡ last_ply winner s n = omega (arith, e) in
+    sym (turn_two (turn_at s j) k) ∙ (sym (turn_more s j (2 * k)) ∙ (ap (turn_at s) swap ∙ turn-last winner s n))
+
+turn_odd : (winner s : Side) (n j k : ℕ) → j + (2 * k + 1) ≡ last_ply winner s n → turn_at s j ≡ other winner
+turn_odd winner s n j k e =
+    let swap : suc (2 * k + j) ≡ last_ply winner s n = omega (arith, e) in
+    let one : other (turn_at s (2 * k + j)) ≡ winner = ap (turn_at s) swap ∙ turn-last winner s n in
+    sym (turn_two (turn_at s j) k) ∙ (sym (turn_more s j (2 * k)) ∙ (sym (other_other (turn_at s (2 * k + j))) ∙ ap other one))
+
+-- no side is the other one
+other_not : (s : Side) → s ≡ other s → ⊥
+other_not White e = cc
+other_not Black e = cc
+
+won_turn : (winner : Side) (n : ℕ) (q : Position) → Win winner n q → q.turn ≡ winner
+won_turn winner zero q h = absurd h
+won_turn winner (suc n) q h = h.0
+
+-- with the winner to move the value is that he wins
+pub value_win : (winner : Side) (n : ℕ) (q : Position) → q.turn ≡ winner → Value winner n q → Win winner n q
+value_win winner n q is (inl win) = win
+value_win winner n q is (inr lost) = absurd (other_not winner (sym is ∙ lost.0))
+
+-- with the loser to move the value is that he loses
+pub value_lost : (winner : Side) (n : ℕ) (q : Position) → q.turn ≡ other winner → Value winner n q → Lost winner n q
+value_lost winner n q is (inl win) = absurd (other_not winner (sym (won_turn winner n q win) ∙ is))
+value_lost winner n q is (inr lost) = lost
+
+pub two_steps : (left : ℕ) → ((k : ℕ) × (left ≡ 2 * k) × (is_even left ≡ true)) ⊎ ((k : ℕ) × (left ≡ 2 * k + 1) × (is_even left ≡ false))
+two_steps zero = inl (0, refl, refl)
+two_steps (suc left) =
+    elim (two_steps left) [
+      | inl (k, e, b) ↦ inr (k, omega (arith, e), ap not b)
+      | inr (k, e, b) ↦ inl (suc k, omega (arith, e), ap not b)
+    ]
+
+pub left_half : (last ply k : ℕ) → ply + 2 * k ≡ last → moves_left last ply ≡ k
+left_half last ply k e = grind (arith, e)
+
+pub left_half_more : (last ply k : ℕ) → ply + (2 * k + 1) ≡ last → moves_left last ply ≡ k
+left_half_more last ply k e = grind (arith, e)
+
+module _ (winner : Side) (p : Position) (n : ℕ) where
+  abbrev end : ℕ
+  end = last_ply winner p.turn n
+
+  -- at a ply of the winner
+  pub kept_won : (j k : ℕ) → j + 2 * k ≡ end → (q : Position) → Kept winner p n j q ↔ (Reach p j q × Win winner k q)
+  kept_won j k e q =
+      let r : moves_left end j ≡ k = left_half end j k e in
+      let At : ℕ → Type 0 = λ m. Value winner m q in
+      let turn = λ (h : Reach p j q). turn-reach p q j h ∙ turn_even winner p.turn n j k e in (
+        λ h. (h.reached, value_win winner k q (turn h.reached) (subst At r h.value)),
+        λ (reached, win). record { reached = reached; value = subst At (sym r) (inl win) },
+      )
+
+  -- at a ply of the loser
+  pub kept_lost : (j k : ℕ) → j + (2 * k + 1) ≡ end → (q : Position) → Kept winner p n j q ↔ (Reach p j q × Lost winner k q)
+  kept_lost j k e q =
+      let r : moves_left end j ≡ k = left_half_more end j k e in
+      let At : ℕ → Type 0 = λ m. Value winner m q in
+      let turn = λ (h : Reach p j q). turn-reach p q j h ∙ turn_odd winner p.turn n j k e in (
+        λ h. (h.reached, value_lost winner k q (turn h.reached) (subst At r h.value)),
+        λ (reached, lost). record { reached = reached; value = subst At (sym r) (inr lost) },
+      )
+
+  -- nothing is kept at the last ply
+  pub kept_end : (q : Position) → Kept winner p n end q → ⊥
+  kept_end q h = ((kept_won end 0 (omega arith) q).0 h).1
+
+module _ (winner : Side) (p : Position) (sound : Sound p) (n : ℕ) where
+  -- what is kept at a ply of the winner is made of what is kept at the next
+  pub win-step : (j k : ℕ) → j + 2 * suc k ≡ last_ply winner p.turn n → (q : Position) → Pre (Reach p j) (Kept winner p n (suc j)) q ↔ Kept winner p n j q
+  win-step j k e q =
+      let next : suc j + (2 * k + 1) ≡ last_ply winner p.turn n = omega (arith, e) in
+      let turn = λ (r : Position) (h : Reach p j r). turn-reach p r j h ∙ turn_even winner p.turn n j (suc k) e in
+      let part = win-part winner p j k (Kept winner p n (suc j)) turn (kept_lost winner p n (suc j) k next) q in
+      let here = kept_won winner p n j (suc k) e q in
+      (λ h. here.1 (part.0 h), λ h. part.1 (here.0 h))
+
+  -- what is kept at a ply of the loser
+  pub lost-step : (j k : ℕ) → j + (2 * k + 1) ≡ last_ply winner p.turn n → ((q : Position) → Reach p (suc j) q → Kept winner p n (suc j) q ⊎ (Kept winner p n (suc j) q → ⊥)) → (q : Position) → LostPart (Reach p j) (Reach p (suc j)) (Kept winner p n (suc j)) q ↔ Kept winner p n j q
+  lost-step j k e decided q =
+      let next : suc j + 2 * k ≡ last_ply winner p.turn n = omega (arith, e) in
+      let turn = λ (r : Position) (h : Reach p j r). turn-reach p r j h ∙ turn_odd winner p.turn n j k e in
+      let part = lost-part winner p sound j k (Kept winner p n (suc j)) turn (kept_won winner p n (suc j) k next) decided q in
+      let here = kept_lost winner p n j k e q in
+      (λ h. here.1 (part.0 h), λ h. part.1 (here.0 h))
+
+-- all moves are left at the start
+pub left_first : (winner s : Side) (n : ℕ) → moves_left (last_ply winner s n) 0 ≡ n
+left_first White White n = left_half (2 * n) 0 n (omega arith)
+left_first Black Black n = left_half (2 * n) 0 n (omega arith)
+left_first White Black n = left_half_more (2 * n + 1) 0 n (omega arith)
+left_first Black White n = left_half_more (2 * n + 1) 0 n (omega arith)
+
+-- the starting position is kept where the winner mates in time
+pub kept_first : (winner : Side) (p : Position) (n : ℕ) → Value winner n p ↔ Kept winner p n 0 p
+kept_first winner p n =
+    let left = left_first winner p.turn n in
+    let At : ℕ → Type 0 = λ m. Value winner m p in
+    (λ h. record { reached = refl; value = subst At (sym left) h }, λ h. subst At left h.value)
+
+counted_first : (n j : ℕ) → (2 * n - j) / 2 ≡ n - (j + 1) / 2
+counted_first n j = grind arith
+
+counted_second : (n j : ℕ) → (2 * n + 1 - j) / 2 ≡ n - j / 2
+counted_second n j = grind arith
+
+-- how many moves the winner has made
+pub moves_counted : (winner : Side) (n j : ℕ) → (moves_left (last_ply winner winner n) j ≡ n - (j + 1) / 2) × (moves_left (last_ply winner (other winner) n) j ≡ n - j / 2)
+moves_counted White n j = (counted_first n j, counted_second n j)
+moves_counted Black n j = (counted_first n j, counted_second n j)

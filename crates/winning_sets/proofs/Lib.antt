@@ -1,0 +1,10 @@
+pub mod KeptTakes
+pub mod KeptParts
+pub mod KeptSets
+pub mod KeptWithin
+pub mod KeptPlan
+pub mod KeptDecided
+pub mod KeptNames
+pub mod KeptKeeps
+pub mod KeptLevels
+pub mod MeaningLaws

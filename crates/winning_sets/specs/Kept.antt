@@ -1,0 +1,22 @@
+-- Positions from which the winner still mates in time.
+use Rattle.std.specs.Prelude.{ℕ, ◌+◌, ◌-◌, ◌*◌, ◌/◌}
+use Rattle.game_rules.specs.Game.{Position, Value}
+use Rattle.game_rules.specs.declared.men.Side.{Side}
+use Rattle.game_rules.specs.declared.men.Side.TheVariants.{White, Black}
+use Rattle.winning_sets.specs.Reach.{Reach}
+
+-- the last ply of so many moves of the winner, by the side that moves first: the winner is to move there, and has no move left
+abbrev pub last_ply : Side → Side → ℕ → ℕ
+last_ply White White moves = 2 * moves
+last_ply Black Black moves = 2 * moves
+last_ply White Black moves = 2 * moves + 1
+last_ply Black White moves = 2 * moves + 1
+
+-- how many of his moves the winner has left after some of so many plies
+abbrev pub moves_left : ℕ → ℕ → ℕ
+moves_left last ply = (last - ply) / 2
+
+-- the position is reached at the ply, and the winner mates from there within the moves that he has left
+pub record Kept (winner : Side) (p : Position) (moves ply : ℕ) (q : Position) : Type 0 where
+  pub reached : Reach p ply q
+  pub value : Value winner (moves_left (last_ply winner p.turn moves) ply) q

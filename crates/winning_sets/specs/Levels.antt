@@ -1,0 +1,26 @@
+-- Levels as the sets that are kept make them.
+use Rattle.std.specs.Prelude.{◌≡◌, ℕ, List, [], ◌∷◌, Option}
+use Rattle.auto_core.specs.Automaton.{Automaton}
+use Rattle.game_rules.specs.declared.men.Man.{Man}
+use Rattle.lin_formula.specs.declared.formula.SetId.{SetId}
+use Rattle.rule_formula.specs.Placed.{is_live}
+use Rattle.rule_formula.specs.Trees.{tracks_of}
+use Rattle.set_plan.specs.Sets.{Grows, IsNameOn, set_at}
+use Rattle.winning_sets.specs.Plan.{Level, level_with, no_sets}
+
+-- a level, and the sets of these names for the masks
+abbrev pub level_from : List Automaton → Level → List ℕ → List (Option SetId) → Level
+level_from sets level [] ids = level
+level_from sets level (mask ∷ masks) [] = level
+level_from sets level (mask ∷ masks) (id ∷ ids) = level_from sets (level_with level mask (set_at sets id)) masks ids
+
+-- the sets of these names for the masks
+abbrev pub level_of : List Automaton → List ℕ → List (Option SetId) → Level
+level_of sets masks ids = level_from sets no_sets masks ids
+
+-- a name for each of the masks, of a set over the tracks of its men
+abbrev pub AreNames : List Man → List Automaton → List ℕ → List (Option SetId) → Type 0
+AreNames stock sets [] [] = Unit {0}
+AreNames stock sets [] (id ∷ ids) = ⊥
+AreNames stock sets (mask ∷ masks) [] = ⊥
+AreNames stock sets (mask ∷ masks) (id ∷ ids) = IsNameOn (tracks_of stock (is_live mask)) sets id × AreNames stock sets masks ids

@@ -1,0 +1,189 @@
+-- The plan of a position and a number of moves.
+use Rattle.std.specs.Prelude.{ℕ, zero, suc, ◌+◌, ◌==◌, if◌then◌else◌, List, [], ◌∷◌, length, map, filter, Bool, true, not}
+use Rattle.std.specs.List.{flat_map}
+use Rattle.track_word.specs.declared.tracks.Var.{Var}
+use Rattle.game_rules.specs.Game.{other}
+use Rattle.game_rules.specs.declared.men.Side.{Side}
+use Rattle.lin_formula.specs.Tree.{Tree}
+use Rattle.lin_formula.specs.SetOf.{SetOf, Nothing}
+use Rattle.rule_formula.specs.declared.opt.Opt.{Opt}
+use Rattle.set_plan.specs.Program as set_plan
+use Rattle.set_plan.specs.Program.{Item, Give, Ask, Empty, ◌>>=◌}
+use Rattle.set_plan.specs.Unite as set_plan_unite
+use Rattle.set_plan.specs.Unite.{Made, make, remainder, together, two}
+use Rattle.rule_formula.specs.declared.opt.Bearing.{Bearing}
+use Rattle.winning_sets.specs.declared.names.Part.{Part}
+use Rattle.winning_sets.specs.declared.names.Part.TheVariants as kind
+use Rattle.winning_sets.specs.declared.names.PartName.{PartName}
+
+-- the formulas of the rules, over symbol 0 for the source and symbol 1 for the target
+pub record Rules : Type 0 where
+  pub masks : List ℕ
+  pub tracks : ℕ → List Var
+  pub choices : Side → ℕ → List Opt
+  pub target : ℕ → Opt → ℕ
+  pub bearings : Side → ℕ → List Bearing
+  pub point : Tree
+  pub image : ℕ → Opt → Tree
+  pub pre : ℕ → Opt → Tree
+  pub bear : ℕ → Bearing → Tree
+  pub safe : ℕ → Bearing → Tree
+
+-- a program whose parts are named by ply, mask and part
+abbrev pub Program : Type 0 → Type 0
+Program A = set_plan.Program PartName A
+
+-- a set for each mask
+abbrev pub Level : Type 0
+Level = ℕ → SetOf
+
+abbrev pub no_sets : Level
+no_sets mask = Nothing
+
+abbrev pub level_with : Level → ℕ → SetOf → Level
+level_with level mask s k = if k == mask then s else level k
+
+-- a set for each of the masks, one after the other, beside the sets that there are so far
+abbrev pub for_masks : List ℕ → (ℕ → Program SetOf) → Level → Program Level
+for_masks [] f level = Give level
+for_masks (mask ∷ masks) f level = do
+  s ← f mask
+  for_masks masks f (level_with level mask s)
+
+abbrev pub name : ℕ → ℕ → Part → PartName
+name ply mask p = record { ply = ply; mask = mask; part = p }
+
+-- whose turn it is after so many moves
+abbrev pub turn_at : Side → ℕ → Side
+turn_at first zero = first
+turn_at first (suc ply) = other (turn_at first ply)
+
+abbrev pub is_even : ℕ → Bool
+is_even zero = true
+is_even (suc n) = not (is_even n)
+
+module _ (rules : Rules) where
+  -- the union of the sets of these items, as a part of its own
+  abbrev pub union : ℕ → ℕ → Part → List Item → Program SetOf
+  union ply mask p items = set_plan_unite.union (rules.tracks mask) (name ply mask p) items
+
+  -- one set without another, as a part of its own
+  abbrev pub difference : ℕ → ℕ → Part → SetOf → SetOf → Program SetOf
+  difference ply mask p s t = remainder (rules.tracks mask) (name ply mask p) s t
+
+  -- the choices whose target is a mask
+  abbrev pub choices_into : Side → ℕ → ℕ → List Opt
+  choices_into side mask to = filter (λ o. rules.target mask o == to) (rules.choices side mask)
+
+  abbrev pub image_item : ℕ → SetOf → Opt → Item
+  image_item mask source o = record { formula = rules.image mask o; sets = λ _. source }
+
+  abbrev pub image_items : Side → ℕ → Level → List Item
+  image_items side to level = flat_map (λ mask. map (image_item mask (level mask)) (choices_into side mask to)) rules.masks
+
+  abbrev pub pre_item : ℕ → SetOf → Level → Opt → Item
+  pre_item mask source targets o = record { formula = rules.pre mask o; sets = two source (targets (rules.target mask o)) }
+
+  abbrev pub pre_items : Side → ℕ → SetOf → Level → List Item
+  pre_items side mask source targets = map (pre_item mask source targets) (rules.choices side mask)
+
+  abbrev pub bear_item : ℕ → SetOf → Bearing → Item
+  bear_item mask source b = record { formula = rules.bear mask b; sets = λ _. source }
+
+  abbrev pub bear_items : Side → ℕ → SetOf → List Item
+  bear_items side mask source = map (bear_item mask source) (rules.bearings side mask)
+
+  abbrev pub safe_item : ℕ → SetOf → Bearing → Item
+  safe_item mask source b = record { formula = rules.safe mask b; sets = λ _. source }
+
+  -- the set made narrower by each of the bearings in turn
+  abbrev pub narrow : ℕ → ℕ → List Bearing → Made → Program SetOf
+  narrow ply mask [] (s, at) = Give s
+  narrow ply mask (b ∷ bearings) (s, at) = do
+    made ← make (name ply mask kind.Safe) at (safe_item mask s b)
+    narrow ply mask bearings made
+
+  -- what is reached at a ply with one mask, from what is reached at the ply before, where the side moves
+  abbrev pub reach_set : Side → ℕ → Level → ℕ → Program SetOf
+  reach_set side ply level mask = do
+    moved ← union ply mask kind.Image (image_items side mask level)
+    narrow ply mask (rules.bearings (other side) mask) (moved, 1)
+
+  abbrev pub reach_level : Side → ℕ → Level → Program Level
+  reach_level side ply level = for_masks rules.masks (reach_set side ply level) no_sets
+
+  -- what is kept at a ply of the winner with one mask, from what is kept at the next ply
+  abbrev pub win_set : Side → ℕ → Level → Level → ℕ → Program SetOf
+  win_set side ply reach kept1 mask = union ply mask kind.Win (pre_items side mask (reach mask) kept1)
+
+  abbrev pub win_level : Side → ℕ → Level → Level → Program Level
+  win_level side ply reach kept1 = for_masks rules.masks (win_set side ply reach kept1) no_sets
+
+  -- what is kept at a ply of the loser with one mask, where some position is reached
+  abbrev pub lost_set : Side → ℕ → ℕ → SetOf → Level → Level → Program SetOf
+  lost_set side ply mask reach reach1 rests = do
+    escape ← union ply mask kind.Escape (pre_items side mask reach rests)
+    calm ← difference ply mask kind.Calm reach escape
+    check ← union ply mask kind.Check (bear_items (other side) mask calm)
+    quiet ← difference ply mask kind.Quiet calm check
+    reply ← union ply mask kind.Reply (pre_items side mask quiet reach1)
+    together (rules.tracks mask) (name ply mask kind.Lost) check reply
+
+  abbrev pub lost_set_if : Side → ℕ → Level → Level → Level → ℕ → Program SetOf
+  lost_set_if side ply reach reach1 rests mask = Ask (Empty (reach mask ∷ [])) (Give Nothing) (lost_set side ply mask (reach mask) reach1 rests)
+
+  -- what is reached and not kept at a ply with one mask
+  abbrev pub rest_set : ℕ → Level → Level → ℕ → Program SetOf
+  rest_set ply reach kept mask = difference ply mask kind.Rest (reach mask) (kept mask)
+
+  -- what is kept at a ply of the loser
+  abbrev pub lost_level : Side → ℕ → Level → Level → Level → Program Level
+  lost_level side ply reach reach1 kept1 = do
+    rests ← for_masks rules.masks (rest_set (suc ply) reach1 kept1) no_sets
+    for_masks rules.masks (lost_set_if side ply reach reach1 rests) no_sets
+
+  -- the starting position alone
+  abbrev pub point_level : ℕ → Program Level
+  point_level mask = do
+    made ← make (name 0 mask kind.Point) 1 (record { formula = rules.point; sets = λ _. Nothing })
+    Give (level_with no_sets mask made.0)
+
+  -- what is reached so far, the last ply first, with one more ply
+  abbrev pub reach_more : Side → ℕ → List Level → Program (List Level)
+  reach_more first ply [] = Give []
+  reach_more first ply (level ∷ levels) = do
+    more ← reach_level (turn_at first ply) (suc ply) level
+    Give (more ∷ level ∷ levels)
+
+  -- what is reached at each ply up to the last, the last one first
+  abbrev pub forward : Side → ℕ → ℕ → Program (List Level)
+  forward first mask zero = do
+    level ← point_level mask
+    Give (level ∷ [])
+  forward first mask (suc ply) = do
+    levels ← forward first mask ply
+    reach_more first ply levels
+
+  -- what is kept at a ply so many plies before the last
+  abbrev pub kept_level : Side → ℕ → ℕ → Level → Level → Level → Program Level
+  kept_level first ply left reach reach1 kept1 =
+      if is_even left then win_level (turn_at first ply) ply reach kept1 else lost_level (turn_at first ply) ply reach reach1 kept1
+
+  -- what is kept at each ply, the first one first: from what is reached at a ply, what is reached at the plies before, the last one first,
+  -- what is kept at the ply, and what is kept at those after it
+  abbrev pub backward : Side → Level → List Level → Level → List Level → Program (List Level)
+  backward first reach1 [] kept1 later = Give (kept1 ∷ later)
+  backward first reach1 (reach ∷ before) kept1 later = do
+    level ← kept_level first (length before) (suc (length later)) reach reach1 kept1
+    backward first reach before level (kept1 ∷ later)
+
+  -- nothing is kept at the last ply
+  abbrev pub backward_from : Side → List Level → Program (List Level)
+  backward_from first [] = Give []
+  backward_from first (reach ∷ before) = backward first reach before no_sets []
+
+  -- the sets that are kept at each ply, the first ply first
+  abbrev pub plan : Side → ℕ → ℕ → Program (List Level)
+  plan first mask last = do
+    levels ← forward first mask last
+    backward_from first levels

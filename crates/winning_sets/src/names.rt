@@ -1,0 +1,73 @@
+//! Names of steps.
+
+/// A part of a plan.
+#[derive(Clone, Copy, Debug, PartialEq, Eq)]
+pub enum Part {
+    /// The starting position.
+    Point,
+    /// Where a move leads.
+    Image,
+    /// The mover's king is not attacked.
+    Safe,
+    /// The winner has a move into what is kept.
+    Win,
+    /// What is reached and not kept.
+    Rest,
+    /// The loser has a move into that rest.
+    Escape,
+    /// He has none.
+    Calm,
+    /// He is in check.
+    Check,
+    /// He is not.
+    Quiet,
+    /// He has a move.
+    Reply,
+    /// He is in check or has a move.
+    Lost,
+    /// Two men stand on one square.
+    Same,
+    /// The winner is in check.
+    Guard,
+    /// The winner's first move.
+    First,
+    /// The winner's answer.
+    Answer,
+    /// What has no answer.
+    Left,
+    /// The loser is stalemated.
+    Stale,
+}
+
+/// A part of a plan at a ply, for the positions with the live men of a mask.
+#[derive(Clone, Copy, Debug, PartialEq, Eq)]
+pub struct PartName {
+    /// How many moves were made since the starting position.
+    pub ply: u8,
+    /// The live men: bit `i - 1` stands for man `i`.
+    pub mask: u8,
+    pub part: Part,
+}
+
+/// A step of a plan.
+#[derive(Clone, Copy, Debug, PartialEq, Eq)]
+pub struct StepName {
+    /// The number of moves of the winner that the plan is for.
+    pub moves: u8,
+    /// How many moves were made since the starting position.
+    pub ply: u8,
+    /// The live men: bit `i - 1` stands for man `i`.
+    pub mask: u8,
+    pub part: Part,
+    /// The number of the step in its part, counted from 1.
+    pub at: u32,
+}
+
+/// Why a position is not solved.
+#[derive(Clone, Copy, Debug, PartialEq, Eq)]
+pub enum SolveError {
+    /// The first step of the plan that needs more states than the budget.
+    Over(StepName),
+    /// Memory ran out.
+    Memory,
+}
