@@ -17,7 +17,7 @@ use Rattle.rule_formula.specs.Trees.{point_of, tracks_of}
 use Rattle.rule_formula.proofs.FitLemmas.{AreAlike, alike_of, mask_tells, placed_unique, placed_values, tuple_placed, values_of}
 use Rattle.rule_formula.proofs.LawTheorem.{self_placed, squares_of}
 use Rattle.winning_sets.specs.Kept.{Kept}
-use Rattle.winning_sets.specs.Plan.{turn_at}
+use Rattle.mate_plan.specs.Plan.{turn_at}
 use Rattle.winning_sets.specs.Solve.{AreKept, HasTuplesOf, IsKeptIn, IsTupleOf, Solution, end_of}
 use Rattle.winning_sets.proofs.KeptPlan.{fits_reached}
 

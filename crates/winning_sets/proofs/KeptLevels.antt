@@ -6,7 +6,7 @@ use Rattle.auto_core.specs.Integers.{IsAccepted}
 use Rattle.game_rules.specs.Game.{Position}
 use Rattle.lin_formula.specs.SetOf.{Nothing, Table}
 use Rattle.set_plan.specs.Same.{SameSets}
-use Rattle.winning_sets.specs.Plan.{Level}
+use Rattle.mate_plan.specs.Plan.{Level}
 use Rattle.winning_sets.specs.PlanMeans.{AreLevelsOf, IsLevelOf}
 use Rattle.winning_sets.specs.Solve.{HasTuplesOf}
 

@@ -12,8 +12,8 @@ use Rattle.lin_formula.specs.declared.formula.SetId.{SetId}
 use Rattle.lin_formula.proofs.FreeVars.{free_vars-ascend}
 use Rattle.rule_formula.specs.Mean.{GameMeans, mask_tracks}
 use Rattle.set_plan.specs.Sets.{IsNameOn, IsSetOn, set_at}
-use Rattle.winning_sets.specs.Levels.{AreNames, level_from, level_of}
-use Rattle.winning_sets.specs.Plan.{Level, level_with, no_sets}
+use Rattle.mate_plan.specs.Levels.{AreNames, level_from, level_of}
+use Rattle.mate_plan.specs.Plan.{Level, level_with, no_sets}
 use Rattle.winning_sets.specs.PlanMeans.{AreDecided, IsDecided}
 use Rattle.winning_sets.proofs.KeptDecided.{table_decided}
 

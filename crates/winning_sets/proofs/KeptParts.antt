@@ -9,8 +9,9 @@ use Rattle.game_laws.proofs.SoundLemmas.{legal_sound, other_other}
 use Rattle.game_laws.proofs.ValueLemmas.{flat_lost, lost_flat}
 use Rattle.rule_formula.specs.Laws.{StepsTo}
 use Rattle.winning_sets.specs.Reach.{Moves, Reach}
-use Rattle.winning_sets.specs.Kept.{Kept, last_ply, moves_left}
-use Rattle.winning_sets.specs.Plan.{is_even, turn_at}
+use Rattle.winning_sets.specs.Kept.{Kept, moves_left}
+use Rattle.mate_plan.specs.PlanOf.{last_ply}
+use Rattle.mate_plan.specs.Plan.{is_even, turn_at}
 
 abbrev pub Positions : Type 1
 Positions = Position → Type 0

@@ -19,13 +19,13 @@ use Rattle.rule_formula.specs.Seats.{var}
 use Rattle.rule_formula.specs.Trees.{point_of}
 use Rattle.set_plan.specs.Program.{Item, Give, Takes}
 use Rattle.set_plan.specs.Unite.{make, two}
-use Rattle.winning_sets.specs.Plan.{Level, Program, Rules, backward, backward_from, bear_item, bear_items, difference, for_masks, forward, is_even, kept_level, level_with, lost_level, lost_set, lost_set_if, name, no_sets, plan, point_level, pre_item, pre_items, reach_level, reach_more, reach_set, rest_set, turn_at, union, win_level, win_set}
-use Rattle.winning_sets.specs.PlanOf.{formula_or, plan_of, plan_to, rules_of}
-use Rattle.winning_sets.specs.Kept.{Kept, last_ply}
+use Rattle.mate_plan.specs.Plan.{Level, Program, Rules, backward, backward_from, bear_item, bear_items, difference, for_masks, forward, is_even, kept_level, level_with, lost_level, lost_set, lost_set_if, name, no_sets, plan, point_level, pre_item, pre_items, reach_level, reach_more, reach_set, rest_set, turn_at, union, win_level, win_set}
+use Rattle.mate_plan.specs.PlanOf.{formula_or, last_ply, plan_of, plan_to, rules_of}
+use Rattle.winning_sets.specs.Kept.{Kept}
 use Rattle.winning_sets.specs.Reach.{Reach}
 use Rattle.winning_sets.specs.PlanMeans.{AreDecided, AreLevelsOf, IsDecided, IsLevelOf}
-use Rattle.winning_sets.specs.declared.names.Part.{Part}
-use Rattle.winning_sets.specs.declared.names.Part.TheVariants as kind
+use Rattle.mate_plan.specs.declared.names.Part.{Part}
+use Rattle.mate_plan.specs.declared.names.Part.TheVariants as kind
 use Rattle.winning_sets.proofs.KeptParts.{Reach-image, StepsTo-moves, kept_end, kept_first, lost-step, reached_sound, two_steps, win-step}
 use Rattle.set_plan.proofs.Composition.{Takes-split, none_some}
 use Rattle.winning_sets.proofs.KeptTakes.{IsOver, remainder_over, Takes-give, any-map, make-members, remainder-members, same_some, together-members, union-members, union_over}

@@ -17,11 +17,11 @@ use Rattle.rule_formula.specs.Options.{options_of}
 use Rattle.rule_formula.specs.Placed.{tuple_of}
 use Rattle.set_plan.specs.Program.{Item, Entry, Takes}
 use Rattle.set_plan.specs.Unite.{Made, make, two}
-use Rattle.winning_sets.specs.Plan.{Level, Program, Rules, bear_item, bear_items, choices_into, difference, for_masks, image_item, image_items, level_with, lost_level, lost_set, lost_set_if, name, narrow, no_sets, pre_item, pre_items, reach_set, rest_set, safe_item, union, win_level, win_set}
-use Rattle.winning_sets.specs.PlanOf.{rules_of}
-use Rattle.winning_sets.specs.declared.names.Part.{Part}
-use Rattle.winning_sets.specs.declared.names.Part.TheVariants as kind
-use Rattle.winning_sets.specs.declared.names.PartName.{PartName}
+use Rattle.mate_plan.specs.Plan.{Level, Program, Rules, bear_item, bear_items, choices_into, difference, for_masks, image_item, image_items, level_with, lost_level, lost_set, lost_set_if, name, narrow, no_sets, pre_item, pre_items, reach_set, rest_set, safe_item, union, win_level, win_set}
+use Rattle.mate_plan.specs.PlanOf.{rules_of}
+use Rattle.mate_plan.specs.declared.names.Part.{Part}
+use Rattle.mate_plan.specs.declared.names.Part.TheVariants as kind
+use Rattle.mate_plan.specs.declared.names.PartName.{PartName}
 use Rattle.winning_sets.proofs.KeptParts.{Positions, Image, Safe, Pre, Checked, Without, Rest, Escape, Calm, Check, Quiet, LostPart}
 use Rattle.set_plan.proofs.Composition.{Takes-split, none_some}
 use Rattle.winning_sets.proofs.KeptTakes.{HaveTracks, IsOver, Takes-give, any-flat_map, any-map, contains_cases, contains_filter, contains_head, contains_none, contains_rest, have-flat_map, have-map, make-members, remainder-members, remainder_over, together-members, union-members, union_over}

@@ -11,7 +11,7 @@ use Rattle.rule_formula.specs.Mean.{IsGame, RulesMean}
 use Rattle.rule_formula.specs.Trees.{point_of}
 use Rattle.rule_formula.proofs.MeanTheorem.{rules_mean}
 use Rattle.rule_formula.proofs.PointTheorem.{point_made}
-use Rattle.winning_sets.specs.Levels.{AreNames, level_of}
+use Rattle.mate_plan.specs.Levels.{AreNames, level_of}
 use Rattle.winning_sets.specs.PlanMeans.{AreDecided, FirstIsValue, ForwardIsReach, KeepsIsKept, MovesAreCounted, NoneIsKeptLast, PlanIsKept, TablesAreDecided}
 use Rattle.winning_sets.proofs.KeptDecided.{table_decided}
 use Rattle.winning_sets.proofs.KeptKeeps.{keeps_is_kept}

@@ -1,16 +1,9 @@
 -- Positions from which the winner still mates in time.
-use Rattle.std.specs.Prelude.{ℕ, ◌+◌, ◌-◌, ◌*◌, ◌/◌}
+use Rattle.std.specs.Prelude.{ℕ, ◌-◌, ◌/◌}
 use Rattle.game_rules.specs.Game.{Position, Value}
 use Rattle.game_rules.specs.declared.men.Side.{Side}
-use Rattle.game_rules.specs.declared.men.Side.TheVariants.{White, Black}
+use Rattle.mate_plan.specs.PlanOf.{last_ply}
 use Rattle.winning_sets.specs.Reach.{Reach}
-
--- the last ply of so many moves of the winner, by the side that moves first: the winner is to move there, and has no move left
-abbrev pub last_ply : Side → Side → ℕ → ℕ
-last_ply White White moves = 2 * moves
-last_ply Black Black moves = 2 * moves
-last_ply White Black moves = 2 * moves + 1
-last_ply Black White moves = 2 * moves + 1
 
 -- how many of his moves the winner has left after some of so many plies
 abbrev pub moves_left : ℕ → ℕ → ℕ

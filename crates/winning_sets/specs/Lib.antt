@@ -13,10 +13,10 @@ pub use Rattle.set_plan.specs.Program
 pub use Rattle.set_plan.specs.Past
 pub use Rattle.set_plan.specs.Outcome
 pub use Rattle.set_plan.specs.Unite
+pub use Rattle.mate_plan.specs.Plan
+pub use Rattle.mate_plan.specs.PlanOf
+pub use Rattle.mate_plan.specs.Levels
 pub mod Reach
 pub mod Kept
-pub mod Plan
-pub mod PlanOf
 pub mod Solve
-pub mod Levels
 pub mod PlanMeans

@@ -9,12 +9,12 @@ use Rattle.lin_formula.specs.SetOf.{Member, SetOf, Table}
 use Rattle.rule_formula.specs.Fits.{mask_of}
 use Rattle.rule_formula.specs.Placed.{tuple_of}
 use Rattle.set_plan.specs.Program.{Entry, Takes}
-use Rattle.winning_sets.specs.Kept.{Kept, last_ply, moves_left}
-use Rattle.winning_sets.specs.Plan.{Level, forward}
-use Rattle.winning_sets.specs.PlanOf.{plan_of, rules_of}
+use Rattle.winning_sets.specs.Kept.{Kept, moves_left}
+use Rattle.mate_plan.specs.PlanOf.{last_ply, plan_of, rules_of}
+use Rattle.mate_plan.specs.Plan.{Level, forward}
 use Rattle.winning_sets.specs.Reach.{Reach}
 use Rattle.winning_sets.specs.Solve.{AreKept, IsKeptIn, IsTupleOf, Solution, end_of}
-use Rattle.winning_sets.specs.declared.names.PartName.{PartName}
+use Rattle.mate_plan.specs.declared.names.PartName.{PartName}
 
 -- of each tuple it is known whether the set has it
 abbrev pub IsDecided : SetOf → Type 0

@@ -11,8 +11,9 @@ use Rattle.rule_formula.specs.Fits.{HasStock, IsGameMask, mask_of}
 use Rattle.rule_formula.specs.Placed.{is_live, tuple_of}
 use Rattle.rule_formula.specs.Trees.{tracks_of}
 use Rattle.set_plan.specs.Outcome.{Ends, Stops}
-use Rattle.winning_sets.specs.Kept.{Kept, last_ply}
-use Rattle.winning_sets.specs.Plan.{Program, turn_at}
+use Rattle.winning_sets.specs.Kept.{Kept}
+use Rattle.mate_plan.specs.PlanOf.{last_ply}
+use Rattle.mate_plan.specs.Plan.{Program, turn_at}
 use Rattle.winning_sets.specs.Reach.{Reach}
 use Rattle.winning_sets.specs.declared.names.SolveError.{SolveError}
 use Rattle.winning_sets.specs.declared.names.SolveError.TheVariants as solve_error

@@ -6,7 +6,7 @@ use Rattle.lin_formula.specs.declared.formula.SetId.{SetId}
 use Rattle.rule_formula.specs.Placed.{is_live}
 use Rattle.rule_formula.specs.Trees.{tracks_of}
 use Rattle.set_plan.specs.Sets.{Grows, IsNameOn, set_at}
-use Rattle.winning_sets.specs.Plan.{Level, level_with, no_sets}
+use Rattle.mate_plan.specs.Plan.{Level, level_with, no_sets}
 
 -- a level, and the sets of these names for the masks
 abbrev pub level_from : List Automaton → Level → List ℕ → List (Option SetId) → Level

@@ -12,9 +12,9 @@ use Rattle.set_plan.specs.Program.{Item, Give, Ask, Empty, ◌>>=◌}
 use Rattle.set_plan.specs.Unite as set_plan_unite
 use Rattle.set_plan.specs.Unite.{Made, make, remainder, together, two}
 use Rattle.rule_formula.specs.declared.opt.Bearing.{Bearing}
-use Rattle.winning_sets.specs.declared.names.Part.{Part}
-use Rattle.winning_sets.specs.declared.names.Part.TheVariants as kind
-use Rattle.winning_sets.specs.declared.names.PartName.{PartName}
+use Rattle.mate_plan.specs.declared.names.Part.{Part}
+use Rattle.mate_plan.specs.declared.names.Part.TheVariants as kind
+use Rattle.mate_plan.specs.declared.names.PartName.{PartName}
 
 -- the formulas of the rules, over symbol 0 for the source and symbol 1 for the target
 pub record Rules : Type 0 where
