@@ -1,5 +1,7 @@
 pub mod States
 pub mod Splits
+pub mod Placed
+pub mod Stales
 pub mod Counting
 pub mod Rounds
 pub mod RowNodes

@@ -12,7 +12,8 @@ use Rattle.letter_diagram.proofs.Canonical.{node-from_map}
 use Rattle.auto_core.proofs.RowLemmas.{map_at-narrow}
 use Rattle.auto_core.specs.Automaton.{Automaton, IsAutomaton, width, next_state}
 use Rattle.auto_reduce.proofs.States.{next_within}
-use Rattle.auto_reduce.specs.Partition.{IsPartition, IsSplit, AreRowNodes, AreShared, AreOpenRows, IsRound, IsFlag, IsSound, IsCoarsest}
+use Rattle.auto_reduce.specs.Quotient.{IsLed}
+use Rattle.auto_reduce.specs.Partition.{IsPartition, IsSplit, AreRowNodes, IsShared, AreLedRows, IsFiner, IsRound, IsFlag, IsSound, IsCoarsest}
 use Rattle.auto_reduce.proofs.Counting.{length_le-below, count_grows, count_grows_by_split}
 
 -- ---- a round
@@ -30,76 +31,34 @@ AreRowNodes-grows a old new rows grows h = record {
 pub LooksBelow-led : (shapes : List Shape) (table : List ℕ) (node led bound : ℕ) → IsMapped shapes table node led → LooksBelow shapes node bound → LooksBelow shapes led bound
 LooksBelow-led shapes table node led bound m narrow = record { same = λ x y agree. m.map x ∙ ap (λ n. get_or table n 0) (narrow.same x y agree) ∙ sym (m.map y) }
 
--- what holds of each entry of a list holds of each with one more
-pub at_push : (P : ℕ → ℕ → Type 0) (xs : List ℕ) (x n : ℕ) → length xs ≡ n → ((k : ℕ) → k < n → P k (get_or xs k 0)) → P n x → (k : ℕ) → k < n + 1 → P k (get_or (xs ++ x ∷ []) k 0)
-at_push P xs x n size before last k less = elim (cases_lt k n) [
-  | inl low ↦ subst (P k) (sym (get_or_append_left xs (x ∷ []) 0 k (omega (arith, size, low)))) (before k low)
-  | inr past ↦
-      let here : length xs ≡ k = omega (arith, size, less, past) in
-      let same : n ≡ k = omega (arith, less, past) in
-      subst (P k) (sym (get_or_push xs x 0 k here)) (subst (λ i. P i x) same last)
-]
-
--- the flag of a state's class, as it was read
-pub flag_read : (shared : List Bool) (classes : List ℕ) (state class : ℕ) (flag : Bool) → state < length classes → class < length shared → class ≡ get_or classes state class → flag ≡ get_or shared class flag
-    → get_or shared (get_or classes state 0) false ≡ flag
-flag_read shared classes state class flag known inside class_read read =
-    ap (λ c. get_or shared c false) (sym (get_or_read classes state class known class_read 0)) ∙ sym (get_or_read shared class flag inside read false)
-
--- rows that are opened: those of the states that share their class
-pub AreOpenRows-from : (classes rows opened : List ℕ) (shared : List Bool) (count : ℕ) → AreShared classes count shared → length opened ≡ length rows → length classes ≡ length rows
-    → ((state : ℕ) → state < length rows → (other : ℕ) × (other < length rows) × (get_or opened state 0 ≡ get_or rows other 0))
-    → ((state : ℕ) → state < length rows → get_or shared (get_or classes state 0) false ≡ true → get_or opened state 0 ≡ get_or rows state 0) → AreOpenRows classes rows opened
-AreOpenRows-from classes rows opened shared count s size same some own = record {
-  size = size;
-  some = some;
-  own = λ j k jw kw other e. own j jw (elim (cases_lt j k) [
-    | inl less ↦ subst (λ class. get_or shared class false ≡ true) (sym e) (s.more j k less (omega (arith, kw, same)) e)
-    | inr past ↦ s.more k j (omega (arith, past, other)) (omega (arith, jw, same)) (sym e)
-  ]);
+-- a row that is led to classes leads letters to the classes of the next states
+pub IsLed-mapped : (a : Automaton) (shapes : List Shape) (rows classes : List ℕ) (state led : ℕ) → AreRowNodes a shapes rows → state < length a.accept → IsMapped shapes classes (get_or rows state 0) led → IsLed a classes shapes led (next_state a state)
+IsLed-mapped a shapes rows classes state led r within m = record {
+  known = m.known;
+  narrow = LooksBelow-led shapes classes _ _ (length a.tracks) m (All-get_or (λ node. LooksBelow shapes node (length a.tracks)) rows state 0 (omega (arith, r.size, within)) r.narrow);
+  leads = λ letter below. m.map letter ∙ ap (λ n. get_or classes n 0) (r.leads state letter within below);
 }
 
-pub All-opened : (P : ℕ → Type 0) (classes rows opened : List ℕ) → AreOpenRows classes rows opened → All P rows → All P opened
-All-opened P classes rows opened o all = All-from_get_or P opened 0 (λ i within.
-    let some = o.some i (let s = o.size in omega (arith, s, within)) in
-    subst P (sym some.2) (All-get_or P rows some.0 0 some.1 all))
-
-module _ (a : Automaton) (shapes : List Shape) (is : IsDiagram shapes) (start rows opened led : List ℕ)
-    (r : AreRowNodes a shapes rows) (size : length start ≡ length a.accept) (o : AreOpenRows start rows opened) (m : EachAnswers (IsMapped shapes start) opened led) where
-  -- a state that shares its class with another one
-  Shares : ℕ → Type 0
-  Shares j = (k : ℕ) × (k < length a.accept) × (j ≢ k) × (get_or start j 0 ≡ get_or start k 0)
-
-  led_of : (j : ℕ) → j < length a.accept → Shares j → IsMapped shapes start (get_or rows j 0) (get_or led j 0)
-  unfolding Shares
-  led_of j jw h =
-      let rows_size = r.size in
-      let opened_size = o.size in
-      let kw = h.1 in
-      subst (λ node. IsMapped shapes start node (get_or led j 0)) (o.own j h.0 (omega (arith, rows_size, jw)) (omega (arith, rows_size, kw)) h.2 h.3) (m.each j (omega (arith, rows_size, opened_size, jw)))
-
-  led_narrow : (j : ℕ) → j < length a.accept → Shares j → LooksBelow shapes (get_or led j 0) (length a.tracks)
-  led_narrow j jw h = LooksBelow-led shapes start _ _ (length a.tracks) (led_of j jw h) (All-get_or (λ node. LooksBelow shapes node (length a.tracks)) rows j 0 (omega (arith, r.size, jw)) r.narrow)
-
-  led_at : (j letter : ℕ) → j < length a.accept → letter < width a → Shares j → map_at shapes (get_or led j 0) letter ≡ get_or start (next_state a j letter) 0
-  led_at j letter jw below h = (led_of j jw h).map letter ∙ ap (λ n. get_or start n 0) (r.leads j letter jw below)
+module _ (a : Automaton) (shapes : List Shape) (is : IsDiagram shapes) (start led : List ℕ) (l : AreLedRows a shapes start led) where
+  -- states of one class whose rows lead to the same classes have one node
+  same_node : (j k : ℕ) → IsLed a start shapes (get_or led j 0) (next_state a j) → IsLed a start shapes (get_or led k 0) (next_state a k)
+      → ((letter : ℕ) → letter < width a → get_or start (next_state a j letter) 0 ≡ get_or start (next_state a k letter) 0) → get_or led j 0 ≡ get_or led k 0
+  same_node j k jl kl same =
+      node-from_map shapes is _ _ jl.known kl.known (map_at-narrow shapes _ _ (length a.tracks) jl.narrow kl.narrow (λ letter below. jl.leads letter below ∙ same letter below ∙ sym (kl.leads letter below)))
 
   pub IsRound-split : (classes : List ℕ) (count : ℕ) → IsSplit start led classes count → IsRound a start classes count
-  unfolding Shares
   IsRound-split classes count s = record {
-    partition = subst (λ l. IsPartition l classes count) size s.partition;
+    partition = subst (λ n. IsPartition n classes count) l.classes_size s.partition;
     same = λ j k jw kw. elim (cases_eq j k) [
       | inl e ↦ (λ _. (ap (λ n. get_or start n 0) e, λ letter below. ap (λ n. get_or start (next_state a n letter) 0) e), λ _. ap (λ n. get_or classes n 0) e)
       | inr other ↦
-          let split = s.same j k (omega (arith, size, jw)) (omega (arith, size, kw)) in
-          let left = λ (e : get_or start j 0 ≡ get_or start k 0). let h : Shares j = (k, kw, other, e) in h in
-          let right = λ (e : get_or start j 0 ≡ get_or start k 0). let h : Shares k = (j, jw, (λ (same : k ≡ j). other (sym same)), sym e) in h in (
-            λ e. let both = split.0 e in (both.0, λ letter below. sym (led_at j letter jw below (left both.0)) ∙ ap (λ n. map_at shapes n letter) both.1 ∙ led_at k letter kw below (right both.0)),
-            λ h. split.1 (
-              h.0,
-              node-from_map shapes is _ _ (led_of j jw (left h.0)).known (led_of k kw (right h.0)).known
-                  (map_at-narrow shapes _ _ (length a.tracks) (led_narrow j jw (left h.0)) (led_narrow k kw (right h.0)) (λ letter below. led_at j letter jw below (left h.0) ∙ h.1 letter below ∙ sym (led_at k letter kw below (right h.0)))),
-            ),
+          let jin : j < length start = omega (arith, l.classes_size, jw) in
+          let kin : k < length start = omega (arith, l.classes_size, kw) in
+          let split = s.same j k jin kin in
+          let left = λ (e : get_or start j 0 ≡ get_or start k 0). l.at j jw (record { other = k; within = kin; differ = other; same = e }) in
+          let right = λ (e : get_or start j 0 ≡ get_or start k 0). l.at k kw (record { other = j; within = jin; differ = λ (same : k ≡ j). other (sym same); same = sym e }) in (
+            λ e. let both = split.0 e in (both.0, λ letter below. sym ((left both.0).leads letter below) ∙ ap (λ n. map_at shapes n letter) both.1 ∙ (right both.0).leads letter below),
+            λ h. split.1 (h.0, same_node j k (left h.0) (right h.0) h.1),
           )
     ];
   }
@@ -185,6 +144,9 @@ module _ (a : Automaton) (is : IsAutomaton a) (old new : List ℕ) (count count'
 
   finer : (j k : ℕ) → j < length a.accept → k < length a.accept → get_or new j 0 ≡ get_or new k 0 → get_or old j 0 ≡ get_or old k 0
   finer j k jw kw e = ((r.same j k jw kw).0 e).0
+
+  pub IsFiner-round : IsFiner old new
+  IsFiner-round = record { same = λ j k jw kw e. let states = r.partition.states in finer j k (omega (arith, jw, states)) (omega (arith, kw, states)) e }
 
   pub count_le-round : count ≤ count'
   count_le-round = count_grows (length a.accept) old new count count' s.partition r.partition finer

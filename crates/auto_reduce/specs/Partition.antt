@@ -1,9 +1,10 @@
 -- Partitions of the states of an automaton into numbered classes.
-use Rattle.std.specs.Prelude.{◌≡◌, ◌≢◌, ◌↔◌, ℕ, ◌<◌, Bool, true, false, List, length, All, slice_get, slice_index, slice_index_or, Some}
+use Rattle.std.specs.Prelude.{◌≡◌, ◌≢◌, ◌↔◌, ℕ, ◌<◌, Bool, true, false, List, length, All, Contains, slice_get, slice_index, slice_index_or, Some}
 use Rattle.letter_diagram.specs.declared.diagrams.Shape.{Shape}
 use Rattle.letter_diagram.specs.Diagram.{map_at, LooksBelow}
 use Rattle.auto_core.specs.Automaton.{Automaton, width, next_state, is_final}
 use Rattle.auto_core.specs.Reduced.{ToldApart}
+use Rattle.auto_reduce.specs.Quotient.{IsLed}
 
 -- a state of a class
 pub record IsAttained (classes : List ℕ) (class : ℕ) : Type 0 where
@@ -17,10 +18,39 @@ pub record IsPartition (size : ℕ) (classes : List ℕ) (count : ℕ) : Type 0 
   pub within : All (λ class. class < count) classes
   pub attained : (class : ℕ) → class < count → IsAttained classes class
 
--- the numbers of signatures: of a class and a node each
+-- the number of the signature of a state: of its class and its node
+pub record IsSignature (current nodes : List ℕ) (signatures : List (ℕ × ℕ)) (number : ℕ) : Type 0 where
+  pub state : ℕ
+  pub within : state < length current
+  pub is : slice_get signatures number ≡ Some (slice_index current state, slice_index nodes state)
+
+-- signatures, each of a state
+abbrev pub AreSignatures : List ℕ → List ℕ → List (ℕ × ℕ) → Type 0
+AreSignatures current nodes signatures = (number : ℕ) → number < length signatures → IsSignature current nodes signatures number
+
+-- the first states have the numbers of their signatures as their classes
 pub record NumbersSignatures (current nodes : List ℕ) (signatures : List (ℕ × ℕ)) (classes : List ℕ) : Type 0 where
   pub at : (state : ℕ) → state < length classes → slice_get signatures (slice_index classes state) ≡ Some (slice_index current state, slice_index nodes state)
-  pub attained : (class : ℕ) → class < length signatures → IsAttained classes class
+  pub signed : AreSignatures current nodes signatures
+
+-- a state whose class is a number that was given before has the signature of that number
+pub record KeepsSignatures (current nodes : List ℕ) (before : List (ℕ × ℕ)) (classes : List ℕ) : Type 0 where
+  pub at : (state : ℕ) → state < length classes → slice_index classes state < length before
+      → slice_get before (slice_index classes state) ≡ Some (slice_index current state, slice_index nodes state)
+
+-- a signature of each class, numbered as the class
+pub record AreClassSignatures (classes : List ℕ) (count : ℕ) (nodes : List ℕ) (signatures : List (ℕ × ℕ)) : Type 0 where
+  pub size : length signatures ≡ count
+  pub signed : AreSignatures classes nodes signatures
+  pub class : (number class node : ℕ) → slice_get signatures number ≡ Some (class, node) → class ≡ number
+
+-- a state whose new class is an old number has its old class
+pub record KeepsNumbers (old : List ℕ) (count : ℕ) (new : List ℕ) : Type 0 where
+  pub kept : (state : ℕ) → state < length old → slice_index new state < count → slice_index new state ≡ slice_index old state
+
+-- states of one class were in one class
+pub record IsFiner (old new : List ℕ) : Type 0 where
+  pub same : (j k : ℕ) → j < length new → k < length new → slice_index new j ≡ slice_index new k → slice_index old j ≡ slice_index old k
 
 -- states are in one class exactly where they were in one class before and have one node
 pub record IsSplit (current nodes classes : List ℕ) (count : ℕ) : Type 0 where
@@ -41,11 +71,43 @@ pub record AreShared (classes : List ℕ) (count : ℕ) (shared : List Bool) : T
   pub size : length shared ≡ count
   pub more : (j k : ℕ) → j < k → k < length classes → slice_index classes j ≡ slice_index classes k → slice_index_or shared (slice_index classes k) false ≡ true
 
--- rows for the states: their own for those that share their class
-pub record AreOpenRows (classes rows opened : List ℕ) : Type 0 where
-  pub size : length opened ≡ length rows
-  pub some : (state : ℕ) → state < length rows → (other : ℕ) × (other < length rows) × (slice_index opened state ≡ slice_index rows other)
-  pub own : (j k : ℕ) → j < length rows → k < length rows → j ≢ k → slice_index classes j ≡ slice_index classes k → slice_index opened j ≡ slice_index rows j
+-- another state has the class of a state
+pub record IsShared (classes : List ℕ) (state : ℕ) : Type 0 where
+  pub other : ℕ
+  pub within : other < length classes
+  pub differ : state ≢ other
+  pub same : slice_index classes state ≡ slice_index classes other
+
+-- nodes that lead letters to the classes of the next states, for the states that share their class
+pub record AreLedRows (a : Automaton) (shapes : List Shape) (classes led : List ℕ) : Type 0 where
+  pub classes_size : length classes ≡ length a.accept
+  pub size : length led ≡ length a.accept
+  pub at : (state : ℕ) → state < length a.accept → IsShared classes state → IsLed a classes shapes (slice_index led state) (next_state a state)
+
+-- all states that share their class and lead to a state of another class than before
+pub record AreStale (a : Automaton) (old new stale : List ℕ) : Type 0 where
+  pub within : All (λ state. state < length a.accept) stale
+  pub rest : (state letter : ℕ) → state < length a.accept → IsShared new state → ¬ Contains stale state → letter < width a
+      → slice_index old (next_state a state letter) ≡ slice_index new (next_state a state letter)
+
+-- a value stands at a place for which it is meant
+pub record WasPut (places values new : List ℕ) (place : ℕ) : Type 0 where
+  pub turn : ℕ
+  pub within : turn < length places
+  pub place_is : slice_index places turn ≡ place
+  pub value_is : slice_index new place ≡ slice_index values turn
+
+-- values at their places, and elsewhere what was there
+pub record IsPut (old places values new : List ℕ) : Type 0 where
+  pub size : length new ≡ length old
+  pub put : (place : ℕ) → place < length old → Contains places place → WasPut places values new place
+  pub kept : (place : ℕ) → place < length old → ¬ Contains places place → slice_index new place ≡ slice_index old place
+
+-- the nodes of some states lead to classes, the others are as they were
+pub record AreLedAgain (a : Automaton) (shapes : List Shape) (states classes old new : List ℕ) : Type 0 where
+  pub size : length new ≡ length old
+  pub led : (state : ℕ) → state < length a.accept → Contains states state → IsLed a classes shapes (slice_index new state) (next_state a state)
+  pub kept : (state : ℕ) → state < length a.accept → ¬ Contains states state → slice_index new state ≡ slice_index old state
 
 -- states are in one class exactly where they were in one class before, and their next states too for each letter
 pub record IsRound (a : Automaton) (start classes : List ℕ) (count : ℕ) : Type 0 where

@@ -4,6 +4,7 @@
 #![tactic(auto)]
 
 mod canonical;
+mod classes;
 mod empty;
 pub mod laws;
 mod order;
@@ -13,9 +14,11 @@ mod rows;
 mod same;
 mod signatures;
 mod stable;
+mod stale;
 #[cfg(test)]
 mod tests;
 mod unmet;
+mod ways;
 
 pub use empty::is_empty;
 pub use quotient::reduce;

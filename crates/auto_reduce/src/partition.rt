@@ -1,29 +1,32 @@
 //! The coarsest partition of the states that keeps flags and next states apart.
-ghost use Rattle.std.specs.Prelude.{◌≡◌, ◌<◌, ◌^◌, ℕ, length, slice_index, true, IfOk};
-ghost use Rattle.letter_diagram.specs.Diagram.{Grows};
+ghost use Rattle.std.specs.Prelude.{◌≡◌, ◌≤◌, ◌<◌, ◌^◌, length, IfOk};
 ghost use Rattle.auto_core.specs.Automaton.{IsAutomaton};
-ghost use Rattle.auto_reduce.specs.Partition.{IsSplit, IsPartition, IsRound, IsFlag, IsSound, IsCoarsest, AreRowNodes, AreShared, AreOpenRows};
+ghost use Rattle.auto_reduce.specs.Partition.{IsSplit, IsPartition, IsRound, IsFlag, IsSound, IsCoarsest, AreLedRows, AreSignatures, KeepsSignatures, AreClassSignatures, KeepsNumbers};
 
+use crate::classes::{Partition, members};
 use crate::rows::row_nodes;
 use crate::signatures::Signatures;
+use crate::stale::{follow, lead};
+use crate::ways::row_ways;
 use auto_core::Auto;
 use letter_diagram::{Diagrams, Node};
 use std::alloc::{AllocError, Global};
 
-/// The class of each state, and the number of classes.
-#[derive(Drop)]
-pub struct Partition {
-    pub classes: Vec<u32>,
-    pub count: usize,
-}
-
-/// Splits classes by the nodes of their states.
-fn split(alloc: Global, current: &[u32], nodes: &[Node]) -> Result<Partition, AllocError>
+/// Splits classes by the nodes of their states. Some signatures have their numbers already.
+fn split(
+    alloc: Global,
+    before: Signatures,
+    current: &[u32],
+    nodes: &[Node],
+) -> Result<Partition, AllocError>
     requires same { length current.now ≡ length nodes.now }
     requires few { length current.now < 2 ^ 31 }
-    ensures { IfOk result (λ p. IsSplit current.now nodes.now p.classes.items p.count) }
+    requires room { length before ≤ length current.now }
+    requires signed { AreSignatures current.now nodes.now before }
+    ensures split { IfOk result (λ p. IsSplit current.now nodes.now p.classes.items p.count) }
+    ensures kept { IfOk result (λ p. KeepsSignatures current.now nodes.now before p.classes.items) }
 {
-    let mut signatures = Signatures::new(alloc);
+    let mut signatures = before;
     let mut classes = Vec::new(alloc);
     for state in 0..current.len() {
         let class = signatures.add(current[state], nodes[state])?;
@@ -35,63 +38,40 @@ fn split(alloc: Global, current: &[u32], nodes: &[Node]) -> Result<Partition, Al
     })
 }
 
-/// For each class whether more than one state has it.
-fn shared_classes(alloc: Global, partition: &Partition) -> Result<Vec<bool>, AllocError>
-    requires { IsPartition (length partition.now.classes.items) partition.now.classes.items partition.now.count }
-    ensures { IfOk result (λ shared. AreShared partition.now.classes.items partition.now.count shared.items) }
+/// The signature of one state of each class, numbered as the class.
+fn class_signatures(
+    alloc: Global,
+    partition: &Partition,
+    nodes: &[Node],
+) -> Result<Signatures, AllocError>
+    requires partition { IsPartition (length nodes.now) partition.now.classes.items partition.now.count }
+    requires few { length nodes.now < 2 ^ 31 }
+    ensures { IfOk result (AreClassSignatures partition.now.classes.items partition.now.count nodes.now) }
 {
-    let mut seen = vec![in alloc; false; partition.count]?;
-    let mut shared = vec![in alloc; false; partition.count]?;
-    for class in partition.classes.as_slice() {
-        let again = seen[*class as usize] | shared[*class as usize];
-        shared[*class as usize] = again;
-        seen[*class as usize] = true;
+    let members = members(alloc, partition)?;
+    let mut signatures = Signatures::new(alloc);
+    for class in 0..members.len() {
+        let _ = signatures.add(class as u32, nodes[members[class] as usize])?;
     }
-    Ok(shared)
-}
-
-/// The row of a state, or the first one.
-fn row_if(rows: &[Node], state: usize, own: bool) -> Node
-    requires { state < length rows.now }
-    ensures own { own ≡ true → result ≡ slice_index rows.now state }
-    ensures some { (other : ℕ) × (other < length rows.now) × (result ≡ slice_index rows.now other) }
-{
-    if own { rows[state] } else { rows[0] }
-}
-
-/// For each state a row to lead to classes. A state alone in its class stays alone, so that the first row will do for it.
-fn open_rows(alloc: Global, rows: &[Node], partition: &Partition) -> Result<Vec<Node>, AllocError>
-    requires partition { IsPartition (length rows.now) partition.now.classes.items partition.now.count }
-    ensures { IfOk result (λ opened. AreOpenRows partition.now.classes.items rows.now opened.items) }
-{
-    let shared = shared_classes(alloc, partition)?;
-    let mut opened = Vec::new(alloc);
-    for state in 0..rows.len() {
-        let own = shared[partition.classes[state] as usize];
-        opened.push(row_if(rows, state, own))?;
-    }
-    Ok(opened)
+    Ok(signatures)
 }
 
 /// Splits the classes by the classes of the next states. Equal nodes are equal maps, so the rows, led to classes, are compared as
-/// nodes. Costs the nodes of the rows of states that share their class.
+/// nodes. One part of each class keeps its number, so a class that isn't split does.
 fn round(
-    alloc: Global,
-    diagrams: &mut Diagrams,
+    diagrams: &Diagrams,
     a: &Auto,
-    rows: &[Node],
+    led: &[Node],
     start: &Partition,
 ) -> Result<Partition, AllocError>
-    requires rows { AreRowNodes a.now diagrams.old rows.now }
+    requires led { AreLedRows a.now diagrams.now start.now.classes.items led.now }
     requires partition { IsPartition (length a.now.accept) start.now.classes.items start.now.count }
     ensures round { IfOk result (λ p. IsRound a.now start.now.classes.items p.classes.items p.count) }
-    ensures grows { Grows diagrams.old diagrams.new }
+    ensures kept { IfOk result (λ p. KeepsNumbers start.now.classes.items start.now.count p.classes.items) }
 {
     let _ = a.states();
-    let opened = open_rows(alloc, rows, start)?;
-    let led = diagrams.map_leaves_all(opened.as_slice(), start.classes.as_slice())?;
-    let _ = diagrams.top(led[0]);
-    let split = split(alloc, start.classes.as_slice(), led.as_slice())?;
+    let signatures = class_signatures(diagrams.alloc(), start, led)?;
+    let split = split(diagrams.alloc(), signatures, start.classes.as_slice(), led)?;
     Ok(split)
 }
 
@@ -114,24 +94,42 @@ fn by_flags(alloc: Global, a: &Auto) -> Result<Partition, AllocError>
 {
     let flags = flag_classes(alloc, a)?;
     let alike = vec![in alloc; a.first_node(); flags.len()]?;
-    let split = split(alloc, flags.as_slice(), alike.as_slice())?;
+    let split = split(
+        alloc,
+        Signatures::new(alloc),
+        flags.as_slice(),
+        alike.as_slice(),
+    )?;
     Ok(split)
 }
 
 /// The partition whose classes are the states that nothing tells apart: it starts with the flags, and splits classes
-/// by the classes of the next states until no class is split (Moore 1956).
+/// by the classes of the next states until no class is split (Moore 1956). Costs the nodes of the rows that are led: all in the first
+/// round, and in a later one those of states that share their class and lead to a state whose class changed in the round before.
+/// To find these, a round passes the nodes of all rows, in a list.
 pub fn coarsest(alloc: Global, a: &Auto) -> Result<Partition, AllocError>
     ensures coarsest { IfOk result (λ p. IsCoarsest a.now p.classes.items p.count) }
     ensures valid { IsAutomaton a.now }
 {
     let rows = row_nodes(alloc, a)?;
+    let ways = row_ways(alloc, a, rows.as_slice())?;
     let mut diagrams = a.diagrams().copy()?;
     let mut current = by_flags(alloc, a)?;
+    let mut led = lead(&mut diagrams, a, rows.as_slice(), &current)?;
     loop {
-        let next = round(alloc, &mut diagrams, a, rows.as_slice(), &current)?;
+        let next = round(&diagrams, a, led.as_slice(), &current)?;
         if next.count == current.count {
             return Ok(current);
         }
+        follow(
+            &mut diagrams,
+            a,
+            rows.as_slice(),
+            &ways,
+            current.classes.as_slice(),
+            &next,
+            led.as_mut_slice(),
+        )?;
         current = next;
     }
 }

@@ -4,11 +4,11 @@ ghost use Rattle.track_word.specs.Word.{IsWord};
 ghost use Rattle.auto_core.specs.Automaton.{Accepts, IsAutomaton};
 ghost use Rattle.auto_core.specs.Reduced.{IsReduced};
 ghost use Rattle.auto_reduce.specs.Numbering.{IsNumberedTo, IsNumberedBreadthFirst, IsQuotient};
-ghost use Rattle.auto_reduce.specs.Quotient.{AreLed, IsCanonical, IsOrder, AreNumbers, ArePicked, AreFlags, IsQuotientBy};
+ghost use Rattle.auto_reduce.specs.Quotient.{AreLed, IsCanonical, IsOrder, AreNumbers, AreFlags, IsQuotientBy};
 
 use crate::canonical::canonical;
 use crate::order::Order;
-use crate::rows::row_nodes;
+use crate::rows::{picked, row_nodes};
 use crate::unmet::add_row;
 use auto_core::Auto;
 use letter_diagram::{Diagrams, Node};
@@ -96,18 +96,6 @@ fn numbers(alloc: Global, order: &[u32], states: u32) -> Result<Vec<u32>, AllocE
     Ok(numbers)
 }
 
-/// The nodes of some states, in their order.
-fn picked(alloc: Global, rows: &[Node], order: &[u32]) -> Result<Vec<Node>, AllocError>
-    requires { All (λ state. state < length rows.now) order.now }
-    ensures { IfOk result (λ picked. ArePicked rows.now order.now picked.items) }
-{
-    let mut picked = Vec::new(alloc);
-    for state in order {
-        picked.push(rows[*state as usize])?;
-    }
-    Ok(picked)
-}
-
 /// The flags of some states, in their order.
 fn flags(alloc: Global, a: &Auto, order: &[u32]) -> Result<Vec<bool>, AllocError>
     requires { All (λ state. state < length a.now.accept) order.now }
@@ -122,7 +110,7 @@ fn flags(alloc: Global, a: &Auto, order: &[u32]) -> Result<Vec<bool>, AllocError
 
 /// The automaton of the same words with no state too many (Moore 1956), whose states are numbered in the order in which
 /// a breadth-first walk in ascending letters meets them. Costs, for each round of the refinement, the nodes of the rows of states
-/// that share their class, and for the numbering the nodes of all rows.
+/// that share their class and lead to a state whose class changed, and for the numbering the nodes of all rows.
 pub fn reduce(alloc: Global, a: &Auto) -> Result<Auto, AllocError>
     ensures tracks { IfOk result (λ m. m.tracks ≡ a.now.tracks) }
     ensures words { IfOk result (λ m. (word : List ℕ) → IsWord (length a.now.tracks) word → Accepts m word ↔ Accepts a.now word) }

@@ -1,7 +1,8 @@
 //! The rows of an automaton as a list of nodes.
-ghost use Rattle.std.specs.Prelude.{◌≡◌, IfOk};
+ghost use Rattle.std.specs.Prelude.{◌≡◌, ◌<◌, All, length, IfOk};
 ghost use Rattle.auto_core.specs.Automaton.{IsAutomaton};
 ghost use Rattle.auto_reduce.specs.Partition.{AreRowNodes};
+ghost use Rattle.auto_reduce.specs.Quotient.{ArePicked};
 
 use auto_core::Auto;
 use letter_diagram::Node;
@@ -18,4 +19,16 @@ pub fn row_nodes(alloc: Global, a: &Auto) -> Result<Vec<Node>, AllocError>
         rows.push(a.row_node(state))?;
     }
     Ok(rows)
+}
+
+/// The nodes of some states, in their order.
+pub fn picked(alloc: Global, rows: &[Node], order: &[u32]) -> Result<Vec<Node>, AllocError>
+    requires { All (λ state. state < length rows.now) order.now }
+    ensures { IfOk result (λ picked. ArePicked rows.now order.now picked.items) }
+{
+    let mut picked = Vec::new(alloc);
+    for state in order {
+        picked.push(rows[*state as usize])?;
+    }
+    Ok(picked)
 }

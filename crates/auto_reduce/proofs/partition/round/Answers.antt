@@ -1,21 +1,26 @@
-use Rattle.std.proofs.Common.{ℕ, ◌<◌, length}
-use Rattle.letter_diagram.specs.Diagram.{map_at}
-use Rattle.auto_reduce.proofs.Rounds.{AreRowNodes-grows, IsRound-split, All-opened}
+use Rattle.std.proofs.Common.{rules, arith, ◌≡◌, length}
+use Rattle.auto_reduce.proofs.Rounds.{IsRound-split, count_le-size}
+use Rattle.auto_reduce.proofs.Splits.{KeepsNumbers-from}
 use Rattle.auto_reduce.proofs.partition.round.Goals as goal
 
-pub map_leaves_all-requires-clause-known : goal.map_leaves_all-requires-clause-known
-map_leaves_all-requires-clause-known c = rw c.as_slice.ensures.value (All-opened (λ node. node < length c.args.diagrams.now) c.args.start.now.classes.items c.args.rows.now c.in_ok-opened.opened.items c.in_ok-opened.ensures c.requires.rows.known)
+pub class_signatures-requires-clause-partition : goal.class_signatures-requires-clause-partition
+class_signatures-requires-clause-partition c = rw c.requires.led.size c.requires.partition
 
-pub map_leaves_all-requires-clause-leaves : goal.map_leaves_all-requires-clause-leaves
-map_leaves_all-requires-clause-leaves c =
-    let states = c.requires.partition.states in
-    let within = All-opened (λ node. (letter : ℕ) → map_at c.args.diagrams.now node letter < length c.args.a.now.accept) c.args.start.now.classes.items c.args.rows.now c.in_ok-opened.opened.items c.in_ok-opened.ensures c.requires.rows.within in
-    rw (c.as_slice.ensures.value, c.as_slice-2.ensures.value, states) within
+pub split-requires-clause-room : goal.split-requires-clause-room
+split-requires-clause-room c =
+    let most = count_le-size _ _ _ c.requires.partition in
+    rw c.as_slice.ensures.value (omega (arith, most, c.in_ok-signatures.ensures.size, c.requires.partition.states))
+
+pub split-requires-clause-signed : goal.split-requires-clause-signed
+split-requires-clause-signed c = rw c.as_slice.ensures.value c.in_ok-signatures.ensures.signed
 
 pub returns-clause-round : goal.returns-clause-round
 returns-clause-round c =
-    let start = c.args.start.now.classes.items in
-    let shapes = c.map_leaves_all.new.self in
-    let mapped = rw (c.as_slice.ensures.value, c.as_slice-2.ensures.value) at c.in_ok-led.ensures.mapped in
-    let split = rw (c.as_slice-3.ensures.value, c.as_slice-4.ensures.value) at c.in_ok-split.ensures in
-    IsRound-split c.args.a.now shapes c.top.ensures.diagram start c.args.rows.now c.in_ok-opened.opened.items c.in_ok-led.led.items (AreRowNodes-grows _ _ _ _ c.map_leaves_all.ensures.grows c.requires.rows) c.requires.partition.states c.in_ok-opened.ensures mapped _ _ split
+    let split = rw c.as_slice.ensures.value at c.in_ok-split.ensures.split in
+    IsRound-split c.args.a.now c.args.diagrams.now c.alloc.ensures.diagram c.args.start.now.classes.items c.args.led.now c.requires.led _ _ split
+
+pub returns-clause-kept : goal.returns-clause-kept
+returns-clause-kept c =
+    let split = rw c.as_slice.ensures.value at c.in_ok-split.ensures.split in
+    let kept = rw c.as_slice.ensures.value at c.in_ok-split.ensures.kept in
+    KeepsNumbers-from c.args.start.now.classes.items c.args.led.now _ c.args.start.now.count _ c.in_ok-signatures.ensures split.partition.states kept

@@ -1,5 +1,5 @@
 use Rattle.std.proofs.Common.{◌≡◌, ◌<◌, ℕ, vec_len, get_or}
-use Rattle.auto_reduce.proofs.quotient.picked.Given as goal
+use Rattle.auto_reduce.proofs.rows.picked.Given as goal
 
 abbrev pub invariant-loop-state : goal.invariant-loop-state
 invariant-loop-state l = record {

@@ -1,5 +1,5 @@
 use Rattle.std.proofs.Common.{◌≡◌, ◌<◌, ℕ, vec_len, get_or, true, false}
-use Rattle.auto_reduce.proofs.partition.shared_classes.Given as goal
+use Rattle.auto_reduce.proofs.classes.shared_classes.Given as goal
 
 abbrev pub invariant-loop-class : goal.invariant-loop-class
 invariant-loop-class l = record {

@@ -1,6 +1,6 @@
 use Rattle.std.proofs.Common.{◌≡◌, length, rules, arith}
 use Rattle.auto_reduce.proofs.Canons.{AreMembers-from}
-use Rattle.auto_reduce.proofs.canonical.members.Goals as goal
+use Rattle.auto_reduce.proofs.classes.members.Goals as goal
 
 pub returns : goal.returns
 returns c =

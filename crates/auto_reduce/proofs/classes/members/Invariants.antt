@@ -1,6 +1,6 @@
 use Rattle.std.proofs.Common.{◌≡◌, ◌<◌, ℕ, length, vec_len, get_or}
 use Rattle.std.specs.List.{All}
-use Rattle.auto_reduce.proofs.canonical.members.Given as goal
+use Rattle.auto_reduce.proofs.classes.members.Given as goal
 
 abbrev pub invariant-loop-state : goal.invariant-loop-state
 invariant-loop-state l = record {

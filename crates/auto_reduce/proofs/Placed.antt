@@ -1,0 +1,157 @@
+-- Nodes by places: what placing one more keeps, and which marks tell of a node.
+use Rattle.std.proofs.Common.{◌≡◌, ◌≢◌, ℕ, ◌<◌, ◌≤◌, ◌+◌, ◌||◌, nat_eq, if◌then◌else◌, Bool, true, false, List, [], ◌∷◌, ◌++◌, length, get_or, slice_get, Some, All, arith, refl, sym, ap, ◌∙◌, subst, inl, inr}
+use Rattle.std.specs.Int.{bit_at}
+use Rattle.std.specs.HashMap.{HashMap, get, Updates}
+use Rattle.std.proofs.lemmas.Bool.{cases_eq, cases_lt}
+use Rattle.std.proofs.lemmas.Grind.{common_steps}
+use Rattle.std.proofs.lemmas.List.{length_push, get_or_push, get_or_append_left}
+use Rattle.std.proofs.lemmas.List.Elements.{All-from_get_or}
+use Rattle.std.proofs.lemmas.Option.{slice_get_within, slice_get-get_or, get_or_from_slice_get}
+use Rattle.letter_diagram.specs.declared.diagrams.Shape.{Shape}
+use Rattle.letter_diagram.specs.declared.diagrams.Shape.TheVariants.{Leaf, Test}
+use Rattle.letter_diagram.specs.Diagram.{map_at, IsAt}
+use Rattle.auto_core.specs.Automaton.{Automaton, width, next_state}
+use Rattle.auto_reduce.specs.declared.ways.Way.{Way}
+use Rattle.auto_reduce.specs.declared.ways.Way.TheVariants.{State, Both}
+use Rattle.auto_reduce.specs.Partition.{AreRowNodes}
+use Rattle.auto_reduce.specs.Ways.{FitsAt, mark_of_way, AreWays, AreMarks, KeepsWays, IsPlaced, RemembersPlaced, AreRowWays}
+
+-- what holds of each entry of a list holds of each with one more
+pub each_push : {X : Type 0} (P : ℕ → X → Type 0) (xs : List X) (x : X) → ((k : ℕ) (y : X) → slice_get xs k ≡ Some y → P k y) → P (length xs) x → (k : ℕ) (y : X) → slice_get (xs ++ x ∷ []) k ≡ Some y → P k y
+each_push P xs x before last k y is =
+    let within = slice_get_within (xs ++ x ∷ []) k y is in
+    let more = length_push xs x in
+    elim (cases_lt k (length xs)) [
+      | inl low ↦ before k y (slice_get-get_or xs k y low ∙ ap Some (sym (get_or_append_left xs (x ∷ []) y k low) ∙ get_or_from_slice_get (xs ++ x ∷ []) k y y is))
+      | inr past ↦
+          let here : length xs ≡ k = omega (arith, within, past, more) in
+          let value : x ≡ y = sym (get_or_push xs x y k here) ∙ get_or_from_slice_get (xs ++ x ∷ []) k y y is in
+          subst (P k) value (subst (λ i. P i x) here last)
+    ]
+
+-- ---- more ways
+pub KeepsWays-refl : (ways : List Way) → KeepsWays ways ways
+KeepsWays-refl ways = record { longer = omega arith; at = λ place way h. h }
+
+pub KeepsWays-trans : (first second third : List Way) → KeepsWays first second → KeepsWays second third → KeepsWays first third
+KeepsWays-trans first second third f g = record { longer = let a = f.longer in let b = g.longer in omega (arith, a, b); at = λ place way h. g.at place way (f.at place way h) }
+
+pub KeepsWays-push : (ways : List Way) (way : Way) → KeepsWays ways (ways ++ way ∷ [])
+KeepsWays-push ways way = record {
+  longer = let l = length_push ways way in omega (arith, l);
+  at = λ place w h.
+      let low = slice_get_within ways place w h in
+      let l = length_push ways way in
+      slice_get-get_or (ways ++ way ∷ []) place w (omega (arith, low, l)) ∙ ap Some (get_or_append_left ways (way ∷ []) w place low ∙ get_or_from_slice_get ways place w w h);
+}
+
+last_way : (ways : List Way) (way : Way) → slice_get (ways ++ way ∷ []) (length ways) ≡ Some way
+last_way ways way = let l = length_push ways way in slice_get-get_or (ways ++ way ∷ []) (length ways) way (omega (arith, l)) ∙ ap Some (get_or_push ways way way (length ways) refl)
+
+-- marks of more ways are marks of these
+AreMarks-before : (old new : List Way) (states marks : List Bool) → KeepsWays old new → AreMarks new states marks → AreMarks old states marks
+AreMarks-before old new states marks kept m = record { at = λ place way h. m.at place way (kept.at place way h) }
+
+pub IsPlaced-grows : (shapes : List Shape) (old new : List Way) (node place : ℕ) → KeepsWays old new → IsPlaced shapes old node place → IsPlaced shapes new node place
+IsPlaced-grows shapes old new node place kept is = record {
+  within = let w = is.within in let l = kept.longer in omega (arith, w, l);
+  none = λ states marks m. is.none states marks (AreMarks-before old new states marks kept m);
+}
+
+pub AreWays-push : (states : ℕ) (ways : List Way) (way : Way) → AreWays states ways → FitsAt states (length ways) way → AreWays states (ways ++ way ∷ [])
+AreWays-push states ways way before last = each_push (FitsAt states) ways way before last
+
+-- ---- a node behind the nodes to which it leads
+pub IsPlaced-leaf : (shapes : List Shape) (ways : List Way) (node state : ℕ) → IsAt shapes node (Leaf state) → IsPlaced shapes (ways ++ State state ∷ []) node (length ways)
+IsPlaced-leaf shapes ways node state at = record {
+  within = let l = length_push ways (State state) in omega (arith, l);
+  none = λ states marks m off letter. ap (λ v. get_or states v false) (at.map letter) ∙ sym (m.at (length ways) (State state) (last_way ways (State state))) ∙ off;
+}
+
+or_false : (a b : Bool) → (a || b) ≡ false → (a ≡ false) × (b ≡ false)
+or_false true b off = cc
+or_false false true off = cc
+or_false false false off = (refl, refl)
+
+either_off : (states : List Bool) (bit : Bool) (x y : ℕ) → get_or states x false ≡ false → get_or states y false ≡ false → get_or states (if bit then x else y) false ≡ false
+either_off states true x y low high = low
+either_off states false x y low high = high
+
+pub IsPlaced-test : (shapes : List Shape) (ways : List Way) (node track low high l h : ℕ) → IsAt shapes node (Test track low high) → IsPlaced shapes ways low l → IsPlaced shapes ways high h → IsPlaced shapes (ways ++ Both l h ∷ []) node (length ways)
+IsPlaced-test shapes ways node track low high l h at lp hp = record {
+  within = let l = length_push ways (Both l h) in omega (arith, l);
+  none = λ states marks m off letter.
+      let before = AreMarks-before ways (ways ++ Both l h ∷ []) states marks (KeepsWays-push ways (Both l h)) m in
+      let both = or_false (get_or marks l false) (get_or marks h false) (sym (m.at (length ways) (Both l h) (last_way ways (Both l h))) ∙ off) in
+      ap (λ v. get_or states v false) (at.map letter)
+      ∙ either_off states (nat_eq (bit_at letter track) 0) (map_at shapes low letter) (map_at shapes high letter) (lp.none states marks before both.0 letter) (hp.none states marks before both.1 letter);
+}
+
+pub IsPlaced-low : (shapes : List Shape) (first ways : List Way) (node track low high l h : ℕ) → KeepsWays first ways → IsAt shapes node (Test track low high) → IsPlaced shapes first low l → IsPlaced shapes ways high h → IsPlaced shapes (ways ++ Both l h ∷ []) node (length ways)
+IsPlaced-low shapes first ways node track low high l h kept at lp hp = IsPlaced-test shapes ways node track low high l h at (IsPlaced-grows shapes first ways low l kept lp) hp
+
+-- ---- places that are remembered
+pub RemembersPlaced-grows : {S : Type 0} (states : ℕ) (shapes : List Shape) (old new : List Way) (memo : HashMap ℕ ℕ S) → KeepsWays old new → AreWays states new → RemembersPlaced states shapes old memo → RemembersPlaced states shapes new memo
+RemembersPlaced-grows states shapes old new memo kept fits all = record { fits = fits; placed = λ node place at. IsPlaced-grows shapes old new node place kept (all.placed node place at) }
+
+pub RemembersPlaced-insert : {S : Type 0} (states : ℕ) (shapes : List Shape) (ways : List Way) (memo new : HashMap ℕ ℕ S) (node place : ℕ) → RemembersPlaced states shapes ways memo → Updates nat_eq memo new node (Some place) → IsPlaced shapes ways node place → RemembersPlaced states shapes ways new
+RemembersPlaced-insert states shapes ways memo new node place all updates is = record {
+  fits = all.fits;
+  placed = λ b s at. elim (cases_eq node b) [
+    | inl e ↦ subst (λ n. IsPlaced shapes ways n s) e (subst (IsPlaced shapes ways node) (grind (arith, common_steps, updates.1, at, e)) is)
+    | inr ne ↦ all.placed b s (grind (arith, common_steps, updates.0 b, at, ne))
+  ];
+}
+
+pub RemembersPlaced-next : {S : Type 0} (states : ℕ) (shapes : List Shape) (ways new : List Way) (memo more : HashMap ℕ ℕ S) (way : Way) (node : ℕ) → RemembersPlaced states shapes ways memo → FitsAt states (length ways) way
+    → IsPlaced shapes (ways ++ way ∷ []) node (length ways) → new ≡ ways ++ way ∷ [] → Updates nat_eq memo more node (Some (length ways)) → RemembersPlaced states shapes new more
+RemembersPlaced-next states shapes ways new memo more way node remembered fits placed are updates =
+    let grown = RemembersPlaced-grows states shapes ways (ways ++ way ∷ []) memo (KeepsWays-push ways way) (AreWays-push states ways way remembered.fits fits) remembered in
+    rw are (RemembersPlaced-insert states shapes (ways ++ way ∷ []) memo more node (length ways) grown updates placed)
+
+-- ---- the rows of an automaton
+pub placed_push : (shapes : List Shape) (old new : List Way) (rows places : List ℕ) (index place : ℕ) → KeepsWays old new → length places ≡ index → ((k : ℕ) → k < index → IsPlaced shapes old (get_or rows k 0) (get_or places k 0))
+    → IsPlaced shapes new (get_or rows index 0) place → (k : ℕ) → k < index + 1 → IsPlaced shapes new (get_or rows k 0) (get_or (places ++ place ∷ []) k 0)
+placed_push shapes old new rows places index place kept size before last k less = elim (cases_lt k index) [
+  | inl low ↦ subst (IsPlaced shapes new (get_or rows k 0)) (sym (get_or_append_left places (place ∷ []) 0 k (omega (arith, low, size)))) (IsPlaced-grows shapes old new (get_or rows k 0) (get_or places k 0) kept (before k low))
+  | inr past ↦
+      let same : index ≡ k = omega (arith, less, past) in
+      subst (IsPlaced shapes new (get_or rows k 0)) (sym (get_or_push places place 0 k (size ∙ same))) (subst (λ n. IsPlaced shapes new (get_or rows n 0) place) same last)
+]
+
+pub AreRowWays-from : (a : Automaton) (rows : List ℕ) (ways : List Way) (places : List ℕ) → AreRowNodes a a.shapes rows → AreWays (length a.accept) ways → length places ≡ length rows
+    → ((state : ℕ) → state < length rows → IsPlaced a.shapes ways (get_or rows state 0) (get_or places state 0)) → AreRowWays a ways places
+AreRowWays-from a rows ways places r fits size placed = record {
+  fits = fits;
+  size = size ∙ r.size;
+  within = All-from_get_or (λ place. place < length ways) places 0 (λ state inside. (placed state (omega (arith, inside, size))).within);
+  none = λ states marks m state letter known below off.
+      let p = placed state (let s = r.size in omega (arith, s, known)) in
+      subst (λ v. get_or states v false ≡ false) (r.leads state letter known below) (p.none states marks m off letter);
+}
+
+-- ---- marks, place by place
+-- the marks of the places that have one
+abbrev pub AreMarksTo : List Way → List Bool → List Bool → Type 0
+AreMarksTo ways states marks = (place : ℕ) (way : Way) → place < length marks → slice_get ways place ≡ Some way → get_or marks place false ≡ mark_of_way states marks way
+
+mark-more : (states marks : List Bool) (mark : Bool) (place : ℕ) (way : Way) → FitsAt (length states) place way → place ≤ length marks → mark_of_way states (marks ++ mark ∷ []) way ≡ mark_of_way states marks way
+mark-more states marks mark place (State state) fits few = refl
+mark-more states marks mark place (Both low high) fits few =
+    let l = get_or_append_left marks (mark ∷ []) false low (let f = fits.0 in omega (arith, f, few)) in
+    let h = get_or_append_left marks (mark ∷ []) false high (let f = fits.1 in omega (arith, f, few)) in
+    ap (λ b. b || get_or (marks ++ mark ∷ []) high false) l ∙ ap (λ b. get_or marks low false || b) h
+
+pub AreMarksTo-push : (ways : List Way) (states marks : List Bool) (mark : Bool) (index : ℕ) (d : Way) → AreWays (length states) ways → length marks ≡ index → index < length ways → mark ≡ mark_of_way states marks (get_or ways index d) → AreMarksTo ways states marks → AreMarksTo ways states (marks ++ mark ∷ [])
+AreMarksTo-push ways states marks mark index d fits size known is before place way inside there =
+    let more = length_push marks mark in
+    elim (cases_lt place (length marks)) [
+      | inl low ↦ get_or_append_left marks (mark ∷ []) false place low ∙ before place way low there ∙ sym (mark-more states marks mark place way (fits place way there) (omega (arith, low)))
+      | inr past ↦
+          let here : length marks ≡ place = omega (arith, inside, past, more) in
+          let same : get_or ways index d ≡ way = ap (λ k. get_or ways k d) (sym size ∙ here) ∙ get_or_from_slice_get ways place way d there in
+          get_or_push marks mark false place here ∙ is ∙ ap (mark_of_way states marks) same ∙ sym (mark-more states marks mark place way (fits place way there) (omega (arith, here)))
+    ]
+
+pub AreMarks-from : (ways : List Way) (states marks : List Bool) → length marks ≡ length ways → AreMarksTo ways states marks → AreMarks ways states marks
+AreMarks-from ways states marks size to = record { at = λ place way there. let within = slice_get_within ways place way there in to place way (omega (arith, within, size)) there }

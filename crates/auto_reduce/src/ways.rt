@@ -1,0 +1,128 @@
+//! The nodes of rows by places, each behind the places that it leads to.
+ghost use Rattle.std.specs.Prelude.{◌≡◌, ◌<◌, ◌++◌, ◌∷◌, [], ℕ, length, nat_eq, Some, IfOk, OnOk};
+ghost use Rattle.std.specs.HashMap.{Updates};
+ghost use Rattle.letter_diagram.specs.Diagram.{map_at};
+ghost use Rattle.auto_reduce.specs.Partition.{AreRowNodes};
+ghost use Rattle.auto_reduce.specs.Ways.{FitsAt, mark_of_way, AreWays, AreMarks, AreMoved, KeepsWays, IsPlaced, RemembersPlaced, AreRowWays};
+
+use auto_core::Auto;
+use letter_diagram::{Diagrams, Node, Shape};
+use std::alloc::{AllocError, Global};
+use std::collections::HashMap;
+
+/// What a place leads to.
+#[derive(Debug, Clone, Copy)]
+pub enum Way {
+    /// One state.
+    State(u32),
+    /// What two earlier places lead to.
+    Both(usize, usize),
+}
+
+/// The nodes of the rows by places, and the place of each row, in the order of the states.
+#[derive(Drop)]
+pub struct Ways {
+    pub ways: Vec<Way>,
+    pub rows: Vec<usize>,
+}
+
+/// Gives a node the next place.
+fn place_next(
+    node: Node,
+    way: Way,
+    ways: &mut Vec<Way>,
+    places: &mut HashMap<Node, usize>,
+) -> Result<usize, AllocError>
+    ensures place { IfOk result (λ place. place ≡ length ways.old.items) }
+    ensures ways { OnOk result (ways.new.items ≡ ways.old.items ++ way ∷ []) }
+    ensures places { OnOk result (Updates nat_eq places.old places.new node (Some (length ways.old.items))) }
+{
+    let place = ways.len();
+    ways.push(way)?;
+    places.insert(node, place)?;
+    Ok(place)
+}
+
+/// The place of a node, which is given one if it has none.
+fn place_of(
+    diagrams: &Diagrams,
+    node: Node,
+    states: u32,
+    ways: &mut Vec<Way>,
+    places: &mut HashMap<Node, usize>,
+) -> Result<usize, AllocError>
+    requires known { node < length diagrams.now }
+    requires leaves { (letter : ℕ) → map_at diagrams.now node letter < states }
+    requires remembered { RemembersPlaced states diagrams.now ways.old.items places.old }
+    ensures placed { IfOk result (λ place. IsPlaced diagrams.now ways.new.items node place) }
+    ensures remembered { OnOk result (RemembersPlaced states diagrams.now ways.new.items places.new) }
+    ensures kept { OnOk result (KeepsWays ways.old.items ways.new.items) }
+{
+    if let Some(place) = places.get(&node) {
+        return Ok(*place);
+    }
+    match diagrams.shape(node) {
+        Shape::Leaf(state) => {
+            let place = place_next(node, Way::State(state), ways, places)?;
+            Ok(place)
+        }
+        Shape::Test { low, high, .. } => {
+            let low = place_of(diagrams, low, states, ways, places)?;
+            let high = place_of(diagrams, high, states, ways, places)?;
+            let place = place_next(node, Way::Both(low, high), ways, places)?;
+            Ok(place)
+        }
+    }
+}
+
+/// The nodes of an automaton's rows by places. What the rows share has one place.
+pub fn row_ways(alloc: Global, a: &Auto, rows: &[Node]) -> Result<Ways, AllocError>
+    requires { AreRowNodes a.now a.now.shapes rows.now }
+    ensures { IfOk result (λ all. AreRowWays a.now all.ways.items all.rows.items) }
+{
+    let mut places = HashMap::new(alloc);
+    let mut ways = Vec::new(alloc);
+    let mut found = Vec::new(alloc);
+    for node in rows {
+        let place = place_of(a.diagrams(), *node, a.states(), &mut ways, &mut places)?;
+        found.push(place)?;
+    }
+    Ok(Ways { ways, rows: found })
+}
+
+/// For each state whether it has another class than before.
+pub fn moved_states(alloc: Global, old: &[u32], new: &[u32]) -> Result<Vec<bool>, AllocError>
+    requires { length old.now ≡ length new.now }
+    ensures { IfOk result (λ moved. AreMoved old.now new.now moved.items) }
+{
+    let mut moved = Vec::new(alloc);
+    for state in 0..old.len() {
+        moved.push(old[state] != new[state])?;
+    }
+    Ok(moved)
+}
+
+/// Whether a way leads to a state or a place that has a mark.
+fn mark_of(way: Way, states: &[bool], marks: &[bool]) -> bool
+    requires { FitsAt (length states.now) (length marks.now) way }
+    ensures { result ≡ mark_of_way states.now marks.now way }
+{
+    match way {
+        Way::State(state) => states[state as usize],
+        Way::Both(low, high) => marks[low] | marks[high],
+    }
+}
+
+/// For each place whether it leads to a state that has a mark.
+pub fn marked(alloc: Global, ways: &[Way], states: &[bool]) -> Result<Vec<bool>, AllocError>
+    requires { AreWays (length states.now) ways.now }
+    ensures marks { IfOk result (λ marks. AreMarks ways.now states.now marks.items) }
+    ensures size { IfOk result (λ marks. length marks.items ≡ length ways.now) }
+{
+    let mut marks = Vec::new(alloc);
+    for way in ways {
+        let mark = mark_of(*way, states, marks.as_slice());
+        marks.push(mark)?;
+    }
+    Ok(marks)
+}
