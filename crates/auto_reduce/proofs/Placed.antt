@@ -1,7 +1,7 @@
 -- Nodes by places: what placing one more keeps, and which marks tell of a node.
-use Rattle.std.proofs.Common.{◌≡◌, ◌≢◌, ℕ, ◌<◌, ◌≤◌, ◌+◌, ◌||◌, nat_eq, if◌then◌else◌, Bool, true, false, List, [], ◌∷◌, ◌++◌, length, get_or, slice_get, Some, All, arith, refl, sym, ap, ◌∙◌, subst, inl, inr}
+use Rattle.std.proofs.Common.{◌≡◌, ℕ, ◌<◌, ◌≤◌, ◌+◌, ◌||◌, nat_eq, if◌then◌else◌, Bool, true, false, List, [], ◌∷◌, ◌++◌, length, get_or, slice_get, Some, arith, refl, sym, ap, ◌∙◌, subst, inl, inr}
 use Rattle.std.specs.Int.{bit_at}
-use Rattle.std.specs.HashMap.{HashMap, get, Updates}
+use Rattle.std.specs.HashMap.{HashMap, Updates}
 use Rattle.std.proofs.lemmas.Bool.{cases_eq, cases_lt}
 use Rattle.std.proofs.lemmas.Grind.{common_steps}
 use Rattle.std.proofs.lemmas.List.{length_push, get_or_push, get_or_append_left}
@@ -10,7 +10,7 @@ use Rattle.std.proofs.lemmas.Option.{slice_get_within, slice_get-get_or, get_or_
 use Rattle.letter_diagram.specs.declared.diagrams.Shape.{Shape}
 use Rattle.letter_diagram.specs.declared.diagrams.Shape.TheVariants.{Leaf, Test}
 use Rattle.letter_diagram.specs.Diagram.{map_at, IsAt}
-use Rattle.auto_core.specs.Automaton.{Automaton, width, next_state}
+use Rattle.auto_core.specs.Automaton.{Automaton}
 use Rattle.auto_reduce.specs.declared.ways.Way.{Way}
 use Rattle.auto_reduce.specs.declared.ways.Way.TheVariants.{State, Both}
 use Rattle.auto_reduce.specs.Partition.{AreRowNodes}

@@ -1,19 +1,18 @@
 -- What a round of splits keeps, and what is true when it splits no class.
-use Rattle.std.proofs.Common.{◌≡◌, ◌≢◌, ◌⊎◌, ℕ, ◌<◌, ◌≤◌, ◌+◌, zero, suc, Bool, true, false, List, [], ◌∷◌, ◌++◌, length, get_or, All, AllPairs, arith, refl, sym, ap, ◌∙◌, subst, inl, inr}
-use Rattle.std.proofs.lemmas.Bool.{cases_eq, cases_lt}
-use Rattle.std.proofs.lemmas.List.{length_push, get_or_push, get_or_append_left, get_or_read}
+use Rattle.std.proofs.Common.{◌≡◌, ◌≢◌, ◌⊎◌, ℕ, ◌<◌, ◌≤◌, zero, suc, List, [], ◌∷◌, ◌++◌, length, get_or, All, AllPairs, arith, refl, sym, ap, ◌∙◌, subst, inl, inr}
+use Rattle.std.proofs.lemmas.Bool.{cases_eq}
+use Rattle.std.proofs.lemmas.List.{length_push}
 use Rattle.std.proofs.lemmas.List.Elements.{All-nil, All-cons, All-push, All-weaker, All-get_or, All-from_get_or}
 use Rattle.std.proofs.lemmas.List.Quantifiers.{all_pairs_push}
 use Rattle.letter_diagram.specs.declared.diagrams.Shape.{Shape}
 use Rattle.letter_diagram.specs.Diagram.{map_at, LooksBelow, Grows, IsMapped, IsDiagram}
-use Rattle.letter_diagram.specs.Listed.{EachAnswers}
 use Rattle.letter_diagram.proofs.Narrow.{LooksBelow-grows}
 use Rattle.letter_diagram.proofs.Canonical.{node-from_map}
 use Rattle.auto_core.proofs.RowLemmas.{map_at-narrow}
 use Rattle.auto_core.specs.Automaton.{Automaton, IsAutomaton, width, next_state}
 use Rattle.auto_reduce.proofs.States.{next_within}
 use Rattle.auto_reduce.specs.Quotient.{IsLed}
-use Rattle.auto_reduce.specs.Partition.{IsPartition, IsSplit, AreRowNodes, IsShared, AreLedRows, IsFiner, IsRound, IsFlag, IsSound, IsCoarsest}
+use Rattle.auto_reduce.specs.Partition.{IsPartition, IsSplit, AreRowNodes, AreLedRows, IsFiner, IsRound, IsFlag, IsSound, IsCoarsest}
 use Rattle.auto_reduce.proofs.Counting.{length_le-below, count_grows, count_grows_by_split}
 
 -- ---- a round

@@ -1,11 +1,11 @@
 -- What numbering the signatures of classes makes.
-use Rattle.std.proofs.Common.{◌≡◌, ◌≢◌, ℕ, ◌<◌, ◌≤◌, ◌+◌, List, [], ◌∷◌, ◌++◌, length, slice_get, get_or, Some, AllPairs, Contains, arith, refl, sym, ap, ◌∙◌, subst, inl, inr}
+use Rattle.std.proofs.Common.{◌≡◌, ◌≢◌, ℕ, ◌<◌, ◌+◌, List, [], ◌∷◌, ◌++◌, length, slice_get, get_or, Some, AllPairs, arith, refl, sym, ap, ◌∙◌, subst, inl, inr}
 use Rattle.std.proofs.lemmas.Bool.{cases_lt}
 use Rattle.std.proofs.lemmas.List.{length_push, get_or_push, get_or_append_left}
 use Rattle.std.proofs.lemmas.List.Elements.{All-from_get_or}
 use Rattle.std.proofs.lemmas.Option.{slice_get_within, slice_get-get_or, get_or_from_slice_get, same_Some}
 use Rattle.letter_diagram.specs.Numbering.{Numbers, PairsKept}
-use Rattle.auto_reduce.specs.Partition.{IsAttained, IsSignature, AreSignatures, NumbersSignatures, KeepsSignatures, AreClassSignatures, KeepsNumbers, IsSplit}
+use Rattle.auto_reduce.specs.Partition.{AreSignatures, NumbersSignatures, KeepsSignatures, AreClassSignatures, KeepsNumbers, IsSplit}
 
 -- the last of a list
 slice_get-last : {A : Type 0} (xs : List A) (x : A) (place : ℕ) → length xs ≡ place → slice_get (xs ++ x ∷ []) place ≡ Some x

@@ -1,21 +1,21 @@
 -- Rows that are led again, and those whose nodes still lead to the right classes.
-use Rattle.std.proofs.Common.{◌≡◌, ◌≢◌, ◌⊎◌, ℕ, ◌<◌, ◌+◌, ◌&&◌, Bool, true, false, List, [], ◌∷◌, ◌++◌, length, get_or, set, slice_get, Some, All, Contains, arith, refl, sym, ap, ◌∙◌, subst, inl, inr}
+use Rattle.std.proofs.Common.{◌≡◌, ◌≢◌, ◌⊎◌, ℕ, ◌<◌, ◌+◌, ◌&&◌, Bool, true, false, List, [], ◌∷◌, ◌++◌, length, get_or, set, Some, All, Contains, arith, refl, sym, ap, ◌∙◌, subst, inl, inr}
 use Rattle.std.proofs.lemmas.Bool.{cases_eq, cases_lt}
 use Rattle.std.proofs.lemmas.Bool.Decides.{Decides-eqb}
-use Rattle.std.proofs.lemmas.List.{length_push, get_or_push, get_or_append_left, get_or_read, get_or-set_same, get_or-set_other}
-use Rattle.std.proofs.lemmas.List.Elements.{All-get_or, All-from_get_or, All-contains, All-push, Contains-append_left, Contains-push}
-use Rattle.std.proofs.lemmas.Option.{slice_get_within, slice_get-get_or, get_or_from_slice_get, same_Some}
+use Rattle.std.proofs.lemmas.List.{get_or_read, get_or-set_same, get_or-set_other}
+use Rattle.std.proofs.lemmas.List.Elements.{All-get_or, All-from_get_or, Contains-append_left, Contains-push}
+use Rattle.std.proofs.lemmas.Option.{slice_get-get_or, get_or_from_slice_get}
 use Rattle.std.proofs.lemmas.Map.Made.{is_member-Decides}
 use Rattle.letter_diagram.specs.declared.diagrams.Shape.{Shape}
-use Rattle.letter_diagram.specs.Diagram.{map_at, LooksBelow, Grows, IsMapped}
+use Rattle.letter_diagram.specs.Diagram.{Grows, IsMapped}
 use Rattle.letter_diagram.specs.Listed.{EachAnswers}
 use Rattle.letter_diagram.proofs.Narrow.{LooksBelow-grows}
-use Rattle.auto_core.specs.Automaton.{Automaton, IsAutomaton, width, next_state}
+use Rattle.auto_core.specs.Automaton.{Automaton, IsAutomaton, next_state}
 use Rattle.auto_reduce.specs.declared.ways.Way.{Way}
 use Rattle.auto_reduce.specs.Ways.{AreMoved, AreMarks, AreRowWays}
 use Rattle.auto_reduce.proofs.States.{next_within}
 use Rattle.auto_reduce.specs.Quotient.{IsLed, ArePicked}
-use Rattle.auto_reduce.specs.Partition.{IsPartition, IsShared, AreShared, IsFiner, AreRowNodes, AreLedRows, AreStale, WasPut, IsPut, AreLedAgain}
+use Rattle.auto_reduce.specs.Partition.{IsShared, AreShared, IsFiner, AreRowNodes, AreLedRows, AreStale, IsPut, AreLedAgain}
 use Rattle.auto_reduce.proofs.Counting.{decided}
 use Rattle.auto_reduce.proofs.Rounds.{IsLed-mapped}
 

@@ -1,4 +1,4 @@
-use Rattle.std.proofs.Common.{rules, arith, ◌≡◌, length}
+use Rattle.std.proofs.Common.{arith}
 use Rattle.auto_reduce.proofs.Rounds.{IsRound-split, count_le-size}
 use Rattle.auto_reduce.proofs.Splits.{KeepsNumbers-from}
 use Rattle.auto_reduce.proofs.partition.round.Goals as goal

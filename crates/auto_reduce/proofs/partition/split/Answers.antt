@@ -3,7 +3,6 @@ use Rattle.std.proofs.lemmas.Grind.{common_steps}
 use Rattle.std.proofs.lemmas.List.{get_or_read}
 use Rattle.letter_diagram.specs.Numbering.{Numbers}
 use Rattle.letter_diagram.proofs.PairNumbers.{PairsKept-refl, PairsKept-trans}
-use Rattle.auto_reduce.specs.Partition.{NumbersSignatures}
 use Rattle.auto_reduce.proofs.Splits.{NumbersSignatures-push, IsSplit-from, KeepsSignatures-from}
 use Rattle.auto_reduce.proofs.partition.split.Goals as goal
 

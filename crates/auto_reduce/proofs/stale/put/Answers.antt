@@ -1,4 +1,4 @@
-use Rattle.std.proofs.Common.{rules, arith, ◌≡◌, ◌≢◌, ◌<◌, ◌≤◌, ◌∙◌, ℕ, length, get_or, set, sym, subst, inl, inr, refl}
+use Rattle.std.proofs.Common.{arith, ◌≡◌, ◌<◌, length, get_or, subst, inr, refl}
 use Rattle.std.proofs.lemmas.Grind.{common_steps}
 use Rattle.std.proofs.lemmas.List.{get_or_read}
 use Rattle.auto_reduce.proofs.Stales.{IsPutTo, IsPut-from, IsPutTo-set}

@@ -1,4 +1,4 @@
-use Rattle.std.proofs.Common.{rules, arith, ◌<◌, length, sym}
+use Rattle.std.proofs.Common.{arith, sym}
 use Rattle.auto_reduce.proofs.Placed.{IsPlaced-leaf, IsPlaced-low, IsPlaced-grows, RemembersPlaced-next, KeepsWays-push, KeepsWays-trans}
 use Rattle.auto_reduce.proofs.ways.+place_of.Goals as goal
 
