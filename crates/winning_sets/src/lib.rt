@@ -5,5 +5,5 @@
 pub mod laws;
 mod names;
 
-pub use names::{SolveError, StepName};
 pub use mate_plan::{Part, PartName};
+pub use names::{SolveError, StepName};
