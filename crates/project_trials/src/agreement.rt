@@ -68,7 +68,7 @@ fn a_word_is_accepted_just_if_a_longer_one_is_found(rt: HostRuntime) -> Result<(
     for tracks in 0u32..4 {
         for place in 0..tracks + 1 {
             for states in 1u32..7 {
-                for seed in 0u32..4 {
+                for seed in 0u32..20 {
                     assert!(rt; trial(&rt, seed, tracks, place, states, rt.alloc())?);
                 }
             }

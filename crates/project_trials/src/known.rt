@@ -12,6 +12,7 @@ use std::test::Fail;
 use track_word::{Rel, Var};
 
 const X: Var = Var(0);
+
 const Y: Var = Var(1);
 
 /// Decides that a sum of x and y, each with a weight, is 0.
@@ -40,7 +41,10 @@ fn solvable(alloc: Global, x: i8, y: i8) -> Result<Auto, Grown>
 fn each_integer_has_four_times_itself(rt: HostRuntime) -> Result<(), Fail> {
     let a = solvable(rt.alloc(), -4, 1)?;
     assert_eq!(rt; a.states(), 1);
-    assert!(rt; is_accepted(&a, &[0, 1]), "four needs a longer word than one");
+    assert!(rt;
+        is_accepted(&a, &[0, 1]),
+        "four needs a longer word than one"
+    );
     assert!(rt; is_accepted(&a, &[1]), "and so does minus four");
     assert!(rt; is_accepted(&a, &[0]));
     Ok(())

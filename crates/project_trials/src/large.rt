@@ -12,6 +12,7 @@ use std::test::Fail;
 use track_word::Var;
 
 const X: Var = Var(0);
+
 const Y: Var = Var(1);
 
 /// Decides whether a variable leaves the residue 5.

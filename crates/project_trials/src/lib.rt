@@ -17,6 +17,8 @@ mod search;
 #[cfg(test)]
 mod spread;
 #[cfg(test)]
+mod sums;
+#[cfg(test)]
 mod tables;
 #[cfg(test)]
 mod words;

@@ -12,6 +12,7 @@ use std::test::Fail;
 use track_word::Var;
 
 const X: Var = Var(0);
+
 const MARK: Var = Var(1);
 
 /// Decides whether the mark has one bit, on the third letter from the end, and x has it too: a letter is twice the mark's bit and
@@ -21,7 +22,9 @@ fn marked_third_last(alloc: Global) -> Result<Auto, AllocError>
 {
     let tracks = vec![in alloc; X, MARK]?;
     let first = vec![in alloc; 0u32, 0, 4, 1]?;
-    let next = vec![in alloc; 0u32, 0, 4, 1, 2, 2, 4, 4, 3, 3, 4, 4, 4, 4, 4, 4, 4, 4, 4, 4]?;
+    let next = vec![in alloc;
+        0u32, 0, 4, 1, 2, 2, 4, 4, 3, 3, 4, 4, 4, 4, 4, 4, 4, 4, 4, 4,
+    ]?;
     let accept = vec![in alloc; false, false, false, true, false]?;
     let a = Auto::from_rows(alloc, tracks, first, next, accept)?;
     let reduced = reduce(alloc, &a)?;

@@ -45,12 +45,7 @@ impl Table {
 }
 
 /// A random table, whose first state is often met.
-pub fn random_table(
-    alloc: Global,
-    seed: u32,
-    tracks: u32,
-    states: u32,
-) -> Result<Table, AllocError>
+pub fn random_table(alloc: Global, seed: u32, tracks: u32, states: u32) -> Result<Table, AllocError>
     requires { 0 < states }
 {
     let mut random = Random::new(seed);
