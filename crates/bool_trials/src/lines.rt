@@ -1,17 +1,18 @@
 //! Half-lines and points of one variable, whose numbers of states are known beforehand.
-ghost use Rattle.std.specs.Prelude.{◌≡◌, ◌⊎◌, ◌∷◌, [], ◌≤◌, ℤ, pos, negsuc, IfOk};
+ghost use Rattle.std.specs.Prelude.{◌≡◌, ◌⊎◌, ◌∷◌, [], ◌≤◌, pos, negsuc, IfOk};
 ghost use Rattle.auto_core.specs.Reduced.{IsReduced};
 
 use crate::words::is_accepted;
 use auto_bool::{join, meet, not};
 use auto_core::Auto;
-use auto_reduce::{reduce, same_set, sign_stable};
+use auto_reduce::{reduce, same_set};
 use auto_walk::Grown;
 use std::alloc::{AllocError, Global};
 use std::test::Fail;
 use track_word::{Rel, Var};
 
 const X: Var = Var(0);
+
 const Y: Var = Var(1);
 
 /// Decides sign * x <= 0.
@@ -47,64 +48,38 @@ fn line(alloc: Global, budget: u32) -> Result<Auto, Grown>
     Ok(reduce(alloc, &either)?)
 }
 
-#[test]
-fn a_half_line_takes_three_states(rt: HostRuntime) -> Result<(), Fail> {
-    let below = half_line(rt.alloc(), 1)?;
-    assert_eq!(rt; below.states(), 3);
-    assert!(rt; is_accepted(&below, &[0]));
-    assert!(rt; is_accepted(&below, &[1]));
-    assert!(rt; !is_accepted(&below, &[0, 1]));
-    Ok(())
+/// Whether an automaton over x decides whether x has a value.
+fn decides_value(alloc: Global, a: &Auto, value: i64) -> Result<bool, AllocError>
+    requires { a.now.tracks ≡ X ∷ [] }
+{
+    let wanted = Auto::value(alloc, X, value)?;
+    same_set(alloc, a, &wanted)
 }
 
 #[test]
 fn two_half_lines_meet_in_a_point_of_two_states(rt: HostRuntime) -> Result<(), Fail> {
-    let zero_alone = zero(rt.alloc(), 3)?;
-    assert_eq!(rt; zero_alone.states(), 2);
-    assert!(rt; is_accepted(&zero_alone, &[0]));
-    assert!(rt; !is_accepted(&zero_alone, &[1]));
+    let both = zero(rt.alloc(), 3)?;
+    assert_eq!(rt; both.states(), 2);
+    assert!(rt; is_accepted(&both, &[0]) && !is_accepted(&both, &[1]));
+    assert!(rt; decides_value(rt.alloc(), &both, 0)?);
+    assert!(rt; !decides_value(rt.alloc(), &both, 1)?);
     assert!(rt; matches!(&zero(rt.alloc(), 2), Err(Grown::Over)));
     Ok(())
 }
 
 #[test]
 fn two_half_lines_join_to_the_line_of_one_state(rt: HostRuntime) -> Result<(), Fail> {
-    let all = line(rt.alloc(), 3)?;
-    assert_eq!(rt; all.states(), 1);
-    assert!(rt; is_accepted(&all, &[0, 1]));
-    assert!(rt; is_accepted(&all, &[1, 0]));
+    let either = line(rt.alloc(), 3)?;
+    assert_eq!(rt; either.states(), 1);
+    assert!(rt; is_accepted(&either, &[0, 1]) && is_accepted(&either, &[1, 0]));
     assert!(rt; matches!(&line(rt.alloc(), 2), Err(Grown::Over)));
     Ok(())
 }
 
-#[test]
-fn the_complement_of_a_half_line_is_the_other_words(rt: HostRuntime) -> Result<(), Fail> {
-    let below = half_line(rt.alloc(), 1)?;
-    let above = not(rt.alloc(), &below)?;
-    assert!(rt; is_accepted(&above, &[0, 1]));
-    assert!(rt; !is_accepted(&above, &[0]));
-    Ok(())
-}
-
-#[test]
-fn two_half_lines_meet_in_the_value_zero(rt: HostRuntime) -> Result<(), Fail> {
-    let alloc = rt.alloc();
-    let made = zero(alloc, 3)?;
-    assert!(rt; same_set(alloc, &made, &Auto::value(alloc, X, 0)?)?);
-    assert!(rt; !same_set(alloc, &made, &Auto::value(alloc, X, 1)?)?);
-    Ok(())
-}
-
-#[test]
-fn a_value_of_three_bits_takes_five_states(rt: HostRuntime) -> Result<(), Fail> {
-    let alloc = rt.alloc();
-    let five = reduce(alloc, &Auto::value(alloc, X, 5)?)?;
-    assert_eq!(rt; five.states(), 5);
-    assert!(rt; sign_stable(alloc, &five)?);
-    assert!(rt; five.tracks().len() == 1);
-    assert!(rt; five.member(&[5]));
-    assert!(rt; !five.member(&[4]));
-    Ok(())
+/// Decides that x <= 0 is not so.
+fn above_zero(alloc: Global) -> Result<Auto, AllocError> {
+    let below = half_line(alloc, 1)?;
+    not(alloc, &below)
 }
 
 /// Decides y <= y.
@@ -115,10 +90,11 @@ fn at_most_itself(alloc: Global) -> Result<Auto, AllocError> {
 }
 
 #[test]
-fn a_variable_is_at_most_itself_in_one_state(rt: HostRuntime) -> Result<(), Fail> {
-    let a = at_most_itself(rt.alloc())?;
-    assert_eq!(rt; a.states(), 1);
-    assert!(rt; is_accepted(&a, &[0, 1]));
-    assert!(rt; is_accepted(&a, &[1]));
+fn what_is_above_zero_and_at_most_itself_is_told(rt: HostRuntime) -> Result<(), Fail> {
+    let above = above_zero(rt.alloc())?;
+    assert!(rt; is_accepted(&above, &[0, 1]) && !is_accepted(&above, &[0]));
+    let same = at_most_itself(rt.alloc())?;
+    assert_eq!(rt; same.states(), 1);
+    assert!(rt; is_accepted(&same, &[0, 1]) && is_accepted(&same, &[1, 0]));
     Ok(())
 }

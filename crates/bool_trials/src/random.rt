@@ -19,12 +19,7 @@ impl Random {
     }
 
     /// So many states, half of them the first one.
-    pub fn states(
-        &mut self,
-        alloc: Global,
-        count: u32,
-        states: u32,
-    ) -> Result<Vec<u32>, AllocError>
+    pub fn states(&mut self, alloc: Global, count: u32, states: u32) -> Result<Vec<u32>, AllocError>
         requires { 0 < states }
     {
         let mut drawn = Vec::new(alloc);

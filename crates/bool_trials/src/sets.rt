@@ -1,8 +1,8 @@
 //! Sets that are made in different ways, and automata that heed repeated first letters.
-ghost use Rattle.std.specs.Prelude.{◌≡◌, ◌∷◌, [], ◌<◌, ◌≤◌, ◌^◌, length, IfOk};
+ghost use Rattle.std.specs.Prelude.{◌≡◌, ◌∷◌, [], ◌<◌, ◌≤◌, ◌^◌, IfOk};
 ghost use Rattle.auto_core.specs.Reduced.{IsReduced};
 
-use auto_bool::{meet, not};
+use auto_bool::meet;
 use auto_core::Auto;
 use auto_reduce::{reduce, same_set, sign_stable};
 use auto_walk::{Grown, residue};
@@ -14,8 +14,7 @@ const X: Var = Var(0);
 
 /// Decides whether x is a multiple.
 fn multiple(alloc: Global, modulus: u32) -> Result<Auto, Grown>
-    requires some { 0 < modulus }
-    requires few { modulus ≤ 1000 }
+    requires { (1 ≤ modulus) × (modulus ≤ 1000) }
     ensures tracks { IfOk result (λ a. a.tracks ≡ X ∷ []) }
     ensures reduced { IfOk result IsReduced }
 {
@@ -24,52 +23,31 @@ fn multiple(alloc: Global, modulus: u32) -> Result<Auto, Grown>
     Ok(reduced)
 }
 
-/// Decides whether x is a multiple of both.
-fn common_multiple(alloc: Global, left: u32, right: u32) -> Result<Auto, Grown>
-    requires left_some { 0 < left }
-    requires left_few { left ≤ 1000 }
-    requires right_some { 0 < right }
-    requires right_few { right ≤ 1000 }
+/// Decides whether x is a multiple of four and of six.
+fn common_multiple(alloc: Global) -> Result<Auto, Grown>
     ensures { IfOk result (λ a. a.tracks ≡ X ∷ []) }
 {
-    let a = multiple(alloc, left)?;
-    let b = multiple(alloc, right)?;
-    let both = meet(alloc, &a, &b, 1000)?;
+    let a = multiple(alloc, 4)?;
+    let b = multiple(alloc, 6)?;
+    let both = meet(alloc, &a, &b, 24)?;
     Ok(both)
 }
 
-/// Whether the multiples of both are those of a third number.
-fn are_multiples(alloc: Global, left: u32, right: u32, both: u32) -> Result<bool, Grown>
-    requires left_some { 0 < left }
-    requires left_few { left ≤ 1000 }
-    requires right_some { 0 < right }
-    requires right_few { right ≤ 1000 }
-    requires both_some { 0 < both }
-    requires both_few { both ≤ 1000 }
+/// Whether these are just the multiples of a number.
+fn are_multiples_of(alloc: Global, modulus: u32) -> Result<bool, Grown>
+    requires { (1 ≤ modulus) × (modulus ≤ 1000) }
 {
-    let common = common_multiple(alloc, left, right)?;
-    let wanted = multiple(alloc, both)?;
+    let common = common_multiple(alloc)?;
+    let wanted = multiple(alloc, modulus)?;
     let same = same_set(alloc, &common, &wanted)?;
     Ok(same)
 }
 
 #[test]
 fn common_multiples_are_those_of_the_least_one(rt: HostRuntime) -> Result<(), Fail> {
-    assert!(rt; are_multiples(rt.alloc(), 4, 6, 12)?);
-    assert!(rt; !are_multiples(rt.alloc(), 4, 6, 24)?);
-    assert!(rt; are_multiples(rt.alloc(), 7, 9, 63)?);
-    assert!(rt; !are_multiples(rt.alloc(), 7, 9, 21)?);
-    Ok(())
-}
-
-#[test]
-fn a_set_is_the_complement_of_its_complement(rt: HostRuntime) -> Result<(), Fail> {
-    let alloc = rt.alloc();
-    let a = multiple(alloc, 6)?;
-    let other = not(alloc, &a)?;
-    let again = not(alloc, &other)?;
-    assert!(rt; same_set(alloc, &a, &again)?);
-    assert!(rt; !same_set(alloc, &a, &other)?);
+    assert!(rt; are_multiples_of(rt.alloc(), 12)?);
+    assert!(rt; !are_multiples_of(rt.alloc(), 24)?);
+    assert!(rt; !are_multiples_of(rt.alloc(), 4)?);
     Ok(())
 }
 
@@ -82,7 +60,7 @@ fn begins_with_zero(alloc: Global) -> Result<Auto, AllocError> {
     Auto::from_rows(alloc, tracks, first, next, accept)
 }
 
-/// The automaton of the words that are 0 alone or have 1 as their last of two or more letters.
+/// The automaton of the word 0 and of the longer words that end with 1.
 fn is_zero_or_ends_with_one(alloc: Global) -> Result<Auto, AllocError> {
     let tracks = vec![in alloc; X]?;
     let first = vec![in alloc; 0u32, 1]?;
@@ -93,8 +71,9 @@ fn is_zero_or_ends_with_one(alloc: Global) -> Result<Auto, AllocError> {
 
 #[test]
 fn a_repeated_first_letter_matters_where_the_length_does(rt: HostRuntime) -> Result<(), Fail> {
-    let alloc = rt.alloc();
-    assert!(rt; sign_stable(alloc, &begins_with_zero(alloc)?)?);
-    assert!(rt; !sign_stable(alloc, &is_zero_or_ends_with_one(alloc)?)?);
+    let begins = begins_with_zero(rt.alloc())?;
+    assert!(rt; sign_stable(rt.alloc(), &begins)?);
+    let ends = is_zero_or_ends_with_one(rt.alloc())?;
+    assert!(rt; !sign_stable(rt.alloc(), &ends)?);
     Ok(())
 }

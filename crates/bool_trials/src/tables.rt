@@ -68,26 +68,24 @@ impl Table {
     }
 }
 
-/// How many letters there are over some tracks.
-pub fn letters_over(tracks: &[Var]) -> u32 {
-    let mut letters = 1u32;
-    for _ in tracks {
-        letters = letters.wrapping_mul(2);
+/// The tracks below 3 whose bits a mask has.
+fn tracks_of(alloc: Global, mask: u32) -> Result<Vec<Var>, AllocError> {
+    let mut tracks = Vec::new(alloc);
+    for track in 0u8..3 {
+        if mask.wrapping_shr(u32::from(track)) % 2 == 1 {
+            tracks.push(Var(track))?;
+        }
     }
-    letters
+    Ok(tracks)
 }
 
-/// A random table, whose first state is often met.
-pub fn random_table(
-    alloc: Global,
-    seed: u32,
-    tracks: Vec<Var>,
-    states: u32,
-) -> Result<Table, AllocError>
+/// A random table over a mask's tracks, whose first state is often met.
+pub fn random_table(alloc: Global, seed: u32, mask: u32, states: u32) -> Result<Table, AllocError>
     requires { 0 < states }
 {
     let mut random = Random::new(seed);
-    let letters = letters_over(tracks.as_slice());
+    let tracks = tracks_of(alloc, mask)?;
+    let letters = 1u32.wrapping_shl(mask.count_ones());
     let first = random.states(alloc, letters, states)?;
     let next = random.states(alloc, letters.wrapping_mul(states), states)?;
     let accept = random.flags(alloc, states)?;
