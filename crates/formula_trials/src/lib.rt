@@ -16,6 +16,8 @@ mod kept;
 #[cfg(test)]
 mod order;
 #[cfg(test)]
+mod projections;
+#[cfg(test)]
 mod remainders;
 #[cfg(test)]
 mod small;
