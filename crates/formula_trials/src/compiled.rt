@@ -17,6 +17,7 @@ use std::test::Fail;
 const AMPLE: u32 = 10000;
 
 /// The automaton of a formula.
+#[tactic(auto, using(crate::proofs::SmallLemmas::small_compilable))]
 pub fn compiled(
     rt: &impl Abort,
     alloc: Global,
@@ -35,6 +36,7 @@ pub fn compiled(
 }
 
 /// The automaton of a formula, by a memo.
+#[tactic(auto, using(crate::proofs::SmallLemmas::small_compilable))]
 pub fn remembered(
     rt: &impl Abort,
     alloc: Global,

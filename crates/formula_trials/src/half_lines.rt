@@ -1,5 +1,5 @@
 //! The numbers up to 0 and those from 0 on: what both have, what one of them has, and the set of the first as a name in formulas.
-ghost use Rattle.std.specs.Prelude.{◌≡◌, ◌⊎◌, ◌∷◌, ◌×◌, ◌≤◌, [], All, IfOk, pos, negsuc};
+ghost use Rattle.std.specs.Prelude.{◌≡◌, ◌⊎◌, ◌∷◌, ◌≤◌, [], All, IfOk, pos, negsuc};
 ghost use Rattle.auto_core.specs.Reduced.{IsReduced};
 ghost use Rattle.formula_trials.specs.Small.{IsSet};
 
