@@ -57,7 +57,14 @@ fn steps_on(
     for steps in 1i64..6 {
         let across = steps.wrapping_mul(i64::from(ray.dx));
         let along = steps.wrapping_mul(i64::from(ray.dy));
-        if goes_on(alloc, p, option, x.wrapping_add(across), y.wrapping_add(along), not_after)? {
+        if goes_on(
+            alloc,
+            p,
+            option,
+            x.wrapping_add(across),
+            y.wrapping_add(along),
+            not_after,
+        )? {
             return Ok(true);
         }
     }

@@ -71,17 +71,14 @@ fn agrees_at(
     if holds(alloc, image, &after)? != is_step_by(start, option, x, y) {
         return Ok(false);
     }
-    Ok(keeps_the_others(alloc, image, option, &after)?
-        && has_legal(alloc, image, start, option, x, y)?)
+    Ok(
+        keeps_the_others(alloc, image, option, &after)?
+            && has_legal(alloc, image, start, option, x, y)?,
+    )
 }
 
 /// Whether they agree at the squares around the box.
-fn agrees(
-    alloc: Global,
-    image: &Auto,
-    start: &Position,
-    option: Opt,
-) -> Result<bool, TrialError>
+fn agrees(alloc: Global, image: &Auto, start: &Position, option: Opt) -> Result<bool, TrialError>
     requires integers { DecidesIntegers image.now }
     requires sound { Sound start.now }
 {

@@ -47,16 +47,17 @@ fn both_sets(
     let source = all_but(alloc, start)?;
     let target = all_but(alloc, but)?;
     let tracks = track_count(mask, 0, count);
-    table_of_both(alloc, source, tracks, target, track_count(mask, taken, count))
+    table_of_both(
+        alloc,
+        source,
+        tracks,
+        target,
+        track_count(mask, taken, count),
+    )
 }
 
 /// Whether the set of the positions before a step by the option has those from which the referee allows one.
-fn pre_agrees(
-    alloc: Global,
-    start: &Position,
-    mask: u8,
-    option: Opt,
-) -> Result<bool, TrialError>
+fn pre_agrees(alloc: Global, start: &Position, mask: u8, option: Opt) -> Result<bool, TrialError>
     requires { IsOptionOf start.now.men mask option }
 {
     let but = without(alloc, start, option.taken)?;

@@ -30,11 +30,7 @@ fn live_mask(alloc: Global, stock: &Position) -> Result<u8, TrialError>
 }
 
 /// The options of the side to move.
-fn all_options(
-    alloc: Global,
-    start: &Position,
-    mask: u8,
-) -> Result<SmallVec<Opt, 16>, AllocError>
+fn all_options(alloc: Global, start: &Position, mask: u8) -> Result<SmallVec<Opt, 16>, AllocError>
     ensures { IfOk result (λ all. All (IsOptionOf start.now.men mask) all.items) }
 {
     options(alloc, start, mask, start.turn())
@@ -90,7 +86,10 @@ fn bearings_of_case_agree(alloc: Global, number: u8) -> Result<bool, TrialError>
 #[test]
 fn bearings_have_the_attacks_on_the_king(rt: HostRuntime) -> Result<(), Fail> {
     for number in 0..CASES {
-        assert!(rt; bearings_of_case_agree(rt.alloc(), number)?, "case {number}");
+        assert!(rt;
+            bearings_of_case_agree(rt.alloc(), number)?,
+            "case {number}"
+        );
     }
     Ok(())
 }
