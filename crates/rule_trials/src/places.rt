@@ -165,7 +165,7 @@ pub fn shifted(alloc: Global, p: &Position, number: u8) -> Result<Position, Tria
 }
 
 /// How many positions of the box are asked about.
-pub const SAMPLES: u32 = 256;
+pub const SAMPLES: u32 = 512;
 
 /// A coordinate of the box, from -1 to 2, by two bits of a number.
 fn coordinate(number: u32, place: u32) -> i64 {

@@ -66,7 +66,12 @@ fn pre_agrees(alloc: Global, start: &Position, mask: u8, option: Opt) -> Result<
     agrees(alloc, &set, Claim::StepsBy(option), mask, start, &but)
 }
 
-/// Whether they agree for each option of the man.
+/// Whether the option is tried: where more than three men are live, only if it takes one, since other formulas are large there.
+fn is_tried(option: Opt, man: u8, mask: u8) -> bool {
+    option.man == man && (option.taken > 0 || mask.count_ones() <= 3)
+}
+
+/// Whether they agree for each option of the man that is tried.
 pub fn steps_agree(
     alloc: Global,
     start: &Position,
@@ -77,7 +82,7 @@ pub fn steps_agree(
     requires { All (IsOptionOf start.now.men mask) all.now }
 {
     for option in all {
-        if option.man == man && !pre_agrees(alloc, start, mask, *option)? {
+        if is_tried(*option, man, mask) && !pre_agrees(alloc, start, mask, *option)? {
             return Ok(false);
         }
     }

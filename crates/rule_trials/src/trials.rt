@@ -9,7 +9,7 @@ use crate::bearings::{bearings_agree, pairs_agree};
 use crate::errors::TrialError;
 use crate::images::images_agree;
 use crate::lists::{checks_are_bearings, steps_are_by_options};
-use crate::places::{SAMPLES, in_box, same_places};
+use crate::places::{SAMPLES, in_box, masked, same_places};
 use crate::sets::{all_but, holds, point, table_of, track_count};
 use crate::steps::steps_agree;
 use crate::stocks::{CASES, case, queen_gone, two_rooks};
@@ -50,8 +50,8 @@ fn all_bearings(
 }
 
 fn images_of_case_agree(alloc: Global, number: u8) -> Result<bool, TrialError> {
-    let case = case(number)?;
-    let start = case.stock;
+    let trial = case(number)?;
+    let start = trial.stock;
     if soundness(&start).is_err() {
         return Err(TrialError::Position);
     }
@@ -59,7 +59,7 @@ fn images_of_case_agree(alloc: Global, number: u8) -> Result<bool, TrialError> {
     let tracks = track_count(mask, 0, start.count());
     let sets = table_of(alloc, point(alloc, &start)?, tracks)?;
     let all = all_options(alloc, &start, mask)?;
-    images_agree(alloc, &start, mask, case.man, &sets, all.as_slice())
+    images_agree(alloc, &start, mask, trial.man, &sets, all.as_slice())
 }
 
 #[test]
@@ -71,8 +71,8 @@ fn images_have_what_a_step_reaches(rt: HostRuntime) -> Result<(), Fail> {
 }
 
 fn bearings_of_case_agree(alloc: Global, number: u8) -> Result<bool, TrialError> {
-    let case = case(number)?;
-    let start = case.stock;
+    let trial = case(number)?;
+    let start = trial.stock;
     if soundness(&start).is_err() {
         return Err(TrialError::Position);
     }
@@ -80,7 +80,7 @@ fn bearings_of_case_agree(alloc: Global, number: u8) -> Result<bool, TrialError>
     let tracks = track_count(mask, 0, start.count());
     let sets = table_of(alloc, all_but(alloc, &start)?, tracks)?;
     let all = all_bearings(alloc, &start, mask)?;
-    bearings_agree(alloc, &start, mask, case.man, &sets, all.as_slice())
+    bearings_agree(alloc, &start, mask, trial.man, &sets, all.as_slice())
 }
 
 #[test]
@@ -109,12 +109,26 @@ fn twins_are_two_men_on_one_square(rt: HostRuntime) -> Result<(), Fail> {
     Ok(())
 }
 
-fn steps_of_case_agree(alloc: Global, number: u8) -> Result<bool, TrialError> {
-    let case = case(number)?;
-    let start = case.stock;
-    let mask = live_mask(alloc, &start)?;
+/// Whether the positions before a step of the man agree where the men of the mask are live.
+fn steps_of_mask_agree(
+    alloc: Global,
+    stock: &Position,
+    mask: u8,
+    man: u8,
+) -> Result<bool, TrialError> {
+    let start = masked(alloc, stock, mask)?;
     let all = all_options(alloc, &start, mask)?;
-    steps_agree(alloc, &start, mask, case.man, all.as_slice())
+    steps_agree(alloc, &start, mask, man, all.as_slice())
+}
+
+fn steps_of_case_agree(alloc: Global, number: u8) -> Result<bool, TrialError> {
+    let trial = case(number)?;
+    for mask in masks(alloc, &trial.stock)?.as_slice() {
+        if !steps_of_mask_agree(alloc, &trial.stock, *mask, trial.man)? {
+            return Ok(false);
+        }
+    }
+    Ok(true)
 }
 
 #[test]
