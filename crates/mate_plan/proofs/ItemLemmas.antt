@@ -65,10 +65,11 @@ thinned-append is [] ks ls e more =
 thinned-append is (j ∷ js) ks ls (inl (lacks, thin)) more = inl (lacks, thinned-append is js ks ls thin more)
 thinned-append is (j ∷ js) ks ls (inr (i, rest, e, same, thin)) more = inr (i, rest ++ ks, ap (λ (l : List Item). l ++ ks) e, same, thinned-append rest js ks ls thin more)
 
-module _ {X : Type 0} (sets : List Automaton) where
-  abbrev items : List Tree → List Item
-  items fs = map (item_of sets) fs
+items-append : (sets : List Automaton) (fs gs : List Tree) → map (item_of sets) (fs ++ gs) ≡ map (item_of sets) fs ++ map (item_of sets) gs
+items-append sets [] gs = refl
+items-append sets (f ∷ fs) gs = ap (λ (l : List Item). item_of sets f ∷ l) (items-append sets fs gs)
 
+module _ {X : Type 0} (sets : List Automaton) where
   pub thinned-map : (g : X → Tree) (h : X → Item) (xs : List X) → ((x : X) → SameItem (item_of sets (g x)) (h x)) → Thinned (map (item_of sets) (map g xs)) (map h xs)
   thinned-map g h [] same = refl
   thinned-map g h (x ∷ xs) same = inr (item_of sets (g x), map (item_of sets) (map g xs), refl, same x, thinned-map g h xs same)
@@ -77,15 +78,11 @@ module _ {X : Type 0} (sets : List Automaton) where
   thinned-none h [] lacks = refl
   thinned-none h (x ∷ xs) lacks = inl (lacks x, thinned-none h xs lacks)
 
-  items-append : (fs gs : List Tree) → map (item_of sets) (fs ++ gs) ≡ map (item_of sets) fs ++ map (item_of sets) gs
-  items-append [] gs = refl
-  items-append (f ∷ fs) gs = ap (λ (l : List Item). item_of sets f ∷ l) (items-append fs gs)
-
   pub thinned-flat_map : (g : X → List Tree) (h : X → List Item) (xs : List X) → ((x : X) → Thinned (map (item_of sets) (g x)) (h x)) → Thinned (map (item_of sets) (flat_map g xs)) (flat_map h xs)
   thinned-flat_map g h [] thin = refl
   thinned-flat_map g h (x ∷ xs) thin =
       let Is : List Item → Type 0 = λ l. Thinned l (h x ++ flat_map h xs) in
-      subst Is (sym (items-append (g x) (flat_map g xs)))
+      subst Is (sym (items-append sets (g x) (flat_map g xs)))
       (thinned-append (map (item_of sets) (g x)) (h x) (map (item_of sets) (flat_map g xs)) (flat_map h xs) (thin x) (thinned-flat_map g h xs thin))
 
   -- one item or none for each of a list
@@ -93,5 +90,5 @@ module _ {X : Type 0} (sets : List Automaton) where
   thinned-each g h [] thin = refl
   thinned-each g h (x ∷ xs) thin =
       let Is : List Item → Type 0 = λ l. Thinned l (h x ∷ map h xs) in
-      subst Is (sym (items-append (g x) (flat_map g xs)))
+      subst Is (sym (items-append sets (g x) (flat_map g xs)))
       (thinned-append (map (item_of sets) (g x)) (h x ∷ []) (map (item_of sets) (flat_map g xs)) (map h xs) (thin x) (thinned-each g h xs thin))

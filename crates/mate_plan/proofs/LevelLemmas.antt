@@ -1,7 +1,8 @@
 -- Levels that are made of names.
-use Rattle.std.proofs.Common.{◌≡◌, ℕ, zero, suc, ◌+◌, ◌<◌, ◌==◌, if◌then◌else◌, Bool, true, false, List, [], ◌∷◌, ◌++◌, length, drop, take, Option, Some, None, slice_get, refl, sym, ap, ◌∙◌, subst, arith}
+use Rattle.std.proofs.Common.{◌≡◌, ℕ, zero, suc, ◌+◌, ◌<◌, ◌==◌, if◌then◌else◌, Bool, true, false, List, [], ◌∷◌, ◌++◌, length, drop, take, get_or, min, ◌≤◌, ◌⊎◌, inl, inr, Option, Some, None, slice_get, refl, sym, ap, ◌∙◌, subst, arith}
 use Rattle.std.specs.Prelude.{IfSome}
-use Rattle.std.proofs.lemmas.Bool.{eqb-true}
+use Rattle.std.proofs.lemmas.Bool.{cases_lt, eq-eqb, eqb-true, ne_eqb}
+use Rattle.std.proofs.lemmas.List.{drop_all}
 use Rattle.track_word.specs.declared.tracks.Var.{Var}
 use Rattle.auto_core.specs.Automaton.{Automaton}
 use Rattle.game_rules.specs.declared.men.Man.{Man}
@@ -10,6 +11,7 @@ use Rattle.lin_formula.specs.declared.formula.SetId.{SetId}
 use Rattle.rule_formula.specs.Placed.{is_live}
 use Rattle.rule_formula.specs.Trees.{tracks_of}
 use Rattle.set_plan.specs.Sets.{Grows, IsNameOn, IsSetOn, set_at}
+use Rattle.set_plan.proofs.Items.{drop_front}
 use Rattle.mate_plan.specs.Formulas.{name_from, name_of}
 use Rattle.mate_plan.specs.Levels.{AreNames, level_from, level_of}
 use Rattle.mate_plan.specs.Plan.{Level, level_with, no_sets}
@@ -170,3 +172,41 @@ pub grows_cut : (old new : List Automaton) (n : ℕ) → n ≡ length old → Gr
 grows_cut old new n count grows k a e =
     let within : k < length old = get-within old k a e in
     get-take new n k a (omega (arith, within, count)) (grows k a e)
+
+-- one more of the masks is looked at
+name_more : (masks : List ℕ) (names : Names) (mask : ℕ) (found : Option SetId) (n m : ℕ) (id whole : Option SetId) → n < length masks → n < length names → m ≡ get_or masks n m → id ≡ get_or names n id → name_from found (drop n masks) (drop n names) mask ≡ whole → name_from (if mask == m then id else found) (drop (n + 1) masks) (drop (n + 1) names) mask ≡ whole
+name_more masks names mask found n m id whole less less_names is is_name e =
+    let front : drop n masks ≡ m ∷ drop (n + 1) masks = drop_front masks n m less is in
+    let front_names : drop n names ≡ id ∷ drop (n + 1) names = drop_front names n id less_names is_name in
+    let One : List ℕ → Type 0 = λ l. name_from found l (drop n names) mask ≡ whole in
+    let Two : Names → Type 0 = λ l. name_from found (m ∷ drop (n + 1) masks) l mask ≡ whole in
+    subst Two front_names (subst One front e)
+
+pub name_taken : (masks : List ℕ) (names : Names) (mask : ℕ) (found : Option SetId) (n k m : ℕ) (id whole : Option SetId) → k ≡ n + 1 → n < length masks → n < length names → m ≡ get_or masks n m → id ≡ get_or names n id → m ≡ mask → name_from found (drop n masks) (drop n names) mask ≡ whole → name_from id (drop k masks) (drop k names) mask ≡ whole
+name_taken masks names mask found n k m id whole next less less_names is is_name same e =
+    let t : mask == m ≡ true = eq-eqb mask m (sym same) in
+    let Is : Bool → Type 0 = λ b. name_from (if b then id else found) (drop (n + 1) masks) (drop (n + 1) names) mask ≡ whole in
+    let At : ℕ → Type 0 = λ j. name_from id (drop j masks) (drop j names) mask ≡ whole in
+    subst At (sym next) (subst Is t (name_more masks names mask found n m id whole less less_names is is_name e))
+
+pub name_passed : (masks : List ℕ) (names : Names) (mask : ℕ) (found : Option SetId) (n k m : ℕ) (id whole : Option SetId) → k ≡ n + 1 → n < length masks → n < length names → m ≡ get_or masks n m → id ≡ get_or names n id → (m ≡ mask → ⊥) → name_from found (drop n masks) (drop n names) mask ≡ whole → name_from found (drop k masks) (drop k names) mask ≡ whole
+name_passed masks names mask found n k m id whole next less less_names is is_name other e =
+    let f : mask == m ≡ false = ne_eqb mask m (λ same. other (sym same)) in
+    let Is : Bool → Type 0 = λ b. name_from (if b then id else found) (drop (n + 1) masks) (drop (n + 1) names) mask ≡ whole in
+    let At : ℕ → Type 0 = λ j. name_from found (drop j masks) (drop j names) mask ≡ whole in
+    subst At (sym next) (subst Is f (name_more masks names mask found n m id whole less less_names is is_name e))
+
+pub name_all : (masks : List ℕ) (names : Names) (mask : ℕ) (found : Option SetId) (n : ℕ) (whole : Option SetId) → n ≡ min (length masks) (length names) → name_from found (drop n masks) (drop n names) mask ≡ whole → found ≡ whole
+name_all masks names mask found n whole all e =
+    elim (cases_lt (length masks) (length names)) [
+      | inl less ↦
+          let none : drop n masks ≡ [] = drop_all n masks (omega (arith, all, less)) in
+          subst (λ (l : List ℕ). name_from found l (drop n names) mask ≡ whole) none e
+      | inr less ↦
+          let none : drop n names ≡ [] = drop_all n names (omega (arith, all, less)) in
+          ending (drop n masks) (subst (λ (l : Names). name_from found (drop n masks) l mask ≡ whole) none e)
+    ]
+  where
+    ending : (l : List ℕ) → name_from found l [] mask ≡ whole → found ≡ whole
+    ending [] e = e
+    ending (m ∷ l) e = e

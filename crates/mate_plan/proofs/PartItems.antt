@@ -1,12 +1,13 @@
 -- The formulas of the plan over the sets that names stand for are the items of its unions, but for those that lack a set.
 use Rattle.std.proofs.Common.{◌≡◌, ◌⊎◌, ℕ, suc, ◌+◌, ◌<◌, ◌≤◌, ◌==◌, true, List, [], ◌∷◌, ◌++◌, length, map, Option, Some, None, slice_get, refl, sym, ap, ◌∙◌, subst, inl, inr, arith}
 use Rattle.std.specs.Prelude.{Contains, filter}
-use Rattle.std.specs.List.{All, flat_map}
+use Rattle.std.specs.List.{All, flat_map, slice_index_or}
 use Rattle.std.proofs.lemmas.Bool.{eqb-true}
 use Rattle.std.proofs.lemmas.List.Elements.{All-append, All-cons, All-contains_itself, All-filter, All-head, All-map, All-nil, All-tail, All-weaker, filter_passes}
 use Rattle.track_word.specs.declared.tracks.Var.{Var}
 use Rattle.auto_core.specs.Automaton.{Automaton}
 use Rattle.game_rules.specs.Game.{HasOneKing, Position}
+use Rattle.game_rules.specs.declared.men.Man.{Man}
 use Rattle.game_rules.specs.declared.men.Side.{Side}
 use Rattle.lin_formula.specs.Tree.{Tree, free_vars, memberships, steps, vars_of}
 use Rattle.lin_formula.specs.SetOf.{SetOf, Nothing, tables}
@@ -66,6 +67,17 @@ is_item tracks sets f modest has over =
       few = omega (arith, short);
       over = over;
     }
+
+-- the options and the bearings are what they should be
+pub options_all : (stock : List Man) (mask : ℕ) (side : Side) (all : List Opt) → all ≡ options_of stock mask side → All (IsOptionOf stock mask) all
+options_all stock mask side all is k d within =
+    let Among : List Opt → Type 0 = λ l. Contains l (slice_index_or all k d) in
+    ((options_are stock mask side (slice_index_or all k d)).0 (subst Among is (All-contains_itself all k d within))).0
+
+pub bearings_all : (p : Position) (mask : ℕ) (side : Side) (all : List Bearing) → IsGame p → IsGameMask p mask → all ≡ bearings_of p.men mask side → All (λ b. IsBearer p.men mask b.man b.ray b.king) all
+bearings_all p mask side all game here is k d within =
+    let Among : List Bearing → Type 0 = λ l. Contains l (slice_index_or all k d) in
+    ((bearings_are p mask side (slice_index_or all k d) game.kings here).0 (subst Among is (All-contains_itself all k d within))).bearer
 
 all-flat_map : {X A : Type 0} (P : A → Type 0) (g : X → List A) (xs : List X) → All (λ x. All P (g x)) xs → All P (flat_map g xs)
 all-flat_map P g [] h = All-nil P

@@ -7,7 +7,6 @@ use Rattle.track_word.specs.declared.atoms.Rel.TheVariants.{Eq, Le}
 use Rattle.game_rules.specs.declared.men.Ray.{Ray}
 use Rattle.lin_formula.specs.Tree.{Tree}
 use Rattle.lin_formula.specs.Tree as tree
-use Rattle.rule_formula.specs.declared.seats.Seat.{Seat}
 use Rattle.rule_formula.specs.Placed.{is_live, without}
 use Rattle.rule_formula.specs.Seats.{new_seat, new_seats, old_seats, own, spare, var, vars_to}
 use Rattle.rule_formula.specs.Trees.{ahead, and_all, atoms_as, bear_tree, clear, clear_as, difference, ex_swept, image_body, image_tree, is_other, line, line_atoms, on, on_as, ordered, pre_body, pre_tree, ray_atoms, safe_tree, unless_same}
@@ -50,12 +49,12 @@ ordered_plain : (d : ℤ) (x y : Var) (n : ℤ) → IsPlain (ordered d x y n)
 ordered_plain (pos d) x y n = tt
 ordered_plain (negsuc d) x y n = tt
 
-ahead_plain : (dx dy : ℤ) (a b : Seat) (n : ℤ) → IsPlain (ahead dx dy a b n)
+ahead_plain : (dx dy : ℤ) (a b : _) (n : ℤ) → IsPlain (ahead dx dy a b n)
 ahead_plain (pos zero) dy a b n = ordered_plain dy a.y b.y n
 ahead_plain (pos (suc dx)) dy a b n = ordered_plain (pos (suc dx)) a.x b.x n
 ahead_plain (negsuc dx) dy a b n = ordered_plain (negsuc dx) a.x b.x n
 
-line_plain : (dx dy : ℤ) (a b : Seat) → IsPlain (line dx dy a b)
+line_plain : (dx dy : ℤ) (a b : _) → IsPlain (line dx dy a b)
 line_plain (pos zero) dy a b = tt
 line_plain (pos (suc dx)) (pos zero) a b = tt
 line_plain (pos (suc dx)) (pos (suc dy)) a b = tt
@@ -71,7 +70,7 @@ if_plain false f h = (h, tt)
 unless_plain : (x y : Var) (f : Tree) → IsPlain f → ArePlain (unless_same x y f)
 unless_plain x y f h = if_plain (x.0 == y.0) f h
 
-line_atoms_plain : (dx dy : ℤ) (a b : Seat) → ArePlain (line_atoms dx dy a b)
+line_atoms_plain : (dx dy : ℤ) (a b : _) → ArePlain (line_atoms dx dy a b)
 line_atoms_plain (pos zero) dy a b = unless_plain b.x a.x (line (pos zero) dy a b) tt
 line_atoms_plain (pos (suc dx)) (pos zero) a b = unless_plain b.y a.y (line (pos (suc dx)) (pos zero) a b) tt
 line_atoms_plain (negsuc dx) (pos zero) a b = unless_plain b.y a.y (line (negsuc dx) (pos zero) a b) tt
@@ -84,13 +83,13 @@ append_plain : (fs gs : List Tree) → ArePlain fs → ArePlain gs → ArePlain 
 append_plain [] gs h k = k
 append_plain (f ∷ fs) gs h k = (h.0, append_plain fs gs h.1 k)
 
-atoms_plain : (far : Bool) (dx dy : ℤ) (a b : Seat) → ArePlain (atoms_as far dx dy a b)
+atoms_plain : (far : Bool) (dx dy : ℤ) (a b : _) → ArePlain (atoms_as far dx dy a b)
 atoms_plain true dx dy a b = append_plain (line_atoms dx dy a b) (ahead dx dy a b (negsuc 0) ∷ []) (line_atoms_plain dx dy a b) (ahead_plain dx dy a b (negsuc 0), tt)
 atoms_plain false dx dy a b =
     append_plain (unless_same b.x a.x (difference b.x a.x Eq dx)) (unless_same b.y a.y (difference b.y a.y Eq dy))
     (unless_plain b.x a.x (difference b.x a.x Eq dx) tt) (unless_plain b.y a.y (difference b.y a.y Eq dy) tt)
 
-on_plain : (far : Bool) (dx dy : ℤ) (a b z : Seat) (n : ℤ) → IsPlain (on_as far dx dy a b z n)
+on_plain : (far : Bool) (dx dy : ℤ) (a b z : _) (n : ℤ) → IsPlain (on_as far dx dy a b z n)
 on_plain true dx dy a b z n = ((line_plain dx dy a z, ahead_plain dx dy a z (negsuc 0)), ahead_plain dx dy z b n)
 on_plain false dx dy a b z n = (tt, tt)
 
@@ -119,7 +118,7 @@ module _ (name : ℕ → ℕ) where
   swept-relabel (pos (suc d)) x f = refl
   swept-relabel (negsuc d) x f = refl
 
-  path-relabel : (f : Tree) (r : Ray) (a b : Seat) (bound : ℤ) (live : ℕ → Bool) (i j n : ℕ) → relabel name (clear (and_all f (ray_atoms r a b)) (λ k. on r a b bound (own k)) live i j n) ≡ clear (and_all (relabel name f) (ray_atoms r a b)) (λ k. on r a b bound (own k)) live i j n
+  path-relabel : (f : Tree) (r : Ray) (a b : _) (bound : ℤ) (live : ℕ → Bool) (i j n : ℕ) → relabel name (clear (and_all f (ray_atoms r a b)) (λ k. on r a b bound (own k)) live i j n) ≡ clear (and_all (relabel name f) (ray_atoms r a b)) (λ k. on r a b bound (own k)) live i j n
   path-relabel f r a b bound live i j n =
       clear-relabel (and_all f (ray_atoms r a b)) (λ k. on r a b bound (own k)) live i j n (λ k. on_plain r.far r.dx r.dy a b (own k) bound)
       ∙ ap (λ t. clear t (λ k. on r a b bound (own k)) live i j n) (all-relabel f (ray_atoms r a b) (atoms_plain r.far r.dx r.dy a b))
@@ -172,7 +171,7 @@ swept-positives (pos zero) x f = refl
 swept-positives (pos (suc d)) x f = refl
 swept-positives (negsuc d) x f = refl
 
-path-positives : (f : Tree) (r : Ray) (a b : Seat) (bound : ℤ) (live : ℕ → Bool) (i j n : ℕ) → positives (clear (and_all f (ray_atoms r a b)) (λ k. on r a b bound (own k)) live i j n) ≡ positives f
+path-positives : (f : Tree) (r : Ray) (a b : _) (bound : ℤ) (live : ℕ → Bool) (i j n : ℕ) → positives (clear (and_all f (ray_atoms r a b)) (λ k. on r a b bound (own k)) live i j n) ≡ positives f
 path-positives f r a b bound live i j n =
     clear-positives (and_all f (ray_atoms r a b)) (λ k. on r a b bound (own k)) live i j n ∙ all-positives f (ray_atoms r a b) (atoms_plain r.far r.dx r.dy a b)
 

@@ -10,7 +10,6 @@ use Rattle.game_rules.specs.declared.men.Square.{Square}
 use Rattle.lin_formula.specs.Tree.{Tree}
 use Rattle.lin_formula.specs.SetOf.{SetOf, Nothing, as_set, tables}
 use Rattle.lin_formula.specs.declared.formula.SetId.{SetId}
-use Rattle.rule_formula.specs.declared.seats.Seat.{Seat}
 use Rattle.rule_formula.specs.Placed.{is_live, stock_man}
 use Rattle.rule_formula.specs.Seats.{own}
 use Rattle.rule_formula.specs.Trees.{man_square, point_of, point_to, tracks_of, with_square}
@@ -107,7 +106,7 @@ abbrev PlainIf : Option Tree → Type 0
 PlainIf None = Unit {0}
 PlainIf (Some f) = IsPlain f
 
-with_plain : (o : Option Tree) (s : Seat) (z : Option Square) → PlainIf o → PlainIf (with_square o s z)
+with_plain : (o : Option Tree) (s : _) (z : Option Square) → PlainIf o → PlainIf (with_square o s z)
 with_plain o s None h = h
 with_plain None s (Some z) h = (tt, tt)
 with_plain (Some f) s (Some z) h = ((h, tt), tt)

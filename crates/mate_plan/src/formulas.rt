@@ -1,9 +1,9 @@
 //! The formulas of the unions of a plan.
 ghost use Rattle.std.specs.Prelude.{◌≡◌, ◌∷◌, ◌++◌, ◌==◌, [], if◌then◌else◌, ℕ, All, IfOk, OnOk, map, Contains, Some, filter, length, ◌≤◌};
 ghost use Rattle.std.specs.List.{flat_map};
-ghost use Rattle.game_rules.specs.Game.{HasOneKing};
 ghost use Rattle.lin_formula.specs.TreeOf.{tree_of};
 ghost use Rattle.rule_formula.specs.Fits.{IsGameMask, masks_of, target_of};
+ghost use Rattle.rule_formula.specs.Mean.{IsGame};
 ghost use Rattle.rule_formula.specs.Meaning.{IsBearer, IsOptionOf};
 ghost use Rattle.rule_formula.specs.Trees.{bear_of, image_of, pre_of};
 ghost use Rattle.mate_plan.specs.Formulas as trees;
@@ -28,7 +28,8 @@ fn push_image(
     source: SetId,
     option: Opt,
 ) -> Result<(), AllocError>
-    requires { IsOptionOf p.now.men mask option }
+    requires game { IsGame p.now }
+    requires option { IsOptionOf p.now.men mask option }
     ensures { OnOk result (map tree_of formulas.new.items ≡ map tree_of formulas.old.items ++ (if target_of mask option == to then image_of p.now.men mask option source.0 ∷ [] else [])) }
 {
     if option.target(mask) == to {
@@ -47,13 +48,34 @@ fn push_images(
     source: SetId,
     options: &[Opt],
 ) -> Result<(), AllocError>
-    requires { All (IsOptionOf p.now.men mask) options.now }
+    requires game { IsGame p.now }
+    requires options { All (IsOptionOf p.now.men mask) options.now }
     ensures { OnOk result (map tree_of formulas.new.items ≡ map tree_of formulas.old.items ++ map (λ o. image_of p.now.men mask o source.0) (filter (λ o. target_of mask o == to) options.now)) }
 {
     for option in options {
         push_image(alloc, formulas, p, mask, to, source, *option)?;
     }
     Ok(())
+}
+
+/// Adds where the side's moves lead from the set of a mask into the other mask, if there is a set.
+fn push_mask(
+    alloc: Global,
+    formulas: &mut Vec<Formula>,
+    p: &Position,
+    side: Side,
+    mask: u8,
+    to: u8,
+    source: Option<SetId>,
+) -> Result<(), AllocError>
+    requires { IsGame p.now }
+    ensures { OnOk result (map tree_of formulas.new.items ≡ map tree_of formulas.old.items ++ trees.images_from p.now side to mask source) }
+{
+    let Some(source) = source else {
+        return Ok(());
+    };
+    let all = options(alloc, p, mask, side)?;
+    push_images(alloc, formulas, p, mask, to, source, all.as_slice())
 }
 
 /// Where the side's moves lead from the sets of a level into a mask: mask by mask, and in each option by option.
@@ -65,15 +87,14 @@ pub(crate) fn image_formulas(
     to: u8,
     level: &LevelNames,
 ) -> Result<Vec<Formula>, AllocError>
-    requires { masks.now ≡ masks_of p.now }
+    requires game { IsGame p.now }
+    requires masks { masks.now ≡ masks_of p.now }
     ensures { IfOk result (λ formulas. map tree_of formulas.items ≡ trees.image_trees p.now side to level.now) }
 {
     let mut formulas = Vec::new(alloc);
     for mask in masks {
-        if let Some(source) = name_at(masks, level, *mask) {
-            let all = options(alloc, p, *mask, side)?;
-            push_images(alloc, &mut formulas, p, *mask, to, source, all.as_slice())?;
-        }
+        let source = name_at(masks, level, *mask);
+        push_mask(alloc, &mut formulas, p, side, *mask, to, source)?;
     }
     Ok(formulas)
 }
@@ -107,7 +128,8 @@ fn pre_options(
     targets: &LevelNames,
     options: &[Opt],
 ) -> Result<Vec<Formula>, AllocError>
-    requires { All (IsOptionOf p.now.men mask) options.now }
+    requires game { IsGame p.now }
+    requires options { All (IsOptionOf p.now.men mask) options.now }
     ensures { IfOk result (λ formulas. map tree_of formulas.items ≡ flat_map (λ o. pre_to p.now mask source o (name_of masks.now targets.now (target_of mask o))) options.now) }
 {
     let mut formulas = Vec::new(alloc);
@@ -128,7 +150,8 @@ pub(crate) fn pre_formulas(
     source: Option<SetId>,
     targets: &LevelNames,
 ) -> Result<Vec<Formula>, AllocError>
-    requires { masks.now ≡ masks_of p.now }
+    requires game { IsGame p.now }
+    requires masks { masks.now ≡ masks_of p.now }
     ensures { IfOk result (λ formulas. map tree_of formulas.items ≡ trees.pre_trees p.now side mask source targets.now) }
 {
     let Some(source) = source else {
@@ -164,7 +187,7 @@ pub(crate) fn bear_formulas(
     mask: u8,
     source: Option<SetId>,
 ) -> Result<Vec<Formula>, AllocError>
-    requires kings { (s : Side) → HasOneKing p.now s }
+    requires game { IsGame p.now }
     requires mask { IsGameMask p.now mask }
     ensures { IfOk result (λ formulas. map tree_of formulas.items ≡ trees.bear_trees p.now side mask source) }
 {

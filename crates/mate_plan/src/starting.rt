@@ -1,5 +1,5 @@
 //! Where the plan begins, and where it ends.
-ghost use Rattle.std.specs.Prelude.{ℕ, ◌≡◌, ◌≤◌, ◌==◌, if◌then◌else◌, List, None, IfOk, length, map};
+ghost use Rattle.std.specs.Prelude.{ℕ, ◌≡◌, ◌≤◌, ◌==◌, if◌then◌else◌, List, None, IfOk, IfSome, length, map};
 ghost use Rattle.game_rules.specs.Game.{Sound};
 ghost use Rattle.auto_core.specs.Automaton.{Automaton};
 ghost use Rattle.lin_formula.specs.SetOf.{Nothing};
