@@ -210,3 +210,37 @@ name_all masks names mask found n whole all e =
     ending : (l : List ℕ) → name_from found l [] mask ≡ whole → found ≡ whole
     ending [] e = e
     ending (m ∷ l) e = e
+
+-- a table that has grown is no shorter
+pub length-grows : (old new : List Automaton) → Grows old new → length old ≤ length new
+length-grows old new grows =
+    elim (cases_lt (length new) (length old)) [
+      | inl less ↦
+          let (a, found) = there old (length new) less in
+          let within : length new < length new = get-within new (length new) a (grows (length new) a found) in
+          absurd (omega (arith, within))
+      | inr most ↦ most
+    ]
+
+-- the name of a set that is kept
+pub on_from_kept : (tracks : List Var) (sets : List Automaton) (set : Option Automaton) (id : Option SetId) → IfSome set (IsSetOn tracks) → set_at sets id ≡ as_set set → IfSome id (λ k. k.0 < length sets) → IsNameOn tracks sets id
+on_from_kept tracks sets set id on is within = on_from_table tracks sets id (as_set set) (set, refl, on) is within
+
+-- a function of equal levels
+pub at_two : {A : Type 0} (f : Level → Level → A) (a b c d : Level) → a ≡ b → c ≡ d → f a c ≡ f b d
+at_two f a b c d e h = λ i. f (e i) (h i)
+
+pub at_three : {A : Type 0} (f : Level → Level → Level → A) (a b c d k l : Level) → a ≡ b → c ≡ d → k ≡ l → f a c k ≡ f b d l
+at_three f a b c d k l e h j = λ i. f (e i) (h i) (j i)
+
+-- the name that is found for a mask, among masks that are the position's
+pub set_is_found : (sets : List Automaton) (masks all : List ℕ) (names : Names) (mask : ℕ) (found : Option SetId) → masks ≡ all → found ≡ name_of masks names mask → set_at sets found ≡ level_of sets all names mask
+set_is_found sets masks all names mask found same is =
+    let At : List ℕ → Type 0 = λ ms. found ≡ name_of ms names mask in
+    ap (set_at sets) (subst At same is) ∙ sym (set_of_name sets all names mask)
+
+pub name_is_found : (stock : List Man) (sets : List Automaton) (masks all : List ℕ) (names : Names) (mask : ℕ) (found : Option SetId) → masks ≡ all → found ≡ name_of masks names mask → AreNames stock sets all names → IsNameOn (tracks_of stock (is_live mask)) sets found
+name_is_found stock sets masks all names mask found same is are =
+    let At : List ℕ → Type 0 = λ ms. found ≡ name_of ms names mask in
+    let On : Option SetId → Type 0 = λ id. IsNameOn (tracks_of stock (is_live mask)) sets id in
+    subst On (sym (subst At same is)) (name_is_on stock sets all names mask are)

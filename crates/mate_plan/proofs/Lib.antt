@@ -10,3 +10,5 @@ pub mod Pushes
 pub mod LostParts
 pub mod Narrowings
 pub mod LostLevels
+pub mod UnionAnswers
+pub mod SafeAnswers

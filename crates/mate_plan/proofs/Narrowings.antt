@@ -1,5 +1,5 @@
 -- A set that is made narrower by one bearing after the other.
-use Rattle.std.proofs.Common.{◌≡◌, ℕ, ◌+◌, ◌<◌, List, [], ◌∷◌, length, drop, get_or, subst, sym}
+use Rattle.std.proofs.Common.{◌≡◌, ℕ, ◌+◌, ◌<◌, ◌≤◌, List, [], ◌∷◌, length, drop, get_or, subst, sym}
 use Rattle.std.proofs.lemmas.List.{drop_all}
 use Rattle.lin_formula.specs.SetOf.{SetOf, Nothing}
 use Rattle.rule_formula.specs.declared.opt.Bearing.{Bearing}
@@ -40,3 +40,9 @@ module _ (rules : Rules) (ply mask budget : ℕ) (whole : Program SetOf) (bearin
 pub Ends-lacking : (part : PartName) (at budget : ℕ) (item : Item) → IsLacking item → Ends (make part at item) budget (Nothing, at)
 Ends-lacking part at budget item lacks =
     Ends-ask_yes (Empty (map item.sets (positives item.formula))) (Give (Nothing, at)) (compute part at item) budget (Nothing, at) lacks (Ends-give budget (Nothing, at))
+
+-- no more bearings
+pub narrow_ends : (rules : Rules) (ply mask budget : ℕ) (whole : Program SetOf) (bearings : List Bearing) (done : ℕ) (so_far : Made) → LeadsTo (narrow rules ply mask (drop done bearings) so_far) whole budget → length bearings ≤ done → Ends whole budget so_far.0
+narrow_ends rules ply mask budget whole bearings done so_far leads all =
+    let Left : List Bearing → Type 0 = λ l. LeadsTo (narrow rules ply mask l so_far) whole budget in
+    (subst Left (drop_all done bearings all) leads).ends so_far.0 (Ends-give budget so_far.0)

@@ -27,7 +27,7 @@ module _ {P : Type 0} (part : P) (budget : ℕ) where
               Stops-bind_later (unite tracks part (Nothing, 1) js) (λ made. Give made.0) budget made name (Ends-thinned part budget tracks is js (Nothing, 1) made thin first) last
         ]
 
-    Error-union : (e : PlanError P) → IsPlanError (union tracks part is) budget e → IsPlanError (union tracks part js) budget e
+    pub Error-union : (e : PlanError P) → IsPlanError (union tracks part is) budget e → IsPlanError (union tracks part js) budget e
     Error-union (plan_error.Over name) h = Stops-union name h
     Error-union plan_error.Memory h = tt
 
@@ -37,7 +37,7 @@ module _ {P : Type 0} (part : P) (budget : ℕ) where
     Answers-union view (Err e) h = Error-union e h
 
   module _ (at : ℕ) (i j : Item) (same : SameItem i j) where
-    Error-make : (e : PlanError P) → IsPlanError (make part at i) budget e → IsPlanError (make part at j) budget e
+    pub Error-make : (e : PlanError P) → IsPlanError (make part at i) budget e → IsPlanError (make part at j) budget e
     Error-make (plan_error.Over name) h = Stops-make_same part budget at i j name same h
     Error-make plan_error.Memory h = tt
 

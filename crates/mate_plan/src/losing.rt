@@ -260,7 +260,7 @@ fn lost_name(
 }
 
 /// The names of what is kept, where it is known what is reached at the next ply and not kept there.
-fn kept_level(
+fn lost_masks(
     alloc: Global,
     memo: &mut Memo,
     sets: &mut Sets,
@@ -322,22 +322,23 @@ pub fn lost_level(
     ensures budget { memo.new.budget ≡ memo.old.budget }
 {
     let all = masks(alloc, p)?;
+    let masks = all.as_slice();
     let rests = rest_level(
         alloc,
         sets,
         p,
-        all.as_slice(),
+        masks,
         ply + 1,
         next_reach,
         next_kept,
         memo.budget(),
     )?;
-    kept_level(
+    lost_masks(
         alloc,
         memo,
         sets,
         p,
-        all.as_slice(),
+        masks,
         side,
         ply,
         reach,

@@ -73,6 +73,38 @@ fn reach_name(
     Ok(sets.keep(set)?)
 }
 
+/// What is reached at a ply, mask by mask.
+fn reach_masks(
+    alloc: Global,
+    memo: &mut Memo,
+    sets: &mut Sets,
+    p: &Position,
+    masks: &[u8],
+    side: Side,
+    ply: u8,
+    level: &LevelNames,
+) -> Result<LevelNames, PlanError<PartName>>
+    requires sound { Sound p.now }
+    requires men { length p.now.men ≤ 8 }
+    requires masks { masks.now ≡ masks_of p.now }
+    requires level { AreNames p.now.men sets.old (masks_of p.now) level.now }
+    ensures answers { Answers (plan.reach_level (rules_of p.now) side ply (level_of sets.old (masks_of p.now) level.now)) memo.old.budget (λ names. level_of sets.new (masks_of p.now) names) result }
+    ensures names { IfOk result (AreNames p.now.men sets.new (masks_of p.now)) }
+    ensures grows { Grows sets.old sets.new }
+    ensures budget { memo.new.budget ≡ memo.old.budget }
+{
+    let mut names = LevelNames::new(alloc);
+    for mask in masks {
+        let stage = Stage {
+            side,
+            ply,
+            mask: *mask,
+        };
+        names.push(reach_name(alloc, memo, sets, p, masks, stage, level)?)?;
+    }
+    Ok(names)
+}
+
 /// What is reached at a ply, from what is reached at the ply before it, where the side moves. Step names have this ply.
 pub fn reach_level(
     alloc: Global,
@@ -92,14 +124,5 @@ pub fn reach_level(
     ensures budget { memo.new.budget ≡ memo.old.budget }
 {
     let all = masks(alloc, p)?;
-    let mut names = LevelNames::new(alloc);
-    for mask in all.as_slice() {
-        let stage = Stage {
-            side,
-            ply,
-            mask: *mask,
-        };
-        names.push(reach_name(alloc, memo, sets, p, all.as_slice(), stage, level)?)?;
-    }
-    Ok(names)
+    reach_masks(alloc, memo, sets, p, all.as_slice(), side, ply, level)
 }

@@ -33,8 +33,9 @@ fn level_at(
     ensures { IfOk result (λ names. names ≡ map (λ m. if m == mask then name else None) (masks_of p.now)) }
 {
     let all = masks(alloc, p)?;
+    let masks = all.as_slice();
     let mut names = LevelNames::new(alloc);
-    for other in all.as_slice() {
+    for other in masks {
         names.push(if *other == mask { name } else { None })?;
     }
     Ok(names)

@@ -60,6 +60,49 @@ fn win_name(
     Ok(sets.keep(set)?)
 }
 
+/// What is kept at a ply of the winner, mask by mask.
+fn win_masks(
+    alloc: Global,
+    memo: &mut Memo,
+    sets: &mut Sets,
+    p: &Position,
+    masks: &[u8],
+    side: Side,
+    ply: u8,
+    reach: &LevelNames,
+    next_kept: &LevelNames,
+) -> Result<LevelNames, PlanError<PartName>>
+    requires sound { Sound p.now }
+    requires men { length p.now.men ≤ 8 }
+    requires masks { masks.now ≡ masks_of p.now }
+    requires reach { AreNames p.now.men sets.old (masks_of p.now) reach.now }
+    requires next_kept { AreNames p.now.men sets.old (masks_of p.now) next_kept.now }
+    ensures answers { Answers (plan.win_level (rules_of p.now) side ply (level_of sets.old (masks_of p.now) reach.now) (level_of sets.old (masks_of p.now) next_kept.now)) memo.old.budget (λ names. level_of sets.new (masks_of p.now) names) result }
+    ensures names { IfOk result (AreNames p.now.men sets.new (masks_of p.now)) }
+    ensures grows { Grows sets.old sets.new }
+    ensures budget { memo.new.budget ≡ memo.old.budget }
+{
+    let mut names = LevelNames::new(alloc);
+    for mask in masks {
+        let stage = Stage {
+            side,
+            ply,
+            mask: *mask,
+        };
+        names.push(win_name(
+            alloc,
+            memo,
+            sets,
+            p,
+            masks,
+            stage,
+            reach,
+            next_kept,
+        )?)?;
+    }
+    Ok(names)
+}
+
 /// What is kept at a ply at which the winner, the side, is to move, from what is reached at the ply and what is kept at the next one.
 pub fn win_level(
     alloc: Global,
@@ -81,23 +124,15 @@ pub fn win_level(
     ensures budget { memo.new.budget ≡ memo.old.budget }
 {
     let all = masks(alloc, p)?;
-    let mut names = LevelNames::new(alloc);
-    for mask in all.as_slice() {
-        let stage = Stage {
-            side,
-            ply,
-            mask: *mask,
-        };
-        names.push(win_name(
-            alloc,
-            memo,
-            sets,
-            p,
-            all.as_slice(),
-            stage,
-            reach,
-            next_kept,
-        )?)?;
-    }
-    Ok(names)
+    win_masks(
+        alloc,
+        memo,
+        sets,
+        p,
+        all.as_slice(),
+        side,
+        ply,
+        reach,
+        next_kept,
+    )
 }
