@@ -1,5 +1,5 @@
 -- Formulas that may be compiled over some sets.
-use Rattle.std.specs.Prelude.{ℕ, ◌<◌, List, length, All, ℤ}
+use Rattle.std.specs.Prelude.{◌<◌, List, length, All, ℤ}
 use Rattle.track_word.specs.declared.tracks.Var.{Var}
 use Rattle.track_word.specs.Atom.{IsAtom}
 use Rattle.auto_core.specs.Automaton.{Automaton}

@@ -4,6 +4,8 @@
 #![tactic(auto)]
 
 #[cfg(test)]
+mod arithmetic;
+#[cfg(test)]
 mod boxes;
 #[cfg(test)]
 mod compiled;
@@ -11,6 +13,8 @@ mod compiled;
 mod half_lines;
 #[cfg(test)]
 mod kept;
+#[cfg(test)]
+mod remainders;
 #[cfg(test)]
 mod small;
 #[cfg(test)]
