@@ -118,7 +118,8 @@ fn width(tracks: &[Var]) -> usize
 
 /// The automaton of a table of at most ten tracks.
 pub fn automaton(rt: &impl Abort, alloc: Global, table: &Table) -> Result<Auto, AllocError>
-    ensures { IfOk result (λ a. a.tracks ≡ table.now.tracks.items) }
+    ensures tracks { IfOk result (λ a. a.tracks ≡ table.now.tracks.items) }
+    ensures few { IfOk result (λ a. length a.tracks ≤ 10) }
 {
     let tracks = table.tracks.clone()?;
     assert!(rt; ascend(tracks.as_slice()));
