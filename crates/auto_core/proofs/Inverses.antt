@@ -1,5 +1,5 @@
 -- Where the places are different, each letter is read from some letter over the tracks.
-use Rattle.std.proofs.Common.{◌≡◌, ◌≢◌, ℕ, zero, suc, ◌+◌, ◌*◌, ◌/◌, ◌^◌, ◌<◌, Bool, true, false, List, [], ◌∷◌, length, map, All, AllPairs, get_or, nat_eq, arith, refl, sym, ap, ◌∙◌, subst}
+use Rattle.std.proofs.Common.{◌≡◌, ◌≢◌, ℕ, suc, ◌/◌, ◌^◌, ◌<◌, true, false, List, [], ◌∷◌, length, map, All, AllPairs, get_or, nat_eq, arith, refl, sym, ap, ◌∙◌, subst}
 use Rattle.std.specs.List.{range_with_len, position_or_len}
 use Rattle.std.specs.Int.{bit_at}
 use Rattle.std.proofs.lemmas.Grind.{common_steps}
@@ -48,8 +48,7 @@ index_of-place places i different within =
 pub covered : (places : List ℕ) (tracks letter : ℕ) → AllPairs (λ p q. p ≢ q) places → All (λ p. p < tracks) places → letter < 2 ^ length places → (from : ℕ) × (from < 2 ^ tracks) × (relabelled places from ≡ letter)
 covered places tracks letter different below small =
     let inverse = map (index_of places) (range_with_len 0 tracks) in
-    let size = length-map-range_with_len (index_of places) 0 tracks in
-    (
+    let size = length-map-range_with_len (index_of places) 0 tracks in (
       relabelled inverse letter,
       subst (λ n. relabelled inverse letter < 2 ^ n) size (relabelled-below inverse letter),
       relabelled-is places (relabelled inverse letter) letter small (λ i h.
