@@ -14,3 +14,4 @@ pub mod Linears
 pub mod Members
 pub mod Inserted
 pub mod Renamed
+pub mod Inverses

@@ -12,11 +12,12 @@ use Rattle.letter_diagram.specs.Relabelled.{relabelled, IsRelabelled}
 use Rattle.letter_diagram.specs.Listed.{EachAnswers}
 use Rattle.auto_core.specs.Automaton.{Automaton, width, first_state, next_state, run, state_of, is_final, Accepts}
 use Rattle.auto_core.specs.Integers.{DecidesIntegers}
+use Rattle.auto_core.specs.Reduced.{IsReduced}
 use Rattle.auto_core.specs.Rows.{AreRows, IsOverNodes}
 use Rattle.auto_core.proofs.RowLemmas.{get_or-row_of, get_or-rows_of}
 use Rattle.auto_core.proofs.Members.{IsWord-repeat}
 
-relabelled-below : (places : List ℕ) (letter : ℕ) → relabelled places letter < 2 ^ length places
+pub relabelled-below : (places : List ℕ) (letter : ℕ) → relabelled places letter < 2 ^ length places
 relabelled-below [] letter = omega arith
 relabelled-below (p ∷ places) letter =
     let small = bit_at-lt letter p in
@@ -145,6 +146,44 @@ module _ (a new : Automaton) (places : List ℕ) (over : IsOverNodes a) (made : 
   state-is (l ∷ ls) all =
       run-is ls (first_state new l) (first_state a (relabelled places l)) (first-is l (all 0 0 (omega arith)))
       (rw (first_state-over a over (relabelled places l) (inside l)) (over.nodes.first_within (relabelled places l))) (λ i d h. all (suc i) d (omega (arith, h)))
+
+  all-cons : (letter : ℕ) (letters : List ℕ) → letter < width new → All (λ l. l < width new) letters → All (λ l. l < width new) (letter ∷ letters)
+  all-cons letter letters here all zero d h = here
+  all-cons letter letters here all (suc i) d h = all i d (omega (arith, h))
+
+  module _ (covers : (letter : ℕ) → letter < width a → (from : ℕ) × (from < width new) × (relabelled places from ≡ letter)) where
+    read_from : (letters : List ℕ) → All (λ l. l < width a) letters → (word : List ℕ) × All (λ l. l < width new) word × (map (relabelled places) word ≡ letters)
+    read_from [] all = ([], λ i d h. absurd (omega (arith, h)), refl)
+    read_from (l ∷ ls) all =
+        let one = covers l (all 0 0 (omega arith)) in
+        let rest = read_from ls (λ i d h. all (suc i) d (omega (arith, h))) in
+        (one.0 ∷ rest.0, all-cons one.0 rest.0 one.1 rest.1, λ i. one.2 i ∷ rest.2 i)
+
+    some_letter : (word letters : List ℕ) → map (relabelled places) word ≡ letters → letters ≢ [] → word ≢ []
+    some_letter word letters is some none = some (sym is ∙ ap (map (relabelled places)) none)
+
+    -- each letter is read from some letter, so no more states are alike and no fewer are reached
+    pub IsReduced-renamed : IsReduced a → IsReduced new
+    IsReduced-renamed reduced =
+        let size = ap length same in
+        record {
+          reached = λ state h.
+              let r = reduced.reached state (omega (arith, h, size)) in
+              let w = read_from r.word r.is_word.letters in
+              record {
+                word = w.0;
+                is_word = record { nonempty = some_letter w.0 r.word w.2 r.is_word.nonempty; letters = w.1 };
+                leads = state-is w.0 w.1 ∙ ap (state_of a) w.2 ∙ r.leads;
+              };
+          apart = λ j k jw kw ne.
+              let jh : j < length a.accept = omega (arith, jw, size) in
+              let kh : k < length a.accept = omega (arith, kw, size) in
+              let t = reduced.apart j k jh kh ne in
+              let w = read_from t.letters t.are_letters in
+              let final = λ (s : ℕ) (h : s < length a.accept).
+              (let e : is_final new (run new s w.0) ≡ is_final a (run a s t.letters) = (λ i. slice_index_or (same i) (run-is w.0 s s refl h w.1 i) false) ∙ ap (λ l. is_final a (run a s l)) w.2 in e) in
+              record { letters = w.0; are_letters = w.1; differ = λ e. t.differ (sym (final j jh) ∙ e ∙ final k kh) };
+        }
 
   -- a word is accepted just if the word of the bits at the places is
   pub words-renamed : (word : List ℕ) → IsWord (length new.tracks) word → Accepts new word ↔ Accepts a (map (relabelled places) word)

@@ -1,11 +1,12 @@
 //! Automata whose tracks take their bits from other variables.
-ghost use Rattle.std.specs.Prelude.{◌≡◌, ◌↔◌, ◌≤◌, ◌<◌, ◌^◌, [], ℕ, List, length, map, All, IfOk, OnOk, nat_le};
+ghost use Rattle.std.specs.Prelude.{◌≡◌, ◌≢◌, ◌↔◌, ◌≤◌, ◌<◌, ◌^◌, [], ℕ, List, length, map, All, AllPairs, IfOk, OnOk, nat_le};
 ghost use Rattle.std.specs.List.{position_or_len};
 ghost use Rattle.track_word.specs.Word.{IsWord};
 ghost use Rattle.track_word.specs.Tracks.{with_vars, with_var, place, part_of, IsAscending};
 ghost use Rattle.letter_diagram.specs.Relabelled.{relabelled};
 ghost use Rattle.auto_core.specs.Automaton.{IsAutomaton, Accepts};
 ghost use Rattle.auto_core.specs.Integers.{DecidesIntegers};
+ghost use Rattle.auto_core.specs.Reduced.{IsReduced};
 
 use crate::auto::Auto;
 use std::alloc::{AllocError, Global};
@@ -13,13 +14,15 @@ use track_word::Var;
 
 impl Auto {
     /// The automaton over the variables that accepts a word where this one accepts what its tracks read of it:
-    /// the t-th track takes its bit from `vars[t]`. Two tracks may be given the same variable.
+    /// the t-th track takes its bit from `vars[t]`. Two tracks may be given the same variable;
+    /// where none are, nothing is left to reduce.
     pub fn rename(&self, alloc: Global, vars: &[Var]) -> Result<Auto, AllocError>
         requires { length vars.now ≡ length self.now.tracks }
         ensures tracks { IfOk result (λ r. r.tracks ≡ with_vars vars.now []) }
         ensures words { IfOk result (λ r. (word : List ℕ) → IsWord (length r.tracks) word → Accepts r word ↔ Accepts self.now (part_of r.tracks vars.now word)) }
         ensures accept { IfOk result (λ r. r.accept ≡ self.now.accept) }
         ensures integers { DecidesIntegers self.now → IfOk result (λ r. DecidesIntegers r) }
+        ensures reduced { IsReduced self.now → AllPairs (λ x y. x ≢ y) vars.now → IfOk result (λ r. IsReduced r) }
         ensures valid { IfOk result (λ r. IsAutomaton r) }
     {
         let _ = self.tracks();
@@ -44,6 +47,7 @@ impl Auto {
         ensures words { IfOk result (λ r. (word : List ℕ) → IsWord (length tracks.items) word → Accepts r word ↔ Accepts self.now (map (relabelled places.now) word)) }
         ensures accept { IfOk result (λ r. r.accept ≡ self.now.accept) }
         ensures integers { DecidesIntegers self.now → IfOk result (λ r. DecidesIntegers r) }
+        ensures reduced { IsReduced self.now → AllPairs (λ x y. x ≢ y) places.now → IfOk result (λ r. IsReduced r) }
         ensures valid { IfOk result (λ r. IsAutomaton r) }
     {
         let _ = self.tracks();

@@ -4,6 +4,7 @@ use Rattle.std.specs.List.{All, slice_get}
 use Rattle.std.proofs.lemmas.List.Elements.{All-cons, All-tail}
 use Rattle.std.proofs.lemmas.Option.{same_Some, slice_get_past}
 use Rattle.auto_core.specs.Integers.{DecidesIntegers}
+use Rattle.auto_core.specs.Reduced.{IsReduced}
 use Rattle.track_word.specs.declared.tracks.Var.{Var}
 use Rattle.track_word.specs.Tracks.{with_vars}
 use Rattle.auto_core.specs.Automaton.{Automaton}
@@ -123,11 +124,11 @@ pub room_right_or : (f g : Tree) (before done : ℕ) → done ≡ before + lengt
 room_right_or f g before done is h = omega (arith, length-append (steps f ++ steps g) (Or f g ∷ []), length-append (steps f) (steps g))
 
 module _ (sets : List Automaton) (number : ℕ) (vars : List Var) (named : IsSetFor sets number (length vars)) where
-  -- the set that is named has a track for each variable, and decides a set of integers
-  pub set_fits : (a : Automaton) → slice_get sets number ≡ Some a → (length vars ≡ length a.tracks) × DecidesIntegers a
+  -- the set that is named has a track for each variable, decides a set of integers, and is reduced
+  pub set_fits : (a : Automaton) → slice_get sets number ≡ Some a → (length vars ≡ length a.tracks) × DecidesIntegers a × IsReduced a
   set_fits a there =
       let is : named.set ≡ a = same_Some named.set a (sym named.is_there ∙ there) in
-      (sym named.arity ∙ ap (λ b. length b.tracks) is, subst DecidesIntegers is named.integers)
+      (sym named.arity ∙ ap (λ b. length b.tracks) is, subst DecidesIntegers is named.integers, subst IsReduced is named.reduced)
 
   pub set_there : length sets ≤ number → ⊥
   set_there past =

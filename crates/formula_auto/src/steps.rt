@@ -1,5 +1,5 @@
 //! One node of a formula each: the automaton of it, with no state too many, from the automata of its parts.
-ghost use Rattle.std.specs.Prelude.{◌≡◌, ◌↔◌, ◌⊎◌, ◌≤◌, ℕ, List, length, IfOk, IfErr, OnOk};
+ghost use Rattle.std.specs.Prelude.{◌≡◌, ◌≢◌, ◌↔◌, ◌⊎◌, ◌≤◌, ℕ, List, length, AllPairs, IsTrue, IfOk, IfErr, OnOk};
 ghost use Rattle.track_word.specs.Tracks.{with_vars};
 ghost use Rattle.track_word.specs.Atom.{IsAtom};
 ghost use Rattle.auto_core.specs.Automaton.{Accepts};
@@ -44,15 +44,35 @@ pub fn value_of(alloc: Global, var: Var, value: i64) -> Result<Auto, AllocError>
     reduce(alloc, &a)
 }
 
+/// Where no variable stands in two places, the set is renamed and nothing else.
 pub fn membership(alloc: Global, set: &Auto, vars: &[Var]) -> Result<Auto, AllocError>
     requires size { length vars.now ≡ length set.now.tracks }
     requires integers { DecidesIntegers set.now }
+    requires reduced { IsReduced set.now }
     ensures reduced { IfOk result IsReduced }
     ensures decides { IfOk result (λ a. (e : ℕ → SetOf) (number : ℕ) → e number ≡ set_of.Table set.now → Decides a (tree.Among number vars.now) (members e)) }
 {
     let _ = set.tracks();
     let a = set.rename(alloc, vars)?;
+    if are_distinct(vars) {
+        return Ok(a);
+    }
     reduce(alloc, &a)
+}
+
+/// Whether no variable stands in two places.
+fn are_distinct(vars: &[Var]) -> bool
+    ensures { IsTrue result ↔ AllPairs (λ x y. x ≢ y) vars.now }
+{
+    match vars.split_first() {
+        None => true,
+        Some((var, rest)) => {
+            if rest.contains(var) {
+                return false;
+            }
+            are_distinct(rest)
+        }
+    }
 }
 
 pub fn conjunction(

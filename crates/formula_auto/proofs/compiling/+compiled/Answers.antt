@@ -20,6 +20,11 @@ membership-requires-clause-integers t c =
     let ready = rw c.in-Among.is at c.requires.ready in
     (set_fits c.args.sets.now c.in-Among.set.0 c.in-Among.vars ready c.in-Some.a.now c.in-Some.ensures).1
 
+pub membership-requires-clause-reduced : goal.membership-requires-clause-reduced
+membership-requires-clause-reduced t c =
+    let ready = rw c.in-Among.is at c.requires.ready in
+    (set_fits c.args.sets.now c.in-Among.set.0 c.in-Among.vars ready c.in-Some.a.now c.in-Some.ensures).2
+
 pub unreachable-requires : goal.unreachable-requires
 unreachable-requires t c =
     let ready = rw c.in-Among.is at c.requires.ready in

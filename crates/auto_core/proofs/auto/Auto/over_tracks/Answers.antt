@@ -1,6 +1,7 @@
-use Rattle.std.proofs.Common.{rules, ◌≡◌, ◌∙◌, length, refl, sym, subst}
+use Rattle.std.proofs.Common.{rules, ◌≡◌, ◌<◌, ◌^◌, ◌∙◌, All, length, refl, sym, subst}
 use Rattle.track_word.specs.Word.{IsWord}
-use Rattle.auto_core.proofs.Renamed.{AreRenamed, AreRenamed-made, AreRows-renamed, words-renamed, DecidesIntegers-renamed}
+use Rattle.auto_core.proofs.Renamed.{AreRenamed, AreRenamed-made, AreRows-renamed, words-renamed, DecidesIntegers-renamed, IsReduced-renamed}
+use Rattle.auto_core.proofs.Inverses.{covered}
 use Rattle.auto_core.proofs.auto.Auto.over_tracks.Goals as goal
 
 made : (c : goal.In_ok-accept) → AreRenamed c.args.self.now c.relabel.new.self c.args.places.now c.in_ok-first.first c.in_ok-rows.rows.items
@@ -30,3 +31,10 @@ returns-clause-words c = λ word is.
 
 pub returns-clause-integers : goal.returns-clause-integers
 returns-clause-integers c = DecidesIntegers-renamed _ _ _ c.diagrams.ensures.nodes c.diagrams-4.ensures.nodes c.requires.count (accept-end c) (made-end c)
+
+pub returns-clause-reduced : goal.returns-clause-reduced
+returns-clause-reduced c = λ reduced different.
+    IsReduced-renamed _ _ _ c.diagrams.ensures.nodes c.diagrams-4.ensures.nodes c.requires.count (accept-end c) (made-end c)
+    (λ letter small. covered c.args.places.now (length c.from_diagrams-renamed.result.tracks) letter different
+    (subst (λ t. All (λ p. p < length t) c.args.places.now) (sym c.from_diagrams-renamed.ensures.tracks) c.requires.places) (subst (λ n. letter < 2 ^ n) (sym c.requires.count) small))
+    reduced
