@@ -12,3 +12,5 @@ pub mod Narrowings
 pub mod LostLevels
 pub mod UnionAnswers
 pub mod SafeAnswers
+pub mod StartAnswers
+pub mod Remainders
