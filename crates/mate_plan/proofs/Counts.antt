@@ -1,5 +1,6 @@
 -- How many formulas a union has.
-use Rattle.std.proofs.Common.{◌≡◌, ℕ, zero, suc, ◌+◌, ◌*◌, ◌^◌, ◌<◌, ◌≤◌, Bool, true, false, List, [], ◌∷◌, ◌++◌, length, map, Option, Some, None, refl, sym, ap, ◌∙◌, subst, arith, length-append, length-map}
+use Rattle.std.proofs.Common.{◌≡◌, ℕ, zero, suc, ◌+◌, ◌*◌, ◌^◌, ◌<◌, ◌≤◌, Bool, true, false, List, [], ◌∷◌, ◌++◌, length, map, Option, Some, None, refl, sym, ap, ◌∙◌, subst, arith, length-append}
+use Rattle.std.proofs.lemmas.List.{length-map}
 use Rattle.std.specs.Prelude.{filter, if◌then◌else◌, ◌&&◌, ◌==◌}
 use Rattle.std.specs.List.{flat_map}
 use Rattle.std.proofs.Math.Pow.{pow_mono}
@@ -40,13 +41,13 @@ masks_few p few =
     let high : 2 ^ length p.men ≤ 2 ^ 8 = pow_mono few in
     omega (arith, count, low, high)
 
+one_few : {A : Type 0} (b : Bool) (x : A) (xs : List A) (n : ℕ) → length xs ≤ n → length (if b then x ∷ xs else xs) ≤ suc n
+one_few true x xs n h = omega (arith, h)
+one_few false x xs n h = omega (arith, h)
+
 filter_few : {A : Type 0} (c : A → Bool) (xs : List A) → length (filter c xs) ≤ length xs
 filter_few c [] = omega arith
-filter_few c (x ∷ xs) = cases (c x)
-  where
-    cases : (b : Bool) → length (if b then x ∷ filter c xs else filter c xs) ≤ suc (length xs)
-    cases true = let rest = filter_few c xs in omega (arith, rest)
-    cases false = let rest = filter_few c xs in omega (arith, rest)
+filter_few c (x ∷ xs) = one_few (c x) x (filter c xs) (length xs) (filter_few c xs)
 
 flat_few : {A B : Type 0} (f : A → List B) (n : ℕ) (xs : List A) → ((x : A) → length (f x) ≤ n) → length (flat_map f xs) ≤ length xs * n
 flat_few f n [] h = omega arith

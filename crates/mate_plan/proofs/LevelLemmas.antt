@@ -125,7 +125,7 @@ from_push sets level (m ∷ masks) (n ∷ names) mask rest id e = from_push sets
 pub level_push : (sets : List Automaton) (masks : List ℕ) (names : Names) (mask : ℕ) (rest : List ℕ) (id : Option SetId) → drop (length names) masks ≡ mask ∷ rest → level_of sets masks (names ++ id ∷ []) ≡ level_with (level_of sets masks names) mask (set_at sets id)
 level_push sets masks names mask rest id e = from_push sets no_sets masks names mask rest id e
 
-have_push : (stock : List Man) (sets : List Automaton) (masks : List ℕ) (names : Names) (mask : ℕ) (rest : List ℕ) (id : Option SetId) → drop (length names) masks ≡ mask ∷ rest → HaveNames stock sets masks names → IsNameOn (tracks_of stock (is_live mask)) sets id → HaveNames stock sets masks (names ++ id ∷ [])
+pub have_push : (stock : List Man) (sets : List Automaton) (masks : List ℕ) (names : Names) (mask : ℕ) (rest : List ℕ) (id : Option SetId) → drop (length names) masks ≡ mask ∷ rest → HaveNames stock sets masks names → IsNameOn (tracks_of stock (is_live mask)) sets id → HaveNames stock sets masks (names ++ id ∷ [])
 have_push stock sets [] [] mask rest id e have on = absurd (cc)
 have_push stock sets [] (n ∷ names) mask rest id e have on = have
 have_push stock sets (m ∷ masks) [] mask rest id e have on =

@@ -1,5 +1,5 @@
 -- The level of the position alone, and the level without sets.
-use Rattle.std.proofs.Common.{◌≡◌, ◌⊎◌, ℕ, zero, suc, ◌==◌, if◌then◌else◌, Bool, true, false, List, [], ◌∷◌, length, map, Option, Some, None, slice_get, refl, sym, ap, ◌∙◌, subst, inl, inr, arith, ≤_refl}
+use Rattle.std.proofs.Common.{◌≡◌, ◌⊎◌, ℕ, zero, suc, ◌==◌, if◌then◌else◌, Bool, true, false, List, [], ◌∷◌, length, map, Option, Some, None, slice_get, refl, sym, ap, ◌∙◌, subst, inl, inr, arith}
 use Rattle.std.specs.Prelude.{Contains}
 use Rattle.std.proofs.lemmas.Bool.{eqb-true, eq-eqb}
 use Rattle.std.proofs.lemmas.List.Elements.{Contains-append_cases, Contains-push_cases}
@@ -121,7 +121,7 @@ point_plain men f e = subst PlainIf e (point_to_plain men (length men))
 -- it says the same whatever its symbols stand for
 pub point_same : (men : List Man) (sets : List Automaton) (f : Tree) → point_of men ≡ Some f → SameItem (item_of sets f) (record { formula = f; sets = λ _. Nothing })
 point_same men sets f e =
-    let past : tables sets (length sets) ≡ Nothing = ap as_set (slice_get_past sets (length sets) (≤_refl (length sets))) in
+    let past : tables sets (length sets) ≡ Nothing = ap as_set (slice_get_past sets (length sets) (omega arith)) in
     let Is : Tree → Type 0 = λ t. SameItem (item_of sets t) (record { formula = f; sets = λ _. tables sets (length sets) }) in
     let Over : SetOf → Type 0 = λ s. SameItem (item_of sets f) (record { formula = f; sets = λ _. s }) in
     subst Over past (subst Is (plain-relabel (λ _. length sets) f (point_plain men f e)) (SameItem-relabel (λ _. length sets) (tables sets) f))

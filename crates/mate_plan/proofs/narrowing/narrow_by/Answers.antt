@@ -31,7 +31,7 @@ make-requires-clause-few c =
 pub truncate-requires : goal.truncate-requires
 truncate-requires c =
     let more = length-grows c.args.sets.now c.put.new.self c.in_ok-id.ensures.grows in
-    omega (arith, more, c.count.ensures)
+    omega (arith, more, c.count-count.ensures)
 
 pub returns-clause-answers : goal.returns-clause-answers
 returns-clause-answers c =
@@ -48,7 +48,7 @@ returns-clause-set c =
     rw item.over at c.in_ok-made.ensures.set
 
 pub returns-clause-grows : goal.returns-clause-grows
-returns-clause-grows c = rw c.truncate.ensures (grows_cut c.args.sets.now c.put.new.self c.count.result c.count.ensures c.in_ok-id.ensures.grows)
+returns-clause-grows c = rw c.truncate.ensures (grows_cut c.args.sets.now c.put.new.self c.count-count.result c.count-count.ensures c.in_ok-id.ensures.grows)
 
 pub returns-in_err-made-clause-answers : goal.returns-in_err-made-clause-answers
 returns-in_err-made-clause-answers c =
