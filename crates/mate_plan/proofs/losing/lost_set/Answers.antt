@@ -8,7 +8,7 @@ use Rattle.rule_formula.specs.Mean.{mask_tracks}
 use Rattle.set_plan.specs.Sets.{IsSetOn, lent, set_at}
 use Rattle.mate_plan.specs.Levels.{level_of}
 use Rattle.mate_plan.specs.PlanOf.{rules_of}
-use Rattle.mate_plan.proofs.LevelLemmas.{names-grow}
+use Rattle.mate_plan.proofs.LevelLemmas.{grows-grows, names-grow}
 use Rattle.mate_plan.proofs.LostParts.{calm_error, check_error, last_answers, last_here, lent-copied, on-copied, reply_error, reply_here}
 use Rattle.mate_plan.proofs.losing.lost_set.Goals as goal
 
@@ -74,3 +74,9 @@ returns-clause-set c =
     let tracks : c.deref.result.now ≡ mask_tracks c.args.p.now c.args.stage.mask = c.deref.ensures.value ∙ c.in_ok-tracks.ensures in
     let On : List Var → Type 0 = λ t. IfOk c.together.result (λ set. IfSome set (IsSetOn t)) in
     subst On tracks c.together.ensures.set
+
+pub returns-in_err-reply-clause-grows : goal.returns-in_err-reply-clause-grows
+returns-in_err-reply-clause-grows c = grows-grows c.args.sets.now c.calm_name.new.sets c.reply_set.new.sets c.in_ok-calm.ensures.grows c.in_err-reply.ensures.grows
+
+pub returns-in_err-tracks-clause-grows : goal.returns-in_err-tracks-clause-grows
+returns-in_err-tracks-clause-grows c = grows-grows c.args.sets.now c.calm_name.new.sets c.reply_set.new.sets c.in_ok-calm.ensures.grows c.in_ok-reply.ensures.grows

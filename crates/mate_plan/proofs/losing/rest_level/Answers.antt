@@ -7,7 +7,7 @@ use Rattle.mate_plan.specs.Levels.{AreNames, level_of}
 use Rattle.mate_plan.specs.Plan as plan
 use Rattle.mate_plan.specs.PlanOf.{rules_of}
 use Rattle.mate_plan.proofs.LevelLemmas.{at_two, level-grows, names-grow}
-use Rattle.mate_plan.proofs.Loops.{mask_here, so_far_ends, so_far_error, so_far_more, so_far_names}
+use Rattle.mate_plan.proofs.Loops.{mask_here, so_far_ends, so_far_error, so_far_more, so_far_names, so_far_none}
 use Rattle.mate_plan.proofs.losing.rest_level.Goals as goal
 
 pub rest_name-requires-clause-reach : goal.rest_name-requires-clause-reach
@@ -45,3 +45,6 @@ pub returns-clause-names : goal.returns-clause-names
 returns-clause-names c =
     let At : List ℕ → Type 0 = λ ms. AreNames c.args.p.now.men c.loop-mask.sets ms c.loop-mask.names in
     subst At c.requires.masks (so_far_names _ _ _ _ _ _ _ _ c.loop-mask.invariant (omega arith))
+
+pub loop-mask-init : goal.loop-mask-init
+loop-mask-init c = rw c.new-names.ensures (so_far_none _ _ _ _ _)

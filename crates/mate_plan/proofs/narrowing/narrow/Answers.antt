@@ -32,3 +32,6 @@ returns-in_err-made-clause-answers c =
 pub returns-clause-answers : goal.returns-clause-answers
 returns-clause-answers c =
     narrow_ends (rules_of c.args.p.now) c.args.stage.ply c.args.stage.mask c.args.memo.now.budget (narrow (rules_of c.args.p.now) c.args.stage.ply c.args.stage.mask c.args.bearings.now (as_set c.args.moved, 1)) c.args.bearings.now c.loop-bearing.bearing-index (made_of c.loop-bearing.made) c.loop-bearing.invariant.left c.loop-bearing-test.false
+
+pub returns-in_err-made-clause-grows : goal.returns-in_err-made-clause-grows
+returns-in_err-made-clause-grows c = grows-grows c.args.sets.now c.loop-bearing.sets c.narrow_by.new.sets c.loop-bearing.invariant.grows c.in_err-made.ensures.grows

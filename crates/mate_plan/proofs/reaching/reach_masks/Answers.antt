@@ -7,7 +7,7 @@ use Rattle.mate_plan.specs.Levels.{AreNames, level_of}
 use Rattle.mate_plan.specs.Plan as plan
 use Rattle.mate_plan.specs.PlanOf.{rules_of}
 use Rattle.mate_plan.proofs.LevelLemmas.{level-grows, names-grow}
-use Rattle.mate_plan.proofs.Loops.{mask_here, so_far_ends, so_far_error, so_far_more, so_far_names}
+use Rattle.mate_plan.proofs.Loops.{mask_here, so_far_ends, so_far_error, so_far_more, so_far_names, so_far_none}
 use Rattle.mate_plan.proofs.reaching.reach_masks.Goals as goal
 
 pub reach_name-requires-clause-mask : goal.reach_name-requires-clause-mask
@@ -44,3 +44,6 @@ pub returns-clause-names : goal.returns-clause-names
 returns-clause-names c =
     let At : List ℕ → Type 0 = λ ms. AreNames c.args.p.now.men c.loop-mask.sets ms c.loop-mask.names in
     subst At c.requires.masks (so_far_names _ _ _ _ _ _ _ _ c.loop-mask.invariant.so_far (omega arith))
+
+pub loop-mask-init : goal.loop-mask-init
+loop-mask-init c = record { so_far = rw c.new-names.ensures (so_far_none _ _ _ _ _); budget = refl }

@@ -6,8 +6,8 @@ use Rattle.set_plan.specs.Outcome.{Ends, IsPlanError}
 use Rattle.mate_plan.specs.Levels.{AreNames, level_of}
 use Rattle.mate_plan.specs.Plan as plan
 use Rattle.mate_plan.specs.PlanOf.{rules_of}
-use Rattle.mate_plan.proofs.LevelLemmas.{at_two, level-grows, names-grow}
-use Rattle.mate_plan.proofs.Loops.{mask_here, so_far_ends, so_far_error, so_far_more, so_far_names}
+use Rattle.mate_plan.proofs.LevelLemmas.{at_two, grows-grows, level-grows, names-grow}
+use Rattle.mate_plan.proofs.Loops.{mask_here, so_far_ends, so_far_error, so_far_more, so_far_names, so_far_none}
 use Rattle.mate_plan.proofs.winning.win_masks.Goals as goal
 
 pub win_name-requires-clause-mask : goal.win_name-requires-clause-mask
@@ -51,3 +51,9 @@ pub returns-clause-names : goal.returns-clause-names
 returns-clause-names c =
     let At : List ℕ → Type 0 = λ ms. AreNames c.args.p.now.men c.loop-mask.sets ms c.loop-mask.names in
     subst At c.requires.masks (so_far_names _ _ _ _ _ _ _ _ c.loop-mask.invariant.so_far (omega arith))
+
+pub loop-mask-init : goal.loop-mask-init
+loop-mask-init c = record { so_far = rw c.new-names.ensures (so_far_none _ _ _ _ _); budget = refl }
+
+pub returns-in_err-win_name-clause-grows : goal.returns-in_err-win_name-clause-grows
+returns-in_err-win_name-clause-grows c = grows-grows c.args.sets.now c.loop-mask.sets c.win_name.new.sets c.loop-mask.invariant.so_far.grows c.in_err-win_name.ensures.grows
