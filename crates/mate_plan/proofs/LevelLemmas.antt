@@ -182,13 +182,6 @@ name_more masks names mask found n m id whole less less_names is is_name e =
     let Two : Names → Type 0 = λ l. name_from found (m ∷ drop (n + 1) masks) l mask ≡ whole in
     subst Two front_names (subst One front e)
 
-pub name_taken : (masks : List ℕ) (names : Names) (mask : ℕ) (found : Option SetId) (n k m : ℕ) (id whole : Option SetId) → k ≡ n + 1 → n < length masks → n < length names → m ≡ get_or masks n m → id ≡ get_or names n id → m ≡ mask → name_from found (drop n masks) (drop n names) mask ≡ whole → name_from id (drop k masks) (drop k names) mask ≡ whole
-name_taken masks names mask found n k m id whole next less less_names is is_name same e =
-    let t : mask == m ≡ true = eq-eqb mask m (sym same) in
-    let Is : Bool → Type 0 = λ b. name_from (if b then id else found) (drop (n + 1) masks) (drop (n + 1) names) mask ≡ whole in
-    let At : ℕ → Type 0 = λ j. name_from id (drop j masks) (drop j names) mask ≡ whole in
-    subst At (sym next) (subst Is t (name_more masks names mask found n m id whole less less_names is is_name e))
-
 pub name_passed : (masks : List ℕ) (names : Names) (mask : ℕ) (found : Option SetId) (n k m : ℕ) (id whole : Option SetId) → k ≡ n + 1 → n < length masks → n < length names → m ≡ get_or masks n m → id ≡ get_or names n id → (m ≡ mask → ⊥) → name_from found (drop n masks) (drop n names) mask ≡ whole → name_from found (drop k masks) (drop k names) mask ≡ whole
 name_passed masks names mask found n k m id whole next less less_names is is_name other e =
     let f : mask == m ≡ false = ne_eqb mask m (λ same. other (sym same)) in

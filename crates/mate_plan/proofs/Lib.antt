@@ -6,7 +6,6 @@ pub mod Loops
 pub mod PartAnswers
 pub mod Counts
 pub mod Starts
-pub mod Pushes
 pub mod LostParts
 pub mod Narrowings
 pub mod LostLevels

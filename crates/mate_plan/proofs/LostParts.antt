@@ -43,9 +43,9 @@ module _ (rules : Rules) (side : Side) (ply mask : ℕ) (reach : SetOf) (reach1 
   pub lost_parts : bind calm_part after_calm ≡ lost_set rules side ply mask reach reach1 rests
   lost_parts =
       (λ i. bind calm_part (λ calm. bind (check_part calm) (λ check.
-          bind-assoc (difference rules ply mask kind.Quiet calm check) (λ quiet. union rules ply mask kind.Reply (pre_items rules side mask quiet reach1)) (last_part check) i)))
+      bind-assoc (difference rules ply mask kind.Quiet calm check) (λ quiet. union rules ply mask kind.Reply (pre_items rules side mask quiet reach1)) (last_part check) i)))
       ∙ bind-assoc (union rules ply mask kind.Escape (pre_items rules side mask reach rests)) (difference rules ply mask kind.Calm reach)
-          (λ calm. bind (check_part calm) (λ check. bind (difference rules ply mask kind.Quiet calm check) (λ quiet. bind (union rules ply mask kind.Reply (pre_items rules side mask quiet reach1)) (last_part check))))
+      (λ calm. bind (check_part calm) (λ check. bind (difference rules ply mask kind.Quiet calm check) (λ quiet. bind (union rules ply mask kind.Reply (pre_items rules side mask quiet reach1)) (last_part check))))
 
   module _ (budget : ℕ) where
     pub calm_error : (e : PlanError PartName) → IsPlanError calm_part budget e → IsPlanError (lost_set rules side ply mask reach reach1 rests) budget e

@@ -36,11 +36,6 @@ module _ (rules : Rules) (ply mask budget : ℕ) (whole : Program SetOf) (bearin
       LeadsTo-error (narrow rules ply mask (b ∷ rest) so_far) whole budget here e
       (Error-bind (make (name ply mask kind.Safe) so_far.1 (safe_item rules mask so_far.0 b)) (λ made. narrow rules ply mask rest made) budget e error)
 
--- an item that lacks a set is made without a step
-pub Ends-lacking : (part : PartName) (at budget : ℕ) (item : Item) → IsLacking item → Ends (make part at item) budget (Nothing, at)
-Ends-lacking part at budget item lacks =
-    Ends-ask_yes (Empty (map item.sets (positives item.formula))) (Give (Nothing, at)) (compute part at item) budget (Nothing, at) lacks (Ends-give budget (Nothing, at))
-
 -- no more bearings
 pub narrow_ends : (rules : Rules) (ply mask budget : ℕ) (whole : Program SetOf) (bearings : List Bearing) (done : ℕ) (so_far : Made) → LeadsTo (narrow rules ply mask (drop done bearings) so_far) whole budget → length bearings ≤ done → Ends whole budget so_far.0
 narrow_ends rules ply mask budget whole bearings done so_far leads all =

@@ -37,7 +37,7 @@ use Rattle.mate_plan.specs.Plan.{Level, Rules, bear_item, bear_items, choices_in
 use Rattle.mate_plan.specs.PlanOf.{rules_of}
 use Rattle.mate_plan.proofs.ItemLemmas.{lacks_first, lacks_one, lacks_second, nothing_empty, same_one, same_two, thinned-each, thinned-flat_map, thinned-map, thinned-none}
 use Rattle.mate_plan.proofs.LevelLemmas.{name_is_on, set_of_name}
-use Rattle.mate_plan.proofs.PlainFormulas.{bear-positives, bear-relabel, image-positives, image-relabel, pre-positives, pre-relabel, safe-positives, safe-relabel}
+use Rattle.mate_plan.proofs.PlainFormulas.{bear-positives, bear-relabel, image-positives, image-relabel, pre-positives, pre-relabel, safe-relabel}
 
 -- the set of a name serves where it is named
 set_for : (tracks : List Var) (sets : List Automaton) (id : SetId) (m : ℕ × List Var) → IsNameOn tracks sets (Some id) → IsOver id.0 tracks m → IsSetFor sets m.0 (length m.1)
@@ -240,8 +240,3 @@ module _ (p : Position) (game : IsGame p) (sets : List Automaton) where
   safe_same mask s b source e =
       let Is : SetOf → Type 0 = λ t. SameItem (item_of sets (safe_of p.men mask b.man b.ray b.king source.0)) (safe_item rules mask t b) in
       subst Is (sym e) (same_one sets (safe_of p.men mask b.man b.ray b.king) (λ name k. safe-relabel name (length p.men) mask b.man b.king k (ray_at p.men b.man b.ray)) source.0)
-
-  pub safe_lacks : (mask : ℕ) (s : SetOf) (b : Bearing) → s ≡ Nothing → IsLacking (safe_item rules mask s b)
-  safe_lacks mask s b e =
-      let Is : SetOf → Type 0 = λ t. IsLacking (safe_item rules mask t b) in
-      subst Is (sym e) (lacks_one (safe_of p.men mask b.man b.ray b.king 0) Nothing 0 refl nothing_empty)

@@ -195,6 +195,3 @@ pub bear-positives : (n mask k g s : ℕ) (r : Ray) → positives (bear_tree n m
 bear-positives n mask k g s r =
     clear_as-positives r.far (and_all (tree.Among s (vars_to own (is_live mask) n)) (ray_atoms r (own k) (own g))) (λ l. on r (own k) (own g) (negsuc 0) (own l)) (is_live mask) k g n
     ∙ all-positives (tree.Among s (vars_to own (is_live mask) n)) (ray_atoms r (own k) (own g)) (atoms_plain r.far r.dx r.dy (own k) (own g))
-
-pub safe-positives : (n mask k g s : ℕ) (r : Ray) → positives (safe_tree n mask k r g s) ≡ s ∷ []
-safe-positives n mask k g s r = refl

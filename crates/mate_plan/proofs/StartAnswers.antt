@@ -82,8 +82,8 @@ module _ (p : Position) (mask : ℕ) (is : mask ≡ mask_of p) (budget : ℕ) wh
       let At : ℕ → Type 0 = λ m. Ends (point_part p m) budget made in
       let Here : ℕ → Type 0 = λ m. names ≡ map (name_if m id) (masks_of p) in
       let level : level_of sets (masks_of p) names ≡ level_with no_sets (mask_of p) made.0 =
-          ap (level_of sets (masks_of p)) (subst Here is are) ∙ level_at_one sets (mask_of p) id (masks_of p) (mask_there p sound few)
-          ∙ ap (level_with no_sets (mask_of p)) kept in
+      ap (level_of sets (masks_of p)) (subst Here is are) ∙ level_at_one sets (mask_of p) id (masks_of p) (mask_there p sound few)
+      ∙ ap (level_with no_sets (mask_of p)) kept in
       let To : Level → Type 0 = λ l. Ends (then_level made) budget l in
       Ends-bind (point_part p (mask_of p)) then_level budget made (level_of sets (masks_of p) names) (subst At is h)
       (subst To (sym level) (Ends-give budget (level_with no_sets (mask_of p) made.0)))

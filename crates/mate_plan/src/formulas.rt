@@ -13,9 +13,7 @@ use crate::level::{LevelNames, name_at};
 use chess_game::Position;
 use game_rules::Side;
 use lin_formula::{Formula, SetId};
-use rule_formula::{
-    Bearing, Opt, bear_formula, bearings, image_formula, options, pre_formula,
-};
+use rule_formula::{Bearing, Opt, bear_formula, bearings, image_formula, options, pre_formula};
 use std::alloc::{AllocError, Global};
 
 /// Adds where the option leads from the set of a mask, if it leads into the other mask.

@@ -290,9 +290,7 @@ fn lost_masks(
             ply,
             mask: *mask,
         };
-        names.push(lost_name(
-            alloc, memo, sets, p, masks, stage, reach, next_reach, rests,
-        )?)?;
+        names.push(lost_name(alloc, memo, sets, p, masks, stage, reach, next_reach, rests)?)?;
     }
     Ok(names)
 }
@@ -334,15 +332,6 @@ pub fn lost_level(
         memo.budget(),
     )?;
     lost_masks(
-        alloc,
-        memo,
-        sets,
-        p,
-        masks,
-        side,
-        ply,
-        reach,
-        next_reach,
-        &rests,
+        alloc, memo, sets, p, masks, side, ply, reach, next_reach, &rests,
     )
 }

@@ -89,16 +89,7 @@ fn win_masks(
             ply,
             mask: *mask,
         };
-        names.push(win_name(
-            alloc,
-            memo,
-            sets,
-            p,
-            masks,
-            stage,
-            reach,
-            next_kept,
-        )?)?;
+        names.push(win_name(alloc, memo, sets, p, masks, stage, reach, next_kept)?)?;
     }
     Ok(names)
 }

@@ -26,7 +26,7 @@ pub loop-mask-preserved : goal.loop-mask-preserved
 loop-mask-preserved c =
     let less : c.loop-mask.mask-index < length c.args.masks.now = c.loop-mask-test.true in
     let is = get_or_default c.args.masks.now c.loop-mask.mask-index 0 (get_or c.args.masks.now c.loop-mask.mask-index 0) less in
-    let same = at_three (plan.lost_set_if (rules_of c.args.p.now) c.args.side c.args.ply) _ _ _ _ _ _ 
+    let same = at_three (plan.lost_set_if (rules_of c.args.p.now) c.args.side c.args.ply) _ _ _ _ _ _
     (level-grows c.args.p.now.men c.args.sets.now c.loop-mask.sets (masks_of c.args.p.now) c.args.reach.now c.loop-mask.invariant.so_far.grows c.requires.reach)
     (level-grows c.args.p.now.men c.args.sets.now c.loop-mask.sets (masks_of c.args.p.now) c.args.next_reach.now c.loop-mask.invariant.so_far.grows c.requires.next_reach)
     (level-grows c.args.p.now.men c.args.sets.now c.loop-mask.sets (masks_of c.args.p.now) c.args.rests.now c.loop-mask.invariant.so_far.grows c.requires.rests) in
@@ -39,7 +39,7 @@ pub returns-in_err-lost_name-clause-answers : goal.returns-in_err-lost_name-clau
 returns-in_err-lost_name-clause-answers c =
     let less : c.loop-mask.mask-index < length c.args.masks.now = c.loop-mask-test.true in
     let is = get_or_default c.args.masks.now c.loop-mask.mask-index 0 (get_or c.args.masks.now c.loop-mask.mask-index 0) less in
-    let same = at_three (plan.lost_set_if (rules_of c.args.p.now) c.args.side c.args.ply) _ _ _ _ _ _ 
+    let same = at_three (plan.lost_set_if (rules_of c.args.p.now) c.args.side c.args.ply) _ _ _ _ _ _
     (level-grows c.args.p.now.men c.args.sets.now c.loop-mask.sets (masks_of c.args.p.now) c.args.reach.now c.loop-mask.invariant.so_far.grows c.requires.reach)
     (level-grows c.args.p.now.men c.args.sets.now c.loop-mask.sets (masks_of c.args.p.now) c.args.next_reach.now c.loop-mask.invariant.so_far.grows c.requires.next_reach)
     (level-grows c.args.p.now.men c.args.sets.now c.loop-mask.sets (masks_of c.args.p.now) c.args.rests.now c.loop-mask.invariant.so_far.grows c.requires.rests) in

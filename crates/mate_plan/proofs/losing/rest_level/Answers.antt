@@ -20,7 +20,7 @@ pub loop-mask-preserved : goal.loop-mask-preserved
 loop-mask-preserved c =
     let less : c.loop-mask.mask-index < length c.args.masks.now = c.loop-mask-test.true in
     let is = get_or_default c.args.masks.now c.loop-mask.mask-index 0 (get_or c.args.masks.now c.loop-mask.mask-index 0) less in
-    let same = at_two (plan.rest_set (rules_of c.args.p.now) c.args.ply) _ _ _ _ 
+    let same = at_two (plan.rest_set (rules_of c.args.p.now) c.args.ply) _ _ _ _
     (level-grows c.args.p.now.men c.args.sets.now c.loop-mask.sets (masks_of c.args.p.now) c.args.reach.now c.loop-mask.invariant.grows c.requires.reach)
     (level-grows c.args.p.now.men c.args.sets.now c.loop-mask.sets (masks_of c.args.p.now) c.args.kept.now c.loop-mask.invariant.grows c.requires.kept) in
     rw c.in_ok-push.ensures.ok (so_far_more _ _ _ _ _ _ _ _ _ _ _ _ _ c.loop-mask.invariant less is same refl c.in_ok-rest_name.ensures.answers c.in_ok-rest_name.ensures.name c.in_ok-rest_name.ensures.grows)
@@ -29,7 +29,7 @@ pub returns-in_err-rest_name-clause-answers : goal.returns-in_err-rest_name-clau
 returns-in_err-rest_name-clause-answers c =
     let less : c.loop-mask.mask-index < length c.args.masks.now = c.loop-mask-test.true in
     let is = get_or_default c.args.masks.now c.loop-mask.mask-index 0 (get_or c.args.masks.now c.loop-mask.mask-index 0) less in
-    let same = at_two (plan.rest_set (rules_of c.args.p.now) c.args.ply) _ _ _ _ 
+    let same = at_two (plan.rest_set (rules_of c.args.p.now) c.args.ply) _ _ _ _
     (level-grows c.args.p.now.men c.args.sets.now c.loop-mask.sets (masks_of c.args.p.now) c.args.reach.now c.loop-mask.invariant.grows c.requires.reach)
     (level-grows c.args.p.now.men c.args.sets.now c.loop-mask.sets (masks_of c.args.p.now) c.args.kept.now c.loop-mask.invariant.grows c.requires.kept) in
     let p = err_from_is_err_and c.from_residual.result c.from_residual.ensures.1 in

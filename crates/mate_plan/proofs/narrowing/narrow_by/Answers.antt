@@ -10,9 +10,7 @@ use Rattle.mate_plan.specs.Plan.{name, safe_item}
 use Rattle.mate_plan.specs.PlanOf.{rules_of}
 use Rattle.mate_plan.specs.declared.names.Part.TheVariants as kind
 use Rattle.mate_plan.proofs.LevelLemmas.{grows_cut, length-grows}
-use Rattle.mate_plan.proofs.Narrowings.{Ends-lacking}
 use Rattle.mate_plan.proofs.PartAnswers.{Error-make}
-use Rattle.mate_plan.proofs.PartItems.{safe_lacks}
 use Rattle.mate_plan.proofs.SafeAnswers.{safe_item_on, safe_item_same}
 use Rattle.mate_plan.proofs.UnionAnswers.{game_of}
 use Rattle.mate_plan.proofs.narrowing.narrow_by.Goals as goal

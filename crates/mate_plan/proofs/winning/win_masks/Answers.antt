@@ -23,7 +23,7 @@ pub loop-mask-preserved : goal.loop-mask-preserved
 loop-mask-preserved c =
     let less : c.loop-mask.mask-index < length c.args.masks.now = c.loop-mask-test.true in
     let is = get_or_default c.args.masks.now c.loop-mask.mask-index 0 (get_or c.args.masks.now c.loop-mask.mask-index 0) less in
-    let same = at_two (plan.win_set (rules_of c.args.p.now) c.args.side c.args.ply) _ _ _ _ 
+    let same = at_two (plan.win_set (rules_of c.args.p.now) c.args.side c.args.ply) _ _ _ _
     (level-grows c.args.p.now.men c.args.sets.now c.loop-mask.sets (masks_of c.args.p.now) c.args.reach.now c.loop-mask.invariant.so_far.grows c.requires.reach)
     (level-grows c.args.p.now.men c.args.sets.now c.loop-mask.sets (masks_of c.args.p.now) c.args.next_kept.now c.loop-mask.invariant.so_far.grows c.requires.next_kept) in
     record {
@@ -35,7 +35,7 @@ pub returns-in_err-win_name-clause-answers : goal.returns-in_err-win_name-clause
 returns-in_err-win_name-clause-answers c =
     let less : c.loop-mask.mask-index < length c.args.masks.now = c.loop-mask-test.true in
     let is = get_or_default c.args.masks.now c.loop-mask.mask-index 0 (get_or c.args.masks.now c.loop-mask.mask-index 0) less in
-    let same = at_two (plan.win_set (rules_of c.args.p.now) c.args.side c.args.ply) _ _ _ _ 
+    let same = at_two (plan.win_set (rules_of c.args.p.now) c.args.side c.args.ply) _ _ _ _
     (level-grows c.args.p.now.men c.args.sets.now c.loop-mask.sets (masks_of c.args.p.now) c.args.reach.now c.loop-mask.invariant.so_far.grows c.requires.reach)
     (level-grows c.args.p.now.men c.args.sets.now c.loop-mask.sets (masks_of c.args.p.now) c.args.next_kept.now c.loop-mask.invariant.so_far.grows c.requires.next_kept) in
     let p = err_from_is_err_and c.from_residual.result c.from_residual.ensures.1 in
