@@ -1,5 +1,5 @@
 -- How many formulas a union has.
-use Rattle.std.proofs.Common.{◌≡◌, ℕ, zero, suc, ◌+◌, ◌*◌, ◌^◌, ◌<◌, ◌≤◌, Bool, true, false, List, [], ◌∷◌, ◌++◌, length, map, Option, Some, None, refl, sym, ap, ◌∙◌, subst, arith, length-append}
+use Rattle.std.proofs.Common.{ℕ, zero, suc, ◌+◌, ◌*◌, ◌^◌, ◌<◌, ◌≤◌, Bool, true, false, List, [], ◌∷◌, ◌++◌, length, Option, Some, None, arith, length-append}
 use Rattle.std.proofs.lemmas.List.{length-map}
 use Rattle.std.specs.Prelude.{filter, if◌then◌else◌, ◌&&◌, ◌==◌}
 use Rattle.std.specs.List.{flat_map}
@@ -11,9 +11,7 @@ use Rattle.game_rules.specs.declared.men.Kind.TheVariants.{King, Queen, Rook, Bi
 use Rattle.game_rules.specs.declared.men.Man.{Man}
 use Rattle.game_rules.specs.declared.men.Side.{Side}
 use Rattle.game_rules.specs.declared.men.Side.TheVariants.{White, Black}
-use Rattle.lin_formula.specs.Tree.{Tree}
 use Rattle.lin_formula.specs.declared.formula.SetId.{SetId}
-use Rattle.rule_formula.specs.declared.opt.Bearing.{Bearing}
 use Rattle.rule_formula.specs.declared.opt.Opt.{Opt}
 use Rattle.rule_formula.specs.Bearings.{along_rays, bearing, bearings_of, bearings_to, king_number, man_bearings}
 use Rattle.rule_formula.specs.Fits.{is_game_mask, mask_of, masks_of, masks_to, target_of}

@@ -1,6 +1,5 @@
 -- Items over a table of sets, and the same items over sets of their own.
-use Rattle.std.proofs.Common.{◌≡◌, ◌⊎◌, ℕ, zero, suc, List, [], ◌∷◌, ◌++◌, map, refl, sym, ap, ◌∙◌, subst, inl, inr}
-use Rattle.std.specs.Prelude.{Contains}
+use Rattle.std.proofs.Common.{◌≡◌, ℕ, zero, suc, List, [], ◌∷◌, ◌++◌, map, refl, sym, ap, subst, inl, inr}
 use Rattle.std.specs.List.{flat_map}
 use Rattle.auto_core.specs.Automaton.{Automaton}
 use Rattle.lin_formula.specs.Tree.{Tree}

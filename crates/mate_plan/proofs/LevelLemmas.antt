@@ -1,12 +1,12 @@
 -- Levels that are made of names.
-use Rattle.std.proofs.Common.{◌≡◌, ℕ, zero, suc, ◌+◌, ◌<◌, ◌==◌, if◌then◌else◌, Bool, true, false, List, [], ◌∷◌, ◌++◌, length, drop, take, get_or, min, ◌≤◌, ◌⊎◌, inl, inr, Option, Some, None, slice_get, refl, sym, ap, ◌∙◌, subst, arith}
+use Rattle.std.proofs.Common.{◌≡◌, ℕ, zero, suc, ◌+◌, ◌<◌, ◌==◌, if◌then◌else◌, Bool, true, false, List, [], ◌∷◌, ◌++◌, length, drop, take, get_or, min, ◌≤◌, inl, inr, Option, Some, None, slice_get, refl, sym, ap, ◌∙◌, subst, arith}
 use Rattle.std.specs.Prelude.{IfSome}
-use Rattle.std.proofs.lemmas.Bool.{cases_lt, eq-eqb, eqb-true, ne_eqb}
+use Rattle.std.proofs.lemmas.Bool.{cases_lt, eqb-true, ne_eqb}
 use Rattle.std.proofs.lemmas.List.{drop_all}
 use Rattle.track_word.specs.declared.tracks.Var.{Var}
 use Rattle.auto_core.specs.Automaton.{Automaton}
 use Rattle.game_rules.specs.declared.men.Man.{Man}
-use Rattle.lin_formula.specs.SetOf.{SetOf, Nothing, Table, as_set}
+use Rattle.lin_formula.specs.SetOf.{SetOf, Table, as_set}
 use Rattle.lin_formula.specs.declared.formula.SetId.{SetId}
 use Rattle.rule_formula.specs.Placed.{is_live}
 use Rattle.rule_formula.specs.Trees.{tracks_of}

@@ -1,5 +1,5 @@
 -- A level that is made mask by mask.
-use Rattle.std.proofs.Common.{◌≡◌, ℕ, zero, suc, ◌+◌, ◌<◌, ◌≤◌, List, [], ◌∷◌, ◌++◌, length, drop, Option, get_or, refl, sym, ap, ◌∙◌, subst, arith}
+use Rattle.std.proofs.Common.{◌≡◌, ℕ, ◌+◌, ◌<◌, ◌≤◌, List, [], ◌∷◌, ◌++◌, length, drop, Option, get_or, refl, sym, ap, ◌∙◌, subst}
 use Rattle.std.specs.Prelude.{Contains}
 use Rattle.std.proofs.lemmas.List.{length_push, drop_all}
 use Rattle.std.proofs.lemmas.List.Elements.{Contains-get_or}
@@ -13,7 +13,6 @@ use Rattle.rule_formula.specs.Placed.{is_live}
 use Rattle.rule_formula.specs.Trees.{tracks_of}
 use Rattle.rule_formula.proofs.MasksTheorem.{masks_are}
 use Rattle.set_plan.specs.Outcome.{Ends, IsPlanError}
-use Rattle.set_plan.specs.Program.{Give}
 use Rattle.set_plan.specs.Sets.{Grows, IsNameOn, set_at}
 use Rattle.set_plan.specs.declared.stop.PlanError.{PlanError}
 use Rattle.set_plan.proofs.Composition.{Ends-give, Error-bind, LeadsTo, LeadsTo-error, LeadsTo-later, LeadsTo-self}

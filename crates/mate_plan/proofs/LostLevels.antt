@@ -1,5 +1,5 @@
 -- The level of a loser's ply, where the table has grown by the rests.
-use Rattle.std.proofs.Common.{◌≡◌, ℕ, suc, ◌+◌, List, Option, Result, add-one, subst}
+use Rattle.std.proofs.Common.{ℕ, suc, ◌+◌, List, Option, Result, add-one, subst}
 use Rattle.auto_core.specs.Automaton.{Automaton}
 use Rattle.game_rules.specs.Game.{Position}
 use Rattle.game_rules.specs.declared.men.Side.{Side}
@@ -10,7 +10,7 @@ use Rattle.set_plan.specs.Sets.{Grows}
 use Rattle.set_plan.specs.declared.stop.PlanError.{PlanError}
 use Rattle.set_plan.proofs.Composition.{Answers-later, Error-bind}
 use Rattle.mate_plan.specs.Levels.{AreNames, level_of}
-use Rattle.mate_plan.specs.Plan.{Level, Program, Rules, for_masks, lost_level, lost_set_if, no_sets, rest_set}
+use Rattle.mate_plan.specs.Plan.{Level, Program, for_masks, lost_level, lost_set_if, no_sets, rest_set}
 use Rattle.mate_plan.specs.PlanOf.{rules_of}
 use Rattle.mate_plan.specs.declared.names.PartName.{PartName}
 use Rattle.mate_plan.proofs.LevelLemmas.{level-grows}

@@ -1,5 +1,5 @@
 -- The parts of a loser's ply, two and two.
-use Rattle.std.proofs.Common.{◌≡◌, ◌⊎◌, ℕ, List, [], ◌∷◌, Option, Some, None, Result, Ok, Err, inl, inr, option_copied, ap, ◌∙◌, sym, subst}
+use Rattle.std.proofs.Common.{◌≡◌, ℕ, List, [], ◌∷◌, Option, Some, None, Result, Ok, Err, inl, option_copied, ap, ◌∙◌, sym, subst}
 use Rattle.std.specs.Borrow.{Bor}
 use Rattle.std.specs.Prelude.{IfSome}
 use Rattle.track_word.specs.declared.tracks.Var.{Var}
@@ -11,7 +11,7 @@ use Rattle.lin_formula.specs.declared.formula.SetId.{SetId}
 use Rattle.rule_formula.specs.Fits.{masks_of}
 use Rattle.rule_formula.specs.Mean.{mask_tracks}
 use Rattle.set_plan.specs.Outcome.{Answers, Ends, IsPlanError}
-use Rattle.set_plan.specs.Program.{Ask, Empty, Give, bind}
+use Rattle.set_plan.specs.Program.{Empty, Give, bind}
 use Rattle.set_plan.specs.Sets.{Grows, IsSetOn, lent}
 use Rattle.set_plan.specs.Unite.{together}
 use Rattle.set_plan.specs.declared.stop.PlanError.{PlanError}

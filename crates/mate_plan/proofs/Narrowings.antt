@@ -1,18 +1,13 @@
 -- A set that is made narrower by one bearing after the other.
-use Rattle.std.proofs.Common.{◌≡◌, ℕ, ◌+◌, ◌<◌, ◌≤◌, List, [], ◌∷◌, length, drop, get_or, subst, sym}
+use Rattle.std.proofs.Common.{◌≡◌, ℕ, ◌+◌, ◌<◌, ◌≤◌, List, ◌∷◌, length, drop, get_or, subst}
 use Rattle.std.proofs.lemmas.List.{drop_all}
-use Rattle.lin_formula.specs.SetOf.{SetOf, Nothing}
+use Rattle.lin_formula.specs.SetOf.{SetOf}
 use Rattle.rule_formula.specs.declared.opt.Bearing.{Bearing}
 use Rattle.set_plan.specs.Outcome.{Ends, IsPlanError}
-use Rattle.set_plan.specs.Program.{Empty, Give}
-use Rattle.set_plan.specs.Unite.{Made, compute, make}
-use Rattle.set_plan.specs.Same.{IsLacking}
+use Rattle.set_plan.specs.Unite.{Made, make}
 use Rattle.set_plan.specs.declared.stop.PlanError.{PlanError}
-use Rattle.set_plan.proofs.Composition.{Ends-ask_yes, Ends-give, Error-bind, LeadsTo, LeadsTo-error, LeadsTo-later}
+use Rattle.set_plan.proofs.Composition.{Ends-give, Error-bind, LeadsTo, LeadsTo-error, LeadsTo-later}
 use Rattle.set_plan.proofs.Items.{drop_front}
-use Rattle.set_plan.specs.Program.{Item}
-use Rattle.set_plan.specs.Unite.{positives}
-use Rattle.std.specs.Prelude.{map}
 use Rattle.mate_plan.specs.Plan.{Program, Rules, name, narrow, safe_item}
 use Rattle.mate_plan.specs.declared.names.Part.TheVariants as kind
 use Rattle.mate_plan.specs.declared.names.PartName.{PartName}

@@ -1,15 +1,15 @@
 -- What is answered for the formulas over the sets of names is answered for the items of the plan.
-use Rattle.std.proofs.Common.{◌≡◌, ℕ, ◌+◌, List, [], ◌∷◌, Result, Ok, Err, refl, sym, ap, ◌∙◌, subst, inl, inr}
+use Rattle.std.proofs.Common.{ℕ, List, Result, Ok, Err, inl, inr}
 use Rattle.track_word.specs.declared.tracks.Var.{Var}
 use Rattle.lin_formula.specs.SetOf.{SetOf, Nothing}
 use Rattle.set_plan.specs.Outcome.{Answers, Ends, IsPlanError, Stops}
-use Rattle.set_plan.specs.Program.{Item, Give, Program, bind}
+use Rattle.set_plan.specs.Program.{Item, Give}
 use Rattle.set_plan.specs.Same.{SameItem, Thinned}
 use Rattle.set_plan.specs.Unite.{Made, make, union, unite}
 use Rattle.set_plan.specs.declared.stop.PlanError.{PlanError}
 use Rattle.set_plan.specs.declared.stop.PlanError.TheVariants as plan_error
 use Rattle.set_plan.specs.declared.stop.StepName.{StepName}
-use Rattle.set_plan.proofs.Composition.{Ends-bind, Ends-split, Error-bind, Error-later, Stops-bind, Stops-bind_later, Stops-split}
+use Rattle.set_plan.proofs.Composition.{Ends-bind, Ends-split, Stops-bind, Stops-bind_later, Stops-split}
 use Rattle.set_plan.proofs.Thinned.{Ends-make_same, Ends-thinned, Stops-make_same, Stops-thinned}
 
 module _ {P : Type 0} (part : P) (budget : ℕ) where

@@ -1,18 +1,18 @@
 -- The formulas of the plan over the sets that names stand for are the items of its unions, but for those that lack a set.
-use Rattle.std.proofs.Common.{◌≡◌, ◌⊎◌, ℕ, suc, ◌+◌, ◌<◌, ◌≤◌, ◌==◌, true, List, [], ◌∷◌, ◌++◌, length, map, Option, Some, None, slice_get, refl, sym, ap, ◌∙◌, subst, inl, inr, arith}
+use Rattle.std.proofs.Common.{◌≡◌, ◌⊎◌, ℕ, ◌==◌, List, [], ◌∷◌, length, map, Option, Some, None, slice_get, refl, sym, ap, ◌∙◌, subst, inl, inr, arith}
 use Rattle.std.specs.Prelude.{Contains, filter}
 use Rattle.std.specs.List.{All, flat_map, slice_index_or}
 use Rattle.std.proofs.lemmas.Bool.{eqb-true}
 use Rattle.std.proofs.lemmas.List.Elements.{All-append, All-cons, All-contains_itself, All-filter, All-head, All-map, All-nil, All-tail, All-weaker, filter_passes}
 use Rattle.track_word.specs.declared.tracks.Var.{Var}
 use Rattle.auto_core.specs.Automaton.{Automaton}
-use Rattle.game_rules.specs.Game.{HasOneKing, Position}
+use Rattle.game_rules.specs.Game.{Position}
 use Rattle.game_rules.specs.declared.men.Man.{Man}
 use Rattle.game_rules.specs.declared.men.Side.{Side}
-use Rattle.lin_formula.specs.Tree.{Tree, free_vars, memberships, steps, vars_of}
+use Rattle.lin_formula.specs.Tree.{Tree, free_vars, memberships}
 use Rattle.lin_formula.specs.SetOf.{SetOf, Nothing, tables}
 use Rattle.lin_formula.specs.declared.formula.SetId.{SetId}
-use Rattle.formula_auto.specs.Compiled.{HasSets, IsCompilable, IsSetFor}
+use Rattle.formula_auto.specs.Compiled.{HasSets, IsSetFor}
 use Rattle.rule_formula.specs.declared.opt.Bearing.{Bearing}
 use Rattle.rule_formula.specs.declared.opt.Opt.{Opt}
 use Rattle.rule_formula.specs.Bearings.{bearings_of}
@@ -29,7 +29,7 @@ use Rattle.rule_formula.proofs.MeanTheorem.{bearings_mean, options_mean}
 use Rattle.rule_formula.proofs.SizeTheorem.{bear_modest, bear_names, image_modest, image_names, pre_modest, pre_names, safe_modest, safe_names}
 use Rattle.rule_formula.proofs.TracksTheorem.{image_tracks}
 use Rattle.set_plan.specs.Same.{IsLacking, SameItem, Thinned}
-use Rattle.set_plan.specs.Sets.{IsItemOn, IsNameOn, IsSetOn, item_of, set_at}
+use Rattle.set_plan.specs.Sets.{IsItemOn, IsNameOn, item_of, set_at}
 use Rattle.set_plan.specs.Unite.{two}
 use Rattle.mate_plan.specs.Formulas.{bear_trees, image_trees, images_from, name_of, pre_to, pre_trees}
 use Rattle.mate_plan.specs.Levels.{AreNames, level_of}

@@ -1,18 +1,16 @@
 -- The set of a name made narrower by one bearing.
-use Rattle.std.proofs.Common.{◌≡◌, ℕ, ◌<◌, List, length, Some, slice_get, subst, sym, arith}
-use Rattle.std.specs.Prelude.{IfSome}
+use Rattle.std.proofs.Common.{◌≡◌, ℕ, List, Some, slice_get, subst, sym}
 use Rattle.auto_core.specs.Automaton.{Automaton}
 use Rattle.game_rules.specs.Game.{Position}
-use Rattle.lin_formula.specs.Tree.{Tree, free_vars, steps}
+use Rattle.lin_formula.specs.Tree.{Tree}
 use Rattle.lin_formula.specs.SetOf.{SetOf, tables}
 use Rattle.lin_formula.specs.declared.formula.SetId.{SetId}
-use Rattle.formula_auto.specs.Compiled.{IsCompilable}
 use Rattle.rule_formula.specs.declared.opt.Bearing.{Bearing}
 use Rattle.rule_formula.specs.Mean.{IsGame, mask_tracks}
 use Rattle.rule_formula.specs.Meaning.{IsBearer}
 use Rattle.rule_formula.specs.Trees.{safe_of}
 use Rattle.set_plan.specs.Same.{SameItem}
-use Rattle.set_plan.specs.Sets.{IsItemOn, IsNameOn, IsSetOn, item_of}
+use Rattle.set_plan.specs.Sets.{IsItemOn, IsSetOn, item_of}
 use Rattle.mate_plan.specs.Plan.{safe_item}
 use Rattle.mate_plan.specs.PlanOf.{rules_of}
 use Rattle.mate_plan.proofs.PartItems.{safe_on, safe_same}

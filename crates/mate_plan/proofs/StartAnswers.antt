@@ -1,5 +1,5 @@
 -- The level of the position alone is that of the plan.
-use Rattle.std.proofs.Common.{◌≡◌, ◌≢◌, ℕ, ◌≤◌, ◌==◌, if◌then◌else◌, List, [], ◌∷◌, length, map, Option, None, Some, Result, sym, ap, ◌∙◌, subst, pos, arith}
+use Rattle.std.proofs.Common.{◌≡◌, ◌≢◌, ℕ, ◌≤◌, ◌==◌, if◌then◌else◌, List, [], length, map, Option, None, Some, Result, sym, ap, ◌∙◌, subst, pos, arith}
 use Rattle.std.specs.Prelude.{Contains}
 use Rattle.std.specs.List.{All}
 use Rattle.std.proofs.lemmas.List.Elements.{All-nil}
@@ -8,7 +8,7 @@ use Rattle.auto_core.specs.Automaton.{Automaton}
 use Rattle.game_rules.specs.Game.{Position, Sound}
 use Rattle.game_rules.specs.declared.men.Place.TheVariants.{Gone}
 use Rattle.lin_formula.specs.Tree.{Tree, Value, memberships}
-use Rattle.lin_formula.specs.SetOf.{SetOf, Nothing}
+use Rattle.lin_formula.specs.SetOf.{Nothing}
 use Rattle.lin_formula.specs.declared.formula.SetId.{SetId}
 use Rattle.formula_auto.specs.Compiled.{IsCompilable, IsSetFor}
 use Rattle.rule_formula.specs.Fits.{mask_of, masks_of}

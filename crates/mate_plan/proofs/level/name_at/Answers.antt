@@ -1,7 +1,6 @@
-use Rattle.std.proofs.Common.{◌≡◌, ◌+◌, ◌++◌, ◌∷◌, [], length}
+use Rattle.std.proofs.Common.{length}
 use Rattle.std.proofs.lemmas.List.{length_push}
 use Rattle.std.proofs.lemmas.Slice.Zip.{zip_end, zip_turn}
-use Rattle.mate_plan.specs.Formulas.{name_of}
 use Rattle.mate_plan.proofs.LevelLemmas.{name_all, name_passed}
 use Rattle.mate_plan.proofs.level.name_at.Goals as goal
 

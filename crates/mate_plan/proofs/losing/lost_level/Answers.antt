@@ -1,8 +1,6 @@
-use Rattle.std.proofs.Common.{◌≡◌, ◌+◌, List, Err, Ok, sym, ◌∙◌, subst}
 use Rattle.std.proofs.lemmas.Result.{err_from_is_err_and}
 use Rattle.rule_formula.specs.Fits.{masks_of}
 use Rattle.mate_plan.specs.Levels.{level_of}
-use Rattle.mate_plan.specs.PlanOf.{rules_of}
 use Rattle.mate_plan.proofs.LevelLemmas.{names-grow}
 use Rattle.mate_plan.proofs.LostLevels.{lost_answers, rests_error}
 use Rattle.mate_plan.proofs.losing.lost_level.Goals as goal

@@ -1,12 +1,12 @@
-use Rattle.std.proofs.Common.{◌≡◌, ◌≤◌, length, Ok, Err, sym, subst, arith}
+use Rattle.std.proofs.Common.{Ok, Err, subst, arith}
 use Rattle.std.proofs.lemmas.Result.{err_from_is_err_and}
-use Rattle.lin_formula.specs.SetOf.{IsEmpty, SetOf, as_set}
+use Rattle.lin_formula.specs.SetOf.{IsEmpty, as_set}
 use Rattle.rule_formula.specs.Fits.{masks_of}
 use Rattle.rule_formula.specs.Mean.{mask_tracks}
 use Rattle.set_plan.specs.Sets.{set_at}
 use Rattle.mate_plan.specs.Levels.{level_of}
 use Rattle.mate_plan.specs.PlanOf.{rules_of}
-use Rattle.mate_plan.proofs.LevelLemmas.{grows-grows, grows_cut, length-grows, name_is_found, on_from_kept, set_is_found}
+use Rattle.mate_plan.proofs.LevelLemmas.{length-grows, name_is_found, on_from_kept, set_is_found}
 use Rattle.mate_plan.proofs.LostParts.{lost_none, lost_some}
 use Rattle.mate_plan.proofs.losing.lost_name.Goals as goal
 

@@ -1,8 +1,8 @@
-use Rattle.std.proofs.Common.{◌≡◌, List, Ok, Err, ap, sym, ◌∙◌, subst}
+use Rattle.std.proofs.Common.{◌≡◌, List, Ok, Err, sym, ◌∙◌, subst}
 use Rattle.std.specs.Prelude.{IfOk, IfSome}
 use Rattle.std.proofs.lemmas.Result.{err_from_is_err_and}
 use Rattle.track_word.specs.declared.tracks.Var.{Var}
-use Rattle.lin_formula.specs.SetOf.{SetOf, as_set}
+use Rattle.lin_formula.specs.SetOf.{as_set}
 use Rattle.rule_formula.specs.Fits.{masks_of}
 use Rattle.rule_formula.specs.Mean.{mask_tracks}
 use Rattle.set_plan.specs.Sets.{IsSetOn, lent, set_at}

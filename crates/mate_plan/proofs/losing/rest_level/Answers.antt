@@ -1,4 +1,4 @@
-use Rattle.std.proofs.Common.{◌≡◌, ℕ, ◌<◌, List, length, get_or, refl, ap, ◌∙◌, subst, arith}
+use Rattle.std.proofs.Common.{ℕ, ◌<◌, List, length, get_or, refl, subst, arith}
 use Rattle.std.proofs.lemmas.List.{get_or_default}
 use Rattle.std.proofs.lemmas.Result.{err_from_is_err_and}
 use Rattle.rule_formula.specs.Fits.{masks_of}
@@ -7,7 +7,7 @@ use Rattle.mate_plan.specs.Levels.{AreNames, level_of}
 use Rattle.mate_plan.specs.Plan as plan
 use Rattle.mate_plan.specs.PlanOf.{rules_of}
 use Rattle.mate_plan.proofs.LevelLemmas.{at_two, level-grows, names-grow}
-use Rattle.mate_plan.proofs.Loops.{mask_here, so_far_ends, so_far_error, so_far_more, so_far_names, so_far_none}
+use Rattle.mate_plan.proofs.Loops.{so_far_ends, so_far_error, so_far_more, so_far_names, so_far_none}
 use Rattle.mate_plan.proofs.losing.rest_level.Goals as goal
 
 pub rest_name-requires-clause-reach : goal.rest_name-requires-clause-reach

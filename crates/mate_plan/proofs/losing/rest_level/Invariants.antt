@@ -1,4 +1,3 @@
-use Rattle.std.proofs.Common.{◌≡◌}
 use Rattle.rule_formula.specs.Fits.{masks_of}
 use Rattle.mate_plan.specs.Levels.{level_of}
 use Rattle.mate_plan.specs.Plan as plan

@@ -1,7 +1,6 @@
-use Rattle.std.proofs.Common.{◌≡◌, ◌<◌, length, Some, refl, sym, ap, ◌∙◌, subst, arith}
-use Rattle.std.specs.Prelude.{IfSome}
+use Rattle.std.proofs.Common.{◌≡◌, sym, ap, ◌∙◌, arith}
 use Rattle.std.proofs.lemmas.Result.{err_from_is_err_and}
-use Rattle.lin_formula.specs.SetOf.{as_set, Nothing, tables}
+use Rattle.lin_formula.specs.SetOf.{as_set, tables}
 use Rattle.lin_formula.specs.TreeOf.{tree_of}
 use Rattle.rule_formula.specs.Mean.{mask_tracks}
 use Rattle.set_plan.specs.Sets.{IsSetOn, item_of, made_of}

@@ -1,7 +1,5 @@
-use Rattle.std.proofs.Common.{◌≡◌}
-use Rattle.std.proofs.lemmas.Result.{err_from_is_err_and}
 use Rattle.rule_formula.specs.Mean.{mask_tracks}
-use Rattle.mate_plan.proofs.LevelLemmas.{grows-grows, on_from_kept}
+use Rattle.mate_plan.proofs.LevelLemmas.{on_from_kept}
 use Rattle.mate_plan.proofs.reaching.reach_name.Goals as goal
 
 pub returns-clause-answers : goal.returns-clause-answers

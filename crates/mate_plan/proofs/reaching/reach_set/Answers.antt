@@ -1,14 +1,14 @@
-use Rattle.std.proofs.Common.{◌≡◌, ◌≤◌, length, List, ap, ◌∙◌, sym, subst, arith}
+use Rattle.std.proofs.Common.{◌≡◌, ◌≤◌, length, List, ap, ◌∙◌, sym, subst}
 use Rattle.std.proofs.lemmas.Result.{err_from_is_err_and}
 use Rattle.game_rules.specs.Game.{other}
-use Rattle.lin_formula.specs.SetOf.{SetOf, as_set}
+use Rattle.lin_formula.specs.SetOf.{as_set}
 use Rattle.rule_formula.specs.declared.opt.Bearing.{Bearing}
 use Rattle.rule_formula.specs.Bearings.{bearings_of}
 use Rattle.rule_formula.specs.Fits.{masks_of}
 use Rattle.set_plan.specs.Outcome.{Answers}
 use Rattle.set_plan.proofs.Composition.{Answers-later, Error-bind}
 use Rattle.mate_plan.specs.Levels.{level_of}
-use Rattle.mate_plan.specs.Plan.{Program, image_items, narrow, union}
+use Rattle.mate_plan.specs.Plan.{image_items, narrow, union}
 use Rattle.mate_plan.specs.PlanOf.{rules_of}
 use Rattle.mate_plan.specs.declared.names.Part.TheVariants as kind
 use Rattle.mate_plan.proofs.Counts.{bearings_few}

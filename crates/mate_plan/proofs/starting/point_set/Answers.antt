@@ -1,4 +1,4 @@
-use Rattle.std.proofs.Common.{◌<◌, List, subst, arith}
+use Rattle.std.proofs.Common.{List, subst, arith}
 use Rattle.std.specs.Prelude.{IfOk, IfSome}
 use Rattle.track_word.specs.declared.tracks.Var.{Var}
 use Rattle.lin_formula.specs.TreeOf.{tree_of}

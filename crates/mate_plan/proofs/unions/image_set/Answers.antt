@@ -1,13 +1,7 @@
-use Rattle.std.proofs.Common.{◌≡◌, List, map, ap, ◌∙◌}
-use Rattle.game_rules.specs.Game.{other}
+use Rattle.std.proofs.Common.{◌≡◌, map, ap, ◌∙◌}
 use Rattle.lin_formula.specs.TreeOf.{tree_of}
-use Rattle.lin_formula.specs.Tree.{Tree}
-use Rattle.rule_formula.specs.Fits.{masks_of}
-use Rattle.set_plan.specs.Sets.{set_at}
 use Rattle.mate_plan.specs.Formulas.{image_trees}
-use Rattle.mate_plan.specs.Levels.{level_of}
-use Rattle.mate_plan.specs.Plan.{name, image_items}
-use Rattle.mate_plan.specs.PlanOf.{rules_of}
+use Rattle.mate_plan.specs.Plan.{name}
 use Rattle.mate_plan.specs.declared.names.Part.TheVariants as kind
 use Rattle.mate_plan.proofs.Counts.{images_few}
 use Rattle.mate_plan.proofs.PartItems.{images_on, images_thin}

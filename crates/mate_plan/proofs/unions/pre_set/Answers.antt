@@ -1,14 +1,8 @@
-use Rattle.std.proofs.Common.{◌≡◌, List, map, ap, refl, ◌∙◌}
-use Rattle.game_rules.specs.Game.{other}
+use Rattle.std.proofs.Common.{◌≡◌, map, ap, refl, ◌∙◌}
 use Rattle.lin_formula.specs.TreeOf.{tree_of}
-use Rattle.lin_formula.specs.Tree.{Tree}
-use Rattle.rule_formula.specs.Fits.{masks_of}
 use Rattle.set_plan.specs.Sets.{set_at}
 use Rattle.mate_plan.specs.Formulas.{pre_trees}
-use Rattle.mate_plan.specs.Levels.{level_of}
-use Rattle.mate_plan.specs.Plan.{name, pre_items}
-use Rattle.mate_plan.specs.PlanOf.{rules_of}
-use Rattle.mate_plan.specs.declared.names.Part.TheVariants as kind
+use Rattle.mate_plan.specs.Plan.{name}
 use Rattle.mate_plan.proofs.Counts.{pres_few}
 use Rattle.mate_plan.proofs.PartItems.{pres_on, pres_thin}
 use Rattle.mate_plan.proofs.UnionAnswers.{few_formulas, game_of, items_on, set_on, union_answers}
