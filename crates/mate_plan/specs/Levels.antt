@@ -1,11 +1,11 @@
 -- Levels as the sets that are kept make them.
-use Rattle.std.specs.Prelude.{◌≡◌, ℕ, List, [], ◌∷◌, Option}
+use Rattle.std.specs.Prelude.{ℕ, List, [], ◌∷◌, Option}
 use Rattle.auto_core.specs.Automaton.{Automaton}
 use Rattle.game_rules.specs.declared.men.Man.{Man}
 use Rattle.lin_formula.specs.declared.formula.SetId.{SetId}
 use Rattle.rule_formula.specs.Placed.{is_live}
 use Rattle.rule_formula.specs.Trees.{tracks_of}
-use Rattle.set_plan.specs.Sets.{Grows, IsNameOn, set_at}
+use Rattle.set_plan.specs.Sets.{IsNameOn, set_at}
 use Rattle.mate_plan.specs.Plan.{Level, level_with, no_sets}
 
 -- a level, and the sets of these names for the masks

@@ -16,3 +16,4 @@ pub use Rattle.set_plan.specs.Unite
 pub mod Plan
 pub mod PlanOf
 pub mod Levels
+pub mod Formulas

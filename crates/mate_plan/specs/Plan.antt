@@ -1,5 +1,5 @@
 -- The plan of a position and a number of moves.
-use Rattle.std.specs.Prelude.{ℕ, zero, suc, ◌+◌, ◌==◌, if◌then◌else◌, List, [], ◌∷◌, length, map, filter, Bool, true, not}
+use Rattle.std.specs.Prelude.{ℕ, zero, suc, ◌==◌, if◌then◌else◌, List, [], ◌∷◌, length, map, filter, Bool, true, not}
 use Rattle.std.specs.List.{flat_map}
 use Rattle.track_word.specs.declared.tracks.Var.{Var}
 use Rattle.game_rules.specs.Game.{other}

@@ -1,7 +1,24 @@
 //! The plan by which the winner is to mate within so many moves: the named steps in which its sets of positions are computed, ply by ply and
-//! mask by mask. `specs/Plan` has the steps, `specs/PlanOf` the plan of a position, `specs/Levels` the sets of a ply as the code keeps them.
+//! mask by mask. `specs/Plan` has the steps, `specs/PlanOf` the plan of a position, `specs/Levels` the sets of a ply as the code keeps them,
+//! `specs/Formulas` the formulas whose sets are united. Each function here answers one level of the plan, from the levels that it is made of.
 #![tactic(auto)]
 
+mod formulas;
+mod lending;
+mod level;
+mod losing;
 mod names;
+mod narrowing;
+mod reaching;
+mod stage;
+mod starting;
+mod tracks;
+mod unions;
+mod winning;
 
+pub use level::LevelNames;
+pub use losing::lost_level;
 pub use names::{Part, PartName};
+pub use reaching::reach_level;
+pub use starting::{no_level, point_level};
+pub use winning::win_level;

@@ -1,0 +1,15 @@
+pub mod LevelLemmas
+pub mod PlainFormulas
+pub mod ItemLemmas
+pub mod PartItems
+pub mod Loops
+pub mod PartAnswers
+pub mod Counts
+pub mod Starts
+pub mod LostParts
+pub mod Narrowings
+pub mod LostLevels
+pub mod UnionAnswers
+pub mod SafeAnswers
+pub mod StartAnswers
+pub mod Remainders

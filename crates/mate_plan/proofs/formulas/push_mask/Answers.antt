@@ -1,0 +1,6 @@
+use Rattle.std.proofs.Common.{◌∙◌}
+use Rattle.mate_plan.proofs.PartItems.{options_all}
+use Rattle.mate_plan.proofs.formulas.push_mask.Goals as goal
+
+pub push_images-requires-clause-options : goal.push_images-requires-clause-options
+push_images-requires-clause-options c = options_all c.args.p.now.men c.args.mask c.args.side c.as_slice.result.now (c.as_slice.ensures ∙ c.in_ok-all.ensures.list)

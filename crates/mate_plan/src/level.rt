@@ -1,0 +1,62 @@
+//! The sets of a level, by name.
+ghost use Rattle.std.specs.Prelude.{◌≡◌, [], ◌∷◌, ◌++◌, OnOk, OnErr};
+ghost use Rattle.mate_plan.specs.Formulas.{name_of};
+
+use lin_formula::SetId;
+use std::alloc::{AllocError, Global};
+use std::marker::Model;
+
+/// Names of the sets of a level, one for each of the position's masks, in the order of the masks. Where there is no name, there is no set.
+#[derive(Drop)]
+pub struct LevelNames {
+    names: Vec<Option<SetId>>,
+}
+
+impl Model for LevelNames {
+    ghost use Rattle.std.specs.Prelude.{List, Option};
+    ghost use Rattle.lin_formula.specs.declared.formula.SetId.{SetId};
+
+    ghost Value = { List (Option SetId) };
+
+    ghost view = { λ l. l.names.items };
+}
+
+impl LevelNames {
+    /// No names.
+    pub fn new(alloc: Global) -> LevelNames
+        ensures { result ≡ [] }
+    {
+        LevelNames {
+            names: Vec::new(alloc),
+        }
+    }
+
+    /// The name for the next mask.
+    pub fn push(&mut self, name: Option<SetId>) -> Result<(), AllocError>
+        ensures ok { OnOk result (self.new ≡ self.old ++ name ∷ []) }
+        ensures err { OnErr result (self.new ≡ self.old) }
+    {
+        self.names.push(name)?;
+        Ok(())
+    }
+
+    /// The names, one for each mask.
+    pub fn as_slice(&self) -> &[Option<SetId>]
+        ensures { result.now ≡ self.now }
+    {
+        self.names.as_slice()
+    }
+}
+
+/// The name for a mask in a level.
+pub(crate) fn name_at(masks: &[u8], level: &LevelNames, mask: u8) -> Option<SetId>
+    ensures { result ≡ name_of masks.now level.now mask }
+{
+    let mut found = None;
+    for (at, name) in masks.iter().zip(level.as_slice()) {
+        if *at == mask {
+            found = *name;
+        }
+    }
+    found
+}
