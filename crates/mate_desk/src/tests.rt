@@ -13,6 +13,19 @@ const TWO_ROOKS: &str = "infinite chess 1\nturn W\nW K 0 -2\nW R 10 1\nW R 5 7\n
 /// The same, mated.
 const MATED: &str = "infinite chess 1\nturn B\nW K 0 -2\nW R 10 0\nW R 10 1\nB K 0 0\nend\n";
 
+/// With a captured queen.
+const CAPTURED_QUEEN: &str =
+    "infinite chess 1\nturn W\nW K 0 -2\nW R 10 1\nW R 5 7\nB K 0 0\nW Q gone\nend\n";
+
+/// Black is to move.
+const BLACK_FIRST: &str = "infinite chess 1\nturn B\nW K 0 -2\nW R 10 1\nW R 2 7\nB K 1 0\nend\n";
+
+/// Black is to move, and has no move.
+const STALEMATE: &str = "infinite chess 1\nturn B\nW K 100 100\nW Q 1 2\nW Q -1 -2\nB K 0 0\nend\n";
+
+/// Two kings.
+const KINGS: &str = "infinite chess 1\nturn W\nW K 0 0\nB K 10 0\nend\n";
+
 const SHOWN: &[u8] =
     b"infinite chess 1\nturn W\nW K 0 -2\nW R 10 1\nW R 5 7\nB K 0 0\nend\ncheck no\nlive 4\n";
 
@@ -58,19 +71,9 @@ fn positions_and_their_answers(rt: HostRuntime) -> Result<(), Fail> {
             "text line 3 missing\n",
         ),
         // Black has a move.
-        (
-            &["decide", "0"],
-            "infinite chess 1\nturn B\nW K 0 -2\nW R 10 1\nW R 2 7\nB K 1 0\nend\n",
-            0,
-            "no mate in 0\n",
-        ),
+        (&["decide", "0"], BLACK_FIRST, 0, "no mate in 0\n"),
         // Black has no move, and is not in check.
-        (
-            &["decide", "0"],
-            "infinite chess 1\nturn B\nW K 100 100\nW Q 1 2\nW Q -1 -2\nB K 0 0\nend\n",
-            0,
-            "no mate in 0\n",
-        ),
+        (&["decide", "0"], STALEMATE, 0, "no mate in 0\n"),
         // The king escapes to a row that no i64 names.
         (
             &["decide", "0"],
@@ -81,8 +84,8 @@ fn positions_and_their_answers(rt: HostRuntime) -> Result<(), Fail> {
         (
             &["decide", "0"],
             "infinite chess 1\nturn W\nW K 0 -2\nW R 10 1\nW R 5 7\nB K 0 0\nB R 3 9\nend\n",
-            3,
-            "text line 7 not yet\n",
+            0,
+            "no mate in 0\n",
         ),
         (
             &["show"],
@@ -104,7 +107,7 @@ fn positions_and_their_answers(rt: HostRuntime) -> Result<(), Fail> {
         ),
         (
             &["show"],
-            "infinite chess 1\nturn W\nW K 0 -2\nW R 10 1\nW R 5 7\nB K 0 0\nW Q gone\nend\n",
+            CAPTURED_QUEEN,
             0,
             "infinite chess 1\nturn W\nW K 0 -2\nW R 10 1\nW R 5 7\nB K 0 0\nW Q gone\nend\ncheck no\nlive 4\n",
         ),
@@ -138,9 +141,41 @@ fn positions_and_their_answers(rt: HostRuntime) -> Result<(), Fail> {
 }
 
 #[test]
+fn mates_within_some_moves(rt: HostRuntime) -> Result<(), Fail> {
+    let alloc = rt.alloc();
+    let cases: [(&[&str], &str, u8, &str); 9] = [
+        // The rook goes down to the king's row.
+        (&["decide", "1"], TWO_ROOKS, 0, "mate in 1\n"),
+        (&["decide", "1"], CAPTURED_QUEEN, 0, "mate in 1\n"),
+        // Black moves first, and each of his moves leads to a mate.
+        (&["decide", "1"], BLACK_FIRST, 0, "mate in 1\n"),
+        // Stalemate is no mate.
+        (&["decide", "3"], STALEMATE, 0, "no mate in 3\n"),
+        // Kings alone.
+        (&["least", "3"], KINGS, 0, "none up to 3\n"),
+        (&["least", "0"], MATED, 0, "least 0\n"),
+        (&["least", "0"], TWO_ROOKS, 0, "none up to 0\n"),
+        (&["least", "20"], TWO_ROOKS, 0, "least 1\n"),
+        // The starting position has eight coordinates, so its formula has steps, and each tells two words apart at least.
+        (
+            &["decide", "1", "1"],
+            TWO_ROOKS,
+            8,
+            "over budget at moves 1 ply 0 men 15 part point at 1\n",
+        ),
+    ];
+    for (words, text, code, written) in cases {
+        let (status, bytes) = ran(alloc, words, text.as_bytes(), &[], &[], 1000)?;
+        assert_eq!(rt; bytes.as_slice(), written.as_bytes(), "{text}");
+        assert_eq!(rt; status.code(), code, "{text}");
+    }
+    Ok(())
+}
+
+#[test]
 fn words_and_their_reasons(rt: HostRuntime) -> Result<(), Fail> {
     let alloc = rt.alloc();
-    let cases: [(&[&str], &str); 16] = [
+    let cases: [(&[&str], &str); 22] = [
         (&[], "usage no command\n"),
         (&[""], "usage unknown\n"),
         (&["mate", "0"], "usage unknown\n"),
@@ -162,8 +197,14 @@ fn words_and_their_reasons(rt: HostRuntime) -> Result<(), Fail> {
         ),
         (&["decide", "0", "0"], "usage limit\n"),
         (&["decide", "0", "200001"], "usage limit\n"),
+        (&["decide", "1", "x"], "usage number\n"),
         // The first number's limit comes before the second's spelling.
-        (&["decide", "1", "x"], "usage limit\n"),
+        (&["decide", "21", "x"], "usage limit\n"),
+        (&["least"], "usage count\n"),
+        (&["least", "3", "5", "x"], "usage count\n"),
+        (&["least", "21"], "usage limit\n"),
+        (&["least", "03"], "usage number\n"),
+        (&["least", "3", "0"], "usage limit\n"),
     ];
     for (words, written) in cases {
         let (status, bytes) = ran(alloc, words, b"", &[1], &[], 1000)?;
