@@ -1,5 +1,5 @@
 -- What holds where White has no move of his own, and the men that are live.
-use Rattle.std.proofs.Common.{◌≡◌, ℕ, ◌+◌, ◌++◌, ◌↔◌, Bool, true, false, IsTrue, List, [], take, Some, slice_get, inl, inr, refl, sym, ap, subst, ◌∙◌, codes}
+use Rattle.std.proofs.Common.{◌≡◌, ℕ, ◌+◌, ◌<◌, ◌++◌, ◌↔◌, Bool, true, false, IsTrue, List, [], take, Some, slice_get, inl, inr, refl, sym, ap, subst, ◌∙◌, codes, below_more}
 use Rattle.std.specs.Prelude.{count_by, is_some}
 use Rattle.std.specs.Fmt.{decimal}
 use Rattle.std.proofs.lemmas.List.Sums.{count_by_more_no, count_by_more_yes}
@@ -52,6 +52,16 @@ module _ (p q : Position) (winner : Side) (budget n : ℕ) (position : q ≡ p) 
       let Moves : ℕ → Type 0 = λ k. IsTrue test ↔ Value White k s.position in
       let Of : Side → Type 0 = λ w. IsTrue test ↔ Value w s.moves s.position in
       subst At (of.position ∙ position) (subst Moves of.moves_are (subst Of (of.winner_is ∙ white) is))
+
+-- White mates within none of these numbers of moves, and their plans are within the budget
+abbrev pub ArePassed : Position → ℕ → ℕ → Type 0
+ArePassed p budget count = (n : ℕ) → n < count → FitsBudget p budget n × (Value White n p → ⊥)
+
+-- one number more
+pub passed_more : (p : Position) (budget n : ℕ) (won : Bool) → ArePassed p budget n → FitsBudget p budget n → IsTrue won ↔ Value White n p → won ≡ false → ArePassed p budget (n + 1)
+passed_more p budget n won passed fits is not_won =
+    let P : ℕ → Type 0 = λ k. FitsBudget p budget k × (Value White k p → ⊥) in
+    below_more P n passed (fits, λ value. let t = is.1 value in cc)
 
 -- the line of a verdict is right
 pub verdict_is : (n : ℕ) (p : Position) (won : Bool) (line : List ℕ) → (IsTrue won → line ≡ codes "mate in " ++ decimal n ++ codes "\n") → ((IsTrue won → ⊥) → line ≡ codes "no mate in " ++ decimal n ++ codes "\n") → IsTrue won ↔ Value White n p → IsVerdict n p line

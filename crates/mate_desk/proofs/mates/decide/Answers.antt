@@ -14,8 +14,8 @@ returns-in-Ok-clause-ends g c =
     let verdict = verdict_is c.args.moves c.args.p.now c.in-Ok.won c.as_slice.result.now (λ won. c.as_slice.ensures ∙ line.won won) (λ not_won. c.as_slice.ensures ∙ line.not_won not_won) c.in-Ok.ensures.won in
     printed c.print.result answers _ _ _ _ _ c.as_slice.result.now (fits, verdict) c.print.ensures.ends
 
-pub returns-in-Err-clause-ends : goal.returns-in-Err-clause-ends
-returns-in-Err-clause-ends g c =
+pub returns-clause-ends : goal.returns-clause-ends
+returns-clause-ends g c =
     let answers : Answer → Type 0 = AnswersDecide c.args.moves c.args.budget c.args.p.now in
     ends_as c.print_error.result _ answers _ _ _ _ _ _
     (λ answer step. subst answers (sym step.2) (rw c.new-solver.ensures at (c.in-Err.ensures.step step.0 step.1)))

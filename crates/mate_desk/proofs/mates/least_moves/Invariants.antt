@@ -1,7 +1,6 @@
-use Rattle.std.proofs.Common.{◌≡◌, ℕ, ◌<◌}
-use Rattle.game_rules.specs.Game.{Value}
+use Rattle.std.proofs.Common.{◌≡◌}
 use Rattle.game_rules.specs.declared.men.Side.TheVariants.{White}
-use Rattle.mate_desk.specs.Report.{FitsBudget}
+use Rattle.mate_desk.proofs.Values.{ArePassed}
 use Rattle.mate_desk.proofs.mates.least_moves.Given as goal
 
 abbrev pub invariant-loop-moves : goal.invariant-loop-moves
@@ -9,5 +8,5 @@ invariant-loop-moves l = record {
   position : l.solver.position ≡ l.p;
   winner : l.solver.winner ≡ White;
   budget : l.solver.budget ≡ l.budget;
-  passed : (k : ℕ) → k < l.moves → FitsBudget l.p l.budget k × (Value White k l.p → ⊥);
+  passed : ArePassed l.p l.budget l.moves;
 }
