@@ -1,8 +1,10 @@
 -- Words, a text and a position have one meaning each, and so an input has one report.
-use Rattle.std.proofs.Common.{◌≡◌, ◌⊎◌, ◌++◌, ℕ, ◌+◌, ◌≤◌, List, [], ◌∷◌, Result, Ok, Err, codes, false, inl, inr, refl, sym, ap, subst, ◌∙◌, arith}
+use Rattle.std.proofs.Common.{◌≡◌, ◌⊎◌, ◌++◌, ℕ, ◌+◌, ◌<◌, ◌≤◌, List, [], ◌∷◌, Option, Some, None, Result, Ok, Err, codes, false, inl, inr, refl, sym, ap, subst, ◌∙◌, arith}
+use Rattle.std.specs.Prelude.{unwrap_or}
 use Rattle.desk_base.specs.Files.{Files}
 use Rattle.desk_base.specs.Lines.{Lines, full, ended, cut, long, lines_of}
-use Rattle.game_rules.specs.Game.{Position}
+use Rattle.game_rules.specs.Game.{Position, Value}
+use Rattle.game_rules.specs.Game as game
 use Rattle.game_rules.specs.declared.men.Side.{Side}
 use Rattle.game_rules.specs.declared.men.Side.TheVariants.{White, Black}
 use Rattle.chess_game.specs.Fault.{IsFirstFault, IsLesserPair, rank}
@@ -14,15 +16,18 @@ use Rattle.chess_text.specs.PositionText as turnouts
 use Rattle.chess_text.specs.declared.reader.Stage.{Stage}
 use Rattle.chess_text.specs.declared.reader.Stage.TheVariants.{Header}
 use Rattle.chess_text.proofs.PositionLemmas.{feeds_once}
-use Rattle.mate_desk.specs.Order.{ReadsNumber, FromNumber, WithNumber, DecideOrdered, ShowOrdered, Ordered, most_moves, most_budget, default_budget}
-use Rattle.mate_desk.specs.Outcome.{Report, refusal_as, done_with}
-use Rattle.mate_desk.specs.Report.{unsound_line, IsVerdict, IsCheckLine, Prints, live_line, ReportsPosition, ReportsText, ReportsOrder, OneReport}
+use Rattle.winning_sets.specs.declared.names.StepName.{StepName}
+use Rattle.mate_desk.specs.Order.{ReadsNumber, FromNumber, WithNumber, MovesOrdered, ReadsMoves, ShowOrdered, Ordered, order_for, most_moves, most_budget, default_budget}
+use Rattle.mate_desk.specs.Answer.{Answer, writes, exceeds}
+use Rattle.mate_desk.specs.Outcome.{Report, refusal_as, report_of}
+use Rattle.mate_desk.specs.Report.{unsound_line, IsVerdict, IsCheckLine, Answers, AnswersDecide, AnswersLeast, ExceedsAt, FitsBudget, least_line, live_line, ReportsPosition, ReportsText, ReportsOrder, OneReport}
 use Rattle.mate_desk.specs.Text.{Text, whole, refused, AfterLine, ReadsLines}
 use Rattle.mate_desk.specs.declared.order.Order.{Order}
-use Rattle.mate_desk.specs.declared.order.Order.TheVariants.{Decide, Show}
+use Rattle.mate_desk.specs.declared.order.Order.TheVariants.{Decide, Least, Show}
 use Rattle.mate_desk.specs.declared.order.UsageWhy.{UsageWhy}
 use Rattle.mate_desk.specs.declared.order.UsageWhy.TheVariants.{NoCommand, Unknown, Count, Number, Limit}
 use Rattle.mate_desk.specs.declared.status.Status.TheVariants as is
+use Rattle.mate_desk.proofs.OneStep.{exceeds_once, fits_exceeds}
 
 -- a word is one number, or none for one reason
 once_number : (word : List ℕ) (low high : ℕ) (one other : Result ℕ UsageWhy) → ReadsNumber word low high one → ReadsNumber word low high other → one ≡ other
@@ -48,7 +53,7 @@ once_number word low high (Err NoCommand) other a b = absurd a
 once_number word low high (Err Unknown) other a b = absurd a
 once_number word low high (Err Count) other a b = absurd a
 
-module _ (one other : Result Order UsageWhy) where
+module _ {A : Type 0} (one other : Result A UsageWhy) where
   from_number : (number : Result ℕ UsageWhy) (F G : ℕ → Type 0) → ((n : ℕ) → F n → G n → one ≡ other) → FromNumber number one F → FromNumber number other G → one ≡ other
   from_number (Ok n) F G once a b = once n a b
   from_number (Err why) F G once a b = a ∙ sym b
@@ -58,33 +63,43 @@ module _ (one other : Result Order UsageWhy) where
       let P : Result ℕ UsageWhy → Type 0 = λ r. FromNumber r other G in
       from_number m F G once a (subst P (sym (once_number word low high m n is_m is_n)) b)
 
-  once_decide : (words : List (List ℕ)) → DecideOrdered words one → DecideOrdered words other → one ≡ other
-  once_decide [] a b = a ∙ sym b
-  once_decide (moves ∷ []) a b = with_number moves 0 most_moves (λ n. one ≡ Ok (Decide n default_budget)) (λ n. other ≡ Ok (Decide n default_budget)) (λ n x y. x ∙ sym y) a b
-  once_decide (moves ∷ budget ∷ []) a b =
-      with_number moves 0 most_moves (λ n. WithNumber budget 1 most_budget one (λ k. one ≡ Ok (Decide n k))) (λ n. WithNumber budget 1 most_budget other (λ k. other ≡ Ok (Decide n k)))
-      (λ n x y. with_number budget 1 most_budget (λ k. one ≡ Ok (Decide n k)) (λ k. other ≡ Ok (Decide n k)) (λ k u v. u ∙ sym v) x y)
+module _ (one other : Result (ℕ × ℕ) UsageWhy) where
+  once_moves : (words : List (List ℕ)) → ReadsMoves words one → ReadsMoves words other → one ≡ other
+  once_moves [] a b = a ∙ sym b
+  once_moves (moves ∷ []) a b =
+      with_number one other moves 0 most_moves (λ n. one ≡ Ok (n, default_budget)) (λ n. other ≡ Ok (n, default_budget)) (λ n x y. x ∙ sym y) a b
+  once_moves (moves ∷ budget ∷ []) a b =
+      with_number one other moves 0 most_moves (λ n. WithNumber budget 1 most_budget one (λ k. one ≡ Ok (n, k))) (λ n. WithNumber budget 1 most_budget other (λ k. other ≡ Ok (n, k)))
+      (λ n x y. with_number one other budget 1 most_budget (λ k. one ≡ Ok (n, k)) (λ k. other ≡ Ok (n, k)) (λ k u v. u ∙ sym v) x y)
       a b
-  once_decide (moves ∷ budget ∷ word ∷ words) a b = a ∙ sym b
+  once_moves (moves ∷ budget ∷ word ∷ words) a b = a ∙ sym b
+
+module _ (one other : Result Order UsageWhy) where
+  once_ordered : (order : ℕ → ℕ → Order) (words : List (List ℕ)) → MovesOrdered order words one → MovesOrdered order words other → one ≡ other
+  once_ordered order words a b = a.2 ∙ ap (order_for order) (once_moves a.0 b.0 words a.1 b.1) ∙ sym b.2
 
   once_show : (words : List (List ℕ)) → ShowOrdered words one → ShowOrdered words other → one ≡ other
   once_show [] a b = a ∙ sym b
   once_show (word ∷ words) a b = a ∙ sym b
 
-  two_commands : (command : List ℕ) → command ≡ codes "decide" → command ≡ codes "show" → one ≡ other
-  two_commands command a b = absurd (cc)
-
   pub once_words : (words : List (List ℕ)) → Ordered words one → Ordered words other → one ≡ other
   once_words [] a b = a ∙ sym b
-  once_words (command ∷ words) (inl (is', a)) (inl (so, b)) = once_decide words a b
-  once_words (command ∷ words) (inl (is', a)) (inr (inl (so, b))) = two_commands command is' so
-  once_words (command ∷ words) (inl (is', a)) (inr (inr (d, h, b))) = absurd (d is')
-  once_words (command ∷ words) (inr (inl (is', a))) (inl (so, b)) = two_commands command so is'
-  once_words (command ∷ words) (inr (inl (is', a))) (inr (inl (so, b))) = once_show words a b
-  once_words (command ∷ words) (inr (inl (is', a))) (inr (inr (d, h, b))) = absurd (h is')
-  once_words (command ∷ words) (inr (inr (d, h, a))) (inl (so, b)) = absurd (d so)
-  once_words (command ∷ words) (inr (inr (d, h, a))) (inr (inl (so, b))) = absurd (h so)
-  once_words (command ∷ words) (inr (inr (d, h, a))) (inr (inr (e, k, b))) = a ∙ sym b
+  once_words (command ∷ words) (inl (is', a)) (inl (so, b)) = once_ordered (λ moves budget. Decide moves budget) words a b
+  once_words (command ∷ words) (inl (is', a)) (inr (inl (so, b))) = absurd (cc)
+  once_words (command ∷ words) (inl (is', a)) (inr (inr (inl (so, b)))) = absurd (cc)
+  once_words (command ∷ words) (inl (is', a)) (inr (inr (inr (d, l, h, b)))) = absurd (d is')
+  once_words (command ∷ words) (inr (inl (is', a))) (inl (so, b)) = absurd (cc)
+  once_words (command ∷ words) (inr (inl (is', a))) (inr (inl (so, b))) = once_ordered (λ limit budget. Least limit budget) words a b
+  once_words (command ∷ words) (inr (inl (is', a))) (inr (inr (inl (so, b)))) = absurd (cc)
+  once_words (command ∷ words) (inr (inl (is', a))) (inr (inr (inr (d, l, h, b)))) = absurd (l is')
+  once_words (command ∷ words) (inr (inr (inl (is', a)))) (inl (so, b)) = absurd (cc)
+  once_words (command ∷ words) (inr (inr (inl (is', a)))) (inr (inl (so, b))) = absurd (cc)
+  once_words (command ∷ words) (inr (inr (inl (is', a)))) (inr (inr (inl (so, b)))) = once_show words a b
+  once_words (command ∷ words) (inr (inr (inl (is', a)))) (inr (inr (inr (d, l, h, b)))) = absurd (h is')
+  once_words (command ∷ words) (inr (inr (inr (d, l, h, a)))) (inl (so, b)) = absurd (d so)
+  once_words (command ∷ words) (inr (inr (inr (d, l, h, a)))) (inr (inl (so, b))) = absurd (l so)
+  once_words (command ∷ words) (inr (inr (inr (d, l, h, a)))) (inr (inr (inl (so, b)))) = absurd (h so)
+  once_words (command ∷ words) (inr (inr (inr (d, l, h, a)))) (inr (inr (inr (e, m, k, b)))) = a ∙ sym b
 
 -- lines are one text
 once_after : (turnout : Turnout) (number : ℕ) (rest : Lines) (one other : Text) (F G : Stage → Type 0) → ((next : Stage) → F next → G next → one ≡ other) → AfterLine turnout number rest one F → AfterLine turnout number rest other G → one ≡ other
@@ -173,7 +188,7 @@ once_fault p e f a b = elim (number_cases (rank e) (rank f)) [
   ]
 ]
 
--- what is printed of a position is one text
+-- what is answered of a position is one answer
 once_verdict : (n : ℕ) (p : Position) (one other : List ℕ) → IsVerdict n p one → IsVerdict n p other → one ≡ other
 once_verdict n p one other (inl (a, v)) (inl (b, w)) = a ∙ sym b
 once_verdict n p one other (inl (a, v)) (inr (b, w)) = absurd (w v)
@@ -186,16 +201,56 @@ once_check p one other (inl (a, v)) (inr (b, w)) = absurd (w v)
 once_check p one other (inr (a, v)) (inl (b, w)) = absurd (v w)
 once_check p one other (inr (a, v)) (inr (b, w)) = a ∙ sym b
 
-once_prints : (order : Order) (p : Position) (one other : List ℕ) → Prints order p one → Prints order p other → one ≡ other
-once_prints (Decide moves budget) p one other a b = once_verdict moves p one other a b
-once_prints Show p one other a b = a.2 ∙ ap (λ check. position_text p ++ check ++ live_line p) (once_check p a.0 b.0 a.1 b.1) ∙ sym b.2
+once_decide : (n budget : ℕ) (p : Position) (one other : Answer) → AnswersDecide n budget p one → AnswersDecide n budget p other → one ≡ other
+once_decide n budget p (writes one) (writes other) a b = ap writes (once_verdict n p one other a.1 b.1)
+once_decide n budget p (writes one) (exceeds step) a b = absurd (fits_exceeds p budget n step a.0 b)
+once_decide n budget p (exceeds step) (writes other) a b = absurd (fits_exceeds p budget n step b.0 a)
+once_decide n budget p (exceeds one) (exceeds other) a b = ap exceeds (exceeds_once p budget n one other a b)
+
+once_found : (p : Position) (limit : ℕ) (one other : Option ℕ) → game.Least White p limit one → game.Least White p limit other → one ≡ other
+once_found p limit (Some m) (Some n) a b = elim (number_cases m n) [
+  | inl less ↦ absurd (b.2 m less a.1)
+  | inr (inl same) ↦ ap (λ k. Some k) same
+  | inr (inr more) ↦ absurd (a.2 n more b.1)
+]
+once_found p limit (Some m) None a b = absurd (b m a.0 a.1)
+once_found p limit None (Some n) a b = absurd (a n b.0 b.1)
+once_found p limit None None a b = refl
+
+-- a text and a step that exceeds the budget
+text_step : (limit budget : ℕ) (p : Position) (found : Option ℕ) (n : ℕ) (step : StepName) → game.Least White p limit found → ((k : ℕ) → k ≤ unwrap_or found limit → FitsBudget p budget k) → n ≤ limit → ((k : ℕ) → k < n → FitsBudget p budget k × (Value White k p → ⊥)) → ExceedsAt p budget n step → ⊥
+text_step limit budget p (Some m) n step least fits within passed over = elim (number_cases m n) [
+  | inl less ↦ (passed m less).1 least.1
+  | inr (inl same) ↦ fits_exceeds p budget n step (fits n (omega (arith, same))) over
+  | inr (inr more) ↦ fits_exceeds p budget n step (fits n (omega (arith, more))) over
+]
+text_step limit budget p None n step least fits within passed over = fits_exceeds p budget n step (fits n within) over
+
+once_least : (limit budget : ℕ) (p : Position) (one other : Answer) → AnswersLeast limit budget p one → AnswersLeast limit budget p other → one ≡ other
+once_least limit budget p (writes one) (writes other) a b =
+    ap writes (a.3 ∙ ap (λ found. least_line limit found) (once_found p limit a.0 b.0 a.1 b.1) ∙ sym b.3)
+once_least limit budget p (writes one) (exceeds step) a b = absurd (text_step limit budget p a.0 b.0 step a.1 a.2 b.1 b.2 b.3)
+once_least limit budget p (exceeds step) (writes other) a b = absurd (text_step limit budget p b.0 a.0 step b.1 b.2 a.1 a.2 a.3)
+once_least limit budget p (exceeds one) (exceeds other) a b = elim (number_cases a.0 b.0) [
+  | inl less ↦ absurd (fits_exceeds p budget a.0 one (b.2 a.0 less).0 a.3)
+  | inr (inl same) ↦ ap exceeds (exceeds_once p budget b.0 one other (subst (λ n. ExceedsAt p budget n one) same a.3) b.3)
+  | inr (inr more) ↦ absurd (fits_exceeds p budget b.0 other (a.2 b.0 more).0 b.3)
+]
+
+once_answer : (order : Order) (p : Position) (one other : Answer) → Answers order p one → Answers order p other → one ≡ other
+once_answer (Decide moves budget) p one other a b = once_decide moves budget p one other a b
+once_answer (Least limit budget) p one other a b = once_least limit budget p one other a b
+once_answer Show p (writes one) (writes other) a b =
+    ap writes (a.2 ∙ ap (λ check. position_text p ++ check ++ live_line p) (once_check p a.0 b.0 a.1 b.1) ∙ sym b.2)
+once_answer Show p (writes one) (exceeds step) a b = absurd b
+once_answer Show p (exceeds step) other a b = absurd a
 
 module _ (files : Files) (one other : Report) where
   once_position : (order : Order) (p : Position) → ReportsPosition files order p one → ReportsPosition files order p other → one ≡ other
   once_position order p (inl (e, a, i)) (inl (f, b, j)) = i ∙ ap (λ why. refusal_as files is.Unsound (unsound_line why) false) (once_fault p e f a b) ∙ sym j
   once_position order p (inl (e, a, i)) (inr (sound, b)) = absurd (fault_unsound e p a sound)
   once_position order p (inr (sound, a)) (inl (f, b, j)) = absurd (fault_unsound f p b sound)
-  once_position order p (inr (sound, a)) (inr (also, b)) = a.2 ∙ ap (done_with files) (once_prints order p a.0 b.0 a.1 b.1) ∙ sym b.2
+  once_position order p (inr (sound, a)) (inr (also, b)) = a.2 ∙ ap (report_of files) (once_answer order p a.0 b.0 a.1 b.1) ∙ sym b.2
 
   once_whole : (order : Order) (text : Text) → ReportsText files order text one → ReportsText files order text other → one ≡ other
   once_whole order (refused number why) a b = a ∙ sym b

@@ -5,9 +5,10 @@ use Rattle.desk_base.specs.Lines.{lines_of}
 use Rattle.game_rules.specs.Game.{Position, Sound}
 use Rattle.chess_game.specs.Fault.{IsFirstFault}
 use Rattle.chess_game.specs.declared.faults.Unsound.{Unsound}
+use Rattle.mate_desk.specs.Answer.{Answer, writes, exceeds, budget_line}
 use Rattle.mate_desk.specs.Order.{Ordered, usage_line}
-use Rattle.mate_desk.specs.Outcome.{Report, refusal_as, done_with, RunEnds, PrintEnds}
-use Rattle.mate_desk.specs.Report.{unsound_line, Prints, TakesMemory, ReportsText, Reports, MayLackMemory}
+use Rattle.mate_desk.specs.Outcome.{Report, refusal_as, done_with, report_of, RunEnds, CommandEnds}
+use Rattle.mate_desk.specs.Report.{unsound_line, Answers, TakesMemory, ReportsText, Reports, MayLackMemory}
 use Rattle.mate_desk.specs.Text.{Text, TextAt, whole, refused, is_end, refusal_line}
 use Rattle.mate_desk.specs.TextRead.{TextRead}
 use Rattle.mate_desk.specs.declared.order.Order.{Order}
@@ -49,23 +50,28 @@ module _ (words : List (List ℕ)) (files : Files) where
         unsound_reported why fault = text_reported before (whole p (lines_of (pending ++ after))) (refusal_as files is.Unsound (unsound_line why) false) whole_at (inl (why, fault, refl))
 
         module _ (sound : Sound p) where
-          done_reported : (text : List ℕ) → Prints order p text → Reports words before files (done_with files text)
-          done_reported text prints = text_reported before (whole p (lines_of (pending ++ after))) (done_with files text) whole_at (inr (sound, (text, prints, refl)))
+          answer_reported : (answer : Answer) → Answers order p answer → Reports words before files (report_of files answer)
+          answer_reported answer right = text_reported before (whole p (lines_of (pending ++ after))) (report_of files answer) whole_at (inr (sound, (answer, right, refl)))
 
           -- how the run ends, from how its command does
-          pub answered : (status : Status) (sink_told shelf_told failed : Type 0) (old new : List ℕ) → PrintEnds status (Prints order p) (TakesMemory order) sink_told failed old new → RunEnds status (λ bytes report. Reports words bytes files report) (MayLackMemory words) (record { sink_told = sink_told; shelf_told = shelf_told; sink_failed = failed }) (record { left = before; written = old; files = files }) (record { left = after; written = new; files = files })
+          pub answered : (status : Status) (sink_told shelf_told failed : Type 0) (old new : List ℕ) → CommandEnds status (Answers order p) (TakesMemory order p) sink_told failed old new → RunEnds status (λ bytes report. Reports words bytes files report) (MayLackMemory words) (record { sink_told = sink_told; shelf_told = shelf_told; sink_failed = failed }) (record { left = before; written = old; files = files }) (record { left = after; written = new; files = files })
           answered is.Done sink_told shelf_told failed old new ends = (
             done_with files ends.0,
-            done_reported ends.0 ends.1,
+            answer_reported (writes ends.0) ends.1,
             record { status = refl; written = λ t. text_written ends.0 old new failed (ends.2 t); files = λ _. refl },
           )
           answered is.WriteFault sink_told shelf_told failed old new ends = (
             done_with files ends.0,
-            done_reported ends.0 ends.1,
+            answer_reported (writes ends.0) ends.1,
             record { written = ends.2; files = λ _. refl },
           )
+          answered is.Budget sink_told shelf_told failed old new ends = (
+            refusal_as files is.Budget (budget_line ends.0) false,
+            answer_reported (exceeds ends.0) ends.1,
+            record { status = refl; written = ends.2; files = λ _. refl },
+          )
           answered is.Memory sink_told shelf_told failed old new ends = (
-            record { order = order; ordered = ordered; takes = ends.0; position = p; rest = lines_of (pending ++ after); text = whole_at; sound = sound },
+            record { order = order; ordered = ordered; position = p; rest = lines_of (pending ++ after); text = whole_at; sound = sound; takes = ends.0 },
             record { written = ends.1; files = λ _. refl },
           )
           answered is.Usage sink_told shelf_told failed old new ends = absurd ends

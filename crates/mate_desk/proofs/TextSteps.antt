@@ -50,11 +50,10 @@ fed_more stages.Turn next line (inr (e, i)) = absurd (cc)
 fed_more (stages.Men p) next line (inl (a, e, i)) = absurd (cc)
 fed_more (stages.Men p) next line (inr (inl (a, e, i))) = absurd (cc)
 fed_more (stages.Men p) next line (inr (inr (inl (a, e, i)))) = absurd (cc)
-fed_more (stages.Men p) next line (inr (inr (inr (a, e, inl (m, is, served, i))))) =
+fed_more (stages.Men p) next line (inr (inr (inr (a, e, inl (m, is, i))))) =
     goes_to (stages.Men p) next (stages.Men (with_man p m)) (let same : next ≡ stages.Men (with_man p m) = cc in same)
     (record { nearer = omega (arith, a, length-append p.men (m ∷ [])); few = omega (arith, a, length-append p.men (m ∷ [])) })
-fed_more (stages.Men p) next line (inr (inr (inr (a, e, inr (inl (m, is, served, i)))))) = absurd (cc)
-fed_more (stages.Men p) next line (inr (inr (inr (a, e, inr (inr (reason, r, i)))))) = absurd (cc)
+fed_more (stages.Men p) next line (inr (inr (inr (a, e, inr (reason, r, i))))) = absurd (cc)
 
 pub fed_whole : (stage : Stage) (p : Position) (line : List ℕ) → IsFew stage → Feeds stage line (turnouts.whole p) → length p.men ≤ 5
 fed_whole stages.Header p line few (inl (e, i)) = absurd (cc)
@@ -67,9 +66,8 @@ fed_whole (stages.Men q) p line few (inr (inl (a, e, i))) =
     let P : Position → Type 0 = λ r. length r.men ≤ 5 in
     subst P (sym same) few
 fed_whole (stages.Men q) p line few (inr (inr (inl (a, e, i)))) = absurd (cc)
-fed_whole (stages.Men q) p line few (inr (inr (inr (a, e, inl (m, is, served, i))))) = absurd (cc)
-fed_whole (stages.Men q) p line few (inr (inr (inr (a, e, inr (inl (m, is, served, i)))))) = absurd (cc)
-fed_whole (stages.Men q) p line few (inr (inr (inr (a, e, inr (inr (reason, r, i)))))) = absurd (cc)
+fed_whole (stages.Men q) p line few (inr (inr (inr (a, e, inl (m, is, i))))) = absurd (cc)
+fed_whole (stages.Men q) p line few (inr (inr (inr (a, e, inr (reason, r, i))))) = absurd (cc)
 
 -- what the reader of a text has answered
 pub answer_whole : (stage : Stage) (line : List ℕ) (fed : Fed) (p : Position) (reader : Reading) → position_of fed ≡ Some p → ReadsLine stage line (Ok fed) reader → Feeds stage line (turnouts.whole p)

@@ -2,7 +2,8 @@
 use Rattle.std.proofs.Common.{◌≡◌, ℕ, List, [], ◌++◌, length, Result, Ok, Err, OnOk, OnErr, inl, inr, sym, ◌∙◌, ap, subst, arith}
 use Rattle.std.proofs.lemmas.List.{take_all, append-nil}
 use Rattle.desk_base.specs.Moves.{AppendsFront}
-use Rattle.mate_desk.specs.Outcome.{Writes, WritesPart, PrintEnds}
+use Rattle.mate_desk.specs.Answer.{Answer, writes, exceeds}
+use Rattle.mate_desk.specs.Outcome.{Writes, WritesPart, CommandEnds}
 use Rattle.mate_desk.specs.declared.status.Status.{Status}
 use Rattle.mate_desk.specs.declared.status.Status.TheVariants as is
 
@@ -31,12 +32,18 @@ text_written text old new failed wrote = record {
 pub front_written : (text old new : List ℕ) → AppendsFront old new text → WritesPart text old new
 front_written text old new wrote = record { count = wrote.count; proper = wrote.proper; front = wrote.front }
 
--- a command ends as it prints one text that is right
-pub printed : (status : Status) (prints : List ℕ → Type 0) (may_lack told failed : Type 0) (old new text : List ℕ) → prints text → PrintEnds status (λ all. all ≡ text) ⊥ told failed old new → PrintEnds status prints may_lack told failed old new
-printed is.Done prints may_lack told failed old new text right ends = (ends.0, subst prints (sym ends.1) right, ends.2)
-printed is.WriteFault prints may_lack told failed old new text right ends = (ends.0, subst prints (sym ends.1) right, ends.2)
-printed is.Memory prints may_lack told failed old new text right ends = absurd ends.0
-printed is.Usage prints may_lack told failed old new text right ends = absurd ends
-printed is.Text prints may_lack told failed old new text right ends = absurd ends
-printed is.Unsound prints may_lack told failed old new text right ends = absurd ends
-printed is.ReadFault prints may_lack told failed old new text right ends = absurd ends
+-- a command ends as it answers, where what it answers says more
+pub ends_as : (status : Status) (answers more : Answer → Type 0) (may_lack may_more told failed : Type 0) (old new : List ℕ) → ((answer : Answer) → answers answer → more answer) → (may_lack → may_more) → CommandEnds status answers may_lack told failed old new → CommandEnds status more may_more told failed old new
+ends_as is.Done answers more may_lack may_more told failed old new says lacks ends = (ends.0, says (writes ends.0) ends.1, ends.2)
+ends_as is.WriteFault answers more may_lack may_more told failed old new says lacks ends = (ends.0, says (writes ends.0) ends.1, ends.2)
+ends_as is.Budget answers more may_lack may_more told failed old new says lacks ends = (ends.0, says (exceeds ends.0) ends.1, ends.2)
+ends_as is.Memory answers more may_lack may_more told failed old new says lacks ends = (lacks ends.0, ends.1)
+ends_as is.Usage answers more may_lack may_more told failed old new says lacks ends = absurd ends
+ends_as is.Text answers more may_lack may_more told failed old new says lacks ends = absurd ends
+ends_as is.Unsound answers more may_lack may_more told failed old new says lacks ends = absurd ends
+ends_as is.ReadFault answers more may_lack may_more told failed old new says lacks ends = absurd ends
+
+-- it answers one text, which is right
+pub printed : (status : Status) (answers : Answer → Type 0) (may_lack told failed : Type 0) (old new text : List ℕ) → answers (writes text) → CommandEnds status (λ answer. answer ≡ writes text) ⊥ told failed old new → CommandEnds status answers may_lack told failed old new
+printed status answers may_lack told failed old new text right =
+    ends_as status (λ answer. answer ≡ writes text) answers ⊥ may_lack told failed old new (λ answer is_text. subst answers (sym is_text) right) (λ none. absurd none)

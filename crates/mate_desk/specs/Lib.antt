@@ -1,3 +1,4 @@
+pub mod Answer
 pub mod Codes
 pub mod Order
 pub mod Outcome
@@ -11,3 +12,5 @@ pub use Rattle.game_rules.specs.Game
 pub use Rattle.chess_game.specs.Fault
 pub use Rattle.chess_text.specs.ManLine
 pub use Rattle.chess_text.specs.PositionText
+pub use Rattle.mate_plan.specs.PlanOf
+pub use Rattle.winning_sets.specs.Solve

@@ -4,13 +4,13 @@ use Rattle.std.specs.Char.{IsAsciiDigit}
 use Rattle.std.specs.List.{All}
 use Rattle.std.specs.Str.Parse.{digits_value}
 use Rattle.mate_desk.specs.declared.order.Order.{Order}
-use Rattle.mate_desk.specs.declared.order.Order.TheVariants.{Decide, Show}
+use Rattle.mate_desk.specs.declared.order.Order.TheVariants.{Decide, Least, Show}
 use Rattle.mate_desk.specs.declared.order.UsageWhy.{UsageWhy}
 use Rattle.mate_desk.specs.declared.order.UsageWhy.TheVariants.{NoCommand, Unknown, Count, Number, Limit}
 
 -- the greatest number of moves that can be asked for
 abbrev pub most_moves : ℕ
-most_moves = 0
+most_moves = 20
 
 -- the greatest budget, and the one that holds where no word names one
 abbrev pub most_budget : ℕ
@@ -37,20 +37,28 @@ ReadsNumber word low high (Err Limit) = (n : ℕ) × IsNatural word n × (low �
 ReadsNumber word low high (Err _) = ⊥
 
 -- the answer goes on from the number as `go_on` says, or has the reason why there is none
-abbrev pub FromNumber : Result ℕ UsageWhy → Result Order UsageWhy → (ℕ → Type 0) → Type 0
+abbrev pub FromNumber : {A : Type 0} → Result ℕ UsageWhy → Result A UsageWhy → (ℕ → Type 0) → Type 0
 FromNumber (Ok n) answer go_on = go_on n
 FromNumber (Err why) answer go_on = answer ≡ Err why
 
-abbrev pub WithNumber : List ℕ → ℕ → ℕ → Result Order UsageWhy → (ℕ → Type 0) → Type 0
+abbrev pub WithNumber : {A : Type 0} → List ℕ → ℕ → ℕ → Result A UsageWhy → (ℕ → Type 0) → Type 0
 WithNumber word low high answer go_on = (number : Result ℕ UsageWhy) × ReadsNumber word low high number × FromNumber number answer go_on
 
--- what the words behind `decide` order: the number of moves, and the budget if a word names it
-abbrev pub DecideOrdered : List (List ℕ) → Result Order UsageWhy → Type 0
-DecideOrdered [] answer = answer ≡ Err Count
-DecideOrdered (moves ∷ []) answer = WithNumber moves 0 most_moves answer (λ n. answer ≡ Ok (Decide n default_budget))
-DecideOrdered (moves ∷ budget ∷ []) answer =
-    WithNumber moves 0 most_moves answer (λ n. WithNumber budget 1 most_budget answer (λ b. answer ≡ Ok (Decide n b)))
-DecideOrdered (moves ∷ budget ∷ word ∷ words) answer = answer ≡ Err Count
+-- the number of moves that the first word is, and the budget that the second is, if there is one
+abbrev pub ReadsMoves : List (List ℕ) → Result (ℕ × ℕ) UsageWhy → Type 0
+ReadsMoves [] asked = asked ≡ Err Count
+ReadsMoves (moves ∷ []) asked = WithNumber moves 0 most_moves asked (λ n. asked ≡ Ok (n, default_budget))
+ReadsMoves (moves ∷ budget ∷ []) asked = WithNumber moves 0 most_moves asked (λ n. WithNumber budget 1 most_budget asked (λ b. asked ≡ Ok (n, b)))
+ReadsMoves (moves ∷ budget ∷ word ∷ words) asked = asked ≡ Err Count
+
+-- the order for a number of moves and a budget, or the reason why there is none
+abbrev pub order_for : (ℕ → ℕ → Order) → Result (ℕ × ℕ) UsageWhy → Result Order UsageWhy
+order_for order (Ok (moves, budget)) = Ok (order moves budget)
+order_for order (Err why) = Err why
+
+-- what the words behind a command order that takes a number of moves and a budget
+abbrev pub MovesOrdered : (ℕ → ℕ → Order) → List (List ℕ) → Result Order UsageWhy → Type 0
+MovesOrdered order words answer = (asked : Result (ℕ × ℕ) UsageWhy) × ReadsMoves words asked × (answer ≡ order_for order asked)
 
 -- what the words behind `show` order
 abbrev pub ShowOrdered : List (List ℕ) → Result Order UsageWhy → Type 0
@@ -61,13 +69,19 @@ ShowOrdered (word ∷ words) answer = answer ≡ Err Count
 abbrev pub Ordered : List (List ℕ) → Result Order UsageWhy → Type 0
 Ordered [] answer = answer ≡ Err NoCommand
 Ordered (command ∷ words) answer =
-    ((command ≡ codes "decide") × DecideOrdered words answer)
+    ((command ≡ codes "decide") × MovesOrdered (λ moves budget. Decide moves budget) words answer)
+    ⊎ ((command ≡ codes "least") × MovesOrdered (λ limit budget. Least limit budget) words answer)
     ⊎ ((command ≡ codes "show") × ShowOrdered words answer)
-    ⊎ ((command ≢ codes "decide") × (command ≢ codes "show") × (answer ≡ Err Unknown))
+    ⊎ ((command ≢ codes "decide") × (command ≢ codes "least") × (command ≢ codes "show") × (answer ≡ Err Unknown))
+
+-- the number is a budget
+abbrev pub IsBudget : ℕ → Type 0
+IsBudget budget = (1 ≤ budget) × (budget ≤ most_budget)
 
 -- the numbers of an order are within their limits
 abbrev pub IsWithinLimits : Order → Type 0
-IsWithinLimits (Decide moves budget) = (moves ≤ most_moves) × (1 ≤ budget) × (budget ≤ most_budget)
+IsWithinLimits (Decide moves budget) = (moves ≤ most_moves) × IsBudget budget
+IsWithinLimits (Least limit budget) = (limit ≤ most_moves) × IsBudget budget
 IsWithinLimits Show = Unit {0}
 
 -- the fault line of words that are no order

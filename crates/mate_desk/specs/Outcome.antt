@@ -1,6 +1,8 @@
 -- What a run does, and how it may end.
 use Rattle.std.specs.Prelude.{◌≡◌, ◌⊎◌, ℕ, ◌≤◌, ◌<◌, List, [], ◌++◌, length, take, Bool, false, IsTrue, codes}
 use Rattle.desk_base.specs.Files.{Files}
+use Rattle.winning_sets.specs.declared.names.StepName.{StepName}
+use Rattle.mate_desk.specs.Answer.{Answer, writes, exceeds, budget_line}
 use Rattle.mate_desk.specs.declared.status.Status.{Status}
 use Rattle.mate_desk.specs.declared.status.Status.TheVariants as is
 
@@ -23,6 +25,11 @@ refusal_as files status fault short = record { status = status; text = []; fault
 -- a run that is done with this text, and leaves these files
 abbrev pub done_with : Files → List ℕ → Report
 done_with files text = record { status = is.Done; text = text; fault = []; short = false; files = files }
+
+-- a run that answers this, and leaves these files
+abbrev pub report_of : Files → Answer → Report
+report_of files (writes text) = done_with files text
+report_of files (exceeds step) = refusal_as files is.Budget (budget_line step) false
 
 -- This text was written, and then this fault line, of which a suffix may be missing where the sink has failed.
 pub record Writes (text fault old new : List ℕ) (failed : Type 0) : Type 0 where
@@ -87,9 +94,11 @@ RunEnds is.WriteFault reports may_lack ports old new = (report : Report) × repo
 RunEnds is.Memory reports may_lack ports old new = may_lack old.left × LacksMemory ports old new
 RunEnds status reports may_lack ports old new = (report : Report) × reports old.left report × DoesReport status report ports old new
 
--- How a command ends that writes a text, where `prints` says which, into a sink that goes from `old` to `new`.
-abbrev pub PrintEnds : Status → (List ℕ → Type 0) → (may_lack told failed : Type 0) → (old new : List ℕ) → Type 0
-PrintEnds is.Done prints may_lack told failed old new = (text : List ℕ) × prints text × (told → new ≡ old ++ text)
-PrintEnds is.WriteFault prints may_lack told failed old new = (text : List ℕ) × prints text × (told → WritesPart text old new)
-PrintEnds is.Memory prints may_lack told failed old new = may_lack × (told → Writes [] (codes "memory\n") old new failed)
-PrintEnds status prints may_lack told failed old new = ⊥
+-- How a command ends, where `answers` says what it answers, with a sink that goes from `old` to `new`.
+abbrev pub CommandEnds : Status → (Answer → Type 0) → (may_lack told failed : Type 0) → (old new : List ℕ) → Type 0
+CommandEnds is.Done answers may_lack told failed old new = (text : List ℕ) × answers (writes text) × (told → new ≡ old ++ text)
+CommandEnds is.WriteFault answers may_lack told failed old new = (text : List ℕ) × answers (writes text) × (told → WritesPart text old new)
+CommandEnds is.Budget answers may_lack told failed old new =
+    (step : StepName) × answers (exceeds step) × (told → Writes [] (budget_line step) old new failed)
+CommandEnds is.Memory answers may_lack told failed old new = may_lack × (told → Writes [] (codes "memory\n") old new failed)
+CommandEnds status answers may_lack told failed old new = ⊥

@@ -1,20 +1,25 @@
 -- What a run reports.
-use Rattle.std.specs.Prelude.{◌≡◌, ◌⊎◌, ℕ, List, ◌∷◌, ◌++◌, false, Result, Ok, Err, codes, count_by, is_some}
+use Rattle.std.specs.Prelude.{◌≡◌, ◌⊎◌, ℕ, ◌<◌, ◌≤◌, List, ◌∷◌, ◌++◌, false, Option, Some, None, Result, Ok, Err, codes, count_by, is_some, unwrap_or}
 use Rattle.std.specs.Fmt.{decimal}
 use Rattle.desk_base.specs.Files.{Files}
 use Rattle.desk_base.specs.Lines.{Lines}
-use Rattle.game_rules.specs.Game.{Position, InCheck, Sound, Value, square_of}
+use Rattle.game_rules.specs.Game.{Position, InCheck, Least, Sound, Value, square_of}
 use Rattle.game_rules.specs.declared.men.Side.TheVariants.{White}
 use Rattle.chess_game.specs.Fault.{IsFirstFault}
 use Rattle.chess_game.specs.declared.faults.Unsound.{Unsound}
 use Rattle.chess_game.specs.declared.faults.Unsound.TheVariants.{NoKing, ManyKings, KingGone, SameSquare, OtherInCheck}
 use Rattle.chess_text.specs.ManLine.{side_letter}
 use Rattle.chess_text.specs.PositionText.{position_text}
+use Rattle.mate_plan.specs.PlanOf.{plan_of}
+use Rattle.winning_sets.specs.Solve.{IsWithin, IsSolveError}
+use Rattle.winning_sets.specs.declared.names.SolveError.TheVariants as solve_error
+use Rattle.winning_sets.specs.declared.names.StepName.{StepName}
+use Rattle.mate_desk.specs.Answer.{Answer, writes, exceeds}
 use Rattle.mate_desk.specs.Order.{Ordered, usage_line}
-use Rattle.mate_desk.specs.Outcome.{Report, refusal_as, done_with}
+use Rattle.mate_desk.specs.Outcome.{Report, refusal_as, report_of}
 use Rattle.mate_desk.specs.Text.{Text, TextAt, whole, refused, is_end, refusal_line}
 use Rattle.mate_desk.specs.declared.order.Order.{Order}
-use Rattle.mate_desk.specs.declared.order.Order.TheVariants.{Decide, Show}
+use Rattle.mate_desk.specs.declared.order.Order.TheVariants as orders
 use Rattle.mate_desk.specs.declared.order.UsageWhy.{UsageWhy}
 use Rattle.mate_desk.specs.declared.status.Status.TheVariants as is
 
@@ -31,6 +36,31 @@ abbrev pub IsVerdict : ℕ → Position → List ℕ → Type 0
 IsVerdict n p line =
     ((line ≡ codes "mate in " ++ decimal n ++ codes "\n") × Value White n p)
     ⊎ ((line ≡ codes "no mate in " ++ decimal n ++ codes "\n") × (Value White n p → ⊥))
+
+-- no step of the plan by which White is to mate within n moves exceeds the budget
+abbrev pub FitsBudget : Position → ℕ → ℕ → Type 0
+FitsBudget p budget n = IsWithin (plan_of White p n) budget
+
+-- the step is the first of that plan that exceeds the budget
+abbrev pub ExceedsAt : Position → ℕ → ℕ → StepName → Type 0
+ExceedsAt p budget n step = IsSolveError (plan_of White p n) n budget (solve_error.Over step)
+
+-- the answer to whether White mates within n moves of his own
+abbrev pub AnswersDecide : ℕ → ℕ → Position → Answer → Type 0
+AnswersDecide n budget p (writes text) = FitsBudget p budget n × IsVerdict n p text
+AnswersDecide n budget p (exceeds step) = ExceedsAt p budget n step
+
+-- the line that says within how few moves White mates, or that he does not within the limit
+abbrev pub least_line : ℕ → Option ℕ → List ℕ
+least_line limit (Some n) = codes "least " ++ decimal n ++ codes "\n"
+least_line limit None = codes "none up to " ++ decimal limit ++ codes "\n"
+
+-- the answer to within how few moves White mates: the numbers of moves are gone through from 0 on
+abbrev pub AnswersLeast : ℕ → ℕ → Position → Answer → Type 0
+AnswersLeast limit budget p (writes text) =
+    (found : Option ℕ) × Least White p limit found × ((n : ℕ) → n ≤ unwrap_or found limit → FitsBudget p budget n) × (text ≡ least_line limit found)
+AnswersLeast limit budget p (exceeds step) =
+    (n : ℕ) × (n ≤ limit) × ((k : ℕ) → k < n → FitsBudget p budget k × (Value White k p → ⊥)) × ExceedsAt p budget n step
 
 -- the line says whether the side to move is in check
 abbrev pub IsCheckLine : Position → List ℕ → Type 0
@@ -49,21 +79,29 @@ live_line p = codes "live " ++ decimal (live_count p) ++ codes "\n"
 abbrev pub IsShown : Position → List ℕ → Type 0
 IsShown p text = (check : List ℕ) × IsCheckLine p check × (text ≡ position_text p ++ check ++ live_line p)
 
--- the text that the order asks for of a sound position
-abbrev pub Prints : Order → Position → List ℕ → Type 0
-Prints (Decide moves budget) p text = IsVerdict moves p text
-Prints Show p text = IsShown p text
+-- the answer to the order for a sound position
+abbrev pub Answers : Order → Position → Answer → Type 0
+Answers (orders.Decide moves budget) p answer = AnswersDecide moves budget p answer
+Answers (orders.Least limit budget) p answer = AnswersLeast limit budget p answer
+Answers orders.Show p (writes text) = IsShown p text
+Answers orders.Show p (exceeds step) = ⊥
 
--- the orders whose text takes memory
-abbrev pub TakesMemory : Order → Type 0
-TakesMemory (Decide moves budget) = ⊥
-TakesMemory Show = Unit {0}
+-- White is to move, and has no move of his own
+pub record HasNoMove (moves : ℕ) (p : Position) : Type 0 where
+  pub none : moves ≡ 0
+  pub turn : p.turn ≡ White
+
+-- the answer to the order takes memory
+abbrev pub TakesMemory : Order → Position → Type 0
+TakesMemory (orders.Decide moves budget) p = ¬ HasNoMove moves p
+TakesMemory (orders.Least limit budget) p = ¬ HasNoMove limit p
+TakesMemory orders.Show p = Unit {0}
 
 -- the report on a position, with the files before the run
 abbrev pub ReportsPosition : Files → Order → Position → Report → Type 0
 ReportsPosition files order p report =
     ((why : Unsound) × IsFirstFault p why × (report ≡ refusal_as files is.Unsound (unsound_line why) false))
-    ⊎ (Sound p × ((text : List ℕ) × Prints order p text × (report ≡ done_with files text)))
+    ⊎ (Sound p × ((answer : Answer) × Answers order p answer × (report ≡ report_of files answer)))
 
 abbrev pub ReportsText : Files → Order → Text → Report → Type 0
 ReportsText files order (refused number why) report = report ≡ refusal_as files is.Text (refusal_line number why) (is_end why)
@@ -81,11 +119,11 @@ Reports words bytes files report = (answer : Result Order UsageWhy) × Ordered w
 pub record MayLackMemory (words : List (List ℕ)) (bytes : List ℕ) : Type 0 where
   pub order : Order
   pub ordered : Ordered words (Ok order)
-  pub takes : TakesMemory order
   pub position : Position
   pub rest : Lines
   pub text : TextAt bytes (whole position rest)
   pub sound : Sound position
+  pub takes : TakesMemory order position
 
 -- two reports of one input are equal
 abbrev pub OneReport : Type 0

@@ -1,20 +1,22 @@
 //! What the commands answer of a sound position.
 
-ghost use Rattle.std.specs.Prelude.{IsTrue, IfOk, ◌≡◌, ◌≤◌, ◌↔◌, ◌++◌, is_some, length};
+ghost use Rattle.std.specs.Prelude.{IsTrue, IfOk, ◌≡◌, ◌≤◌, ◌↔◌, is_some, length};
 ghost use Rattle.desk_base.specs.Faults.{HasRisen};
-ghost use Rattle.game_rules.specs.Game.{Sound, Value, square_of};
+ghost use Rattle.game_rules.specs.Game.{Sound, square_of};
 ghost use Rattle.mate_desk.specs.Order.{IsWithinLimits};
-ghost use Rattle.mate_desk.specs.Outcome.{PrintEnds};
-ghost use Rattle.mate_desk.specs.Report.{IsCheckLine, IsShown, IsVerdict, Prints, TakesMemory, live_line};
+ghost use Rattle.mate_desk.specs.Outcome.{CommandEnds};
+ghost use Rattle.mate_desk.specs.Report.{Answers, IsCheckLine, IsShown, TakesMemory, live_line};
 ghost use Rattle.mate_desk.specs.Report as reports;
 
 use crate::fault_line::refuse;
+use crate::mates::{decide, least};
 use crate::order::Order;
+use crate::output::print;
 use crate::status::Status;
-use chess_game::{Man, Place, Position, Side, in_check, mated};
+use chess_game::{Man, Place, Position, in_check};
 use chess_text::line_buffer::LineBuffer;
 use chess_text::position_bytes;
-use desk_base::{Sink, put_all};
+use desk_base::Sink;
 use std::alloc::{AllocError, Global};
 
 /// Writes what the order asks for of the position.
@@ -22,68 +24,14 @@ pub fn answer<K: Sink>(alloc: Global, order: Order, p: &Position, sink: &mut K) 
     requires sound { Sound p.now }
     requires few { length p.now.men ≤ 5 }
     requires within { IsWithinLimits order }
-    ensures ends { PrintEnds result (Prints order p.now) (TakesMemory order) (IsTrue K.told) (HasRisen (K.faults sink.old) (K.faults sink.new)) (K.written sink.old) (K.written sink.new) }
+    ensures ends { CommandEnds result (Answers order p.now) (TakesMemory order p.now) (IsTrue K.told) (HasRisen (K.faults sink.old) (K.faults sink.new)) (K.written sink.old) (K.written sink.new) }
     ensures write_fault { result ≡ Status.WriteFault → HasRisen (K.faults sink.old) (K.faults sink.new) }
     ensures never_falls { K.faults sink.old ≤ K.faults sink.new }
 {
     match order {
-        Order::Decide { moves, .. } => decide(p, moves, sink),
+        Order::Decide { moves, budget } => decide(alloc, p, moves, budget, sink),
+        Order::Least { limit, budget } => least(alloc, p, limit, budget, sink),
         Order::Show => show(alloc, p, sink),
-    }
-}
-
-/// Writes whether White mates within so many moves.
-fn decide<K: Sink>(p: &Position, moves: u8, sink: &mut K) -> Status
-    requires sound { Sound p.now }
-    requires none { moves ≡ 0 }
-    ensures ends { PrintEnds result (IsVerdict moves p.now) ⊥ (IsTrue K.told) (HasRisen (K.faults sink.old) (K.faults sink.new)) (K.written sink.old) (K.written sink.new) }
-    ensures write_fault { result ≡ Status.WriteFault → HasRisen (K.faults sink.old) (K.faults sink.new) }
-    ensures never_falls { K.faults sink.old ≤ K.faults sink.new }
-{
-    let line = verdict_line(p, moves);
-    print(sink, line.as_slice())
-}
-
-/// Writes the text.
-fn print<K: Sink>(sink: &mut K, text: &[u8]) -> Status
-    ensures ends { PrintEnds result (λ all. all ≡ text.now) ⊥ (IsTrue K.told) (HasRisen (K.faults sink.old) (K.faults sink.new)) (K.written sink.old) (K.written sink.new) }
-    ensures write_fault { result ≡ Status.WriteFault → HasRisen (K.faults sink.old) (K.faults sink.new) }
-    ensures never_falls { K.faults sink.old ≤ K.faults sink.new }
-{
-    match put_all(sink, text) {
-        Ok(()) => Status::Done,
-        Err(_) => Status::WriteFault,
-    }
-}
-
-/// The line that says whether White mates within so many moves.
-fn verdict_line(p: &Position, moves: u8) -> LineBuffer
-    requires sound { Sound p.now }
-    requires none { moves ≡ 0 }
-    ensures { IsVerdict moves p.now result }
-{
-    let mut line = LineBuffer::new();
-    if is_won(p, moves) {
-        line.push(b"mate in ");
-        line.push_number(i64::from(moves));
-        line.push(b"\n");
-    } else {
-        line.push(b"no mate in ");
-        line.push_number(i64::from(moves));
-        line.push(b"\n");
-    }
-    line
-}
-
-/// Whether White mates within so many moves of his own, whatever is replied. Within none he does where Black is mated.
-fn is_won(p: &Position, moves: u8) -> bool
-    requires sound { Sound p.now }
-    requires none { moves ≡ 0 }
-    ensures { IsTrue result ↔ Value Side.White moves p.now }
-{
-    match p.turn() {
-        Side::White => false,
-        Side::Black => mated(p),
     }
 }
 
@@ -91,7 +39,7 @@ fn is_won(p: &Position, moves: u8) -> bool
 fn show<K: Sink>(alloc: Global, p: &Position, sink: &mut K) -> Status
     requires sound { Sound p.now }
     requires few { length p.now.men ≤ 5 }
-    ensures ends { PrintEnds result (IsShown p.now) (Unit {0}) (IsTrue K.told) (HasRisen (K.faults sink.old) (K.faults sink.new)) (K.written sink.old) (K.written sink.new) }
+    ensures ends { CommandEnds result (Answers Order.Show p.now) (Unit {0}) (IsTrue K.told) (HasRisen (K.faults sink.old) (K.faults sink.new)) (K.written sink.old) (K.written sink.new) }
     ensures write_fault { result ≡ Status.WriteFault → HasRisen (K.faults sink.old) (K.faults sink.new) }
     ensures never_falls { K.faults sink.old ≤ K.faults sink.new }
 {

@@ -3,6 +3,7 @@
 ghost use Rattle.std.specs.Prelude.{IsTrue, ◌≡◌, ◌≤◌, ◌++◌, ◌+◌, ◌∷◌, [], length};
 ghost use Rattle.desk_base.specs.Faults.{HasRisen};
 ghost use Rattle.chess_text.specs.ManLine.{side_letter};
+ghost use Rattle.mate_desk.specs.Answer as answers;
 ghost use Rattle.mate_desk.specs.Outcome.{Writes};
 ghost use Rattle.mate_desk.specs.Report as reports;
 ghost use Rattle.mate_desk.specs.Text as texts;
@@ -11,6 +12,7 @@ use crate::text::LineWhy;
 use chess_game::{Side, Unsound};
 use chess_text::line_buffer::LineBuffer;
 use desk_base::{Sink, put_all};
+use winning_sets::{Part, StepName};
 
 /// The line that says which line of a text is refused, and why.
 pub fn refusal_line(number: u32, why: LineWhy) -> LineBuffer
@@ -67,6 +69,51 @@ fn same_square_line(first: u8, second: u8) -> LineBuffer
     line.push_number(i64::from(second));
     line.push(b"\n");
     line
+}
+
+/// The line that names a step that needs more states than the budget.
+pub fn budget_line(step: StepName) -> LineBuffer
+    ensures { result ≡ answers.budget_line step }
+{
+    let mut line = LineBuffer::new();
+    line.push(b"over budget at moves ");
+    line.push_number(i64::from(step.moves));
+    line.push(b" ply ");
+    line.push_number(i64::from(step.ply));
+    line.push(b" men ");
+    line.push_number(i64::from(step.mask));
+    line.push(b" part ");
+    line.push(part_word(step.part));
+    line.push(b" at ");
+    line.push_number(i64::from(step.at));
+    line.push(b"\n");
+    line
+}
+
+/// The word for a part of a plan.
+fn part_word(part: Part) -> &'static [u8]
+    ensures word { result.now ≡ answers.part_word part }
+    ensures short { length result.now ≤ 6 }
+{
+    match part {
+        Part::Point => b"point",
+        Part::Image => b"image",
+        Part::Safe => b"safe",
+        Part::Win => b"win",
+        Part::Rest => b"rest",
+        Part::Escape => b"escape",
+        Part::Calm => b"calm",
+        Part::Check => b"check",
+        Part::Quiet => b"quiet",
+        Part::Reply => b"reply",
+        Part::Lost => b"lost",
+        Part::Same => b"same",
+        Part::Guard => b"guard",
+        Part::First => b"first",
+        Part::Answer => b"answer",
+        Part::Left => b"left",
+        Part::Stale => b"stale",
+    }
 }
 
 /// Writes a fault line, as far as the sink takes it.

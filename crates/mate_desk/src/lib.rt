@@ -8,7 +8,9 @@ mod answer;
 mod desk;
 mod fault_line;
 pub mod laws;
+mod mates;
 mod order;
+mod output;
 mod status;
 mod text;
 

@@ -3,10 +3,10 @@
 ghost use Rattle.std.specs.Prelude.{◌≡◌, ◌↔◌, ◌≤◌, map, string_bytes, IsTrue, IfOk};
 ghost use Rattle.std.specs.Char.{IsAsciiDigit};
 ghost use Rattle.std.specs.List.{All};
-ghost use Rattle.mate_desk.specs.Order.{DecideOrdered, IsNaturalText, IsWithinLimits, Ordered, ReadsNumber, ShowOrdered, usage_line};
+ghost use Rattle.mate_desk.specs.Order.{IsBudget, IsNaturalText, IsWithinLimits, MovesOrdered, Ordered, ReadsMoves, ReadsNumber, ShowOrdered, most_moves, usage_line};
 
 /// The greatest number of moves that can be asked for.
-const MOST_MOVES: u32 = 0;
+const MOST_MOVES: u32 = 20;
 
 /// The greatest budget.
 const MOST_BUDGET: u32 = 200_000;
@@ -17,8 +17,10 @@ const DEFAULT_BUDGET: u32 = 50_000;
 /// What is to be done.
 #[derive(Clone, Copy, Debug, PartialEq, Eq)]
 pub enum Order {
-    /// Say whether White mates within so many moves. The budget bounds the states of the automata that decide it.
+    /// Say whether White mates within so many moves of his own. The budget bounds the states of the automata that decide it.
     Decide { moves: u8, budget: u32 },
+    /// Say within how few moves of his own White mates, if he does within so many. The budget is that of each number of moves.
+    Least { limit: u8, budget: u32 },
     /// Write the position, whether its side to move is in check, and how many men are live.
     Show,
 }
@@ -64,6 +66,9 @@ pub fn order_of(words: &Vec<String>) -> Result<Order, UsageWhy>
             if command.as_str() == "decide" {
                 return decide_order(rest);
             }
+            if command.as_str() == "least" {
+                return least_order(rest);
+            }
             if command.as_str() == "show" {
                 return show_order(rest);
             }
@@ -74,18 +79,33 @@ pub fn order_of(words: &Vec<String>) -> Result<Order, UsageWhy>
 
 /// The order that the words behind `decide` are.
 fn decide_order(words: &[String]) -> Result<Order, UsageWhy>
-    ensures ordered { DecideOrdered (map string_bytes words.now) result }
+    ensures ordered { MovesOrdered (λ moves budget. Order.Decide moves budget) (map string_bytes words.now) result }
     ensures within { IfOk result IsWithinLimits }
 {
+    let (moves, budget) = read_moves_and_budget(words)?;
+    Ok(Order::Decide { moves, budget })
+}
+
+/// The order that the words behind `least` are.
+fn least_order(words: &[String]) -> Result<Order, UsageWhy>
+    ensures ordered { MovesOrdered (λ limit budget. Order.Least limit budget) (map string_bytes words.now) result }
+    ensures within { IfOk result IsWithinLimits }
+{
+    let (limit, budget) = read_moves_and_budget(words)?;
+    Ok(Order::Least { limit, budget })
+}
+
+/// The number of moves that the first word is, and the budget that the second is, if there is one.
+fn read_moves_and_budget(words: &[String]) -> Result<(u8, u32), UsageWhy>
+    ensures reads { ReadsMoves (map string_bytes words.now) result }
+    ensures within { IfOk result (λ asked. (asked.0 ≤ most_moves) × IsBudget asked.1) }
+{
     match words {
-        [moves] => Ok(Order::Decide {
-            moves: read_moves(moves.as_str())?,
-            budget: DEFAULT_BUDGET,
-        }),
-        [moves, budget] => Ok(Order::Decide {
-            moves: read_moves(moves.as_str())?,
-            budget: read_number(budget.as_str(), 1, MOST_BUDGET)?,
-        }),
+        [moves] => Ok((read_moves(moves.as_str())?, DEFAULT_BUDGET)),
+        [moves, budget] => Ok((
+            read_moves(moves.as_str())?,
+            read_number(budget.as_str(), 1, MOST_BUDGET)?,
+        )),
         _ => Err(UsageWhy::Count),
     }
 }
@@ -104,7 +124,7 @@ fn show_order(words: &[String]) -> Result<Order, UsageWhy>
 
 /// The number of moves that the word is.
 fn read_moves(word: &str) -> Result<u8, UsageWhy>
-    ensures { ReadsNumber word.now 0 0 result }
+    ensures { ReadsNumber word.now 0 20 result }
 {
     Ok(read_number(word, 0, MOST_MOVES)? as u8)
 }

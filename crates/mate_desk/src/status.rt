@@ -18,6 +18,8 @@ pub enum Status {
     ReadFault,
     /// The sink has failed before the answer was out.
     WriteFault,
+    /// A step of the plan needs more states than the budget.
+    Budget,
     /// There is no memory for the answer.
     Memory,
 }
@@ -34,6 +36,7 @@ impl Status {
             Status::Unsound => 4,
             Status::ReadFault => 5,
             Status::WriteFault => 6,
+            Status::Budget => 8,
             Status::Memory => 10,
         }
     }

@@ -13,6 +13,19 @@ const TWO_ROOKS: &str = "infinite chess 1\nturn W\nW K 0 -2\nW R 10 1\nW R 5 7\n
 /// The same, mated.
 const MATED: &str = "infinite chess 1\nturn B\nW K 0 -2\nW R 10 0\nW R 10 1\nB K 0 0\nend\n";
 
+/// With a captured queen.
+const CAPTURED_QUEEN: &str =
+    "infinite chess 1\nturn W\nW K 0 -2\nW R 10 1\nW R 5 7\nB K 0 0\nW Q gone\nend\n";
+
+/// Black is to move.
+const BLACK_FIRST: &str = "infinite chess 1\nturn B\nW K 0 -2\nW R 10 1\nW R 2 7\nB K 1 0\nend\n";
+
+/// Black is to move, and has no move.
+const STALEMATE: &str = "infinite chess 1\nturn B\nW K 100 100\nW Q 1 2\nW Q -1 -2\nB K 0 0\nend\n";
+
+/// Two kings.
+const KINGS: &str = "infinite chess 1\nturn W\nW K 0 0\nB K 10 0\nend\n";
+
 const SHOWN: &[u8] =
     b"infinite chess 1\nturn W\nW K 0 -2\nW R 10 1\nW R 5 7\nB K 0 0\nend\ncheck no\nlive 4\n";
 
@@ -41,49 +54,50 @@ fn ran(
 #[test]
 fn positions_and_their_answers(rt: HostRuntime) -> Result<(), Fail> {
     let alloc = rt.alloc();
-    let cases: [(&[&str], &str, u8, &str); 16] = [
-        (&["decide", "0"], MATED, 0, "mate in 0\n"),
+    let cases: [(&[&str], &str, u8, &str); 17] = [
+        // White is to move, and has no move of his own.
         (&["decide", "0"], TWO_ROOKS, 0, "no mate in 0\n"),
-        (&["decide", "0", "5"], MATED, 0, "mate in 0\n"),
+        (&["decide", "0", "1"], TWO_ROOKS, 0, "no mate in 0\n"),
+        (&["decide", "0", "200000"], TWO_ROOKS, 0, "no mate in 0\n"),
+        (&["least", "0"], TWO_ROOKS, 0, "none up to 0\n"),
+        (&["least", "0", "1"], TWO_ROOKS, 0, "none up to 0\n"),
         (
             &["decide", "0"],
+            "infinite chess 1\nturn W\nW K 0 -2\nW R 10 1\nW R 5 7\nB K 0 0\nB R 3 9\nend\n",
+            0,
+            "no mate in 0\n",
+        ),
+        (
+            &["decide", "1"],
             "infinite chess 1\nturn W\nW K 0 -2\nW R 10 1\nW R 5 0\nB K 0 0\nend\n",
             4,
             "unsound other side in check\n",
         ),
         (
-            &["decide", "0"],
+            &["decide", "1"],
+            "infinite chess 1\nturn W\nW K 1 1\nW R 2 2\nB K 9 9\nW Q 2 2\nend\n",
+            4,
+            "unsound same square 2 4\n",
+        ),
+        (
+            &["least", "3"],
+            "infinite chess 1\nturn W\nW K 7 7\nB K 7 7\nend\n",
+            4,
+            "unsound same square 1 2\n",
+        ),
+        (
+            &["decide", "1"],
+            "infinite chess 1\nturn W\nW K gone\nB K 9 9\nend\n",
+            4,
+            "unsound king gone W\n",
+        ),
+        (
+            &["decide", "1"],
             "infinite chess 1\nturn W\n",
             3,
             "text line 3 missing\n",
         ),
-        // Black has a move.
-        (
-            &["decide", "0"],
-            "infinite chess 1\nturn B\nW K 0 -2\nW R 10 1\nW R 2 7\nB K 1 0\nend\n",
-            0,
-            "no mate in 0\n",
-        ),
-        // Black has no move, and is not in check.
-        (
-            &["decide", "0"],
-            "infinite chess 1\nturn B\nW K 100 100\nW Q 1 2\nW Q -1 -2\nB K 0 0\nend\n",
-            0,
-            "no mate in 0\n",
-        ),
-        // The king escapes to a row that no i64 names.
-        (
-            &["decide", "0"],
-            "infinite chess 1\nturn B\nW K 50 50\nW R 10 9223372036854775807\nW R 10 9223372036854775806\nB K 0 9223372036854775807\nend\n",
-            0,
-            "no mate in 0\n",
-        ),
-        (
-            &["decide", "0"],
-            "infinite chess 1\nturn W\nW K 0 -2\nW R 10 1\nW R 5 7\nB K 0 0\nB R 3 9\nend\n",
-            3,
-            "text line 7 not yet\n",
-        ),
+        (&["decide", "20", "200000"], "", 3, "text line 1 missing\n"),
         (
             &["show"],
             "infinite chess 1\nturn W\nW K 0 -2\nW R 10 1\nW R 5 7\nB K 0 0\nW R 20 20\nW R 21 21\nend\n",
@@ -104,7 +118,7 @@ fn positions_and_their_answers(rt: HostRuntime) -> Result<(), Fail> {
         ),
         (
             &["show"],
-            "infinite chess 1\nturn W\nW K 0 -2\nW R 10 1\nW R 5 7\nB K 0 0\nW Q gone\nend\n",
+            CAPTURED_QUEEN,
             0,
             "infinite chess 1\nturn W\nW K 0 -2\nW R 10 1\nW R 5 7\nB K 0 0\nW Q gone\nend\ncheck no\nlive 4\n",
         ),
@@ -113,18 +127,6 @@ fn positions_and_their_answers(rt: HostRuntime) -> Result<(), Fail> {
             MATED,
             0,
             "infinite chess 1\nturn B\nW K 0 -2\nW R 10 0\nW R 10 1\nB K 0 0\nend\ncheck yes\nlive 4\n",
-        ),
-        (
-            &["decide", "0"],
-            "infinite chess 1\nturn W\nW K 1 1\nW R 2 2\nB K 9 9\nW Q 2 2\nend\n",
-            4,
-            "unsound same square 2 4\n",
-        ),
-        (
-            &["decide", "0"],
-            "infinite chess 1\nturn W\nW K gone\nB K 9 9\nend\n",
-            4,
-            "unsound king gone W\n",
         ),
     ];
     for (words, text, code, written) in cases {
@@ -138,9 +140,77 @@ fn positions_and_their_answers(rt: HostRuntime) -> Result<(), Fail> {
 }
 
 #[test]
+fn mates_within_some_moves(rt: HostRuntime) -> Result<(), Fail> {
+    let alloc = rt.alloc();
+    let cases: [(&[&str], &str, &str); 12] = [
+        (&["decide", "0"], MATED, "mate in 0\n"),
+        (&["least", "0"], MATED, "least 0\n"),
+        // Black has a move.
+        (&["decide", "0"], BLACK_FIRST, "no mate in 0\n"),
+        // The king escapes to a row that no i64 names.
+        (
+            &["decide", "0"],
+            "infinite chess 1\nturn B\nW K 50 50\nW R 10 9223372036854775807\nW R 10 9223372036854775806\nB K 0 9223372036854775807\nend\n",
+            "no mate in 0\n",
+        ),
+        // The rook goes down to the king's row.
+        (&["decide", "1"], TWO_ROOKS, "mate in 1\n"),
+        (&["decide", "1"], CAPTURED_QUEEN, "mate in 1\n"),
+        (&["least", "20"], TWO_ROOKS, "least 1\n"),
+        // Black moves first, and each of his moves leads to a mate.
+        (&["decide", "1"], BLACK_FIRST, "mate in 1\n"),
+        // Stalemate is no mate.
+        (&["decide", "0"], STALEMATE, "no mate in 0\n"),
+        (&["decide", "3"], STALEMATE, "no mate in 3\n"),
+        (&["least", "1"], STALEMATE, "none up to 1\n"),
+        (&["least", "1"], KINGS, "none up to 1\n"),
+    ];
+    for (words, text, written) in cases {
+        let (status, bytes) = ran(alloc, words, text.as_bytes(), &[], &[], 1000)?;
+        assert_eq!(rt; bytes.as_slice(), written.as_bytes(), "{text}");
+        assert!(rt; status == Status::Done);
+    }
+    Ok(())
+}
+
+/// The starting position has eight coordinates, so its formula has steps, and each tells two words apart at least.
+#[test]
+fn a_budget_of_one_state(rt: HostRuntime) -> Result<(), Fail> {
+    let alloc = rt.alloc();
+    let cases: [(&[&str], &str, &str); 3] = [
+        (
+            &["decide", "1", "1"],
+            TWO_ROOKS,
+            "over budget at moves 1 ply 0 men 15 part point at 1\n",
+        ),
+        // No moves need no step.
+        (
+            &["least", "20", "1"],
+            TWO_ROOKS,
+            "over budget at moves 1 ply 0 men 15 part point at 1\n",
+        ),
+        (
+            &["decide", "0", "1"],
+            MATED,
+            "over budget at moves 0 ply 0 men 15 part point at 1\n",
+        ),
+    ];
+    for (words, text, written) in cases {
+        let (status, bytes) = ran(alloc, words, text.as_bytes(), &[], &[], 1000)?;
+        assert_eq!(rt; bytes.as_slice(), written.as_bytes(), "{text}");
+        assert!(rt; status == Status::Budget);
+        // Where the line is not written whole, the status stays.
+        let (status, bytes) = ran(alloc, words, text.as_bytes(), &[], &[5], 1)?;
+        assert_eq!(rt; bytes.as_slice(), b"over".as_slice());
+        assert_eq!(rt; status.code(), 8);
+    }
+    Ok(())
+}
+
+#[test]
 fn words_and_their_reasons(rt: HostRuntime) -> Result<(), Fail> {
     let alloc = rt.alloc();
-    let cases: [(&[&str], &str); 16] = [
+    let cases: [(&[&str], &str); 26] = [
         (&[], "usage no command\n"),
         (&[""], "usage unknown\n"),
         (&["mate", "0"], "usage unknown\n"),
@@ -162,8 +232,18 @@ fn words_and_their_reasons(rt: HostRuntime) -> Result<(), Fail> {
         ),
         (&["decide", "0", "0"], "usage limit\n"),
         (&["decide", "0", "200001"], "usage limit\n"),
+        (&["decide", "1", "x"], "usage number\n"),
         // The first number's limit comes before the second's spelling.
-        (&["decide", "1", "x"], "usage limit\n"),
+        (&["decide", "21", "x"], "usage limit\n"),
+        (&["decide", "20", "0"], "usage limit\n"),
+        (&["decide", "20", "200001"], "usage limit\n"),
+        (&["decide", "20", "+1"], "usage number\n"),
+        (&["least"], "usage count\n"),
+        (&["least", "3", "5", "x"], "usage count\n"),
+        (&["least", "21"], "usage limit\n"),
+        (&["least", "03"], "usage number\n"),
+        (&["least", "20", "0"], "usage limit\n"),
+        (&["least", "20", "200001"], "usage limit\n"),
     ];
     for (words, written) in cases {
         let (status, bytes) = ran(alloc, words, b"", &[1], &[], 1000)?;
@@ -215,14 +295,14 @@ fn texts_and_their_reasons(rt: HostRuntime) -> Result<(), Fail> {
 fn each_read_fails_once(rt: HostRuntime) -> Result<(), Fail> {
     let alloc = rt.alloc();
     let mut call = 0u32;
-    for _byte in MATED.as_bytes() {
+    for _byte in TWO_ROOKS.as_bytes() {
         call = call.wrapping_add(1);
-        let (status, bytes) = ran(alloc, &["decide", "0"], MATED.as_bytes(), &[call], &[], 1)?;
+        let (status, bytes) = ran(alloc, &["decide", "0"], TWO_ROOKS.as_bytes(), &[call], &[], 1)?;
         assert_eq!(rt; bytes.as_slice(), b"read fault\n".as_slice());
         assert!(rt; status == Status::ReadFault);
     }
     call = call.wrapping_add(1);
-    let (status, _) = ran(alloc, &["decide", "0"], MATED.as_bytes(), &[call], &[], 1)?;
+    let (status, _) = ran(alloc, &["decide", "0"], TWO_ROOKS.as_bytes(), &[call], &[], 1)?;
     assert!(rt; status == Status::Done);
     Ok(())
 }

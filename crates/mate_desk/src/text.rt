@@ -35,7 +35,6 @@ impl LineWhy {
             LineWhy::Grammar(TextWhy::Number) => b"number",
             LineWhy::Grammar(TextWhy::TooFew) => b"few",
             LineWhy::Grammar(TextWhy::TooMany) => b"many",
-            LineWhy::Grammar(TextWhy::NotYet) => b"not yet",
             LineWhy::Long => b"long",
             LineWhy::Cut => b"cut",
             LineWhy::Missing => b"missing",

@@ -21,4 +21,5 @@ pub use losing::lost_level;
 pub use names::{Part, PartName};
 pub use reaching::reach_level;
 pub use starting::{no_level, point_level};
+pub use tracks::mask_tracks;
 pub use winning::win_level;

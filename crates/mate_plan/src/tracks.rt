@@ -31,7 +31,7 @@ fn push_man(tracks: &mut Vec<Var>, mask: u8, k: u8) -> Result<(), AllocError>
 }
 
 /// The tracks of the sets of a mask: the variables of its live men.
-pub(crate) fn mask_tracks(alloc: Global, p: &Position, mask: u8) -> Result<Vec<Var>, AllocError>
+pub fn mask_tracks(alloc: Global, p: &Position, mask: u8) -> Result<Vec<Var>, AllocError>
     ensures { IfOk result (λ tracks. tracks.items ≡ tracks_of p.now.men (live_in mask)) }
 {
     let mut tracks = Vec::new(alloc);

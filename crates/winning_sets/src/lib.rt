@@ -4,6 +4,11 @@
 
 pub mod laws;
 mod names;
+mod ply_sets;
+mod solved;
+mod solver;
 
 pub use mate_plan::{Part, PartName};
 pub use names::{SolveError, StepName};
+pub use solved::Solved;
+pub use solver::{Solver, solve};

@@ -1,6 +1,6 @@
 use Rattle.std.proofs.Common.{refl}
 use Rattle.mate_desk.proofs.Writing.{front_written}
-use Rattle.mate_desk.proofs.answer.print.Goals as goal
+use Rattle.mate_desk.proofs.output.print.Goals as goal
 
 pub returns-in-Ok-clause-ends : goal.returns-in-Ok-clause-ends
 returns-in-Ok-clause-ends g c = (c.args.text.now, refl, c.in-Ok.ensures.all)

@@ -1,0 +1,33 @@
+-- A plan exceeds a budget at one step, or at none.
+use Rattle.std.proofs.Common.{◌≡◌, ℕ, sym, ap, ◌∙◌}
+use Rattle.game_rules.specs.Game.{Position}
+use Rattle.game_rules.specs.declared.men.Side.TheVariants.{White}
+use Rattle.set_plan.specs.declared.stop.StepName as set_plan
+use Rattle.set_plan.proofs.Unique.{Ends-not_stops, Stops-one}
+use Rattle.mate_plan.specs.PlanOf.{plan_of}
+use Rattle.mate_plan.specs.declared.names.PartName.{PartName}
+use Rattle.winning_sets.specs.declared.names.StepName.{StepName}
+use Rattle.mate_desk.specs.Report.{ExceedsAt, FitsBudget}
+use Rattle.mate_desk.proofs.PlanOnce.{SameLists, plan_of-alike}
+
+-- the name without the number of moves
+abbrev in_plan : StepName → set_plan.StepName PartName
+in_plan step = record { part = record { ply = step.ply; mask = step.mask; part = step.part }; at = step.at }
+
+same_step : (x y : StepName) → x.moves ≡ y.moves → in_plan x ≡ in_plan y → x ≡ y
+same_step x y moves same = λ i. record {
+  moves = moves i;
+  ply = ap (λ (s : set_plan.StepName PartName). s.part.ply) same i;
+  mask = ap (λ (s : set_plan.StepName PartName). s.part.mask) same i;
+  part = ap (λ (s : set_plan.StepName PartName). s.part.part) same i;
+  at = ap (λ (s : set_plan.StepName PartName). s.at) same i;
+}
+
+module _ (p : Position) (budget n : ℕ) where
+  pub fits_exceeds : (step : StepName) → FitsBudget p budget n → ExceedsAt p budget n step → ⊥
+  fits_exceeds step fits over =
+      Ends-not_stops SameLists (plan_of White p n) (plan_of White p n) budget (plan_of-alike White p n) fits.value (in_plan step) fits.ends over.1
+
+  pub exceeds_once : (x y : StepName) → ExceedsAt p budget n x → ExceedsAt p budget n y → x ≡ y
+  exceeds_once x y a b =
+      same_step x y (a.0 ∙ sym b.0) (Stops-one SameLists (plan_of White p n) (plan_of White p n) budget (plan_of-alike White p n) (in_plan x) (in_plan y) a.1 b.1)
