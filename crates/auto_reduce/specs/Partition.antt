@@ -59,12 +59,12 @@ pub record IsSplit (current nodes classes : List ℕ) (count : ℕ) : Type 0 whe
       → (slice_index classes j ≡ slice_index classes k) ↔ ((slice_index current j ≡ slice_index current k) × (slice_index nodes j ≡ slice_index nodes k))
 
 -- the nodes of the rows of the states
-pub record AreRowNodes (a : Automaton) (shapes : List Shape) (rows : List ℕ) : Type 0 where
+pub record AreRowNodes (a : Automaton) (rows : List ℕ) : Type 0 where
   pub size : length rows ≡ length a.accept
-  pub known : All (λ node. node < length shapes) rows
-  pub narrow : All (λ node. LooksBelow shapes node (length a.tracks)) rows
-  pub within : All (λ node. (letter : ℕ) → map_at shapes node letter < length a.accept) rows
-  pub leads : (state letter : ℕ) → state < length a.accept → letter < width a → map_at shapes (slice_index rows state) letter ≡ next_state a state letter
+  pub known : All (λ node. node < length a.shapes) rows
+  pub narrow : All (λ node. LooksBelow a.shapes node (length a.tracks)) rows
+  pub within : All (λ node. (letter : ℕ) → map_at a.shapes node letter < length a.accept) rows
+  pub leads : (state letter : ℕ) → state < length a.accept → letter < width a → map_at a.shapes (slice_index rows state) letter ≡ next_state a state letter
 
 -- for each class whether more than one state has it
 pub record AreShared (classes : List ℕ) (count : ℕ) (shared : List Bool) : Type 0 where
