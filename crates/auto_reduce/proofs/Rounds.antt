@@ -12,8 +12,7 @@ use Rattle.auto_core.proofs.RowLemmas.{map_at-narrow}
 use Rattle.auto_core.specs.Automaton.{Automaton, IsAutomaton, width, next_state}
 use Rattle.auto_reduce.proofs.States.{next_within}
 use Rattle.auto_reduce.specs.Leading.{IsLedFrom}
-use Rattle.auto_reduce.specs.Quotient.{IsLed}
-use Rattle.auto_reduce.specs.Partition.{IsPartition, IsSplit, AreRowNodes, AreLedRows, IsFiner, IsRound, IsFlag, IsSound, IsCoarsest}
+use Rattle.auto_reduce.specs.Partition.{IsLed, IsPartition, IsSplit, AreRowNodes, AreLedRows, IsFiner, IsRound, IsFlag, IsSound, IsCoarsest}
 use Rattle.auto_reduce.proofs.Counting.{length_le-below, count_grows, count_grows_by_split}
 
 -- ---- a round

@@ -15,8 +15,8 @@ use Rattle.auto_reduce.specs.declared.ways.Way.{Way}
 use Rattle.auto_reduce.specs.Ways.{AreMoved, AreMarks, AreRowWays}
 use Rattle.auto_reduce.proofs.States.{next_within}
 use Rattle.auto_reduce.specs.Leading.{IsLedFrom}
-use Rattle.auto_reduce.specs.Quotient.{IsLed, ArePicked}
-use Rattle.auto_reduce.specs.Partition.{IsShared, AreShared, IsFiner, AreRowNodes, AreLedRows, AreStale, IsPut, AreLedAgain}
+use Rattle.auto_reduce.specs.Quotient.{ArePicked}
+use Rattle.auto_reduce.specs.Partition.{IsLed, IsShared, AreShared, IsFiner, AreRowNodes, AreLedRows, AreStale, IsPut, AreLedAgain}
 use Rattle.auto_reduce.proofs.Counting.{decided}
 use Rattle.auto_reduce.proofs.Rounds.{IsLed-from}
 

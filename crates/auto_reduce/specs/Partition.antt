@@ -4,7 +4,6 @@ use Rattle.letter_diagram.specs.declared.diagrams.Shape.{Shape}
 use Rattle.letter_diagram.specs.Diagram.{map_at, LooksBelow}
 use Rattle.auto_core.specs.Automaton.{Automaton, width, next_state, is_final}
 use Rattle.auto_core.specs.Reduced.{ToldApart}
-use Rattle.auto_reduce.specs.Quotient.{IsLed}
 
 -- a state of a class
 pub record IsAttained (classes : List ℕ) (class : ℕ) : Type 0 where
@@ -77,6 +76,12 @@ pub record IsShared (classes : List ℕ) (state : ℕ) : Type 0 where
   pub within : other < length classes
   pub differ : state ≢ other
   pub same : slice_index classes state ≡ slice_index classes other
+
+-- a node that leads each letter to the class of a state
+pub record IsLed (a : Automaton) (classes : List ℕ) (shapes : List Shape) (node : ℕ) (state : ℕ → ℕ) : Type 0 where
+  pub known : node < length shapes
+  pub narrow : LooksBelow shapes node (length a.tracks)
+  pub leads : (letter : ℕ) → letter < width a → map_at shapes node letter ≡ slice_index classes (state letter)
 
 -- nodes that lead letters to the classes of the next states, for the states that share their class
 pub record AreLedRows (a : Automaton) (shapes : List Shape) (classes led : List ℕ) : Type 0 where
