@@ -1,4 +1,5 @@
 pub mod States
+pub mod Leadings
 pub mod Splits
 pub mod Placed
 pub mod Stales

@@ -4,15 +4,13 @@ use Rattle.std.proofs.lemmas.Bool.{cases_lt}
 use Rattle.std.proofs.lemmas.Nat.{mod_below, pow_pos}
 use Rattle.std.proofs.lemmas.List.{get_or_append_left, get_or-append_right, length-append}
 use Rattle.std.proofs.lemmas.Grind.{common_steps}
-use Rattle.letter_diagram.specs.declared.diagrams.Shape.{Shape}
-use Rattle.letter_diagram.specs.Diagram.{map_at}
 use Rattle.auto_core.specs.Automaton.{Automaton, width, first_state, next_state}
-use Rattle.auto_reduce.specs.Quotient.{IsLed, IsOrderTo, IsQuotientBy}
+use Rattle.auto_reduce.specs.Quotient.{IsOrderTo, IsQuotientBy}
 use Rattle.auto_reduce.specs.Unmet.{AddsRow}
 use Rattle.auto_reduce.specs.Numbering.{mentions, IsNumberedBreadthFirst, led_in, IsMentioned, IsMentionedBefore, IsNumberedTo, IsQuotient}
 use Rattle.auto_reduce.proofs.States.{first_within, next_within}
 use Rattle.auto_reduce.proofs.Orders.{place_in}
-use Rattle.auto_reduce.proofs.Leads.{leads_low}
+use Rattle.auto_reduce.proofs.Leads.{LeadsTo, leads_low}
 use Rattle.auto_reduce.proofs.Quotients.{different_places}
 
 module _ (a : Automaton) (canon : List ℕ) where
@@ -22,10 +20,10 @@ module _ (a : Automaton) (canon : List ℕ) where
   led-kept old new kept (suc place) letter within = ap (λ s. get_or canon (next_state a s letter) 0) (kept place (omega (arith, within)))
 
   -- one row more
-  module _ (shapes : List Shape) (node rows : ℕ) (state : ℕ → ℕ) (old new : List ℕ) (l : IsLed a canon shapes node state) (adds : AddsRow shapes node old new)
+  module _ (values : ℕ → ℕ) (rows : ℕ) (state : ℕ → ℕ) (old new : List ℕ) (l : LeadsTo a canon values state) (adds : AddsRow values old new)
       (apart : AllPairs (λ j k. j ≢ k) new) (n : IsNumberedTo a canon old rows) (within : rows ≤ length old) (is_row : (letter : ℕ) → get_or canon (state letter) 0 ≡ led_in a canon old rows letter)
       (closed : (row letter : ℕ) → row < rows → letter < width a → Contains old (led_in a canon old row letter)) where
-    row-new : (letter : ℕ) → letter < width a → led_in a canon new rows letter ≡ map_at shapes node letter
+    row-new : (letter : ℕ) → letter < width a → led_in a canon new rows letter ≡ values letter
     row-new letter below = led-kept old new adds.kept rows letter within ∙ sym (is_row letter) ∙ sym (l.leads letter below)
 
     mention-kept : (state : ℕ) → IsMentioned a canon old rows state → IsMentioned a canon new (rows + 1) state
@@ -49,7 +47,7 @@ module _ (a : Automaton) (canon : List ℕ) where
             letter = g.0 % width a;
             within = omega arith;
             below = below;
-            leads = row-new (g.0 % width a) below ∙ l.leads (g.0 % width a) below ∙ sym (leads_low a canon shapes node state l g.0) ∙ g.1;
+            leads = row-new (g.0 % width a) below ∙ l.leads (g.0 % width a) below ∙ sym (leads_low a canon values state l g.0) ∙ g.1;
           }
     ]
 

@@ -119,7 +119,7 @@ placed_push shapes old new rows places index place kept size before last k less 
       subst (IsPlaced shapes new (get_or rows k 0)) (sym (get_or_push places place 0 k (size ∙ same))) (subst (λ n. IsPlaced shapes new (get_or rows n 0) place) same last)
 ]
 
-pub AreRowWays-from : (a : Automaton) (rows : List ℕ) (ways : List Way) (places : List ℕ) → AreRowNodes a a.shapes rows → AreWays (length a.accept) ways → length places ≡ length rows
+pub AreRowWays-from : (a : Automaton) (rows : List ℕ) (ways : List Way) (places : List ℕ) → AreRowNodes a rows → AreWays (length a.accept) ways → length places ≡ length rows
     → ((state : ℕ) → state < length rows → IsPlaced a.shapes ways (get_or rows state 0) (get_or places state 0)) → AreRowWays a ways places
 AreRowWays-from a rows ways places r fits size placed = record {
   fits = fits;

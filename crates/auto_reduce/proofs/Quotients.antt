@@ -4,22 +4,25 @@ use Rattle.std.proofs.lemmas.Bool.{cases_order}
 use Rattle.std.proofs.lemmas.List.Elements.{All-head, All-tail, All-get_or, All-from_get_or}
 use Rattle.track_word.specs.Word.{IsWord}
 use Rattle.letter_diagram.specs.declared.diagrams.Shape.{Shape}
-use Rattle.letter_diagram.specs.Diagram.{map_at, LooksBelow, Grows, IsMapped}
+use Rattle.letter_diagram.specs.Diagram.{map_at, LooksBelow, Grows}
 use Rattle.letter_diagram.specs.Listed.{EachAnswers}
 use Rattle.auto_core.specs.Automaton.{Automaton, width, first_state, next_state, run, state_of, is_final, Accepts}
 use Rattle.auto_core.specs.Reduced.{IsReduced, ToldApart}
-use Rattle.auto_core.specs.Rows.{AreRows, dense}
+use Rattle.auto_core.specs.Rows.{AreRows, IsOverNodes, dense}
 use Rattle.auto_core.proofs.RowLemmas.{get_or-row_of, next_state-dense, IsAutomaton-dense}
-use Rattle.auto_reduce.specs.Quotient.{IsCanonical, IsLed, AreLed, IsMet, IsOrder, AreNumbers, ArePicked, AreFlags, IsQuotientBy}
+use Rattle.auto_reduce.specs.Leading.{entry_at, IsLedFrom}
+use Rattle.auto_reduce.specs.Quotient.{IsCanonical, IsMet, IsOrder, AreNumbers, AreClassNumbers, ArePicked, AreFlags, IsQuotientBy}
 use Rattle.auto_reduce.specs.Numbering.{IsQuotient}
 use Rattle.auto_reduce.proofs.States.{first_within, next_within, state_within, run_within}
 use Rattle.auto_reduce.proofs.Orders.{place_in}
-use Rattle.auto_reduce.proofs.Leads.{canon_within, order_within, order_few, order_some, leads_low}
+use Rattle.auto_reduce.proofs.Leadings.{IsLedFrom-grows}
+use Rattle.auto_reduce.proofs.Leads.{LeadsTo, leads_low, leads-first, leads-row, canon_within, order_within, order_few, order_some}
+use Rattle.auto_reduce.proofs.Stales.{All-picked}
 
--- a node that gives the number of the canonical state
-pub record IsNumbered (shapes : List Shape) (old : List Shape) (numbers : List ℕ) (node made : ℕ) : Type 0 where
+-- a node that gives the numbers of the values of a row
+pub record IsNumbered (shapes : List Shape) (row : ℕ → ℕ) (numbers : List ℕ) (made : ℕ) : Type 0 where
   pub known : made < length shapes
-  pub map : (letter : ℕ) → map_at shapes made letter ≡ get_or numbers (map_at old node letter) 0
+  pub map : (letter : ℕ) → map_at shapes made letter ≡ get_or numbers (row letter) 0
 
 pub different_places : (xs : List ℕ) → AllPairs (λ x y. x ≢ y) xs → (i j : ℕ) → i < length xs → j < length xs → get_or xs i 0 ≡ get_or xs j 0 → i ≡ j
 different_places xs apart i j iw jw e = elim (cases_order i j) [
@@ -28,18 +31,18 @@ different_places xs apart i j iw jw e = elim (cases_order i j) [
   | inr (inr more) ↦ absurd (apart j i 0 more iw (sym e))
 ]
 
-module _ (a : Automaton) (canon : List ℕ) (old shapes : List Shape) (order numbers : List ℕ) (c : IsCanonical a canon) (o : IsOrder a canon order) (n : AreNumbers order (length a.accept) numbers) where
-  module _ (node made : ℕ) (state : ℕ → ℕ) (l : IsLed a canon old node state) (m : IsNumbered shapes old numbers node made)
+module _ (a : Automaton) (canon : List ℕ) (shapes : List Shape) (order numbers : List ℕ) (c : IsCanonical a canon) (o : IsOrder a canon order) (n : AreNumbers order (length a.accept) numbers) where
+  module _ (row : ℕ → ℕ) (made : ℕ) (state : ℕ → ℕ) (l : LeadsTo a canon row state) (m : IsNumbered shapes row numbers made)
       (within : (letter : ℕ) → state letter < length a.accept) (there : (letter : ℕ) → letter < width a → Contains order (get_or canon (state letter) 0)) where
     pub made_narrow : LooksBelow shapes made (length a.tracks)
-    made_narrow = record { same = λ x y agree. m.map x ∙ ap (λ v. get_or numbers v 0) (l.narrow.same x y agree) ∙ sym (m.map y) }
+    made_narrow = record { same = λ x y agree. m.map x ∙ ap (λ v. get_or numbers v 0) (l.narrow x y agree) ∙ sym (m.map y) }
 
     pub made_within : (letter : ℕ) → map_at shapes made letter < length order
     made_within letter =
-        let value = leads_low a canon old node state l letter in
+        let value = leads_low a canon row state l letter in
         let known = canon_within a canon c (state (letter % width a)) (within (letter % width a)) in
         let size = n.size in
-        let number = All-get_or (λ k. k < length order) numbers (map_at old node letter) 0 (omega (arith, value, known, size)) n.within in
+        let number = All-get_or (λ k. k < length order) numbers (row letter) 0 (omega (arith, value, known, size)) n.within in
         let e = m.map letter in
         omega (arith, number, e)
 
@@ -49,34 +52,28 @@ module _ (a : Automaton) (canon : List ℕ) (old shapes : List Shape) (order num
         let number = ap (λ v. get_or numbers v 0) (l.leads letter below ∙ sym p.2) ∙ n.at p.0 p.1 in
         ap (λ k. get_or order k 0) (m.map letter ∙ number) ∙ p.2
 
-  module _ (first first' : ℕ) (rows picked rows' : List ℕ) (flags : List Bool) (led : AreLed a canon old first rows) (is_picked : ArePicked rows order picked)
-      (f : IsNumbered shapes old numbers first first') (size : length rows' ≡ length picked) (r : (k : ℕ) → k < length picked → IsNumbered shapes old numbers (get_or picked k 0) (get_or rows' k 0))
-      (are_flags : AreFlags a order flags) where
-    state_at : (k : ℕ) → k < length order → get_or order k 0 < length a.accept
-    state_at k h = All-get_or (λ s. s < length a.accept) order k 0 h (order_within a canon c order (length order) o)
-
-    row_at : (k : ℕ) → k < length order → IsNumbered shapes old numbers (get_or rows (get_or order k 0) 0) (get_or rows' k 0)
-    row_at k h = subst (λ node. IsNumbered shapes old numbers node (get_or rows' k 0)) (is_picked.at k h) (r k (omega (arith, h, is_picked.size)))
+  -- the first row and the rows of the states of the order, read as canonical states
+  module _ (over : IsOverNodes a) (first' : ℕ) (rows' : List ℕ) (flags : List Bool) (f : IsNumbered shapes (entry_at canon a.shapes a.first_node) numbers first') (row_count : length rows' ≡ length order)
+      (row_at : (k : ℕ) → k < length order → IsNumbered shapes (entry_at canon a.shapes (get_or a.row_nodes (get_or order k 0) 0)) numbers (get_or rows' k 0)) (are_flags : AreFlags a order flags) where
+    row_of_place : (k : ℕ) → k < length order → LeadsTo a canon (entry_at canon a.shapes (get_or a.row_nodes (get_or order k 0) 0)) (next_state a (get_or order k 0))
+    row_of_place k h = leads-row a canon over (get_or order k 0) (All-get_or (λ s. s < length a.accept) order k 0 h (order_within a canon c order (length order) o))
 
     row_narrow : (k : ℕ) → k < length order → LooksBelow shapes (get_or rows' k 0) (length a.tracks)
-    row_narrow k h = made_narrow _ _ (next_state a (get_or order k 0)) (led.row _ (state_at k h)) (row_at k h) (next_within a c.valid (get_or order k 0)) (λ letter below. o.next k letter h below)
+    row_narrow k h = made_narrow _ _ (next_state a (get_or order k 0)) (row_of_place k h) (row_at k h) (next_within a c.valid (get_or order k 0)) (λ letter below. o.next k letter h below)
 
     row_within : (k : ℕ) → k < length order → (letter : ℕ) → map_at shapes (get_or rows' k 0) letter < length order
-    row_within k h = made_within _ _ (next_state a (get_or order k 0)) (led.row _ (state_at k h)) (row_at k h) (next_within a c.valid (get_or order k 0)) (λ letter below. o.next k letter h below)
+    row_within k h = made_within _ _ (next_state a (get_or order k 0)) (row_of_place k h) (row_at k h) (next_within a c.valid (get_or order k 0)) (λ letter below. o.next k letter h below)
 
     row_leads : (k letter : ℕ) → k < length order → letter < width a → get_or order (map_at shapes (get_or rows' k 0) letter) 0 ≡ get_or canon (next_state a (get_or order k 0) letter) 0
-    row_leads k letter h below = made_leads _ _ (next_state a (get_or order k 0)) (led.row _ (state_at k h)) (row_at k h) (next_within a c.valid (get_or order k 0)) (λ l b. o.next k l h b) letter below
-
-    row_count : length rows' ≡ length order
-    row_count = size ∙ is_picked.size
+    row_leads k letter h below = made_leads _ _ (next_state a (get_or order k 0)) (row_of_place k h) (row_at k h) (next_within a c.valid (get_or order k 0)) (λ l b. o.next k l h b) letter below
 
     pub AreRows-quotient : AreRows a.tracks shapes first' rows' flags
     AreRows-quotient =
         let some = order_some a canon c order (length order) o in
         let few = order_few a canon c order (length order) o in
         let states = are_flags.size in
-        let narrow = made_narrow first first' (first_state a) led.first_row f (first_within a c.valid) o.first in
-        let within = made_within first first' (first_state a) led.first_row f (first_within a c.valid) o.first in
+        let narrow = made_narrow _ first' (first_state a) (leads-first a canon over) f (first_within a c.valid) o.first in
+        let within = made_within _ first' (first_state a) (leads-first a canon over) f (first_within a c.valid) o.first in
         record {
           ascending = c.valid.ascending;
           few_tracks = c.valid.few_tracks;
@@ -98,7 +95,7 @@ module _ (a : Automaton) (canon : List ℕ) (old shapes : List Shape) (order num
       order_is = o;
       tracks = refl;
       size = are_flags.size;
-      first = λ letter below. ap (λ k. get_or order k 0) (get_or-row_of shapes (width a) first' letter below) ∙ made_leads first first' (first_state a) led.first_row f (first_within a c.valid) o.first letter below;
+      first = λ letter below. ap (λ k. get_or order k 0) (get_or-row_of shapes (width a) first' letter below) ∙ made_leads _ first' (first_state a) (leads-first a canon over) f (first_within a c.valid) o.first letter below;
       next = λ place letter h below.
           ap (λ k. get_or order k 0) (next_state-dense a.tracks shapes first' rows' flags AreRows-quotient place letter (get_or rows' place 0) (omega (arith, h, are_flags.size)) below
           (same_default rows' place (omega (arith, h, row_count)))) ∙ row_leads place letter h below;
@@ -110,53 +107,48 @@ module _ (a : Automaton) (canon : List ℕ) (old shapes : List Shape) (order num
         same_default (x ∷ xs) (suc k) h = same_default xs k (omega (arith, h))
         same_default [] k h = absurd (omega (arith, h))
 
-module _ (a : Automaton) (canon : List ℕ) (old : List Shape) (first : ℕ) (rows order numbers : List ℕ) (c : IsCanonical a canon) (led : AreLed a canon old first rows) (n : AreNumbers order (length a.accept) numbers) where
-  node_within : (node : ℕ) (state : ℕ → ℕ) → IsLed a canon old node state → ((letter : ℕ) → state letter < length a.accept) → (letter : ℕ) → map_at old node letter < length numbers
-  node_within node state l within letter =
-      let value = leads_low a canon old node state l letter in
-      let known = canon_within a canon c (state (letter % width a)) (within (letter % width a)) in
-      let size = n.size in
-      omega (arith, value, known, size)
+-- the rows of the states of an order, led to the numbers of their canonical states
+module _ (a : Automaton) (canon order numbers table picked : List ℕ) (over : IsOverNodes a) (c : IsCanonical a canon) (o : IsOrder a canon order) (n : AreNumbers order (length a.accept) numbers)
+    (t : AreClassNumbers canon numbers table) (is_picked : ArePicked a.row_nodes order picked) where
+  states_within : All (λ state. state < length a.row_nodes) order
+  states_within = rw over.nodes.rows_size (order_within a canon c order (length order) o)
 
-  pub first_in_numbers : (letter : ℕ) → map_at old first letter < length numbers
-  first_in_numbers = node_within first (first_state a) led.first_row (first_within a c.valid)
+  pub table_size : length table ≡ length a.accept
+  table_size = t.size ∙ c.size
 
--- the rows, led once more to the numbers of their canonical states
-module _ (a : Automaton) (canon : List ℕ) (old mid : List Shape) (first : ℕ) (rows order numbers picked : List ℕ) (c : IsCanonical a canon) (led : AreLed a canon old first rows) (o : IsOrder a canon order)
-    (n : AreNumbers order (length a.accept) numbers) (g : Grows old mid) (is_picked : ArePicked rows order picked) where
-  picked_led : (k : ℕ) → k < length picked → IsLed a canon old (get_or picked k 0) (next_state a (get_or order k 0))
-  picked_led k h =
-      let here : k < length order = omega (arith, h, is_picked.size) in
-      let known = All-get_or (λ s. s < length a.accept) order k 0 here (order_within a canon c order (length order) o) in
-      subst (λ node. IsLed a canon old node (next_state a (get_or order k 0))) (sym (is_picked.at k here)) (led.row (get_or order k 0) known)
+  pub picked_known : All (λ node. node < length a.shapes) picked
+  picked_known = All-picked (λ node. node < length a.shapes) a.row_nodes order picked is_picked states_within over.nodes.rows_known
 
-  pub picked_known : All (λ node. node < length mid) picked
-  picked_known = All-from_get_or (λ node. node < length mid) picked 0 (λ k h. let l = g.longer in let w = (picked_led k h).known in omega (arith, l, w))
+  pub picked_in_table : All (λ node. (letter : ℕ) → map_at a.shapes node letter < length table) picked
+  picked_in_table = rw table_size (All-picked (λ node. (letter : ℕ) → map_at a.shapes node letter < length a.accept) a.row_nodes order picked is_picked states_within over.nodes.rows_within)
 
-  pub picked_in_numbers : All (λ node. (letter : ℕ) → map_at mid node letter < length numbers) picked
-  picked_in_numbers = All-from_get_or (λ node. (letter : ℕ) → map_at mid node letter < length numbers) picked 0 (λ k h letter.
-      let row = picked_led k h in
-      rw (g.map (get_or picked k 0) letter row.known) (node_within a canon old first rows order numbers c led n (get_or picked k 0) (next_state a (get_or order k 0)) row (next_within a c.valid (get_or order k 0)) letter))
+  numbered : (shapes : List Shape) (node made : ℕ) → ((letter : ℕ) → map_at a.shapes node letter < length a.accept) → IsLedFrom a.shapes shapes table node made → IsNumbered shapes (entry_at canon a.shapes node) numbers made
+  numbered shapes node made within l = record {
+    known = l.known;
+    map = λ letter. l.map letter ∙ t.at (map_at a.shapes node letter) (let w = within letter in let s = c.size in omega (arith, w, s));
+  }
 
-  module _ (shapes : List Shape) (h : Grows mid shapes) (first' : ℕ) (rows' : List ℕ) (known : first' < length mid) (map : (letter : ℕ) → map_at mid first' letter ≡ get_or numbers (map_at old first letter) 0)
-      (each : EachAnswers (IsMapped shapes numbers) picked rows') (flags : List Bool) (are_flags : AreFlags a order flags) where
-    numbered_first : IsNumbered shapes old numbers first first'
-    numbered_first = record { known = let l = h.longer in omega (arith, l, known); map = λ letter. h.map first' letter known ∙ map letter }
+  module _ (mid shapes : List Shape) (g : Grows mid shapes) (first' : ℕ) (rows' : List ℕ) (f : IsLedFrom a.shapes mid table a.first_node first') (each : EachAnswers (IsLedFrom a.shapes shapes table) picked rows')
+      (flags : List Bool) (are_flags : AreFlags a order flags) where
+    numbered_first : IsNumbered shapes (entry_at canon a.shapes a.first_node) numbers first'
+    numbered_first = numbered shapes a.first_node first' over.nodes.first_within (IsLedFrom-grows a.shapes mid shapes table a.first_node first' g f)
 
-    numbered_rows : (k : ℕ) → k < length picked → IsNumbered shapes old numbers (get_or picked k 0) (get_or rows' k 0)
-    numbered_rows k w =
-        let row = each.each k w in
-        let source = (picked_led k w).known in
-        record {
-          known = row.known;
-          map = λ letter. row.map letter ∙ ap (λ v. get_or numbers v 0) (h.map (get_or picked k 0) letter (let l = g.longer in omega (arith, l, source)) ∙ g.map (get_or picked k 0) letter source);
-        }
+    numbered_row : (k : ℕ) → k < length order → IsNumbered shapes (entry_at canon a.shapes (get_or a.row_nodes (get_or order k 0) 0)) numbers (get_or rows' k 0)
+    numbered_row k h =
+        let node = get_or a.row_nodes (get_or order k 0) 0 in
+        let state : get_or order k 0 < length a.row_nodes = All-get_or (λ s. s < length a.row_nodes) order k 0 h states_within in
+        let within = All-get_or (λ n. (letter : ℕ) → map_at a.shapes n letter < length a.accept) a.row_nodes (get_or order k 0) 0 state over.nodes.rows_within in
+        numbered shapes node (get_or rows' k 0) within
+        (subst (λ n. IsLedFrom a.shapes shapes table n (get_or rows' k 0)) (is_picked.at k h) (each.each k (let s = is_picked.size in omega (arith, h, s))))
+
+    row_count : length rows' ≡ length order
+    row_count = each.size ∙ is_picked.size
 
     pub AreRows-made : AreRows a.tracks shapes first' rows' flags
-    AreRows-made = AreRows-quotient a canon old shapes order numbers c o n first first' rows picked rows' flags led is_picked numbered_first each.size numbered_rows are_flags
+    AreRows-made = AreRows-quotient a canon shapes order numbers c o n over first' rows' flags numbered_first row_count numbered_row are_flags
 
     pub IsQuotientBy-made : IsQuotientBy a canon order (dense a.tracks shapes first' rows' flags)
-    IsQuotientBy-made = IsQuotientBy-dense a canon old shapes order numbers c o n first first' rows picked rows' flags led is_picked numbered_first each.size numbered_rows are_flags
+    IsQuotientBy-made = IsQuotientBy-dense a canon shapes order numbers c o n over first' rows' flags numbered_first row_count numbered_row are_flags
 
 module _ (a : Automaton) (canon order : List ℕ) (m : Automaton) (q : IsQuotientBy a canon order m) where
   -- letters lead from the place of a canonical state to the place of a canonical state

@@ -11,32 +11,20 @@ use Rattle.letter_diagram.proofs.Canonical.{node-from_map}
 use Rattle.auto_core.proofs.RowLemmas.{map_at-narrow}
 use Rattle.auto_core.specs.Automaton.{Automaton, IsAutomaton, width, next_state}
 use Rattle.auto_reduce.proofs.States.{next_within}
-use Rattle.auto_reduce.specs.Quotient.{IsLed}
-use Rattle.auto_reduce.specs.Partition.{IsPartition, IsSplit, AreRowNodes, AreLedRows, IsFiner, IsRound, IsFlag, IsSound, IsCoarsest}
+use Rattle.auto_reduce.specs.Leading.{IsLedFrom}
+use Rattle.auto_reduce.specs.Partition.{IsLed, IsPartition, IsSplit, AreRowNodes, AreLedRows, IsFiner, IsRound, IsFlag, IsSound, IsCoarsest}
 use Rattle.auto_reduce.proofs.Counting.{length_le-below, count_grows, count_grows_by_split}
 
 -- ---- a round
--- the row nodes stay row nodes when more nodes are made
-pub AreRowNodes-grows : (a : Automaton) (old new : List Shape) (rows : List ℕ) → Grows old new → AreRowNodes a old rows → AreRowNodes a new rows
-AreRowNodes-grows a old new rows grows h = record {
-  size = h.size;
-  known = All-from_get_or (λ node. node < length new) rows 0 (λ i w. let l = grows.longer in let k = All-get_or (λ node. node < length old) rows i 0 w h.known in omega (arith, l, k));
-  narrow = All-from_get_or (λ node. LooksBelow new node (length a.tracks)) rows 0 (λ i w. LooksBelow-grows old new _ (length a.tracks) (All-get_or (λ node. node < length old) rows i 0 w h.known) grows (All-get_or (λ node. LooksBelow old node (length a.tracks)) rows i 0 w h.narrow));
-  within = All-from_get_or (λ node. (letter : ℕ) → map_at new node letter < length a.accept) rows 0 (λ i w letter.
-      rw (grows.map (get_or rows i 0) letter (All-get_or (λ node. node < length old) rows i 0 w h.known)) (All-get_or (λ node. (letter : ℕ) → map_at old node letter < length a.accept) rows i 0 w h.within letter));
-  leads = λ state letter known below. grows.map (get_or rows state 0) letter (All-get_or (λ node. node < length old) rows state 0 (omega (arith, known, h.size)) h.known) ∙ h.leads state letter known below;
-}
-
-pub LooksBelow-led : (shapes : List Shape) (table : List ℕ) (node led bound : ℕ) → IsMapped shapes table node led → LooksBelow shapes node bound → LooksBelow shapes led bound
-LooksBelow-led shapes table node led bound m narrow = record { same = λ x y agree. m.map x ∙ ap (λ n. get_or table n 0) (narrow.same x y agree) ∙ sym (m.map y) }
-
 -- a row that is led to classes leads letters to the classes of the next states
-pub IsLed-mapped : (a : Automaton) (shapes : List Shape) (rows classes : List ℕ) (state led : ℕ) → AreRowNodes a shapes rows → state < length a.accept → IsMapped shapes classes (get_or rows state 0) led → IsLed a classes shapes led (next_state a state)
-IsLed-mapped a shapes rows classes state led r within m = record {
-  known = m.known;
-  narrow = LooksBelow-led shapes classes _ _ (length a.tracks) m (All-get_or (λ node. LooksBelow shapes node (length a.tracks)) rows state 0 (omega (arith, r.size, within)) r.narrow);
-  leads = λ letter below. m.map letter ∙ ap (λ n. get_or classes n 0) (r.leads state letter within below);
-}
+pub IsLed-from : (a : Automaton) (shapes : List Shape) (rows classes : List ℕ) (state led : ℕ) → AreRowNodes a rows → state < length a.accept → IsLedFrom a.shapes shapes classes (get_or rows state 0) led → IsLed a classes shapes led (next_state a state)
+IsLed-from a shapes rows classes state led r within m =
+    let narrow = All-get_or (λ node. LooksBelow a.shapes node (length a.tracks)) rows state 0 (omega (arith, r.size, within)) r.narrow in
+    record {
+      known = m.known;
+      narrow = record { same = λ x y agree. m.map x ∙ ap (λ n. get_or classes n 0) (narrow.same x y agree) ∙ sym (m.map y) };
+      leads = λ letter below. m.map letter ∙ ap (λ n. get_or classes n 0) (r.leads state letter within below);
+    }
 
 module _ (a : Automaton) (shapes : List Shape) (is : IsDiagram shapes) (start led : List ℕ) (l : AreLedRows a shapes start led) where
   -- states of one class whose rows lead to the same classes have one node

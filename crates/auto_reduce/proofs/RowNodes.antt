@@ -5,7 +5,7 @@ use Rattle.auto_core.specs.Rows.{IsOverNodes}
 use Rattle.auto_core.proofs.RowLemmas.{get_or-rows_of}
 use Rattle.auto_reduce.specs.Partition.{AreRowNodes}
 
-pub AreRowNodes-own : (a : Automaton) → IsOverNodes a → AreRowNodes a a.shapes a.row_nodes
+pub AreRowNodes-own : (a : Automaton) → IsOverNodes a → AreRowNodes a a.row_nodes
 AreRowNodes-own a over = record {
   size = over.nodes.rows_size;
   known = over.nodes.rows_known;

@@ -7,17 +7,18 @@ use Rattle.std.proofs.lemmas.List.Elements.{All-get_or, All-from_get_or, Contain
 use Rattle.std.proofs.lemmas.Option.{slice_get-get_or, get_or_from_slice_get}
 use Rattle.std.proofs.lemmas.Map.Made.{is_member-Decides}
 use Rattle.letter_diagram.specs.declared.diagrams.Shape.{Shape}
-use Rattle.letter_diagram.specs.Diagram.{Grows, IsMapped}
+use Rattle.letter_diagram.specs.Diagram.{Grows}
 use Rattle.letter_diagram.specs.Listed.{EachAnswers}
 use Rattle.letter_diagram.proofs.Narrow.{LooksBelow-grows}
 use Rattle.auto_core.specs.Automaton.{Automaton, IsAutomaton, next_state}
 use Rattle.auto_reduce.specs.declared.ways.Way.{Way}
 use Rattle.auto_reduce.specs.Ways.{AreMoved, AreMarks, AreRowWays}
 use Rattle.auto_reduce.proofs.States.{next_within}
-use Rattle.auto_reduce.specs.Quotient.{IsLed, ArePicked}
-use Rattle.auto_reduce.specs.Partition.{IsShared, AreShared, IsFiner, AreRowNodes, AreLedRows, AreStale, IsPut, AreLedAgain}
+use Rattle.auto_reduce.specs.Leading.{IsLedFrom}
+use Rattle.auto_reduce.specs.Quotient.{ArePicked}
+use Rattle.auto_reduce.specs.Partition.{IsLed, IsShared, AreShared, IsFiner, AreRowNodes, AreLedRows, AreStale, IsPut, AreLedAgain}
 use Rattle.auto_reduce.proofs.Counting.{decided}
-use Rattle.auto_reduce.proofs.Rounds.{IsLed-mapped}
+use Rattle.auto_reduce.proofs.Rounds.{IsLed-from}
 
 -- ---- states whose rows are to be led again
 -- the flag of a shared class is set
@@ -116,25 +117,25 @@ All-picked P rows order picked p within all = All-from_get_or P picked 0 (λ i i
     let here : i < length order = let s = p.size in omega (arith, s, inside) in
     subst P (sym (p.at i here)) (All-get_or P rows (get_or order i 0) 0 (All-get_or (λ state. state < length rows) order i 0 here within) all))
 
-pub AreLedAgain-from : (a : Automaton) (shapes : List Shape) (rows picked nodes states classes old new : List ℕ) → AreRowNodes a shapes rows → length old ≡ length a.accept
-    → ArePicked rows states picked → EachAnswers (IsMapped shapes classes) picked nodes → IsPut old states nodes new → All (λ state. state < length a.accept) states → AreLedAgain a shapes states classes old new
+pub AreLedAgain-from : (a : Automaton) (shapes : List Shape) (rows picked nodes states classes old new : List ℕ) → AreRowNodes a rows → length old ≡ length a.accept
+    → ArePicked rows states picked → EachAnswers (IsLedFrom a.shapes shapes classes) picked nodes → IsPut old states nodes new → All (λ state. state < length a.accept) states → AreLedAgain a shapes states classes old new
 AreLedAgain-from a shapes rows picked nodes states classes old new r size p m put within = record {
   size = put.size;
   led = λ state known there.
       let h = put.put state (omega (arith, known, size)) there in
       let inside : h.turn < length picked = let w = h.within in let s = p.size in omega (arith, w, s) in
       let row : get_or picked h.turn 0 ≡ get_or rows state 0 = p.at h.turn h.within ∙ ap (λ s. get_or rows s 0) h.place_is in
-      let mapped = subst (λ node. IsMapped shapes classes node (get_or nodes h.turn 0)) row (m.each h.turn inside) in
-      subst (λ node. IsLed a classes shapes node (next_state a state)) (sym h.value_is) (IsLed-mapped a shapes rows classes state (get_or nodes h.turn 0) r known mapped);
+      let mapped = subst (λ node. IsLedFrom a.shapes shapes classes node (get_or nodes h.turn 0)) row (m.each h.turn inside) in
+      subst (λ node. IsLed a classes shapes node (next_state a state)) (sym h.value_is) (IsLed-from a shapes rows classes state (get_or nodes h.turn 0) r known mapped);
   kept = λ state known absent. put.kept state (omega (arith, known, size)) absent;
 }
 
 -- nodes that lead to classes, for the first time
-pub AreLedRows-first : (a : Automaton) (shapes : List Shape) (rows classes led : List ℕ) → AreRowNodes a shapes rows → length classes ≡ length a.accept → EachAnswers (IsMapped shapes classes) rows led → AreLedRows a shapes classes led
+pub AreLedRows-first : (a : Automaton) (shapes : List Shape) (rows classes led : List ℕ) → AreRowNodes a rows → length classes ≡ length a.accept → EachAnswers (IsLedFrom a.shapes shapes classes) rows led → AreLedRows a shapes classes led
 AreLedRows-first a shapes rows classes led r size m = record {
   classes_size = size;
   size = m.size ∙ r.size;
-  at = λ state within shared. IsLed-mapped a shapes rows classes state (get_or led state 0) r within (m.each state (let s = r.size in omega (arith, s, within)));
+  at = λ state within shared. IsLed-from a shapes rows classes state (get_or led state 0) r within (m.each state (let s = r.size in omega (arith, s, within)));
 }
 
 -- what leads to classes leads to those of a finer partition where these are the same

@@ -1,5 +1,5 @@
 -- Rows in which states that were met stand for one another, and what they add to an order.
-use Rattle.std.proofs.Common.{◌≡◌, ◌≢◌, ℕ, ◌<◌, ◌≤◌, Bool, true, false, nat_eq, List, [], length, get_or, Some, Contains, AllPairs, arith, refl, sym, ◌∙◌, subst, inl, inr, ◌⊎◌, if◌then◌else◌}
+use Rattle.std.proofs.Common.{◌≡◌, ◌≢◌, ℕ, ◌<◌, ◌≤◌, Bool, true, false, nat_eq, List, [], length, get_or, Some, Contains, AllPairs, arith, refl, sym, ap, ◌∙◌, subst, inl, inr, ◌⊎◌, if◌then◌else◌}
 use Rattle.std.specs.Int.{bit_at}
 use Rattle.std.specs.HashMap.{HashMap, Updates as MapUpdates}
 use Rattle.std.specs.HashSet.{HashSet, Updates, IsEmpty}
@@ -7,11 +7,13 @@ use Rattle.std.proofs.lemmas.Bool.{cases_eq}
 use Rattle.std.proofs.lemmas.Grind.{common_steps}
 use Rattle.letter_diagram.specs.declared.diagrams.Shape.{Shape}
 use Rattle.letter_diagram.specs.declared.diagrams.Shape.TheVariants.{Leaf, Test}
-use Rattle.letter_diagram.specs.Diagram.{map_at, top_track, chosen, FitsBelow, IsAt, Grows}
+use Rattle.letter_diagram.specs.Diagram.{map_at, top_track, chosen, IsAt, Grows}
 use Rattle.letter_diagram.specs.Leaves.{AreLeaves}
 use Rattle.letter_diagram.proofs.Memos.{answers-insert}
 use Rattle.auto_reduce.specs.Quotient.{AddsAll}
+use Rattle.auto_reduce.specs.Leading.{entry_at}
 use Rattle.auto_reduce.specs.Unmet.{AddsRow, IsMetLeaf, IsPruned, RemembersPruned, AreDone}
+use Rattle.auto_reduce.proofs.Leadings.{entry-either}
 use Rattle.auto_reduce.proofs.Orders.{place_in, Contains-kept}
 use Rattle.auto_reduce.proofs.Quotients.{different_places}
 
@@ -29,40 +31,28 @@ IsMetLeaf-grows old new met leaf grows is =
       is_met = λ letter. subst (Contains met) (sym (grows.map leaf letter is.known)) (is.is_met letter);
     }
 
-pub IsPruned-grows : (from old new : List Shape) (met : List ℕ) (a r : ℕ) → Grows old new → IsPruned from old met a r → IsPruned from new met a r
-IsPruned-grows from old new met a r grows is =
+pub IsPruned-grows : (from old new : List Shape) (canon met : List ℕ) (a r : ℕ) → Grows old new → IsPruned from old canon met a r → IsPruned from new canon met a r
+IsPruned-grows from old new canon met a r grows is =
     let known = is.known in
     let longer = grows.longer in
     let top = is.top in
     let top_r = grows.top r is.known in
     record {
       known = omega arith;
-      map = λ letter. subst (λ v. StandsFor met v (map_at from a letter)) (sym (grows.map r letter is.known)) (is.map letter);
+      map = λ letter. subst (λ v. StandsFor met v (entry_at canon from a letter)) (sym (grows.map r letter is.known)) (is.map letter);
       top = omega arith;
     }
 
-pub RemembersPruned-grows : {S : Type 0} (from old new : List Shape) (met : List ℕ) (memo : HashMap ℕ ℕ S) → Grows old new → RemembersPruned from old met memo → RemembersPruned from new met memo
-RemembersPruned-grows from old new met memo grows all = record { pruned = λ a r at. IsPruned-grows from old new met a r grows (all.pruned a r at) }
+pub RemembersPruned-grows : {S : Type 0} (from old new : List Shape) (canon met : List ℕ) (memo : HashMap ℕ ℕ S) → Grows old new → RemembersPruned from old canon met memo → RemembersPruned from new canon met memo
+RemembersPruned-grows from old new canon met memo grows all = record { pruned = λ a r at. IsPruned-grows from old new canon met a r grows (all.pruned a r at) }
 
-pub RemembersPruned-insert : {S : Type 0} (from shapes : List Shape) (met : List ℕ) (memo new : HashMap ℕ ℕ S) (a r : ℕ) → RemembersPruned from shapes met memo → MapUpdates nat_eq memo new a (Some r) → IsPruned from shapes met a r → RemembersPruned from shapes met new
-RemembersPruned-insert from shapes met memo new a r all updates is = record { pruned = answers-insert (IsPruned from shapes met) memo new a r all.pruned updates is }
+pub RemembersPruned-insert : {S : Type 0} (from shapes : List Shape) (canon met : List ℕ) (memo new : HashMap ℕ ℕ S) (a r : ℕ) → RemembersPruned from shapes canon met memo → MapUpdates nat_eq memo new a (Some r) → IsPruned from shapes canon met a r → RemembersPruned from shapes canon met new
+RemembersPruned-insert from shapes canon met memo new a r all updates is = record { pruned = answers-insert (IsPruned from shapes canon met) memo new a r all.pruned updates is }
 
-top_most : (shapes : List Shape) (node : ℕ) (shape : Shape) → IsAt shapes node shape → FitsBelow shapes node shape → top_track shapes node ≤ 20
-top_most shapes node (Leaf value) at fits = let t = at.top in omega (arith, t)
-top_most shapes node (Test track low high) at fits = let t = at.top in let f = fits.track_low in omega (arith, t, f)
-
--- a node whose values are met
-pub IsPruned-met : (from shapes : List Shape) (met : List ℕ) (a r : ℕ) (shape : Shape) → IsAt from a shape → FitsBelow from a shape → IsMetLeaf shapes met r → ((letter : ℕ) → Contains met (map_at from a letter)) → IsPruned from shapes met a r
-IsPruned-met from shapes met a r shape at fits leaf all = record {
-  known = leaf.known;
-  map = λ letter. inr (leaf.is_met letter, all letter);
-  top = let t = top_most from a shape at fits in let top = leaf.top in omega (arith, t, top);
-}
-
-pub IsPruned-leaf : (from shapes : List Shape) (met : List ℕ) (a r state : ℕ) → IsAt from a (Leaf state) → r < length shapes → top_track shapes r ≡ 20 → ((letter : ℕ) → StandsFor met (map_at shapes r letter) state) → IsPruned from shapes met a r
-IsPruned-leaf from shapes met a r state at known top map = record {
+pub IsPruned-leaf : (from shapes : List Shape) (canon met : List ℕ) (a r state value : ℕ) → IsAt from a (Leaf state) → value ≡ get_or canon state 0 → r < length shapes → top_track shapes r ≡ 20 → ((letter : ℕ) → StandsFor met (map_at shapes r letter) value) → IsPruned from shapes canon met a r
+IsPruned-leaf from shapes canon met a r state value at is known top map = record {
   known = known;
-  map = λ letter. subst (StandsFor met (map_at shapes r letter)) (sym (at.map letter)) (map letter);
+  map = λ letter. subst (StandsFor met (map_at shapes r letter)) (is ∙ sym (ap (λ v. get_or canon v 0) (at.map letter))) (map letter);
   top = let t = at.top in omega (arith, t, top);
 }
 
@@ -70,37 +60,38 @@ either : (met : List ℕ) (b : Bool) (v w x y : ℕ) → StandsFor met v w → S
 either met true v w x y p q = p
 either met false v w x y p q = q
 
-pub IsPruned-test : (from mid shapes : List Shape) (met : List ℕ) (a r track low high low' high' : ℕ) → IsAt from a (Test track low high) → IsPruned from mid met low low' → IsPruned from mid met high high'
-    → r < length shapes → ((letter : ℕ) → map_at shapes r letter ≡ chosen mid track low' high' letter) → track ≤ top_track shapes r → IsPruned from shapes met a r
-IsPruned-test from mid shapes met a r track low high low' high' at l h known map top = record {
+pub IsPruned-test : (from mid shapes : List Shape) (canon met : List ℕ) (a r track low high low' high' : ℕ) → IsAt from a (Test track low high) → IsPruned from mid canon met low low' → IsPruned from mid canon met high high'
+    → r < length shapes → ((letter : ℕ) → map_at shapes r letter ≡ chosen mid track low' high' letter) → track ≤ top_track shapes r → IsPruned from shapes canon met a r
+IsPruned-test from mid shapes canon met a r track low high low' high' at l h known map top = record {
   known = known;
   map = λ letter.
-      subst (λ v. StandsFor met v (map_at from a letter)) (sym (map letter))
-      (subst (StandsFor met (chosen mid track low' high' letter)) (sym (at.map letter))
-      (either met (nat_eq (bit_at letter track) 0) (map_at mid low' letter) (map_at from low letter) (map_at mid high' letter) (map_at from high letter) (l.map letter) (h.map letter)));
+      let entry = ap (λ v. get_or canon v 0) (at.map letter) ∙ entry-either canon (nat_eq (bit_at letter track) 0) (map_at from low letter) (map_at from high letter) in
+      subst (λ v. StandsFor met v (entry_at canon from a letter)) (sym (map letter))
+      (subst (StandsFor met (chosen mid track low' high' letter)) (sym entry)
+      (either met (nat_eq (bit_at letter track) 0) (map_at mid low' letter) (entry_at canon from low letter) (map_at mid high' letter) (entry_at canon from high letter) (l.map letter) (h.map letter)));
   top = subst (λ t. t ≤ top_track shapes r) (sym at.top) top;
 }
 
-pub AreDone-insert : {S : Type 0} (from shapes : List Shape) (met : List ℕ) (done new : HashSet ℕ S) (node r : ℕ) → AreDone from met done → Updates nat_eq done new node true
-    → IsPruned from shapes met node r → IsMetLeaf shapes met r → AreDone from met new
-AreDone-insert from shapes met done new node r all updates is leaf = record {
+pub AreDone-insert : {S : Type 0} (from shapes : List Shape) (canon met : List ℕ) (done new : HashSet ℕ S) (node r : ℕ) → AreDone from canon met done → Updates nat_eq done new node true
+    → IsPruned from shapes canon met node r → IsMetLeaf shapes met r → AreDone from canon met new
+AreDone-insert from shapes canon met done new node r all updates is leaf = record {
   are_met = λ other letter there. elim (cases_eq node other) [
-    | inl e ↦ subst (λ n. Contains met (map_at from n letter)) e (here letter)
+    | inl e ↦ subst (λ n. Contains met (entry_at canon from n letter)) e (here letter)
     | inr ne ↦ all.are_met other letter (grind (arith, common_steps, updates.0 other, there, ne))
   ];
 }
   where
-    here : (letter : ℕ) → Contains met (map_at from node letter)
+    here : (letter : ℕ) → Contains met (entry_at canon from node letter)
     here letter = elim (is.map letter) [ inl same ↦ subst (Contains met) same (leaf.is_met letter) | inr both ↦ both.1 ]
 
-pub AreDone-more : {S : Type 0} (from : List Shape) (old new values : List ℕ) (done : HashSet ℕ S) → AddsAll old new values → AreDone from old done → AreDone from new done
-AreDone-more from old new values done adds all = record { are_met = λ node letter there. Contains-kept old new values adds _ (all.are_met node letter there) }
+pub AreDone-more : {S : Type 0} (from : List Shape) (canon old new values : List ℕ) (done : HashSet ℕ S) → AddsAll old new values → AreDone from canon old done → AreDone from canon new done
+AreDone-more from canon old new values done adds all = record { are_met = λ node letter there. Contains-kept old new values adds _ (all.are_met node letter there) }
 
-pub AreDone-none : {S : Type 0} (from : List Shape) (met : List ℕ) (done : HashSet ℕ S) → IsEmpty done → AreDone from met done
-AreDone-none from met done none = record { are_met = λ node letter there. absurd (grind (arith, common_steps, none, there)) }
+pub AreDone-none : {S : Type 0} (from : List Shape) (canon met : List ℕ) (done : HashSet ℕ S) → IsEmpty done → AreDone from canon met done
+AreDone-none from canon met done none = record { are_met = λ node letter there. absurd (grind (arith, common_steps, none, there)) }
 
 -- ---- what is added
-module _ (from to : List Shape) (row r : ℕ) (old new leaves : List ℕ) (is : IsPruned from to old row r) (are : AreLeaves to r leaves) (adds : AddsAll old new leaves) (apart : AllPairs (λ j k. j ≢ k) new) where
+module _ (to : List Shape) (row : ℕ → ℕ) (r : ℕ) (old new leaves : List ℕ) (is : (letter : ℕ) → StandsFor old (map_at to r letter) (row letter)) (are : AreLeaves to r leaves) (adds : AddsAll old new leaves) (apart : AllPairs (λ j k. j ≢ k) new) where
   unmet : (place : ℕ) → length old ≤ place → place < length new → Contains old (get_or new place 0) → ⊥
   unmet place past within there =
       let p = place_in old (get_or new place 0) there in
@@ -109,23 +100,23 @@ module _ (from to : List Shape) (row r : ℕ) (old new leaves : List ℕ) (is : 
       let same = different_places new apart p.0 place (omega (arith, p_in, longer)) within (adds.kept p.0 p.1 ∙ p.2) in
       omega (arith, same, p_in, past)
 
-  forth : (letter place : ℕ) → length old ≤ place → place < length new → map_at to r letter ≡ get_or new place 0 → map_at from row letter ≡ get_or new place 0
-  forth letter place past within e = elim (is.map letter) [
+  forth : (letter place : ℕ) → length old ≤ place → place < length new → map_at to r letter ≡ get_or new place 0 → row letter ≡ get_or new place 0
+  forth letter place past within e = elim (is letter) [
     | inl same ↦ sym same ∙ e
     | inr both ↦ absurd (unmet place past within (subst (Contains old) e both.0))
   ]
 
-  back : (letter place : ℕ) → length old ≤ place → place < length new → map_at from row letter ≡ get_or new place 0 → map_at to r letter ≡ get_or new place 0
-  back letter place past within e = elim (is.map letter) [
+  back : (letter place : ℕ) → length old ≤ place → place < length new → row letter ≡ get_or new place 0 → map_at to r letter ≡ get_or new place 0
+  back letter place past within e = elim (is letter) [
     | inl same ↦ same ∙ e
     | inr both ↦ absurd (unmet place past within (subst (Contains old) e both.1))
   ]
 
-  pub AddsRow-pruned : AddsRow from row old new
+  pub AddsRow-pruned : AddsRow row old new
   AddsRow-pruned = record {
     longer = adds.longer;
     kept = adds.kept;
-    has = λ letter. elim (is.map letter) [
+    has = λ letter. elim (is letter) [
       | inl same ↦ subst (Contains new) same (adds.has _ (are.all letter))
       | inr both ↦ Contains-kept old new leaves adds _ both.1
     ];
@@ -142,6 +133,5 @@ module _ (from to : List Shape) (row r : ℕ) (old new leaves : List ℕ) (is : 
   }
 
 -- the first row is added whole
-pub AddsRow-first : (shapes : List Shape) (row : ℕ) (new leaves : List ℕ) → row < length shapes → AreLeaves shapes row leaves → AddsAll [] new leaves → AllPairs (λ j k. j ≢ k) new → AddsRow shapes row [] new
-AddsRow-first shapes row new leaves known are adds apart =
-    AddsRow-pruned shapes shapes row row [] new leaves (record { known = known; map = λ letter. inl refl; top = omega arith }) are adds apart
+pub AddsRow-first : (to : List Shape) (row : ℕ → ℕ) (r : ℕ) (new leaves : List ℕ) → ((letter : ℕ) → map_at to r letter ≡ row letter) → AreLeaves to r leaves → AddsAll [] new leaves → AllPairs (λ j k. j ≢ k) new → AddsRow row [] new
+AddsRow-first to row r new leaves is are adds apart = AddsRow-pruned to row r [] new leaves (λ letter. inl (is letter)) are adds apart

@@ -4,7 +4,6 @@ use Rattle.letter_diagram.specs.declared.diagrams.Shape.{Shape}
 use Rattle.letter_diagram.specs.Diagram.{map_at, LooksBelow}
 use Rattle.auto_core.specs.Automaton.{Automaton, width, next_state, is_final}
 use Rattle.auto_core.specs.Reduced.{ToldApart}
-use Rattle.auto_reduce.specs.Quotient.{IsLed}
 
 -- a state of a class
 pub record IsAttained (classes : List ℕ) (class : ℕ) : Type 0 where
@@ -59,12 +58,12 @@ pub record IsSplit (current nodes classes : List ℕ) (count : ℕ) : Type 0 whe
       → (slice_index classes j ≡ slice_index classes k) ↔ ((slice_index current j ≡ slice_index current k) × (slice_index nodes j ≡ slice_index nodes k))
 
 -- the nodes of the rows of the states
-pub record AreRowNodes (a : Automaton) (shapes : List Shape) (rows : List ℕ) : Type 0 where
+pub record AreRowNodes (a : Automaton) (rows : List ℕ) : Type 0 where
   pub size : length rows ≡ length a.accept
-  pub known : All (λ node. node < length shapes) rows
-  pub narrow : All (λ node. LooksBelow shapes node (length a.tracks)) rows
-  pub within : All (λ node. (letter : ℕ) → map_at shapes node letter < length a.accept) rows
-  pub leads : (state letter : ℕ) → state < length a.accept → letter < width a → map_at shapes (slice_index rows state) letter ≡ next_state a state letter
+  pub known : All (λ node. node < length a.shapes) rows
+  pub narrow : All (λ node. LooksBelow a.shapes node (length a.tracks)) rows
+  pub within : All (λ node. (letter : ℕ) → map_at a.shapes node letter < length a.accept) rows
+  pub leads : (state letter : ℕ) → state < length a.accept → letter < width a → map_at a.shapes (slice_index rows state) letter ≡ next_state a state letter
 
 -- for each class whether more than one state has it
 pub record AreShared (classes : List ℕ) (count : ℕ) (shared : List Bool) : Type 0 where
@@ -77,6 +76,12 @@ pub record IsShared (classes : List ℕ) (state : ℕ) : Type 0 where
   pub within : other < length classes
   pub differ : state ≢ other
   pub same : slice_index classes state ≡ slice_index classes other
+
+-- a node that leads each letter to the class of a state
+pub record IsLed (a : Automaton) (classes : List ℕ) (shapes : List Shape) (node : ℕ) (state : ℕ → ℕ) : Type 0 where
+  pub known : node < length shapes
+  pub narrow : LooksBelow shapes node (length a.tracks)
+  pub leads : (letter : ℕ) → letter < width a → map_at shapes node letter ≡ slice_index classes (state letter)
 
 -- nodes that lead letters to the classes of the next states, for the states that share their class
 pub record AreLedRows (a : Automaton) (shapes : List Shape) (classes led : List ℕ) : Type 0 where

@@ -1,8 +1,6 @@
 -- One state for all states that nothing tells apart, and the automaton over these in the order in which they are met.
 use Rattle.std.specs.Prelude.{◌≡◌, ◌≢◌, ℕ, ◌<◌, ◌≤◌, Bool, false, List, length, All, AllPairs, Contains, slice_index, slice_index_or}
 use Rattle.track_word.specs.Word.{IsWord}
-use Rattle.letter_diagram.specs.declared.diagrams.Shape.{Shape}
-use Rattle.letter_diagram.specs.Diagram.{map_at, LooksBelow}
 use Rattle.auto_core.specs.Automaton.{Automaton, IsAutomaton, width, first_state, next_state, state_of, is_final}
 use Rattle.auto_core.specs.Reduced.{ToldApart}
 
@@ -21,20 +19,6 @@ pub record IsCanonical (a : Automaton) (canon : List ℕ) : Type 0 where
   pub steps : (j letter : ℕ) → j < length a.accept → letter < width a
       → slice_index canon (next_state a (slice_index canon j) letter) ≡ slice_index canon (next_state a j letter)
   pub apart : (j k : ℕ) → j < length a.accept → k < length a.accept → slice_index canon j ≢ slice_index canon k → ToldApart a j k
-
--- a node that leads each letter to the canonical state of a state
-pub record IsLed (a : Automaton) (canon : List ℕ) (shapes : List Shape) (node : ℕ) (state : ℕ → ℕ) : Type 0 where
-  pub known : node < length shapes
-  pub narrow : LooksBelow shapes node (length a.tracks)
-  pub leads : (letter : ℕ) → letter < width a → map_at shapes node letter ≡ slice_index canon (state letter)
-
--- the first row and the rows of the states, led to canonical states
-pub record AreLed (a : Automaton) (canon : List ℕ) (shapes : List Shape) (first : ℕ) (rows : List ℕ) : Type 0 where
-  pub valid : IsAutomaton a
-  pub canon_size : length canon ≡ length a.accept
-  pub size : length rows ≡ length a.accept
-  pub first_row : IsLed a canon shapes first (first_state a)
-  pub row : (state : ℕ) → state < length a.accept → IsLed a canon shapes (slice_index rows state) (next_state a state)
 
 -- a value stands in a list before another one
 pub record ComesBefore (values : List ℕ) (x y : ℕ) : Type 0 where
@@ -74,6 +58,11 @@ pub record AreNumbers (order : List ℕ) (states : ℕ) (numbers : List ℕ) : T
   pub size : length numbers ≡ states
   pub within : All (λ number. number < length order) numbers
   pub at : (place : ℕ) → place < length order → slice_index numbers (slice_index order place) ≡ place
+
+-- for each state the number of its canonical state
+pub record AreClassNumbers (canon numbers table : List ℕ) : Type 0 where
+  pub size : length table ≡ length canon
+  pub at : (state : ℕ) → state < length canon → slice_index table state ≡ slice_index numbers (slice_index canon state)
 
 -- the automaton whose states are the places of an order of canonical states
 pub record IsQuotientBy (a : Automaton) (canon order : List ℕ) (m : Automaton) : Type 0 where

@@ -4,15 +4,16 @@ use Rattle.std.specs.HashMap.{HashMap, get}
 use Rattle.std.specs.HashSet.{HashSet, contains}
 use Rattle.letter_diagram.specs.declared.diagrams.Shape.{Shape}
 use Rattle.letter_diagram.specs.Diagram.{map_at, top_track}
+use Rattle.auto_reduce.specs.Leading.{entry_at}
 
 -- an order goes on by the values of a row that it did not have, by the least letters that lead to them
-pub record AddsRow (shapes : List Shape) (node : ℕ) (old new : List ℕ) : Type 0 where
+pub record AddsRow (row : ℕ → ℕ) (old new : List ℕ) : Type 0 where
   pub longer : length old ≤ length new
   pub kept : (place : ℕ) → place < length old → slice_index new place ≡ slice_index old place
-  pub has : (letter : ℕ) → Contains new (map_at shapes node letter)
-  pub added : (place : ℕ) → length old ≤ place → place < length new → (letter : ℕ) × (map_at shapes node letter ≡ slice_index new place)
+  pub has : (letter : ℕ) → Contains new (row letter)
+  pub added : (place : ℕ) → length old ≤ place → place < length new → (letter : ℕ) × (row letter ≡ slice_index new place)
   pub in_order : (i j : ℕ) → length old ≤ i → i < j → j < length new
-      → (first : ℕ) × (map_at shapes node first ≡ slice_index new i) × ((letter : ℕ) → map_at shapes node letter ≡ slice_index new j → first < letter)
+      → (first : ℕ) × (row first ≡ slice_index new i) × ((letter : ℕ) → row letter ≡ slice_index new j → first < letter)
 
 -- a leaf of a value of a list
 pub record IsMetLeaf (shapes : List Shape) (met : List ℕ) (leaf : ℕ) : Type 0 where
@@ -20,15 +21,15 @@ pub record IsMetLeaf (shapes : List Shape) (met : List ℕ) (leaf : ℕ) : Type 
   pub top : top_track shapes leaf ≡ 20
   pub is_met : (letter : ℕ) → Contains met (map_at shapes leaf letter)
 
--- r has the map that a has among other shapes, but for values of a list, which may stand for one another
-pub record IsPruned (from shapes : List Shape) (met : List ℕ) (a r : ℕ) : Type 0 where
+-- r has the map that a has among other shapes, led to canonical states, but for values of a list, which may stand for one another
+pub record IsPruned (from shapes : List Shape) (canon met : List ℕ) (a r : ℕ) : Type 0 where
   pub known : r < length shapes
-  pub map : (letter : ℕ) → (map_at shapes r letter ≡ map_at from a letter) ⊎ (Contains met (map_at shapes r letter) × Contains met (map_at from a letter))
+  pub map : (letter : ℕ) → (map_at shapes r letter ≡ entry_at canon from a letter) ⊎ (Contains met (map_at shapes r letter) × Contains met (entry_at canon from a letter))
   pub top : top_track from a ≤ top_track shapes r
 
-pub record RemembersPruned {S : Type 0} (from shapes : List Shape) (met : List ℕ) (memo : HashMap ℕ ℕ S) : Type 0 where
-  pub pruned : (a r : ℕ) → get nat_eq memo a ≡ Some r → IsPruned from shapes met a r
+pub record RemembersPruned {S : Type 0} (from shapes : List Shape) (canon met : List ℕ) (memo : HashMap ℕ ℕ S) : Type 0 where
+  pub pruned : (a r : ℕ) → get nat_eq memo a ≡ Some r → IsPruned from shapes canon met a r
 
--- the values of the nodes that are done are in a list
-pub record AreDone {S : Type 0} (shapes : List Shape) (met : List ℕ) (done : HashSet ℕ S) : Type 0 where
-  pub are_met : (node letter : ℕ) → contains nat_eq done node ≡ true → Contains met (map_at shapes node letter)
+-- the canonical states of the values of the nodes that are done are in a list
+pub record AreDone {S : Type 0} (shapes : List Shape) (canon met : List ℕ) (done : HashSet ℕ S) : Type 0 where
+  pub are_met : (node letter : ℕ) → contains nat_eq done node ≡ true → Contains met (entry_at canon shapes node letter)

@@ -7,6 +7,7 @@ mod canonical;
 mod classes;
 mod empty;
 pub mod laws;
+mod leading;
 mod order;
 mod partition;
 mod quotient;

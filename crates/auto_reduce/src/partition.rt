@@ -113,7 +113,7 @@ pub fn coarsest(alloc: Global, a: &Auto) -> Result<Partition, AllocError>
 {
     let rows = row_nodes(alloc, a)?;
     let ways = row_ways(alloc, a, rows.as_slice())?;
-    let mut diagrams = a.diagrams().copy()?;
+    let mut diagrams = Diagrams::new(alloc);
     let mut current = by_flags(alloc, a)?;
     let mut led = lead(&mut diagrams, a, rows.as_slice(), &current)?;
     loop {

@@ -4,81 +4,60 @@ ghost use Rattle.track_word.specs.Word.{IsWord};
 ghost use Rattle.auto_core.specs.Automaton.{Accepts, IsAutomaton};
 ghost use Rattle.auto_core.specs.Reduced.{IsReduced};
 ghost use Rattle.auto_reduce.specs.Numbering.{IsNumberedTo, IsNumberedBreadthFirst, IsQuotient};
-ghost use Rattle.auto_reduce.specs.Quotient.{AreLed, IsCanonical, IsOrder, AreNumbers, AreFlags, IsQuotientBy};
+ghost use Rattle.auto_reduce.specs.Quotient.{IsCanonical, IsOrder, AreNumbers, AreClassNumbers, AreFlags, IsQuotientBy};
 
 use crate::canonical::canonical;
+use crate::leading::{lead_node, lead_nodes};
 use crate::order::Order;
-use crate::rows::{picked, row_nodes};
-use crate::unmet::add_row;
+use crate::rows::picked;
+use crate::unmet::{add_row, first_met};
 use auto_core::Auto;
-use letter_diagram::{Diagrams, Node};
+use letter_diagram::Diagrams;
 use std::alloc::{AllocError, Global};
 use std::collections::HashSet;
 
-/// An automaton whose rows lead to canonical states: one of the states that nothing tells apart, the same for all of these.
-#[derive(Drop)]
-struct Led<'a> {
-    a: &'a Auto,
-    canon: Vec<u32>,
-    diagrams: Diagrams,
-    first: Node,
-    rows: Vec<Node>,
-    ghost led: { AreLed a.now canon.items diagrams first rows.items },
+/// The canonical states that words lead to, in the order in which a breadth-first walk in ascending letters meets them.
+fn breadth_first(alloc: Global, a: &Auto, canon: &[u32]) -> Result<Order, AllocError>
+    requires { IsCanonical a.now canon.now }
+    ensures order { IfOk result (λ order. IsOrder a.now canon.now order) }
+    ensures numbered { IfOk result (λ order. IsNumberedTo a.now canon.now order (length order + 1)) }
+{
+    let mut order = first_met(alloc, a.diagrams(), a.first_node(), canon)?;
+    let mut done = HashSet::new(alloc);
+    let mut place = 0;
+    while place < order.as_slice().len() {
+        let row = a.row_node(order.as_slice()[place]);
+        add_row(alloc, a.diagrams(), row, canon, &mut order, &mut done)?;
+        place += 1;
+    }
+    Ok(order)
 }
 
-impl<'a> Led<'a> {
-    fn new(alloc: Global, a: &'a Auto) -> Result<Self, AllocError>
-        ensures a { IfOk result (λ led. led.a.now ≡ a.now) }
-        ensures canonical { IfOk result (λ led. IsCanonical led.a.now led.canon.items) }
-    {
-        let canon = canonical(alloc, a)?;
-        let own_rows = row_nodes(alloc, a)?;
-        let mut diagrams = a.diagrams().copy()?;
-        let first = diagrams.map_leaves(a.first_node(), canon.as_slice())?;
-        let rows = diagrams.map_leaves_all(own_rows.as_slice(), canon.as_slice())?;
-        Ok(Led {
-            a,
-            canon,
-            diagrams,
-            first,
-            rows,
-        })
-    }
-
-    /// The states that words lead to, in the order in which a breadth-first walk in ascending letters meets them.
-    fn order(&self, alloc: Global) -> Result<Order, AllocError>
-        requires { IsCanonical self.now.a.now self.now.canon.items }
-        ensures order { IfOk result (λ order. IsOrder self.now.a.now self.now.canon.items order) }
-        ensures numbered { IfOk result (λ order. IsNumberedTo self.now.a.now self.now.canon.items order (length order + 1)) }
-    {
-        let mut order = Order::new(alloc);
-        let leaves = self.diagrams.leaves(self.first)?;
-        order.add_all(leaves.as_slice())?;
-        let mut done = HashSet::new(alloc);
-        let mut place = 0;
-        while place < order.as_slice().len() {
-            let row = self.rows[order.as_slice()[place] as usize];
-            add_row(alloc, &self.diagrams, row, &mut order, &mut done)?;
-            place += 1;
-        }
-        Ok(order)
-    }
-
-    /// The automaton whose states are the places in an order.
-    fn into_auto(self, alloc: Global, order: &[u32]) -> Result<Auto, AllocError>
-        requires canonical { IsCanonical self.a.now self.canon.items }
-        requires order { IsOrder self.a.now self.canon.items order.now }
-        ensures { IfOk result (IsQuotientBy self.entry.a.now self.entry.canon.items order.now) }
-    {
-        let numbers = numbers(alloc, order, self.a.states())?;
-        let accept = flags(alloc, self.a, order)?;
-        let picked = picked(alloc, self.rows.as_slice(), order)?;
-        let tracks = self.a.tracks().to_vec(alloc)?;
-        let mut diagrams = self.diagrams;
-        let first = diagrams.map_leaves(self.first, numbers.as_slice())?;
-        let rows = diagrams.map_leaves_all(picked.as_slice(), numbers.as_slice())?;
-        Ok(Auto::from_diagrams(tracks, diagrams, first, rows, accept))
-    }
+/// The automaton whose states are the places in an order of canonical states.
+fn over_places(alloc: Global, a: &Auto, canon: &[u32], order: &[u32]) -> Result<Auto, AllocError>
+    requires canonical { IsCanonical a.now canon.now }
+    requires order { IsOrder a.now canon.now order.now }
+    ensures { IfOk result (IsQuotientBy a.now canon.now order.now) }
+{
+    let numbers = numbers(alloc, order, a.states())?;
+    let table = class_numbers(alloc, canon, numbers.as_slice())?;
+    let accept = flags(alloc, a, order)?;
+    let tracks = a.tracks().to_vec(alloc)?;
+    let mut diagrams = Diagrams::new(alloc);
+    let first = lead_node(
+        a.diagrams(),
+        a.first_node(),
+        table.as_slice(),
+        &mut diagrams,
+    )?;
+    let picked = picked(alloc, a.row_nodes(), order)?;
+    let rows = lead_nodes(
+        a.diagrams(),
+        picked.as_slice(),
+        table.as_slice(),
+        &mut diagrams,
+    )?;
+    Ok(Auto::from_diagrams(tracks, diagrams, first, rows, accept))
 }
 
 /// For each state its place in an order, and 0 where it has none.
@@ -96,6 +75,18 @@ fn numbers(alloc: Global, order: &[u32], states: u32) -> Result<Vec<u32>, AllocE
     Ok(numbers)
 }
 
+/// For each state the number of its canonical state.
+fn class_numbers(alloc: Global, canon: &[u32], numbers: &[u32]) -> Result<Vec<u32>, AllocError>
+    requires { All (λ state. state < length numbers.now) canon.now }
+    ensures { IfOk result (λ table. AreClassNumbers canon.now numbers.now table.items) }
+{
+    let mut table = Vec::new(alloc);
+    for state in canon {
+        table.push(numbers[*state as usize])?;
+    }
+    Ok(table)
+}
+
 /// The flags of some states, in their order.
 fn flags(alloc: Global, a: &Auto, order: &[u32]) -> Result<Vec<bool>, AllocError>
     requires { All (λ state. state < length a.now.accept) order.now }
@@ -110,7 +101,8 @@ fn flags(alloc: Global, a: &Auto, order: &[u32]) -> Result<Vec<bool>, AllocError
 
 /// The automaton of the same words with no state too many (Moore 1956), whose states are numbered in the order in which
 /// a breadth-first walk in ascending letters meets them. Costs, for each round of the refinement, the nodes of the rows of states
-/// that share their class and lead to a state whose class changed, and for the numbering the nodes of all rows.
+/// that share their class and lead to a state whose class changed, and for the numbering the nodes of one row of each class.
+/// The answer has no node that its rows don't reach.
 pub fn reduce(alloc: Global, a: &Auto) -> Result<Auto, AllocError>
     ensures tracks { IfOk result (λ m. m.tracks ≡ a.now.tracks) }
     ensures words { IfOk result (λ m. (word : List ℕ) → IsWord (length a.now.tracks) word → Accepts m word ↔ Accepts a.now word) }
@@ -126,8 +118,8 @@ pub fn reduce(alloc: Global, a: &Auto) -> Result<Auto, AllocError>
 fn quotient(alloc: Global, a: &Auto) -> Result<Auto, AllocError>
     ensures { IfOk result (IsQuotient a.now) }
 {
-    let led = Led::new(alloc, a)?;
-    let order = led.order(alloc)?;
-    let m = led.into_auto(alloc, order.as_slice())?;
+    let canon = canonical(alloc, a)?;
+    let order = breadth_first(alloc, a, canon.as_slice())?;
+    let m = over_places(alloc, a, canon.as_slice(), order.as_slice())?;
     Ok(m)
 }

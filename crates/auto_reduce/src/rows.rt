@@ -10,7 +10,7 @@ use std::alloc::{AllocError, Global};
 
 /// The nodes of the rows, in the order of the states.
 pub fn row_nodes(alloc: Global, a: &Auto) -> Result<Vec<Node>, AllocError>
-    ensures rows { IfOk result (λ rows. AreRowNodes a.now a.now.shapes rows.items) }
+    ensures rows { IfOk result (λ rows. AreRowNodes a.now rows.items) }
     ensures valid { IsAutomaton a.now }
 {
     let _ = a.diagrams();

@@ -5,6 +5,7 @@ ghost use Rattle.auto_reduce.specs.Ways.{AreRowWays};
 ghost use Rattle.auto_reduce.specs.Partition.{IsPartition, IsFiner, AreRowNodes, AreLedRows, AreStale, IsPut, AreLedAgain};
 
 use crate::classes::{Partition, shared_classes};
+use crate::leading::lead_nodes;
 use crate::rows::picked;
 use crate::ways::{Ways, marked, moved_states};
 use auto_core::Auto;
@@ -58,7 +59,7 @@ fn lead_again(
     classes: &[u32],
     led: &mut [Node],
 ) -> Result<(), AllocError>
-    requires rows { AreRowNodes a.now diagrams.old rows.now }
+    requires rows { AreRowNodes a.now rows.now }
     requires states { All (λ state. state < length a.now.accept) states.now }
     requires classes { length classes.now ≡ length a.now.accept }
     requires led { length led.old ≡ length a.now.accept }
@@ -66,7 +67,7 @@ fn lead_again(
     ensures grows { Grows diagrams.old diagrams.new }
 {
     let picked = picked(diagrams.alloc(), rows, states)?;
-    let nodes = diagrams.map_leaves_all(picked.as_slice(), classes)?;
+    let nodes = lead_nodes(a.diagrams(), picked.as_slice(), classes, diagrams)?;
     put(led, states, nodes.as_slice());
     Ok(())
 }
@@ -78,13 +79,12 @@ pub fn lead(
     rows: &[Node],
     partition: &Partition,
 ) -> Result<Vec<Node>, AllocError>
-    requires rows { AreRowNodes a.now diagrams.old rows.now }
+    requires rows { AreRowNodes a.now rows.now }
     requires partition { IsPartition (length a.now.accept) partition.now.classes.items partition.now.count }
     ensures led { IfOk result (λ led. AreLedRows a.now diagrams.new partition.now.classes.items led.items) }
     ensures grows { Grows diagrams.old diagrams.new }
 {
-    let _ = a.states();
-    let led = diagrams.map_leaves_all(rows, partition.classes.as_slice())?;
+    let led = lead_nodes(a.diagrams(), rows, partition.classes.as_slice(), diagrams)?;
     Ok(led)
 }
 
@@ -99,7 +99,7 @@ pub fn follow(
     new: &Partition,
     led: &mut [Node],
 ) -> Result<(), AllocError>
-    requires rows { AreRowNodes a.now diagrams.old rows.now }
+    requires rows { AreRowNodes a.now rows.now }
     requires ways { AreRowWays a.now ways.now.ways.items ways.now.rows.items }
     requires led { AreLedRows a.now diagrams.old old.now led.old }
     requires new { IsPartition (length a.now.accept) new.now.classes.items new.now.count }

@@ -1,8 +1,10 @@
-//! The states to which a row leads and that were not met before it.
-ghost use Rattle.std.specs.Prelude.{◌≡◌, ◌≢◌, ◌<◌, ◌⊎◌, ℕ, length, IfOk, OnOk, Contains, AllPairs};
+//! The canonical states to which a row leads and that were not met before it.
+ghost use Rattle.std.specs.Prelude.{[], ◌≡◌, ◌≢◌, ◌<◌, ◌⊎◌, ℕ, length, IfOk, OnOk, Contains, AllPairs};
 ghost use Rattle.letter_diagram.specs.Diagram.{map_at, top_track, Grows};
+ghost use Rattle.auto_reduce.specs.Leading.{entry_at};
 ghost use Rattle.auto_reduce.specs.Unmet.{AddsRow, IsMetLeaf, IsPruned, RemembersPruned, AreDone};
 
+use crate::leading::lead_node;
 use crate::order::Order;
 use letter_diagram::{Diagrams, Node, Shape};
 use std::alloc::{AllocError, Global};
@@ -23,11 +25,12 @@ fn pruned_leaf(order: &Order, met: Node, to: &mut Diagrams, state: u32) -> Resul
     Ok(leaf)
 }
 
-/// The node in `to` of a row of `from`, where states that were met may stand for one another. Nodes that lead to such states alone
+/// The node in `to` of a row of `from`, led to canonical states, where states that were met may stand for one another. Nodes that lead to such states alone
 /// are noted as done, and passed over from then on: `met` stands for them.
 fn pruned(
     from: &Diagrams,
     node: Node,
+    canon: &[u32],
     order: &Order,
     met: Node,
     to: &mut Diagrams,
@@ -35,12 +38,13 @@ fn pruned(
     done: &mut HashSet<Node>,
 ) -> Result<Node, AllocError>
     requires known { node < length from.now }
+    requires leaves { (letter : ℕ) → map_at from.now node letter < length canon.now }
     requires met { IsMetLeaf to.old order.now met }
-    requires remembered { RemembersPruned from.now to.old order.now memo.old }
-    requires done { AreDone from.now order.now done.old }
-    ensures pruned { IfOk result (λ pruned. IsPruned from.now to.new order.now node pruned) }
-    ensures remembered { OnOk result (RemembersPruned from.now to.new order.now memo.new) }
-    ensures done { OnOk result (AreDone from.now order.now done.new) }
+    requires remembered { RemembersPruned from.now to.old canon.now order.now memo.old }
+    requires done { AreDone from.now canon.now order.now done.old }
+    ensures pruned { IfOk result (λ pruned. IsPruned from.now to.new canon.now order.now node pruned) }
+    ensures remembered { OnOk result (RemembersPruned from.now to.new canon.now order.now memo.new) }
+    ensures done { OnOk result (AreDone from.now canon.now order.now done.new) }
     ensures grows { Grows to.old to.new }
 {
     let shape = from.shape(node);
@@ -51,10 +55,10 @@ fn pruned(
         return Ok(*known);
     }
     let made = match shape {
-        Shape::Leaf(state) => pruned_leaf(order, met, to, state)?,
+        Shape::Leaf(state) => pruned_leaf(order, met, to, canon[state as usize])?,
         Shape::Test { track, low, high } => {
-            let low = pruned(from, low, order, met, to, memo, done)?;
-            let high = pruned(from, high, order, met, to, memo, done)?;
+            let low = pruned(from, low, canon, order, met, to, memo, done)?;
+            let high = pruned(from, high, canon, order, met, to, memo, done)?;
             to.node(track, low, high)?
         }
     };
@@ -65,27 +69,49 @@ fn pruned(
     Ok(made)
 }
 
-/// Puts the states to which a row leads and that are not in the order at its end, by the least letters that lead to them.
+/// Puts the canonical states to which a row leads and that are not in the order at its end, by the least letters that lead to them.
 /// Costs the nodes of the row that are not done.
 pub fn add_row(
     alloc: Global,
     from: &Diagrams,
     row: Node,
+    canon: &[u32],
     order: &mut Order,
     done: &mut HashSet<Node>,
 ) -> Result<(), AllocError>
     requires known { row < length from.now }
+    requires leaves { (letter : ℕ) → map_at from.now row letter < length canon.now }
     requires some { 0 < length order.old }
-    requires done { AreDone from.now order.old done.old }
-    ensures adds { OnOk result (AddsRow from.now row order.old order.new) }
+    requires done { AreDone from.now canon.now order.old done.old }
+    ensures adds { OnOk result (AddsRow (entry_at canon.now from.now row) order.old order.new) }
     ensures different { OnOk result (AllPairs (λ j k. j ≢ k) order.new) }
-    ensures done { OnOk result (AreDone from.now order.new done.new) }
+    ensures done { OnOk result (AreDone from.now canon.now order.new done.new) }
 {
     let mut to = Diagrams::new(alloc);
     let met = to.leaf(order.as_slice()[0])?;
     let mut memo = HashMap::new(alloc);
-    let unmet = pruned(from, row, order, met, &mut to, &mut memo, done)?;
+    let unmet = pruned(from, row, canon, order, met, &mut to, &mut memo, done)?;
     let leaves = to.leaves(unmet)?;
     order.add_all(leaves.as_slice())?;
     Ok(())
+}
+
+/// The canonical states to which the first row leads, by the least letters that lead to them.
+pub fn first_met(
+    alloc: Global,
+    from: &Diagrams,
+    row: Node,
+    canon: &[u32],
+) -> Result<Order, AllocError>
+    requires known { row < length from.now }
+    requires leaves { (letter : ℕ) → map_at from.now row letter < length canon.now }
+    ensures adds { IfOk result (AddsRow (entry_at canon.now from.now row) []) }
+    ensures different { IfOk result (AllPairs (λ j k. j ≢ k)) }
+{
+    let mut order = Order::new(alloc);
+    let mut to = Diagrams::new(alloc);
+    let led = lead_node(from, row, canon, &mut to)?;
+    let leaves = to.leaves(led)?;
+    order.add_all(leaves.as_slice())?;
+    Ok(order)
 }

@@ -77,7 +77,7 @@ fn place_of(
 
 /// The nodes of an automaton's rows by places. What the rows share has one place.
 pub fn row_ways(alloc: Global, a: &Auto, rows: &[Node]) -> Result<Ways, AllocError>
-    requires { AreRowNodes a.now a.now.shapes rows.now }
+    requires { AreRowNodes a.now rows.now }
     ensures { IfOk result (λ all. AreRowWays a.now all.ways.items all.rows.items) }
 {
     let mut places = HashMap::new(alloc);

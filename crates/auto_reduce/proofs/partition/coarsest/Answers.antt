@@ -1,5 +1,5 @@
 use Rattle.std.proofs.Common.{rules, arith, ◌≡◌, ◌++◌, ℕ, List, length, take, sym, subst, ap, ◌∙◌}
-use Rattle.auto_reduce.proofs.Rounds.{IsSound-round, IsCoarsest-round, IsFiner-round, count_le-round, count_le-size, AreRowNodes-grows}
+use Rattle.auto_reduce.proofs.Rounds.{IsSound-round, IsCoarsest-round, IsFiner-round, count_le-round, count_le-size}
 use Rattle.std.proofs.Math.Seq.{take-append_seam}
 use Rattle.auto_reduce.specs.Partition.{AreLedRows}
 use Rattle.auto_reduce.proofs.partition.coarsest.Goals as goal
@@ -29,6 +29,5 @@ loop-led-preserved c =
     let size : length c.follow.new.led ≡ c.loop-led.led.len = omega (arith, followed.size, before, len) in
     record {
       sound = IsSound-round c.args.a.now c.by_flags.ensures.valid _ _ _ _ c.loop-led.invariant.sound c.in_ok-next.ensures.round;
-      rows = AreRowNodes-grows _ _ _ _ c.follow.ensures.grows c.loop-led.invariant.rows;
       led = subst (AreLedRows c.args.a.now c.follow.new.diagrams c.in_ok-next.next.classes.items) (sym (take_whole c.loop-led.led.len c.follow.new.led _ size)) followed;
     }

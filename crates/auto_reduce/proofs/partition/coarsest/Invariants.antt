@@ -1,11 +1,10 @@
 use Rattle.std.proofs.Common.{◌-◌, length}
-use Rattle.auto_reduce.specs.Partition.{IsSound, AreRowNodes, AreLedRows}
+use Rattle.auto_reduce.specs.Partition.{IsSound, AreLedRows}
 use Rattle.auto_reduce.proofs.partition.coarsest.Given as goal
 
 abbrev pub invariant-loop-led : goal.invariant-loop-led
 invariant-loop-led l = record {
   sound : IsSound l.a l.current.classes.items l.current.count;
-  rows : AreRowNodes l.a l.diagrams l.rows.items;
   led : AreLedRows l.a l.diagrams l.current.classes.items l.led.items;
 }
 

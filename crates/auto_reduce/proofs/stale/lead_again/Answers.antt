@@ -1,24 +1,23 @@
 use Rattle.std.proofs.Common.{ℕ, ◌<◌, length}
 use Rattle.letter_diagram.specs.Diagram.{map_at}
-use Rattle.auto_reduce.proofs.Rounds.{AreRowNodes-grows}
 use Rattle.auto_reduce.proofs.Stales.{AreLedAgain-from, All-picked}
 use Rattle.auto_reduce.proofs.stale.lead_again.Goals as goal
 
 pub picked-requires : goal.picked-requires
 picked-requires c = rw c.requires.rows.size c.requires.states
 
-pub map_leaves_all-requires-clause-known : goal.map_leaves_all-requires-clause-known
-map_leaves_all-requires-clause-known c =
-    rw c.as_slice.ensures.value (All-picked (λ node. node < length c.args.diagrams.now) c.args.rows.now c.args.states.now c.in_ok-picked.picked.items c.in_ok-picked.ensures (rw c.requires.rows.size c.requires.states) c.requires.rows.known)
+pub lead_nodes-requires-clause-known : goal.lead_nodes-requires-clause-known
+lead_nodes-requires-clause-known c =
+    rw (c.diagrams.ensures.shapes, c.as_slice.ensures.value)
+    (All-picked (λ node. node < length c.args.a.now.shapes) c.args.rows.now c.args.states.now c.in_ok-picked.picked.items c.in_ok-picked.ensures (rw c.requires.rows.size c.requires.states) c.requires.rows.known)
 
-pub map_leaves_all-requires-clause-leaves : goal.map_leaves_all-requires-clause-leaves
-map_leaves_all-requires-clause-leaves c =
-    rw (c.as_slice.ensures.value, c.requires.classes)
-    (All-picked (λ node. (letter : ℕ) → map_at c.args.diagrams.now node letter < length c.args.a.now.accept) c.args.rows.now c.args.states.now c.in_ok-picked.picked.items c.in_ok-picked.ensures (rw c.requires.rows.size c.requires.states) c.requires.rows.within)
+pub lead_nodes-requires-clause-leaves : goal.lead_nodes-requires-clause-leaves
+lead_nodes-requires-clause-leaves c =
+    rw (c.diagrams.ensures.shapes, c.as_slice.ensures.value, c.requires.classes)
+    (All-picked (λ node. (letter : ℕ) → map_at c.args.a.now.shapes node letter < length c.args.a.now.accept) c.args.rows.now c.args.states.now c.in_ok-picked.picked.items c.in_ok-picked.ensures (rw c.requires.rows.size c.requires.states) c.requires.rows.within)
 
 pub returns-clause-led : goal.returns-clause-led
 returns-clause-led c =
-    let rows = AreRowNodes-grows c.args.a.now _ _ c.args.rows.now c.map_leaves_all.ensures.grows c.requires.rows in
-    let mapped = rw c.as_slice.ensures.value at c.in_ok-nodes.ensures.mapped in
+    let led = rw (c.diagrams.ensures.shapes, c.as_slice.ensures.value) at c.in_ok-nodes.ensures.led in
     let put = rw c.as_slice-2.ensures.value at c.put.ensures in
-    AreLedAgain-from c.args.a.now _ c.args.rows.now c.in_ok-picked.picked.items c.in_ok-nodes.nodes.items c.args.states.now c.args.classes.now _ _ rows c.requires.led c.in_ok-picked.ensures mapped put c.requires.states
+    AreLedAgain-from c.args.a.now _ c.args.rows.now c.in_ok-picked.picked.items c.in_ok-nodes.nodes.items c.args.states.now c.args.classes.now _ _ c.requires.rows c.requires.led c.in_ok-picked.ensures led put c.requires.states

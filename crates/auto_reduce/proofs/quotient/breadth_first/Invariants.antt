@@ -2,15 +2,15 @@ use Rattle.std.proofs.Common.{◌≤◌, ◌+◌, ◌-◌, length}
 use Rattle.auto_reduce.specs.Quotient.{IsOrderTo}
 use Rattle.auto_reduce.specs.Numbering.{IsNumberedTo}
 use Rattle.auto_reduce.specs.Unmet.{AreDone}
-use Rattle.auto_reduce.proofs.quotient.Led.order.Given as goal
+use Rattle.auto_reduce.proofs.quotient.breadth_first.Given as goal
 
 abbrev pub invariant-loop-place : goal.invariant-loop-place
 invariant-loop-place l = record {
-  order_to : IsOrderTo l.self.a.now l.self.canon.items l.order l.place;
-  numbered : IsNumberedTo l.self.a.now l.self.canon.items l.order (l.place + 1);
+  order_to : IsOrderTo l.a l.canon l.order l.place;
+  numbered : IsNumberedTo l.a l.canon l.order (l.place + 1);
   within : l.place ≤ length l.order;
-  done : AreDone l.self.diagrams l.order l.done;
+  done : AreDone l.a.shapes l.canon l.order l.done;
 }
 
 abbrev pub decreases-loop-place : goal.decreases-loop-place
-decreases-loop-place l = length l.self.a.now.accept - l.place
+decreases-loop-place l = length l.a.accept - l.place

@@ -1,0 +1,76 @@
+//! Nodes of one `Diagrams` with the maps of nodes of another, led through a table.
+ghost use Rattle.std.specs.Prelude.{◌≡◌, ◌<◌, ℕ, All, length, IfOk, OnOk};
+ghost use Rattle.letter_diagram.specs.Diagram.{map_at, Grows};
+ghost use Rattle.letter_diagram.specs.Listed.{EachAnswers};
+ghost use Rattle.auto_reduce.specs.Leading.{IsLedFrom, RemembersLed};
+
+use letter_diagram::{Diagrams, Node, Shape};
+use std::alloc::AllocError;
+use std::collections::HashMap;
+
+/// The node in `to` that gives the entry of `table` at each value of a node of `from`.
+pub fn lead_node(
+    from: &Diagrams,
+    node: Node,
+    table: &[u32],
+    to: &mut Diagrams,
+) -> Result<Node, AllocError>
+    requires known { node < length from.now }
+    requires leaves { (letter : ℕ) → map_at from.now node letter < length table.now }
+    ensures led { IfOk result (IsLedFrom from.now to.new table.now node) }
+    ensures grows { Grows to.old to.new }
+{
+    let mut memo = HashMap::new(to.alloc());
+    let made = led(from, node, table, to, &mut memo)?;
+    Ok(made)
+}
+
+/// The same of several nodes, in their order. What they share is done once.
+pub fn lead_nodes(
+    from: &Diagrams,
+    nodes: &[Node],
+    table: &[u32],
+    to: &mut Diagrams,
+) -> Result<Vec<Node>, AllocError>
+    requires known { All (λ node. node < length from.now) nodes.now }
+    requires leaves { All (λ node. (letter : ℕ) → map_at from.now node letter < length table.now) nodes.now }
+    ensures led { IfOk result (λ answers. EachAnswers (IsLedFrom from.now to.new table.now) nodes.now answers.items) }
+    ensures grows { Grows to.old to.new }
+{
+    let mut memo = HashMap::new(to.alloc());
+    let mut answers = Vec::new(to.alloc());
+    for node in nodes {
+        let answer = led(from, *node, table, to, &mut memo)?;
+        answers.push(answer)?;
+    }
+    Ok(answers)
+}
+
+fn led(
+    from: &Diagrams,
+    node: Node,
+    table: &[u32],
+    to: &mut Diagrams,
+    memo: &mut HashMap<Node, Node>,
+) -> Result<Node, AllocError>
+    requires known { node < length from.now }
+    requires leaves { (letter : ℕ) → map_at from.now node letter < length table.now }
+    requires remembered { RemembersLed from.now to.old table.now memo.old }
+    ensures led { IfOk result (λ made. IsLedFrom from.now to.new table.now node made) }
+    ensures remembered { OnOk result (RemembersLed from.now to.new table.now memo.new) }
+    ensures grows { Grows to.old to.new }
+{
+    if let Some(known) = memo.get(&node) {
+        return Ok(*known);
+    }
+    let made = match from.shape(node) {
+        Shape::Leaf(value) => to.leaf(table[value as usize])?,
+        Shape::Test { track, low, high } => {
+            let low = led(from, low, table, to, memo)?;
+            let high = led(from, high, table, to, memo)?;
+            to.node(track, low, high)?
+        }
+    };
+    memo.insert(node, made)?;
+    Ok(made)
+}
