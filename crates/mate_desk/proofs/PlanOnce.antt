@@ -1,14 +1,13 @@
 -- A plan has one end, or one first step past a budget.
-use Rattle.std.proofs.Common.{◌≡◌, ◌⊎◌, ℕ, zero, suc, ◌==◌, Bool, true, false, List, [], ◌∷◌, ◌++◌, length, map, refl, sym, ap, subst, ◌∙◌}
+use Rattle.std.proofs.Common.{◌≡◌, ℕ, zero, suc, ◌==◌, Bool, true, false, List, [], ◌∷◌, ◌++◌, length, map, refl, ap, subst}
 use Rattle.std.specs.Prelude.{if◌then◌else◌}
 use Rattle.std.specs.List.{flat_map}
 use Rattle.game_rules.specs.Game.{Position, other}
 use Rattle.game_rules.specs.declared.men.Side.{Side}
 use Rattle.lin_formula.specs.SetOf.{SetOf, Nothing}
 use Rattle.rule_formula.specs.Fits.{mask_of}
-use Rattle.rule_formula.specs.declared.opt.Opt.{Opt}
 use Rattle.rule_formula.specs.declared.opt.Bearing.{Bearing}
-use Rattle.set_plan.specs.Program.{Item, Give, Ask, bind}
+use Rattle.set_plan.specs.Program.{Item, Give}
 use Rattle.set_plan.specs.Same.{SameSets, SameItem}
 use Rattle.set_plan.specs.Unite.{Made, join, make, two, unite, without}
 use Rattle.set_plan.proofs.Alike.{Alike, SameSets-self}

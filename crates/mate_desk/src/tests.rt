@@ -297,12 +297,26 @@ fn each_read_fails_once(rt: HostRuntime) -> Result<(), Fail> {
     let mut call = 0u32;
     for _byte in TWO_ROOKS.as_bytes() {
         call = call.wrapping_add(1);
-        let (status, bytes) = ran(alloc, &["decide", "0"], TWO_ROOKS.as_bytes(), &[call], &[], 1)?;
+        let (status, bytes) = ran(
+            alloc,
+            &["decide", "0"],
+            TWO_ROOKS.as_bytes(),
+            &[call],
+            &[],
+            1,
+        )?;
         assert_eq!(rt; bytes.as_slice(), b"read fault\n".as_slice());
         assert!(rt; status == Status::ReadFault);
     }
     call = call.wrapping_add(1);
-    let (status, _) = ran(alloc, &["decide", "0"], TWO_ROOKS.as_bytes(), &[call], &[], 1)?;
+    let (status, _) = ran(
+        alloc,
+        &["decide", "0"],
+        TWO_ROOKS.as_bytes(),
+        &[call],
+        &[],
+        1,
+    )?;
     assert!(rt; status == Status::Done);
     Ok(())
 }
