@@ -2,11 +2,10 @@
 use Rattle.std.proofs.Common.{◌≡◌, ◌≢◌, ◌⊎◌, ℕ, ◌<◌, ◌≤◌, zero, suc, List, [], ◌∷◌, ◌++◌, length, get_or, All, AllPairs, arith, refl, sym, ap, ◌∙◌, subst, inl, inr}
 use Rattle.std.proofs.lemmas.Bool.{cases_eq}
 use Rattle.std.proofs.lemmas.List.{length_push}
-use Rattle.std.proofs.lemmas.List.Elements.{All-nil, All-cons, All-push, All-weaker, All-get_or, All-from_get_or}
+use Rattle.std.proofs.lemmas.List.Elements.{All-nil, All-cons, All-push, All-weaker, All-get_or}
 use Rattle.std.proofs.lemmas.List.Quantifiers.{all_pairs_push}
 use Rattle.letter_diagram.specs.declared.diagrams.Shape.{Shape}
-use Rattle.letter_diagram.specs.Diagram.{map_at, LooksBelow, Grows, IsMapped, IsDiagram}
-use Rattle.letter_diagram.proofs.Narrow.{LooksBelow-grows}
+use Rattle.letter_diagram.specs.Diagram.{map_at, LooksBelow, IsDiagram}
 use Rattle.letter_diagram.proofs.Canonical.{node-from_map}
 use Rattle.auto_core.proofs.RowLemmas.{map_at-narrow}
 use Rattle.auto_core.specs.Automaton.{Automaton, IsAutomaton, width, next_state}

@@ -1,5 +1,5 @@
 -- Rows in which states that were met stand for one another, and what they add to an order.
-use Rattle.std.proofs.Common.{◌≡◌, ◌≢◌, ℕ, ◌<◌, ◌≤◌, Bool, true, false, nat_eq, List, [], length, get_or, Some, Contains, AllPairs, arith, refl, sym, ap, ◌∙◌, subst, inl, inr, ◌⊎◌, if◌then◌else◌}
+use Rattle.std.proofs.Common.{◌≡◌, ◌≢◌, ℕ, ◌<◌, ◌≤◌, Bool, true, false, nat_eq, List, [], length, get_or, Some, Contains, AllPairs, arith, sym, ap, ◌∙◌, subst, inl, inr, ◌⊎◌, if◌then◌else◌}
 use Rattle.std.specs.Int.{bit_at}
 use Rattle.std.specs.HashMap.{HashMap, Updates as MapUpdates}
 use Rattle.std.specs.HashSet.{HashSet, Updates, IsEmpty}

@@ -1,6 +1,5 @@
-use Rattle.std.proofs.Common.{arith, ◌<◌, ℕ, length, refl, sym}
+use Rattle.std.proofs.Common.{arith, ℕ, refl, sym}
 use Rattle.auto_reduce.specs.Leading.{IsLedFrom, RemembersLed}
-use Rattle.letter_diagram.proofs.Maps.{Grows-trans}
 use Rattle.auto_reduce.proofs.Leadings.{IsLedFrom-test, IsLedFrom-leaf, IsLedFrom-grows, RemembersLed-grows, RemembersLed-insert}
 use Rattle.auto_reduce.proofs.leading.+led.Goals as goal
 use Rattle.auto_reduce.proofs.leading.+led.Goals.{in-Leaf+in_ok-made-in-Leaf, in-Test+in_ok-low-in-Test+in_ok-high-in-Test+in_ok-made-in-Test}

@@ -1,4 +1,4 @@
-use Rattle.std.proofs.Common.{◌≡◌, ◌<◌, get_or, length, [], arith, ap, sym, subst, refl, ◌+◌, ◌∙◌}
+use Rattle.std.proofs.Common.{◌≡◌, ◌<◌, get_or, length, [], arith, ap, sym, refl, ◌+◌}
 use Rattle.std.proofs.lemmas.Option.{get_or_from_slice_get}
 use Rattle.auto_core.specs.Automaton.{first_state, next_state}
 use Rattle.auto_reduce.specs.Leading.{entry_at}
