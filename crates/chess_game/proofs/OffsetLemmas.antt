@@ -5,7 +5,9 @@ use Rattle.std.proofs.lemmas.Int.{ints}
 use Rattle.game_rules.specs.Game.{IsBetween, IsDirection, after_steps}
 use Rattle.game_rules.specs.declared.men.Square.{Square}
 use Rattle.chess_game.specs.Offsets.{IsPart, IsTimes}
-use Rattle.chess_game.proofs.StepLemmas.{square_is}
+
+pub square_is : (a : Square) (x y : ℤ) → a.x ≡ x → a.y ≡ y → a ≡ record { x = x; y = y }
+square_is a x y ex ey = ap (λ b. record { x = b; y = a.y }) ex ∙ ap (λ b. record { x = x; y = b }) ey
 
 pub unit_cases : (d : ℤ) → unsigned_abs d ≤ 1 → (d ≡ negsuc 0) ⊎ ((d ≡ pos 0) ⊎ (d ≡ pos 1))
 unit_cases d h = grind (arith, ints)

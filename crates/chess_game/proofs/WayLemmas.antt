@@ -17,8 +17,7 @@ use Rattle.chess_game.specs.declared.way.Frame.{Frame}
 use Rattle.chess_game.specs.declared.way.Hit.{Hit}
 use Rattle.chess_game.specs.declared.way.Span.{Span}
 use Rattle.chess_game.proofs.FaultLemmas.{man_of_some, number_cases}
-use Rattle.chess_game.proofs.OffsetLemmas.{times_from, times_is, times_to}
-use Rattle.chess_game.proofs.StepLemmas.{square_is}
+use Rattle.chess_game.proofs.OffsetLemmas.{square_is, times_from, times_is, times_to}
 
 -- no step
 pub level : (t : ℕ) (x : Axis) → x.step ≡ pos 0 → IsWithin x x.at t ↔ IsWithinAfter x t

@@ -4,9 +4,7 @@ pub mod Storage
 pub mod Mask
 pub mod Offsets
 pub mod Refusal
-pub mod Steps
 pub mod RayTable
-pub mod LoneKing
 pub mod Fault
 pub mod Way
 pub mod Along

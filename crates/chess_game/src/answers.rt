@@ -12,7 +12,7 @@ ghost use Rattle.chess_game.specs.Check.{IsClose, IsCloseCheck, IsCheckerOn, IsH
 use crate::attack::attacks;
 use crate::board::{Board, other_side};
 use crate::geometry::{Offset, offset_between, steps_of};
-use crate::mate::can_go;
+use crate::moves::can_go;
 use crate::piece::Piece;
 use crate::rays::ray;
 use game_rules::{Kind, Ray, Side, Square};

@@ -1,4 +1,4 @@
-//! Positions whose men may stand a step past the squares that an i64 can name.
+//! Positions whose men may stand past the squares that an i64 can name, as far out as 2^66.
 
 ghost use Rattle.std.specs.Int.{bit_at};
 ghost use Rattle.std.specs.Prelude.{◌≡◌, ◌≢◌, ◌↔◌, ◌+◌, ◌^◌, ◌<◌, ◌≤◌, ℕ, length, slice_get, slice_index_or, Some};

@@ -2,6 +2,7 @@
 
 ghost use Rattle.std.specs.Prelude.{◌≡◌, ◌↔◌, ◌-ℤ◌, IfErr, IfOk, IsTrue, Some};
 ghost use Rattle.game_rules.specs.Game.{Goes, Holds, IsEmptySquare, Legal, Step, StandsOn, forward, man_at};
+ghost use Rattle.game_laws.specs.Answer.{CanGo};
 ghost use Rattle.chess_game.specs.Near.{IsNear};
 ghost use Rattle.chess_game.specs.Refusal.{IsRefusal};
 
@@ -115,4 +116,12 @@ pub(crate) fn try_step(board: &Board, number: usize, to: Square) -> Result<Board
         return Err(Illegal::KingLeft);
     }
     Ok(after)
+}
+
+/// Whether the man has a legal move to the square.
+pub(crate) fn can_go(board: &Board, number: usize, to: Square) -> bool
+    requires { IsNear to }
+    ensures { IsTrue result ↔ CanGo board.now number to }
+{
+    matches!(try_step(board, number, to), Ok(_))
 }

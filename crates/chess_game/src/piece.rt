@@ -1,4 +1,4 @@
-//! Men on squares that may lie a step past those that an i64 can name.
+//! Men on squares that may lie past those that an i64 can name, as far out as 2^66.
 
 ghost use Rattle.std.specs.Prelude.{◌≡◌, ◌≢◌, ◌↔◌, IfSome, IsTrue};
 ghost use Rattle.game_rules.specs.Game.{square_of};

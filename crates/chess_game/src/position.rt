@@ -5,14 +5,12 @@ ghost use Rattle.game_rules.specs.Game.{Attacked, InCheck, IsMaskOf, Legal, Mate
 ghost use Rattle.chess_game.specs.Fault.{IsFirstFault, StandsAt};
 ghost use Rattle.chess_game.specs.Near.{IsNarrow};
 ghost use Rattle.chess_game.specs.Way.{IsFree, IsHit, IsRayOf};
-ghost use Rattle.chess_game.specs.LoneKing.{IsAlone};
 ghost use Rattle.chess_game.specs.Refusal.{IsRefusal};
 
 use crate::answers::is_mated;
 use crate::attack::{self, is_attacked};
 use crate::board::Board;
 use crate::faults::{Unsound, check_board};
-use crate::mate::is_lone_king_mated;
 use crate::moves::{Illegal, Move, try_step};
 use crate::piece::square_at;
 use crate::way::{Frame, Way, way_from};
@@ -111,17 +109,6 @@ pub fn try_move(p: &Position, mv: Move) -> Result<Position, Illegal>
         Ok(board) => Ok(Position { board }),
         Err(reason) => Err(reason),
     }
-}
-
-/// Whether Black, to move with his king alone, is mated. The king's eight steps are tried, also those whose
-/// square no i64 can name.
-pub fn lone_king_mated(p: &Position) -> bool
-    requires sound { Sound p.now }
-    requires turn { p.now.turn ≡ Side.Black }
-    requires alone { IsAlone p.now Side.Black }
-    ensures { IsTrue result ↔ Mate p.now }
-{
-    is_lone_king_mated(&p.board)
 }
 
 /// Whether the side to move is mated, on the unbounded board: the steps past the squares that an i64 can name are tried too.

@@ -1,7 +1,6 @@
 -- Texts with a blank in them.
-use Rattle.std.proofs.Common.{◌≡◌, ◌≢◌, ◌<◌, ◌⊎◌, ℕ, zero, suc, List, [], ◌∷◌, ◌++◌, length, refl, sym, ap, ◌∙◌, arith, rules, subst, IsTrue, Bool, true, false}
-use Rattle.std.specs.List.{All}
-use Rattle.chess_text.specs.Fields.{HasNoBlank, HasTwoFields, IsField, two_fields}
+use Rattle.std.proofs.Common.{◌≡◌, ◌≢◌, ℕ, suc, List, [], ◌∷◌, ◌++◌, refl, sym, ◌∙◌, arith, subst}
+use Rattle.chess_text.specs.Fields.{HasNoBlank, HasTwoFields, IsField}
 
 pub head_no_blank : (x : ℕ) (a : List ℕ) → HasNoBlank (x ∷ a) → x ≢ 32
 head_no_blank x a h = h 0 0 (omega arith)

@@ -1,5 +1,5 @@
 -- What lines make of a text.
-use Rattle.std.proofs.Common.{◌≡◌, ◌≢◌, ◌⊎◌, inl, inr, ℕ, zero, suc, ◌+◌, ◌<◌, ◌≤◌, List, [], ◌∷◌, ◌++◌, length, map, codes, refl, sym, ap, ◌∙◌, subst, arith, append_assoc, length-append}
+use Rattle.std.proofs.Common.{◌≡◌, inl, inr, ℕ, ◌+◌, ◌<◌, ◌≤◌, List, [], ◌∷◌, ◌++◌, length, map, refl, sym, ap, ◌∙◌, subst, arith, append_assoc, length-append}
 use Rattle.std.specs.List.{All}
 use Rattle.std.proofs.lemmas.List.{append-nil}
 use Rattle.std.proofs.lemmas.List.Elements.{All-cons, All-nil, All-head, All-tail}
@@ -7,10 +7,8 @@ use Rattle.game_rules.specs.Game.{Position}
 use Rattle.game_rules.specs.declared.men.Side.{Side}
 use Rattle.game_rules.specs.declared.men.Man.{Man}
 use Rattle.chess_text.specs.Laws.{AcceptedIsSpelled, FeedsOnce, SpelledIsAccepted}
-use Rattle.chess_text.specs.ManLine.{IsManRefusal, man_text, side_letter, turn_text}
-use Rattle.chess_text.specs.PositionText.{Completes, Feeds, FeedsMan, FeedsMen, FitsPlace, IsManLine, IsServed, IsWritable, Turnout, end_line, header, more, position_lines, refused, whole, with_man}
-use Rattle.chess_text.specs.declared.man_line.TextWhy.{TextWhy}
-use Rattle.chess_text.specs.declared.man_line.TextWhy.TheVariants as why
+use Rattle.chess_text.specs.ManLine.{man_text, side_letter, turn_text}
+use Rattle.chess_text.specs.PositionText.{Completes, Feeds, FeedsMan, FeedsMen, FitsPlace, IsManLine, IsWritable, Turnout, end_line, header, more, refused, whole, with_man}
 use Rattle.chess_text.specs.declared.reader.Stage.{Stage}
 use Rattle.chess_text.specs.declared.reader.Stage.TheVariants as stage
 use Rattle.chess_text.proofs.Spellings.{man_no_refusal, one_refusal, same_man, same_side}
@@ -19,19 +17,11 @@ use Rattle.chess_text.proofs.Spellings.{man_no_refusal, one_refusal, same_man, s
 man_not_end : (m : Man) → man_text m ≡ end_line → ⊥
 man_not_end m h = cc
 
-served_once : (line : List ℕ) (m n : Man) → IsManLine line m → IsManLine line n → IsServed m → IsServed n
-served_once line m n hm hn s = subst IsServed (same_man line m n hm hn) s
-
 man_once : (p : Position) (line : List ℕ) (one other : Turnout) → FeedsMan p line one → FeedsMan p line other → one ≡ other
-man_once p line one other (inl (m, hm, sm, im)) (inl (n, hn, sn, in')) = im ∙ ap (λ k. more (stage.Men (with_man p k))) (same_man line m n hm hn) ∙ sym in'
-man_once p line one other (inl (m, hm, sm, im)) (inr (inl (n, hn, sn, in'))) = absurd (sn (served_once line m n hm hn sm))
-man_once p line one other (inl (m, hm, sm, im)) (inr (inr (reason, r, ir))) = absurd (man_no_refusal line m reason hm r)
-man_once p line one other (inr (inl (m, hm, sm, im))) (inl (n, hn, sn, in')) = absurd (sm (served_once line n m hn hm sn))
-man_once p line one other (inr (inl (m, hm, sm, im))) (inr (inl (n, hn, sn, in'))) = im ∙ sym in'
-man_once p line one other (inr (inl (m, hm, sm, im))) (inr (inr (reason, r, ir))) = absurd (man_no_refusal line m reason hm r)
-man_once p line one other (inr (inr (reason, r, ir))) (inl (n, hn, sn, in')) = absurd (man_no_refusal line n reason hn r)
-man_once p line one other (inr (inr (reason, r, ir))) (inr (inl (n, hn, sn, in'))) = absurd (man_no_refusal line n reason hn r)
-man_once p line one other (inr (inr (reason, r, ir))) (inr (inr (again, a, ia))) = ir ∙ ap refused (one_refusal line reason again r a) ∙ sym ia
+man_once p line one other (inl (m, hm, im)) (inl (n, hn, in')) = im ∙ ap (λ k. more (stage.Men (with_man p k))) (same_man line m n hm hn) ∙ sym in'
+man_once p line one other (inl (m, hm, im)) (inr (reason, r, ir)) = absurd (man_no_refusal line m reason hm r)
+man_once p line one other (inr (reason, r, ir)) (inl (n, hn, in')) = absurd (man_no_refusal line n reason hn r)
+man_once p line one other (inr (reason, r, ir)) (inr (again, a, ia)) = ir ∙ ap refused (one_refusal line reason again r a) ∙ sym ia
 
 men_once : (p : Position) (line : List ℕ) (one other : Turnout) → FeedsMen p line one → FeedsMen p line other → one ≡ other
 men_once p line one other (inl (a, e, i)) (inl (b, f, j)) = i ∙ sym j
@@ -75,7 +65,6 @@ record Finishes (p : Position) (lines : List (List ℕ)) (q : Position) : Type 0
   low : 2 ≤ length q.men
   high : length q.men ≤ 5
   fit : All (λ m. FitsPlace m.place) rest
-  served : All IsServed rest
 
 finishes_end : (p : Position) (line : List ℕ) (q : Position) → length p.men ≤ 5 → FeedsMen p line (whole q) → Finishes p (line ∷ []) q
 finishes_end p line q high (inl (a, e, i)) = absurd cc
@@ -90,15 +79,13 @@ finishes_end p line q high (inr (inl (low, e, i))) =
       low = low;
       high = high;
       fit = All-nil (λ m. FitsPlace m.place);
-      served = All-nil IsServed;
     })
 finishes_end p line q high (inr (inr (inl (a, e, i)))) = absurd cc
-finishes_end p line q high (inr (inr (inr (a, e, inl (m, hm, sm, i))))) = absurd cc
-finishes_end p line q high (inr (inr (inr (a, e, inr (inl (m, hm, sm, i)))))) = absurd cc
-finishes_end p line q high (inr (inr (inr (a, e, inr (inr (reason, r, i)))))) = absurd cc
+finishes_end p line q high (inr (inr (inr (a, e, inl (m, hm, i))))) = absurd cc
+finishes_end p line q high (inr (inr (inr (a, e, inr (reason, r, i))))) = absurd cc
 
-finishes_man : (p : Position) (m : Man) (line : List ℕ) (lines : List (List ℕ)) (q : Position) → IsManLine line m → IsServed m → Finishes (with_man p m) lines q → Finishes p (line ∷ lines) q
-finishes_man p m line lines q hm sm f =
+finishes_man : (p : Position) (m : Man) (line : List ℕ) (lines : List (List ℕ)) (q : Position) → IsManLine line m → Finishes (with_man p m) lines q → Finishes p (line ∷ lines) q
+finishes_man p m line lines q hm f =
     record {
       rest = m ∷ f.rest;
       spelled = ap (λ l. l ∷ lines) hm.spelled ∙ ap (λ l. man_text m ∷ l) f.spelled;
@@ -107,14 +94,12 @@ finishes_man p m line lines q hm sm f =
       low = f.low;
       high = f.high;
       fit = All-cons (λ k. FitsPlace k.place) m f.rest hm.fits f.fit;
-      served = All-cons IsServed m f.rest sm f.served;
     }
 
 -- a line that the text goes on after is a man's
 record GoesOn (p : Position) (line : List ℕ) (next : Stage) : Type 0 where
   man : Man
   is_line : IsManLine line man
-  served : IsServed man
   room : length p.men < 5
   next_is : next ≡ stage.Men (with_man p man)
 
@@ -122,10 +107,9 @@ goes_on : (p : Position) (line : List ℕ) (next : Stage) → FeedsMen p line (m
 goes_on p line next (inl (a, e, i)) = absurd cc
 goes_on p line next (inr (inl (a, e, i))) = absurd cc
 goes_on p line next (inr (inr (inl (a, e, i)))) = absurd cc
-goes_on p line next (inr (inr (inr (a, e, inl (m, hm, sm, i))))) =
-    record { man = m; is_line = hm; served = sm; room = a; next_is = cc }
-goes_on p line next (inr (inr (inr (a, e, inr (inl (m, hm, sm, i)))))) = absurd cc
-goes_on p line next (inr (inr (inr (a, e, inr (inr (reason, r, i)))))) = absurd cc
+goes_on p line next (inr (inr (inr (a, e, inl (m, hm, i))))) =
+    record { man = m; is_line = hm; room = a; next_is = cc }
+goes_on p line next (inr (inr (inr (a, e, inr (reason, r, i))))) = absurd cc
 
 more_room : (p : Position) (m : Man) → length p.men < 5 → length (with_man p m).men ≤ 5
 more_room p m h = simp length-append (omega arith)
@@ -135,7 +119,7 @@ finishes p [] q high h = absurd h
 finishes p (line ∷ []) q high h = finishes_end p line q high h
 finishes p (line ∷ l ∷ lines) q high h =
     let on = goes_on p line h.0 h.1 in
-    finishes_man p on.man line (l ∷ lines) q on.is_line on.served
+    finishes_man p on.man line (l ∷ lines) q on.is_line
     (finishes (with_man p on.man) (l ∷ lines) q (more_room p on.man on.room) (subst (λ s. Completes s (l ∷ lines) q) on.next_is h.2))
 
 -- the line of the side to move
@@ -161,7 +145,6 @@ from_finishes s line lines q e f =
         low = f.low;
         high = f.high;
         fit = subst (All (λ m. FitsPlace m.place)) (sym f.men) f.fit;
-        served = subst (All IsServed) (sym f.men) f.served;
       };
     }
 
@@ -196,24 +179,24 @@ completes_more : (s next : Stage) (line : List ℕ) (men : List Man) (q : Positi
 completes_more s next line [] q f c = (next, f, c)
 completes_more s next line (m ∷ men) q f c = (next, f, c)
 
-completes_men : (rest : List Man) (p q : Position) → q.men ≡ p.men ++ rest → q.turn ≡ p.turn → 2 ≤ length q.men → length q.men ≤ 5 → All (λ m. FitsPlace m.place) rest → All IsServed rest → Completes (stage.Men p) (map man_text rest ++ end_line ∷ []) q
-completes_men [] p q men turn low high fit served =
+completes_men : (rest : List Man) (p q : Position) → q.men ≡ p.men ++ rest → q.turn ≡ p.turn → 2 ≤ length q.men → length q.men ≤ 5 → All (λ m. FitsPlace m.place) rest → Completes (stage.Men p) (map man_text rest ++ end_line ∷ []) q
+completes_men [] p q men turn low high fit =
     let same : q.men ≡ p.men = men ∙ append-nil p.men in
     let is : q ≡ p = λ i. record { men = same i; turn = turn i } in
     inr (inl (subst (λ k. 2 ≤ length k.men) is low, refl, ap whole is))
-completes_men (m ∷ rest) p q men turn low high fit served =
+completes_men (m ∷ rest) p q men turn low high fit =
     let longer : length q.men ≡ length p.men + length (m ∷ rest) = ap length men ∙ length-append p.men (m ∷ rest) in
     let room : length p.men < 5 = omega arith in
     let line : IsManLine (man_text m) m = record { spelled = refl; fits = All-head (λ k. FitsPlace k.place) m rest fit } in
     let feeds : Feeds (stage.Men p) (man_text m) (more (stage.Men (with_man p m))) =
-    inr (inr (inr (room, man_not_end m, inl (m, line, All-head IsServed m rest served, refl)))) in
+    inr (inr (inr (room, man_not_end m, inl (m, line, refl)))) in
     completes_more (stage.Men p) (stage.Men (with_man p m)) (man_text m) rest q feeds
-    (completes_men rest (with_man p m) q (men ∙ sym (append_assoc p.men (m ∷ []) rest)) turn low high (All-tail (λ k. FitsPlace k.place) m rest fit) (All-tail IsServed m rest served))
+    (completes_men rest (with_man p m) q (men ∙ sym (append_assoc p.men (m ∷ []) rest)) turn low high (All-tail (λ k. FitsPlace k.place) m rest fit))
 
 pub spelled_is_accepted : SpelledIsAccepted
 spelled_is_accepted p h = (
   stage.Turn,
   inl (refl, refl),
   completes_more stage.Turn (stage.Men (record { men = []; turn = p.turn })) (turn_text p.turn) p.men p (inl (p.turn, refl, refl))
-      (completes_men p.men (record { men = []; turn = p.turn }) p refl refl h.low h.high h.fit h.served),
+      (completes_men p.men (record { men = []; turn = p.turn }) p refl refl h.low h.high h.fit),
 )

@@ -1,7 +1,7 @@
 -- A line is at most one reply.
-use Rattle.std.proofs.Common.{◌≡◌, ◌⊎◌, inl, inr, ℕ, ◌+◌, ◌≤◌, List, [], ◌∷◌, codes, sym, ◌∙◌, subst, refl, arith}
+use Rattle.std.proofs.Common.{◌≡◌, inl, inr, ℕ, ◌+◌, ◌≤◌, List, ◌∷◌, codes, sym, ◌∙◌, subst, refl, arith}
 use Rattle.chess_game.specs.declared.moves.Move.{Move}
-use Rattle.chess_text.specs.Fields.{HasNoNumber, HasTwoFields, pair_text}
+use Rattle.chess_text.specs.Fields.{HasNoNumber, pair_text}
 use Rattle.chess_text.specs.Laws.{ReplyOnce, SpelledMoveIsReply}
 use Rattle.chess_text.specs.Replies.{HasDigit, IsReply, IsReplyRefusal, IsTypable, man_digit, move_text}
 use Rattle.chess_text.specs.declared.replies.Typed.{Typed}

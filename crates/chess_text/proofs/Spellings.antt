@@ -1,8 +1,6 @@
 -- Numbers, places and men have one spelling.
-use Rattle.std.proofs.Common.{◌≡◌, ◌≢◌, ◌⊎◌, inl, inr, ℕ, ◌<◌, ◌≤◌, ◌+◌, ◌==◌, if◌then◌else◌, ◌^◌, ◌/◌, ◌%◌, zero, suc, List, [], ◌∷◌, ◌++◌, length, ℤ, pos, negsuc, FitsSigned, refl, sym, ap, ◌∙◌, subst, arith, codes, get_or}
-use Rattle.std.specs.List.{All}
+use Rattle.std.proofs.Common.{◌≡◌, ◌≢◌, inl, inr, ℕ, ◌<◌, ◌+◌, ◌==◌, if◌then◌else◌, ◌^◌, ◌%◌, zero, suc, List, [], ◌∷◌, ◌++◌, length, ℤ, pos, negsuc, FitsSigned, refl, sym, ap, ◌∙◌, subst, arith, codes}
 use Rattle.std.specs.Int.{w64}
-use Rattle.std.specs.Int.Signed.{mag}
 use Rattle.std.specs.Fmt.{decimal, signed_decimal}
 use Rattle.std.proofs.lemmas.Fmt.{decimal_by_steps, decimal_nonempty, signed_decimal_injective}
 use Rattle.game_rules.specs.declared.men.Side.{Side}
@@ -12,8 +10,8 @@ use Rattle.game_rules.specs.declared.men.Kind.TheVariants.{King, Queen, Rook, Bi
 use Rattle.game_rules.specs.declared.men.Place.{Place}
 use Rattle.game_rules.specs.declared.men.Place.TheVariants.{Gone, At}
 use Rattle.game_rules.specs.declared.men.Man.{Man}
-use Rattle.chess_text.specs.Fields.{HasNoBlank, HasTwoFields, HasNoNumber, IsField, IsNumber, pair_text, two_fields}
-use Rattle.chess_text.specs.ManLine.{HasManFault, HasManShape, HasPlaceShape, IsManRefusal, behind_letters, kind_letter, man_text, place_text, side_letter, turn_text}
+use Rattle.chess_text.specs.Fields.{HasNoBlank, HasTwoFields, HasNoNumber, IsField, IsNumber, pair_text}
+use Rattle.chess_text.specs.ManLine.{HasPlaceShape, IsManRefusal, behind_letters, kind_letter, place_text, side_letter}
 use Rattle.chess_text.specs.PositionText.{FitsPlace, IsManLine}
 use Rattle.chess_text.specs.declared.man_line.TextWhy.{TextWhy}
 use Rattle.chess_text.specs.declared.man_line.TextWhy.TheVariants as why
@@ -158,7 +156,6 @@ man_no_refusal line m why.Header h refusal = refusal
 man_no_refusal line m why.Turn h refusal = refusal
 man_no_refusal line m why.TooFew h refusal = refusal
 man_no_refusal line m why.TooMany h refusal = refusal
-man_no_refusal line m why.NotYet h refusal = refusal
 
 -- a line is refused as no man for one reason
 pub one_refusal : (line : List ℕ) (a b : TextWhy) → IsManRefusal line a → IsManRefusal line b → a ≡ b
@@ -172,14 +169,11 @@ one_refusal line why.Header b ha hb = absurd ha
 one_refusal line why.Turn b ha hb = absurd ha
 one_refusal line why.TooFew b ha hb = absurd ha
 one_refusal line why.TooMany b ha hb = absurd ha
-one_refusal line why.NotYet b ha hb = absurd ha
 one_refusal line why.ManLine why.Header ha hb = absurd hb
 one_refusal line why.ManLine why.Turn ha hb = absurd hb
 one_refusal line why.ManLine why.TooFew ha hb = absurd hb
 one_refusal line why.ManLine why.TooMany ha hb = absurd hb
-one_refusal line why.ManLine why.NotYet ha hb = absurd hb
 one_refusal line why.Number why.Header ha hb = absurd hb
 one_refusal line why.Number why.Turn ha hb = absurd hb
 one_refusal line why.Number why.TooFew ha hb = absurd hb
 one_refusal line why.Number why.TooMany ha hb = absurd hb
-one_refusal line why.Number why.NotYet ha hb = absurd hb

@@ -1,5 +1,5 @@
 -- Texts of lists of men.
-use Rattle.std.proofs.Common.{◌≡◌, ℕ, zero, suc, ◌+◌, List, [], ◌∷◌, ◌++◌, map, take, refl, sym, ap, ◌∙◌, append_assoc, Some, None, slice_get}
+use Rattle.std.proofs.Common.{◌≡◌, ℕ, zero, suc, List, [], ◌∷◌, ◌++◌, map, take, sym, ap, ◌∙◌, append_assoc, Some, None, slice_get}
 use Rattle.std.proofs.lemmas.List.{append-nil}
 use Rattle.game_rules.specs.declared.men.Man.{Man}
 use Rattle.chess_text.specs.ManLine.{man_text}

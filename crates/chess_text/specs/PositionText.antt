@@ -1,11 +1,9 @@
 -- The text of a position, line by line.
-use Rattle.std.specs.Prelude.{◌≡◌, ◌≢◌, ◌⊎◌, ℕ, ◌<◌, ◌≤◌, ◌+◌, List, [], ◌∷◌, ◌++◌, length, map, codes, Option, Some, None, Result, Ok, Err, FitsSigned}
+use Rattle.std.specs.Prelude.{◌≡◌, ◌≢◌, ◌⊎◌, ℕ, ◌<◌, ◌≤◌, List, [], ◌∷◌, ◌++◌, length, map, codes, Option, Some, None, Result, Ok, Err, FitsSigned}
 use Rattle.std.specs.List.{All, flat_map}
 use Rattle.std.specs.Int.{w64}
 use Rattle.game_rules.specs.Game.{Position}
 use Rattle.game_rules.specs.declared.men.Side.{Side}
-use Rattle.game_rules.specs.declared.men.Side.TheVariants.{Black}
-use Rattle.game_rules.specs.declared.men.Kind.TheVariants.{King}
 use Rattle.game_rules.specs.declared.men.Place.{Place}
 use Rattle.game_rules.specs.declared.men.Place.TheVariants.{Gone, At}
 use Rattle.game_rules.specs.declared.men.Man.{Man}
@@ -46,16 +44,11 @@ pub record IsManLine (line : List ℕ) (man : Man) : Type 0 where
   pub spelled : line ≡ man_text man
   pub fits : FitsPlace man.place
 
--- a man of a kind that commands serve: of Black's only the king
-abbrev pub IsServed : Man → Type 0
-IsServed m = m.side ≡ Black → m.kind ≡ King
-
 -- a position that a text may have
 pub record IsWritable (p : Position) : Type 0 where
   pub low : 2 ≤ length p.men
   pub high : length p.men ≤ most_men
   pub fit : All (λ m. FitsPlace m.place) p.men
-  pub served : All IsServed p.men
 
 -- What a line makes of a text: it goes on at a stage, or the text is whole, or the line may not stand there.
 pub data Turnout : Type 0 where
@@ -76,8 +69,7 @@ with_man p m = record { men = p.men ++ m ∷ []; turn = p.turn }
 -- what a line other than the end makes of the position so far, which has fewer men than a text may have
 abbrev pub FeedsMan : Position → List ℕ → Turnout → Type 0
 FeedsMan p line turnout =
-    ((m : Man) × IsManLine line m × IsServed m × (turnout ≡ more (stage.Men (with_man p m))))
-    ⊎ ((m : Man) × IsManLine line m × (IsServed m → ⊥) × (turnout ≡ refused why.NotYet))
+    ((m : Man) × IsManLine line m × (turnout ≡ more (stage.Men (with_man p m))))
     ⊎ ((reason : TextWhy) × IsManRefusal line reason × (turnout ≡ refused reason))
 
 -- what a line makes of the position so far

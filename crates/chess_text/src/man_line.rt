@@ -24,8 +24,6 @@ pub enum TextWhy {
     TooFew,
     /// A line other than the end follows the last man that a text may have.
     TooMany,
-    /// A Black man other than a king, whom no command serves yet.
-    NotYet,
 }
 
 /// The side of a letter.

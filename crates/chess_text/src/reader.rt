@@ -1,7 +1,7 @@
 //! Reading a position text, a line at a time.
 
 ghost use Rattle.std.specs.Prelude.{◌≡◌, ◌↔◌, ◌+◌, ◌<◌, ◌≤◌, [], ◌∷◌, ◌++◌, length, take, IfSome, IfNone, None, Some, IsTrue};
-ghost use Rattle.chess_text.specs.PositionText.{Feeds, FeedsMen, IsServed, turnout, with_man};
+ghost use Rattle.chess_text.specs.PositionText.{Feeds, FeedsMen, turnout, with_man};
 ghost use Rattle.chess_text.specs.Reading.{ReadsLine, fed_of, line_due, position_of};
 
 use crate::man_line::{TextWhy, read_man_line, read_turn_line};
@@ -109,13 +109,6 @@ pub enum Stage {
     Men(Gathered),
 }
 
-/// Whether commands serve a man of this kind: of Black's only the king.
-fn is_served(man: Man) -> bool
-    ensures { IsTrue result ↔ IsServed man }
-{
-    man.side == Side::White || man.kind == Kind::King
-}
-
 /// Takes a line behind the first two, and answers the position where it was the last.
 fn feed_men(men: &mut Gathered, line: &[u8]) -> Result<Option<Position>, TextWhy>
     ensures { FeedsMen men.old line.now (turnout result (Stage.Men men.new)) }
@@ -129,16 +122,9 @@ fn feed_men(men: &mut Gathered, line: &[u8]) -> Result<Option<Position>, TextWhy
     if men.men().len() == MOST_MEN {
         return Err(TextWhy::TooMany);
     }
-    match read_man_line(line) {
-        Ok(man) => {
-            if !is_served(man) {
-                return Err(TextWhy::NotYet);
-            }
-            men.push(man);
-            Ok(None)
-        }
-        Err(why) => Err(why),
-    }
+    let man = read_man_line(line)?;
+    men.push(man);
+    Ok(None)
 }
 
 /// Takes a line of a text, and answers the position where it was the last.

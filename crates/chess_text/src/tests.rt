@@ -31,7 +31,7 @@ fn whole(lines: &[&str]) -> Option<Position> {
 
 #[test]
 fn first_wrong_line_and_its_reason(rt: HostRuntime) -> Result<(), Fail> {
-    let cases: [(&[&str], u32, TextWhy); 24] = [
+    let cases: [(&[&str], u32, TextWhy); 23] = [
         (&[""], 1, TextWhy::Header),
         (&["infinite chess 2"], 1, TextWhy::Header),
         (&["infinite chess 1\r"], 1, TextWhy::Header),
@@ -106,11 +106,6 @@ fn first_wrong_line_and_its_reason(rt: HostRuntime) -> Result<(), Fail> {
             TextWhy::TooFew,
         ),
         (
-            &["infinite chess 1", "turn W", "W K 0 0", "B R 3 9"],
-            4,
-            TextWhy::NotYet,
-        ),
-        (
             &[
                 "infinite chess 1",
                 "turn W",
@@ -132,8 +127,8 @@ fn first_wrong_line_and_its_reason(rt: HostRuntime) -> Result<(), Fail> {
                 "B R 3 9",
                 "W R 007 1",
             ],
-            4,
-            TextWhy::NotYet,
+            5,
+            TextWhy::Number,
         ),
     ];
     for (lines, line, why) in cases {
@@ -152,25 +147,27 @@ fn man(side: Side, kind: Kind, x: i64, y: i64) -> Man {
 
 #[test]
 fn text_of_a_position_both_ways(rt: HostRuntime) -> Result<(), Fail> {
-    let lines: [&str; 7] = [
+    let lines: [&str; 8] = [
         "infinite chess 1",
         "turn B",
         "W K 0 -2",
         "W Q gone",
         "W N -9223372036854775808 9223372036854775807",
         "B K 10 0",
+        "B P 5 -6",
         "end",
     ];
     let position = whole(&lines).ok_or("text")?;
-    assert!(rt; position.count() == 4);
+    assert!(rt; position.count() == 5);
     assert!(rt; position.turn() == Side::Black);
     assert!(rt; position.man(1) == man(Side::White, Kind::King, 0, -2));
     assert!(rt; position.man(2).place == Place::Gone);
     assert!(rt; position.man(3) == man(Side::White, Kind::Knight, i64::MIN, i64::MAX));
     assert!(rt; position.man(4) == man(Side::Black, Kind::King, 10, 0));
+    assert!(rt; position.man(5) == man(Side::Black, Kind::Pawn, 5, -6));
     let bytes = position_bytes(rt.alloc(), &position)?;
     let text =
-        b"infinite chess 1\nturn B\nW K 0 -2\nW Q gone\nW N -9223372036854775808 9223372036854775807\nB K 10 0\nend\n";
+        b"infinite chess 1\nturn B\nW K 0 -2\nW Q gone\nW N -9223372036854775808 9223372036854775807\nB K 10 0\nB P 5 -6\nend\n";
     assert!(rt; bytes.as_slice() == text.as_slice());
     Ok(())
 }

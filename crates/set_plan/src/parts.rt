@@ -102,7 +102,7 @@ fn unite_all<P: Copy>(
     sets: &SetTable,
 ) -> Result<Made, PlanError<P>>
     requires items { All (IsItemOn tracks.now sets.now) (map tree_of formulas.now) }
-    requires few { length formulas.now < 2 ^ 16 }
+    requires few { length formulas.now < 2 ^ 20 }
     ensures answers { Answers (plan.unite tracks.now part (Nothing, 1) (map (item_of sets.now) (map tree_of formulas.now))) memo.old.budget made_of result }
     ensures set { IfOk result (λ made. IfSome made.set (IsSetOn tracks.now)) }
     ensures budget { memo.new.budget ≡ memo.old.budget }
@@ -126,7 +126,7 @@ pub fn unite<P: Copy>(
     sets: &SetTable,
 ) -> Result<Option<Auto>, PlanError<P>>
     requires items { All (IsItemOn tracks.now sets.now) (map tree_of formulas.now) }
-    requires few { length formulas.now < 2 ^ 16 }
+    requires few { length formulas.now < 2 ^ 20 }
     ensures answers { Answers (plan.union tracks.now part (map (item_of sets.now) (map tree_of formulas.now))) memo.old.budget as_set result }
     ensures set { IfOk result (λ set. IfSome set (IsSetOn tracks.now)) }
     ensures budget { memo.new.budget ≡ memo.old.budget }

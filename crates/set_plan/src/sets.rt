@@ -1,5 +1,5 @@
 //! Sets that are kept.
-ghost use Rattle.std.specs.Prelude.{◌≡◌, ◌<◌, ◌≤◌, length, IfOk, IfSome, OnErr, [], slice_get, Some};
+ghost use Rattle.std.specs.Prelude.{◌≡◌, ◌<◌, ◌≤◌, length, IfOk, IfSome, OnErr, [], slice_get, Some, take};
 ghost use Rattle.lin_formula.specs.SetOf.{as_set};
 ghost use Rattle.set_plan.specs.Sets.{Grows, set_at};
 
@@ -67,7 +67,24 @@ impl Sets {
         }
     }
 
-    fn put(&mut self, a: Auto) -> Result<SetId, AllocError>
+    /// How many sets there are.
+    pub fn count(&self) -> u32
+        ensures { result ≡ length self.now }
+    {
+        self.count
+    }
+
+    /// Lets go all sets but the first so many.
+    pub fn truncate(&mut self, count: u32)
+        requires { count ≤ length self.old }
+        ensures { self.new ≡ take count self.old }
+    {
+        self.table.truncate(count as usize);
+        self.count = count;
+    }
+
+    /// Keeps a set, and gives its name.
+    pub fn put(&mut self, a: Auto) -> Result<SetId, AllocError>
         ensures ok { IfOk result (λ id. slice_get self.new id.0 ≡ Some a) }
         ensures within { IfOk result (λ id. id.0 < length self.new) }
         ensures grows { Grows self.old self.new }

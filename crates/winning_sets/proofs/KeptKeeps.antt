@@ -18,7 +18,7 @@ use Rattle.rule_formula.proofs.FitLemmas.{AreAlike, alike_of, mask_tells, placed
 use Rattle.rule_formula.proofs.LawTheorem.{self_placed, squares_of}
 use Rattle.winning_sets.specs.Kept.{Kept}
 use Rattle.mate_plan.specs.Plan.{turn_at}
-use Rattle.winning_sets.specs.Solve.{AreKept, HasTuplesOf, IsKeptIn, IsTupleOf, Solution, end_of}
+use Rattle.winning_sets.specs.Solve.{AreKept, HasTuplesOf, IsKeptIn, IsTupleOf, Solution, end_of, kept_at}
 use Rattle.winning_sets.proofs.KeptPlan.{fits_reached}
 
 man_alike : (m n : Man) (x : Place) → n.side ≡ m.side → n.kind ≡ m.kind → record m { place = x } ≡ record n { place = x }
@@ -37,7 +37,7 @@ men_alike i (m ∷ ms) (n ∷ ns) live f h =
     ∙ ap (λ xs. record n { place = place } ∷ xs) (men_alike (suc i) ms ns live f rest)
 
 -- a position of the stock is made of the stock, with its men on their squares
-stock_placed : (stock : List Man) (q : Position) → HasStock stock q → placed stock (is_live (mask_of q)) q.turn (squares_of q) ≡ q
+pub stock_placed : (stock : List Man) (q : Position) → HasStock stock q → placed stock (is_live (mask_of q)) q.turn (squares_of q) ≡ q
 stock_placed stock q h =
     ap (λ xs. record { men = xs; turn = q.turn }) (men_alike 1 stock q.men (is_live (mask_of q)) (squares_of q) (alike_of stock q h))
     ∙ self_placed q (mask_of q) (mask_tells q)
@@ -56,7 +56,7 @@ stock_unique stock q r stock_q stock_r turn mask tuple =
     tuple_placed stock live r.turn v ∙ (ap tuple_of q_is ∙ (tuple ∙ (sym (ap tuple_of r_is) ∙ sym (tuple_placed stock live r.turn w)))) in
     sym q_is ∙ (placed_unique stock live r.turn v w same ∙ r_is)
 
-module _ (s : Solution) (sound : Sound s.position) (few : length s.position.men ≤ 8) (mean : RulesMean s.position) (some_point : point_of s.position.men ≡ None → ⊥) (sets : AreKept s.winner s.position s.moves s.kept) (ply : ℕ) (q : Position) where
+module _ (s : Solution) (sound : Sound s.position) (few : length s.position.men ≤ 8) (mean : RulesMean s.position) (some_point : point_of s.position.men ≡ None → ⊥) (sets : AreKept s.winner s.position s.moves (kept_at s)) (ply : ℕ) (q : Position) where
   abbrev IsKept : Position → Type 0
   IsKept r = Kept s.winner s.position s.moves ply r
 
@@ -70,7 +70,7 @@ module _ (s : Solution) (sound : Sound s.position) (few : length s.position.men 
       let same : h.position ≡ q = stock_unique s.position.men h.position q there.stock is.stock (there.turn ∙ sym is.turn) h.mask_is h.tuple_is in
       subst IsKept same h.is_in
 
-  kept_of : (o : Option Automaton) → s.kept ply (mask_of q) ≡ o → IsKeptIn s ply q → IsSomeAnd o (λ a. IsAccepted a (tuple_of q)) → (ply ≤ end_of s) × IsKept q
+  kept_of : (o : Option Automaton) → kept_at s ply (mask_of q) ≡ o → IsKeptIn s ply q → IsSomeAnd o (λ a. IsAccepted a (tuple_of q)) → (ply ≤ end_of s) × IsKept q
   kept_of None e is h = absurd h
   kept_of (Some a) e is h =
       let (within, game) = sets.only ply (mask_of q) a e in
@@ -83,9 +83,9 @@ module _ (s : Solution) (sound : Sound s.position) (few : length s.position.men 
 
   pub keeps_is_kept : IsKeptIn s ply q ↔ ((ply ≤ end_of s) × IsKept q)
   keeps_is_kept = (
-    λ is. kept_of (s.kept ply (mask_of q)) refl is is.is_in,
+    λ is. kept_of (kept_at s ply (mask_of q)) refl is is.is_in,
     λ (within, kept).
         let fit = fits q kept in
         let game = mean.game.mask_is (turn_at s.position.turn ply) q fit in
-        record { stock = fit.stock; turn = fit.turn; is_in = in_of (s.kept ply (mask_of q)) kept (sets.found ply (mask_of q) within game) },
+        record { stock = fit.stock; turn = fit.turn; is_in = in_of (kept_at s ply (mask_of q)) kept (sets.found ply (mask_of q) within game) },
   )

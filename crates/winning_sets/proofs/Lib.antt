@@ -8,3 +8,13 @@ pub mod KeptNames
 pub mod KeptKeeps
 pub mod KeptLevels
 pub mod MeaningLaws
+pub mod LentLemmas
+pub mod Growing
+pub mod Forwards
+pub mod Backwards
+pub mod Answered
+pub mod Places
+pub mod Empties
+pub mod Tuples
+pub mod States
+pub mod Reached

@@ -20,7 +20,7 @@ use Rattle.winning_sets.proofs.KeptParts.{kept_end, moves_counted}
 use Rattle.winning_sets.proofs.KeptPlan.{first_is_value, forward_is_reach, plan_is_kept}
 
 -- a sound position of at most eight men begins a game
-mean : (p : Position) → Sound p → length p.men ≤ 8 → RulesMean p
+pub mean : (p : Position) → Sound p → length p.men ≤ 8 → RulesMean p
 mean p sound few = let game : IsGame p = record { few = few; kings = sound.kings } in rules_mean p game
 
 -- and some man is live in it

@@ -19,4 +19,6 @@ pub use Rattle.mate_plan.specs.Levels
 pub mod Reach
 pub mod Kept
 pub mod Solve
+pub mod Lent
+pub mod Finished
 pub mod PlanMeans

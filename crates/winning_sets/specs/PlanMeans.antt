@@ -13,7 +13,7 @@ use Rattle.winning_sets.specs.Kept.{Kept, moves_left}
 use Rattle.mate_plan.specs.PlanOf.{last_ply, plan_of, rules_of}
 use Rattle.mate_plan.specs.Plan.{Level, forward}
 use Rattle.winning_sets.specs.Reach.{Reach}
-use Rattle.winning_sets.specs.Solve.{AreKept, IsKeptIn, IsTupleOf, Solution, end_of}
+use Rattle.winning_sets.specs.Solve.{AreKept, IsKeptIn, IsTupleOf, Solution, end_of, kept_at}
 use Rattle.mate_plan.specs.declared.names.PartName.{PartName}
 
 -- of each tuple it is known whether the set has it
@@ -74,5 +74,5 @@ TablesAreDecided = (a : Automaton) → IsAscending a.tracks → DecidesIntegers 
 -- with the kept sets, a position is in the set of its own mask exactly where it is kept
 abbrev pub KeepsIsKept : Type 0
 KeepsIsKept =
-    (s : Solution) (ply : ℕ) (q : Position) → Sound s.position → length s.position.men ≤ 8 → AreKept s.winner s.position s.moves s.kept
+    (s : Solution) (ply : ℕ) (q : Position) → Sound s.position → length s.position.men ≤ 8 → AreKept s.winner s.position s.moves (kept_at s)
     → IsKeptIn s ply q ↔ ((ply ≤ end_of s) × Kept s.winner s.position s.moves ply q)

@@ -1,19 +1,22 @@
 -- What `solve` answers, and the sets that it hands out.
-use Rattle.std.specs.Prelude.{◌≡◌, ◌↔◌, ℕ, ◌≤◌, List, Option, Some, IsSomeAnd, ℤ, Result, Ok, Err, map}
+use Rattle.std.specs.Prelude.{◌≡◌, ◌↔◌, ◌⊎◌, ℕ, zero, suc, ◌-◌, ◌<◌, ◌≤◌, ◌==◌, if◌then◌else◌, List, [], ◌∷◌, ◌++◌, length, Option, Some, None, IsSomeAnd, ℤ, Result, Ok, Err, option_and_then, slice_get}
 use Rattle.track_word.specs.declared.tracks.Var.{Var}
 use Rattle.auto_core.specs.Automaton.{Automaton}
 use Rattle.auto_core.specs.Integers.{DecidesIntegers, IsAccepted}
 use Rattle.auto_core.specs.Reduced.{IsReduced}
-use Rattle.game_rules.specs.Game.{Position}
+use Rattle.game_rules.specs.Game.{Position, Sound, Value}
 use Rattle.game_rules.specs.declared.men.Man.{Man}
 use Rattle.game_rules.specs.declared.men.Side.{Side}
-use Rattle.rule_formula.specs.Fits.{HasStock, IsGameMask, mask_of}
+use Rattle.rule_formula.specs.Fits.{HasStock, IsGameMask, mask_of, masks_of}
 use Rattle.rule_formula.specs.Placed.{is_live, tuple_of}
 use Rattle.rule_formula.specs.Trees.{tracks_of}
 use Rattle.set_plan.specs.Outcome.{Ends, Stops}
+use Rattle.set_plan.specs.declared.stop.PlanError.{PlanError}
+use Rattle.set_plan.specs.declared.stop.PlanError.TheVariants as plan_error
 use Rattle.winning_sets.specs.Kept.{Kept}
-use Rattle.mate_plan.specs.PlanOf.{last_ply}
+use Rattle.mate_plan.specs.PlanOf.{last_ply, plan_of}
 use Rattle.mate_plan.specs.Plan.{Program, turn_at}
+use Rattle.mate_plan.specs.declared.names.PartName.{PartName}
 use Rattle.winning_sets.specs.Reach.{Reach}
 use Rattle.winning_sets.specs.declared.names.SolveError.{SolveError}
 use Rattle.winning_sets.specs.declared.names.SolveError.TheVariants as solve_error
@@ -39,13 +42,29 @@ pub record IsSetAt (stock : List Man) (mask : ℕ) (a : Automaton) : Type 0 wher
 abbrev pub Sets : Type 0
 Sets = ℕ → ℕ → Option Automaton
 
--- what a solved position is seen as
+-- the set of a mask, where there is one for each of the masks, in their order
+abbrev pub set_of : List ℕ → List Automaton → ℕ → Option Automaton
+set_of [] sets mask = None
+set_of (m ∷ masks) [] mask = None
+set_of (m ∷ masks) (a ∷ sets) mask = if m == mask then Some a else set_of masks sets mask
+
+-- the set of a ply and a mask, where there is for each ply, in order, one for each of the masks
+abbrev pub sets_at : List ℕ → List (List Automaton) → Sets
+sets_at masks plies ply mask = option_and_then (λ sets. set_of masks sets mask) (slice_get plies ply)
+
+-- what a solved position is seen as: the sets ply by ply, and in each ply in the order of the masks of the position
 pub record Solution : Type 0 where
   pub position : Position
   pub winner : Side
   pub moves : ℕ
-  pub kept : Sets
-  pub reach : Sets
+  pub kept : List (List Automaton)
+  pub reach : List (List Automaton)
+
+abbrev pub kept_at : Solution → Sets
+kept_at s = sets_at (masks_of s.position) s.kept
+
+abbrev pub reach_at : Solution → Sets
+reach_at s = sets_at (masks_of s.position) s.reach
 
 -- the last ply of a solution
 abbrev pub end_of : Solution → ℕ
@@ -65,6 +84,19 @@ AreKept winner p moves sets = AreSets (Kept winner p moves) p (last_ply winner p
 abbrev pub AreReached : Position → ℕ → Sets → Type 0
 AreReached p last sets = AreSets (Reach p) p last sets
 
+-- the sets are exactly what is reached up to the last ply; where that is the first, the plan has no step, and there is no set
+abbrev pub AreReachedTo : Position → ℕ → Sets → Type 0
+AreReachedTo p zero sets = (ply mask : ℕ) → sets ply mask ≡ None
+AreReachedTo p (suc last) sets = AreReached p (suc last) sets
+
+-- a sound position of at most eight men with the sets that are kept and reached from it
+pub record IsSolution (s : Solution) : Type 0 where
+  pub sound : Sound s.position
+  pub few : length s.position.men ≤ 8
+  pub moves : s.moves ≤ 20
+  pub kept : AreKept s.winner s.position s.moves (kept_at s)
+  pub reached : AreReachedTo s.position (end_of s) (reach_at s)
+
 -- no step of the program exceeds the budget
 pub record IsWithin {A : Type 0} (program : Program A) (budget : ℕ) : Type 0 where
   pub value : A
@@ -76,8 +108,57 @@ IsSolveError program moves budget (solve_error.Over name) =
     (name.moves ≡ moves) × Stops program budget (record { part = record { ply = name.ply; mask = name.mask; part = name.part }; at = name.at })
 IsSolveError program moves budget solve_error.Memory = Unit {0}
 
+-- why there is no answer, from why the plan of so many moves has no end
+abbrev pub solve_error_of : ℕ → PlanError PartName → SolveError
+solve_error_of moves (plan_error.Over name) =
+    solve_error.Over (record { moves = moves; ply = name.part.ply; mask = name.part.mask; part = name.part.part; at = name.at })
+solve_error_of moves plan_error.Memory = solve_error.Memory
+
 -- the position has the stock and the turn of the ply, and its coordinates are in the set of its own mask
 pub record IsKeptIn (s : Solution) (ply : ℕ) (q : Position) : Type 0 where
   pub stock : HasStock s.position.men q
   pub turn : q.turn ≡ turn_at s.position.turn ply
-  pub is_in : IsSomeAnd (s.kept ply (mask_of q)) (λ a. IsAccepted a (tuple_of q))
+  pub is_in : IsSomeAnd (kept_at s ply (mask_of q)) (λ a. IsAccepted a (tuple_of q))
+
+-- the solution is one of this position
+pub record IsOf (p : Position) (winner : Side) (moves : ℕ) (s : Solution) : Type 0 where
+  pub position : s.position ≡ p
+  pub winner_is : s.winner ≡ winner
+  pub moves_are : s.moves ≡ moves
+
+-- it is, and its sets are those of a solution
+pub record IsAnswer (p : Position) (winner : Side) (moves : ℕ) (s : Solution) : Type 0 where
+  pub of : IsOf p winner moves s
+  pub valid : IsSolution s
+
+-- what a solver is seen as: the sets that are reached at each ply that is finished, in the order of the masks of the position
+pub record SolverState : Type 0 where
+  pub position : Position
+  pub winner : Side
+  pub budget : ℕ
+  pub reach : List (List Automaton)
+
+-- the last ply that is finished
+abbrev pub plies_of : SolverState → ℕ
+plies_of s = length s.reach - 1
+
+-- the same position, winner and budget, and the sets that were finished, and maybe more after them
+pub record IsSolverAfter (old new : SolverState) : Type 0 where
+  pub position : new.position ≡ old.position
+  pub winner : new.winner ≡ old.winner
+  pub budget : new.budget ≡ old.budget
+  pub added : List (List Automaton)
+  pub reach : new.reach ≡ old.reach ++ added
+
+-- the automaton is the set of what is reached at a ply after the first that is finished, and of a mask of the position
+pub record IsReachedSet (s : SolverState) (ply mask : ℕ) (a : Automaton) : Type 0 where
+  pub first : 0 < ply
+  pub last : ply ≤ plies_of s
+  pub game : IsGameMask s.position mask
+  pub is_there : sets_at (masks_of s.position) s.reach ply mask ≡ Some a
+  pub tuples : HasTuplesOf (Reach s.position ply) mask a
+  pub formed : IsSetAt s.position.men mask a
+
+-- the ply is the first or not finished, or the mask is none of the position
+abbrev pub IsUnreached : SolverState → ℕ → ℕ → Type 0
+IsUnreached s ply mask = (ply ≡ 0) ⊎ (plies_of s < ply) ⊎ (¬ IsGameMask s.position mask)

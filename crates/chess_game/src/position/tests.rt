@@ -1,8 +1,4 @@
-ghost use Rattle.std.specs.Prelude.{◌≡◌, ◌≢◌, ◌↔◌, IsTrue};
-ghost use Rattle.chess_game.specs.LoneKing.{IsAlone};
-
 use super::*;
-use crate::piece::Piece;
 use crate::rays::ray;
 use game_rules::Kind;
 use std::process::Abort;
@@ -50,30 +46,6 @@ fn two_rooks() -> [Man; 4] {
 fn refusal(p: &Position, man: u8, x: i64, y: i64) -> Result<Option<Illegal>, Unsound> {
     soundness(p)?;
     Ok(try_move(p, Move { man, x, y }).err())
-}
-
-fn is_no_helper(man: &Piece) -> bool
-    ensures { IsTrue result ↔ (man.now.side ≡ Side.Black → man.now.place ≢ Place.Gone → man.now.kind ≡ Kind.King) }
-{
-    if man.side() != Side::Black || !man.is_live() {
-        return true;
-    }
-    man.kind() == Kind::King
-}
-
-fn is_alone(p: &Position) -> bool
-    ensures { IsTrue result ↔ IsAlone p.now Side.Black }
-{
-    p.board.men().iter().all(|man| is_no_helper(man))
-}
-
-/// Whether Black, to move with his king alone in a sound position, is mated.
-fn is_mated(men: &[Man]) -> Option<bool> {
-    let p = Position::new(men, Side::Black)?;
-    if soundness(&p).is_err() || p.turn() != Side::Black || !is_alone(&p) {
-        return None;
-    }
-    Some(lone_king_mated(&p))
 }
 
 fn check_refusals(
@@ -359,49 +331,6 @@ fn moves_at_the_edges_of_the_numbers(rt: HostRuntime) -> Result<(), Fail> {
         (1, LEAST + 1, 0, None),
     ];
     check_refusals(&rt, &pinned, Side::White, &rows)
-}
-
-#[test]
-fn mates_of_a_king_alone(rt: HostRuntime) -> Result<(), Fail> {
-    // the square behind the checked king is attacked too
-    let rooks = [
-        white(Kind::King, 0, -2),
-        white(Kind::Rook, 10, 0),
-        white(Kind::Rook, 10, 1),
-        black(Kind::King, 0, 0),
-    ];
-    assert_eq!(rt; is_mated(&rooks), Some(true));
-    let stalemate = [
-        white(Kind::King, 100, 100),
-        white(Kind::Queen, 1, 2),
-        white(Kind::Queen, -1, -2),
-        black(Kind::King, 0, 0),
-    ];
-    assert_eq!(rt; is_mated(&stalemate), Some(false));
-    // the squares of the row past the greatest number are free
-    let open = [
-        white(Kind::King, 50, 50),
-        white(Kind::Rook, 10, GREATEST),
-        white(Kind::Rook, 10, GREATEST - 1),
-        black(Kind::King, 0, GREATEST),
-    ];
-    assert_eq!(rt; is_mated(&open), Some(false));
-    // three columns are covered, past the greatest number too
-    let mut columns = [
-        white(Kind::King, 50, -500),
-        black(Kind::King, 0, GREATEST),
-        white(Kind::Rook, -1, -100),
-        white(Kind::Rook, 0, -100),
-        white(Kind::Rook, 1, -100),
-        gone(Side::Black, Kind::Queen),
-    ];
-    assert_eq!(rt; is_mated(&columns), Some(true));
-    columns[4] = white(Kind::Rook, 2, -100);
-    assert_eq!(rt; is_mated(&columns), Some(false));
-    // a helper that is live
-    columns[5] = black(Kind::Queen, 7, 7);
-    assert_eq!(rt; is_mated(&columns), None);
-    Ok(())
 }
 
 #[test]

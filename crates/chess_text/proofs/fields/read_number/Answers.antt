@@ -1,6 +1,6 @@
-use Rattle.std.proofs.Common.{to_z, of_z, ◌≡◌, Ok, true, false, sym, subst, ap, ◌∙◌, arith}
+use Rattle.std.proofs.Common.{to_z, of_z, ◌≡◌, sym, subst, ap, ◌∙◌}
 use Rattle.std.specs.Int.{w64}
-use Rattle.std.specs.Str.{IsUtf8, bytes_eq}
+use Rattle.std.specs.Str.{IsUtf8}
 use Rattle.std.specs.Fmt.{signed_decimal}
 use Rattle.std.proofs.lemmas.Int.{to_z-of_z}
 use Rattle.std.proofs.lemmas.Str.{IsUtf8-from_ascii}

@@ -1,5 +1,4 @@
-use Rattle.std.proofs.Common.{◌≡◌, suc, ◌∷◌, [], ◌++◌, take, Some, slice_get, ap, sym, ◌∙◌, append_assoc, add-one}
-use Rattle.game_rules.specs.Game.{man_at}
+use Rattle.std.proofs.Common.{◌≡◌, ◌∷◌, [], ◌++◌, take, Some, slice_get, ap, sym, ◌∙◌, append_assoc, add-one}
 use Rattle.chess_text.specs.ManLine.{man_text}
 use Rattle.chess_text.proofs.TextLemmas.{men_text, men_text-suc}
 use Rattle.chess_text.proofs.writer.push_men.Goals as goal

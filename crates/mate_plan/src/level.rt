@@ -1,0 +1,48 @@
+//! The sets of a level, by name.
+ghost use Rattle.std.specs.Prelude.{◌≡◌, [], ◌∷◌, ◌++◌, OnOk, OnErr};
+
+use lin_formula::SetId;
+use std::alloc::{AllocError, Global};
+use std::marker::Model;
+
+/// Names of the sets of a level, one for each of the position's masks, in the order of the masks. Where there is no name, there is no set.
+#[derive(Drop)]
+pub struct LevelNames {
+    names: Vec<Option<SetId>>,
+}
+
+impl Model for LevelNames {
+    ghost use Rattle.std.specs.Prelude.{List, Option};
+    ghost use Rattle.lin_formula.specs.declared.formula.SetId.{SetId};
+
+    ghost Value = { List (Option SetId) };
+
+    ghost view = { λ l. l.names.items };
+}
+
+impl LevelNames {
+    /// No names.
+    pub fn new(alloc: Global) -> LevelNames
+        ensures { result ≡ [] }
+    {
+        LevelNames {
+            names: Vec::new(alloc),
+        }
+    }
+
+    /// The name for the next mask.
+    pub fn push(&mut self, name: Option<SetId>) -> Result<(), AllocError>
+        ensures ok { OnOk result (self.new ≡ self.old ++ name ∷ []) }
+        ensures err { OnErr result (self.new ≡ self.old) }
+    {
+        self.names.push(name)?;
+        Ok(())
+    }
+
+    /// The names, one for each mask.
+    pub fn as_slice(&self) -> &[Option<SetId>]
+        ensures { result.now ≡ self.now }
+    {
+        self.names.as_slice()
+    }
+}

@@ -1,0 +1,108 @@
+-- The automaton of the set without a tuple, and the tracks of masks.
+use Rattle.std.proofs.Common.{◌≡◌, ◌≢◌, ◌↔◌, ℕ, zero, suc, ◌+◌, ◌*◌, ◌^◌, ◌<◌, ◌≤◌, if◌then◌else◌, Bool, true, false, List, [], ◌∷◌, ◌++◌, length, get_or, IsTrue, refl, sym, ap, ◌∙◌, subst, arith}
+use Rattle.std.specs.List.{All}
+use Rattle.std.proofs.lemmas.List.{length-append}
+use Rattle.std.proofs.lemmas.List.Elements.{All-cons, All-get_or, All-nil}
+use Rattle.std.proofs.lemmas.Nat.{pow_pos}
+use Rattle.track_word.specs.declared.tracks.Var.{Var}
+use Rattle.track_word.specs.Tracks.{IsAscending}
+use Rattle.track_word.specs.Word.{IsWord, repeat_first}
+use Rattle.letter_diagram.specs.declared.diagrams.Shape.{Shape}
+use Rattle.letter_diagram.specs.Diagram.{LooksBelow, map_at}
+use Rattle.auto_core.specs.Automaton.{Accepts, Automaton, IsAutomaton, is_final, state_of, width}
+use Rattle.auto_core.specs.Reduced.{IsReachedState, IsReduced}
+use Rattle.auto_core.specs.Rows.{AreRows}
+use Rattle.game_rules.specs.declared.men.Man.{Man}
+use Rattle.lin_formula.specs.Tree.{Among, Or}
+use Rattle.lin_formula.proofs.FreeVars.{free_vars-ascend, if_cases}
+use Rattle.rule_formula.specs.Placed.{is_live}
+use Rattle.rule_formula.specs.Seats.{own, vars_to}
+use Rattle.rule_formula.specs.Trees.{tracks_of}
+use Rattle.rule_formula.proofs.TracksTheorem.{tracks_twice}
+use Rattle.winning_sets.specs.Lent.{IsEmptyOn}
+
+flag_off : (n : ℕ) → get_or (false ∷ []) n false ≡ false
+flag_off zero = refl
+flag_off (suc n) = refl
+
+module _ (tracks : List Var) (a : Automaton) (tracks_are : a.tracks ≡ tracks) (off : a.accept ≡ false ∷ []) (valid : IsAutomaton a) where
+  one : length a.accept ≡ 1
+  one = ap length off
+
+  never : (word : List ℕ) → Accepts a word → ⊥
+  never word h =
+      let is : is_final a (state_of a word) ≡ false = ap (λ flags. get_or flags (state_of a word) false) off ∙ flag_off (state_of a word) in
+      cc
+
+  zero_state : get_or a.first 0 0 ≡ 0
+  zero_state =
+      let power = pow_pos (length a.tracks) in
+      let first = All-get_or (λ s. s < length a.accept) a.first 0 0 (omega (arith, valid.first_size, power)) valid.first_within in
+      omega (arith, first, one)
+
+  is_word : IsWord (length a.tracks) (0 ∷ [])
+  is_word = record { nonempty = λ e. cc; letters = All-cons (λ l. l < 2 ^ length a.tracks) 0 [] (pow_pos (length a.tracks)) (All-nil (λ l. l < 2 ^ length a.tracks)) }
+
+  reduced : IsReduced a
+  reduced = record {
+    reached = λ state within.
+        let same : get_or a.first 0 0 ≡ state = omega (arith, within, one, zero_state) in
+        record { word = 0 ∷ []; is_word = is_word; leads = same };
+    apart = λ j k in_j in_k other. let same : j ≡ k = omega (arith, in_j, in_k, one) in absurd (other same);
+  }
+
+  -- a valid automaton whose one state does not accept
+  pub empty_on : IsEmptyOn tracks a
+  empty_on = record {
+    set = record {
+      reduced = reduced;
+      integers = record { stable = λ word is. (λ h. absurd (never word h), λ h. absurd (never (repeat_first word) h)) };
+      tracks_are = tracks_are;
+    };
+    none = λ tuple h. never h.word h.accepts;
+  }
+
+-- the one row leads to the one state
+pub one_row : (tracks : List Var) (shapes : List Shape) (row : ℕ) (rows : List ℕ) (flags : List Bool) → IsAscending tracks → length tracks ≤ 20 → row < length shapes → ((letter : ℕ) → map_at shapes row letter ≡ 0) → rows ≡ row ∷ [] → flags ≡ false ∷ [] → AreRows tracks shapes row rows flags
+one_row tracks shapes row rows flags ascending few known zeros rows_are flags_are =
+    subst (AreRows tracks shapes row rows) (sym flags_are) (subst (λ (rs : List ℕ). AreRows tracks shapes row rs (false ∷ [])) (sym rows_are) are)
+  where
+    looks : (n : ℕ) → LooksBelow shapes row n
+    looks n = record { same = λ a b bits. zeros a ∙ sym (zeros b) }
+
+    within : (letter : ℕ) → map_at shapes row letter < 1
+    within letter = let is = zeros letter in omega (arith, is)
+
+    are : AreRows tracks shapes row (row ∷ []) (false ∷ [])
+    are = record {
+      ascending = ascending;
+      few_tracks = few;
+      some_state = omega arith;
+      few_states = omega arith;
+      rows_size = refl;
+      first_known = known;
+      first_narrow = looks (length tracks);
+      first_within = within;
+      rows_known = All-cons (λ node. node < length shapes) row [] known (All-nil (λ node. node < length shapes));
+      rows_narrow = All-cons (λ node. LooksBelow shapes node (length tracks)) row [] (looks (length tracks)) (All-nil (λ node. LooksBelow shapes node (length tracks)));
+      rows_within = All-cons (λ node. (letter : ℕ) → map_at shapes node letter < 1) row [] within (All-nil (λ node. (letter : ℕ) → map_at shapes node letter < 1));
+    }
+
+-- the tracks of a mask ascend
+pub tracks_ascend : (stock : List Man) (mask : ℕ) → IsAscending (tracks_of stock (is_live mask))
+tracks_ascend stock mask =
+    let tracks = tracks_of stock (is_live mask) in
+    subst IsAscending (tracks_twice (is_live mask) (length stock) 0 1) (free_vars-ascend (Or (Among 0 tracks) (Among 1 tracks)))
+
+-- and are two a man at most
+vars_few : (live : ℕ → Bool) (n : ℕ) → length (vars_to own live n) ≤ 2 * n
+vars_few live zero = omega arith
+vars_few live (suc n) =
+    let rest = vars_few live n in
+    let more = vars_to own live n ++ (own (suc n)).x ∷ (own (suc n)).y ∷ [] in
+    if_cases (live (suc n)) more (vars_to own live n) (λ (l : List Var). length l ≤ 2 * suc n)
+    (λ e. let count = length-append (vars_to own live n) ((own (suc n)).x ∷ (own (suc n)).y ∷ []) in omega (arith, count, rest))
+    (λ e. omega (arith, rest))
+
+pub tracks_few : (stock : List Man) (mask : ℕ) → length stock ≤ 8 → length (tracks_of stock (is_live mask)) ≤ 20
+tracks_few stock mask few = let count = vars_few (is_live mask) (length stock) in omega (arith, count, few)

@@ -1,0 +1,22 @@
+-- What a solver keeps of the plies that are finished.
+use Rattle.std.specs.Prelude.{◌≡◌, ℕ, suc, ◌<◌, ◌≤◌, List, length, map, reverse, take, All, Option}
+use Rattle.auto_core.specs.Automaton.{Automaton}
+use Rattle.game_rules.specs.Game.{Position, Sound}
+use Rattle.lin_formula.specs.declared.formula.SetId.{SetId}
+use Rattle.rule_formula.specs.Fits.{mask_of, masks_of}
+use Rattle.set_plan.specs.Outcome.{Ends}
+use Rattle.mate_plan.specs.Levels.{AreNames, level_of}
+use Rattle.mate_plan.specs.Plan.{forward}
+use Rattle.mate_plan.specs.PlanOf.{rules_of}
+use Rattle.winning_sets.specs.Lent.{AreEmpties}
+
+-- of a sound position the names in a table of the sets that are reached at each ply, the first one first, in the order of the masks,
+-- and sets to lend where there is no name: up to each ply they are those with which the plan's way forward ends within the budget
+pub record AreFinished (p : Position) (budget : ℕ) (masks : List ℕ) (empties table : List Automaton) (levels : List (List (Option SetId))) : Type 0 where
+  pub sound : Sound p
+  pub few : length p.men ≤ 8
+  pub short : length levels ≤ 42
+  pub names : All (AreNames p.men table (masks_of p)) levels
+  pub masks_are : 0 < length levels → masks ≡ masks_of p
+  pub empties_are : 0 < length levels → AreEmpties p.men (masks_of p) empties
+  pub ends : (ply : ℕ) → ply < length levels → Ends (forward (rules_of p) p.turn (mask_of p) ply) budget (reverse (map (level_of table (masks_of p)) (take (suc ply) levels)))
