@@ -56,7 +56,6 @@ fn kept_at(
 }
 
 /// What is kept at each ply, from what is reached at each ply. Nothing is kept at the last one.
-#[tactic(none)]
 pub(crate) fn kept_levels(
     alloc: Global,
     memo: &mut Memo,

@@ -36,7 +36,6 @@ pub(crate) fn lent<'a>(sets: &'a Sets, other: &'a Auto, id: Option<SetId>) -> &'
 }
 
 /// Copies of the sets of the names, and of the others where there is no name.
-#[tactic(none)]
 pub(crate) fn lent_sets(
     alloc: Global,
     sets: &Sets,
@@ -54,7 +53,6 @@ pub(crate) fn lent_sets(
 }
 
 /// Copies of the sets of the names at each ply.
-#[tactic(none)]
 pub(crate) fn copied(
     alloc: Global,
     sets: &Sets,

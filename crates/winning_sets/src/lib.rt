@@ -12,6 +12,8 @@ mod ply_sets;
 mod solved;
 mod solver;
 mod stock;
+#[cfg(test)]
+mod tests;
 mod tuple;
 mod turns;
 

@@ -42,7 +42,6 @@ impl Model for Solved {
 
 impl Solved {
     /// A solution with its sets, ply by ply and in each ply in the order of the masks.
-    #[tactic(none)]
     pub(crate) fn new(
         position: Position,
         winner: Side,
@@ -94,7 +93,6 @@ impl Solved {
     }
 
     /// The set of the positions at a ply, with the live men of a mask, from which the winner mates in time.
-    #[tactic(none)]
     pub fn set(&self, ply: u8, mask: u8) -> Option<&Auto>
         ensures set { option_copied result ≡ kept_at self.now ply mask }
         ensures valid { IsSolution self.now }
@@ -103,7 +101,6 @@ impl Solved {
     }
 
     /// The set of the positions that are reached at a ply, with the live men of a mask. There is none where the plan has no step.
-    #[tactic(none)]
     pub fn reach(&self, ply: u8, mask: u8) -> Option<&Auto>
         ensures set { option_copied result ≡ reach_at self.now ply mask }
         ensures valid { IsSolution self.now }
@@ -112,7 +109,6 @@ impl Solved {
     }
 
     /// Whether the position of these men, with the turn of the ply, is in the set of its own live men.
-    #[tactic(none)]
     pub fn keeps(&self, ply: u8, p: &Position) -> bool
         ensures keeps { IsTrue result ↔ IsKeptIn self.now ply p.now }
         ensures valid { IsSolution self.now }
@@ -123,7 +119,6 @@ impl Solved {
     }
 
     /// Whether the coordinates of the position are in the set of its own live men.
-    #[tactic(none)]
     fn has_tuple(&self, ply: u8, p: &Position) -> bool
         requires { HasStock self.now.position.men p.now }
         ensures { IsTrue result ↔ IsSomeAnd (kept_at self.now ply (mask_of p.now)) (λ a. IsAccepted a (tuple_of p.now)) }
@@ -135,7 +130,6 @@ impl Solved {
     }
 
     /// Whether the winner mates within so many moves from the starting position.
-    #[tactic(none)]
     pub fn verdict(&self) -> bool
         ensures mates { IsTrue result ↔ Value self.now.winner self.now.moves self.now.position }
         ensures valid { IsSolution self.now }

@@ -76,7 +76,6 @@ impl Solver {
     }
 
     /// The last ply at which all that is reached is known, or 0 where nothing is. It never falls.
-    #[tactic(none)]
     pub fn plies(&self) -> u8
         ensures { result ≡ plies_of self.now }
     {
@@ -87,7 +86,6 @@ impl Solver {
     }
 
     /// The number of plies at which all that is reached is known.
-    #[tactic(none)]
     fn finished(&self) -> usize
         ensures { result ≡ length self.now.reach }
     {
@@ -95,7 +93,6 @@ impl Solver {
     }
 
     /// The set of the positions that are reached at a ply after the first, with the live men of a mask.
-    #[tactic(none)]
     pub fn reach(&self, ply: u8, mask: u8) -> Option<&Auto>
         ensures some { IfSome result (λ a. IsReachedSet self.now ply mask a.now) }
         ensures none { IfNone result (IsUnreached self.now ply mask) }
@@ -110,7 +107,6 @@ impl Solver {
 
     /// Solves the position for so many moves of the winner. What is reached at the plies that were finished before is not made again, also
     /// where the earlier call had no answer.
-    #[tactic(none)]
     pub fn solve(&mut self, moves: u8) -> Result<Solved, SolveError>
         requires moves { moves ≤ 20 }
         ensures game { IfOk result (IsOf self.old.position self.old.winner moves) }
@@ -130,7 +126,6 @@ impl Solver {
     }
 
     /// The answer of the plan. Sets that are not of the levels may be left.
-    #[tactic(none)]
     fn answer(&mut self, moves: u8) -> Result<Solved, PlanError<PartName>>
         requires moves { moves ≤ 20 }
         ensures answer { IfOk result (IsAnswer self.old.position self.old.winner moves) }
@@ -149,7 +144,6 @@ impl Solver {
     }
 
     /// The answer where the winner is to move and has no move.
-    #[tactic(none)]
     fn without_steps(&self, moves: u8) -> Result<Solved, AllocError>
         requires moves { moves ≤ 20 }
         requires none { last_of self.now.winner self.now.position.turn moves ≡ 0 }
@@ -163,7 +157,6 @@ impl Solver {
     }
 
     /// The answer with what is kept at each ply.
-    #[tactic(none)]
     fn with_steps(&self, moves: u8, last: u8, kept: Vec<PlySets>) -> Result<Solved, AllocError>
         requires moves { moves ≤ 20 }
         requires last { last ≡ last_of self.now.winner self.now.position.turn moves }
@@ -179,7 +172,6 @@ impl Solver {
     }
 
     /// Makes what is reached at the plies up to the last that are not finished.
-    #[tactic(none)]
     fn reach_to(&mut self, last: u8) -> Result<(), PlanError<PartName>>
         requires { last ≤ 41 }
         ensures error { IfErr result (IsPlanError (forward (rules_of self.old.position) self.old.position.turn (mask_of self.old.position) last) self.old.budget) }
@@ -196,7 +188,6 @@ impl Solver {
     }
 
     /// Makes what is reached at the first ply.
-    #[tactic(none)]
     fn start(&mut self) -> Result<(), PlanError<PartName>>
         requires { self.old.reach ≡ [] }
         ensures error { IfErr result (IsPlanError (forward (rules_of self.old.position) self.old.position.turn (mask_of self.old.position) 0) self.old.budget) }
@@ -214,7 +205,6 @@ impl Solver {
     }
 
     /// Makes what is reached at the next ply.
-    #[tactic(none)]
     fn reach_next(&mut self) -> Result<(), PlanError<PartName>>
         requires some { 0 < length self.old.reach }
         requires room { length self.old.reach ≤ 41 }
@@ -239,7 +229,6 @@ impl Solver {
     }
 
     /// What is kept at each ply. Sets that are not of the levels are left.
-    #[tactic(none)]
     fn kept_sets(&mut self, moves: u8, last: u8) -> Result<Vec<PlySets>, PlanError<PartName>>
         requires last { last ≡ last_of self.old.winner self.old.position.turn moves }
         requires some { 0 < last }
@@ -255,7 +244,6 @@ impl Solver {
     }
 
     /// Lets go the sets that are not of the levels.
-    #[tactic(none)]
     fn let_go(&mut self)
         ensures { self.new ≡ self.old }
     {
@@ -265,7 +253,6 @@ impl Solver {
 
 /// Within a budget of states for a step, the sets of the positions from which the winner mates within so many moves of his own, ply by ply;
 /// or the first step that needs more states.
-#[tactic(none)]
 pub fn solve(
     alloc: Global,
     p: &Position,
