@@ -21,7 +21,7 @@ use Rattle.mate_plan.specs.declared.names.PartName.{PartName}
 use Rattle.winning_sets.specs.Finished.{AreFinished}
 use Rattle.winning_sets.specs.Lent.{AreEmpties}
 use Rattle.winning_sets.proofs.Backwards.{reversed_more}
-use Rattle.winning_sets.proofs.Growing.{all_names-grow, grows-trans, level-grows, levels-grow, take-grows}
+use Rattle.winning_sets.proofs.Growing.{all_names-grow, grows-trans, grows_length, level-grows, levels-grow, take-grows}
 use Rattle.winning_sets.proofs.LentLemmas.{Names}
 
 module _ (rules : Rules) (first : Side) (mask budget : ℕ) where
@@ -207,8 +207,20 @@ pub first_finished : (p : Position) (budget : ℕ) (masks : List ℕ) (empties o
 first_finished p budget masks empties old new masks' empties' ids is grows named masks_are empties_are h =
     finished_push p budget masks empties old new [] is grows masks' empties' ids (omega arith) named masks_are empties_are (forward_first (rules_of p) p.turn (mask_of p) budget (level_of new (masks_of p) ids) h)
 
+-- the same under other names
+pub same_finished : (p : Position) (budget other : ℕ) (masks : List ℕ) (empties table shown : List Automaton) (levels more : List Names) → other ≡ budget → shown ≡ table → more ≡ levels → AreFinished p budget masks empties table levels → AreFinished p other masks empties shown more
+same_finished p budget other masks empties table shown levels more b t l is =
+    subst (λ (n : ℕ). AreFinished p n masks empties shown more) (sym b)
+    (subst (λ (sets : List Automaton). AreFinished p budget masks empties sets more) (sym t)
+    (subst (λ (names : List Names). AreFinished p budget masks empties table names) (sym l) is))
+
 -- a table that has grown begins with what is finished
-pub grown_finished : (p : Position) (budget other : ℕ) (masks : List ℕ) (empties old new : List Automaton) (count : ℕ) (levels : List Names) → count ≤ length old → Grows old new → other ≡ budget → AreFinished p budget masks empties (take count old) levels → AreFinished p other masks empties (take count new) levels
-grown_finished p budget other masks empties old new count levels within grows same is =
-    subst (λ (b : ℕ). AreFinished p b masks empties (take count new) levels) (sym same)
-    (subst (λ (t : List Automaton). AreFinished p budget masks empties t levels) (sym (take-grows old new count grows within)) is)
+pub grown_finished : (p : Position) (budget other : ℕ) (masks : List ℕ) (empties old new : List Automaton) (count : ℕ) (levels more : List Names) → count ≤ length old → Grows old new → other ≡ budget → more ≡ levels → AreFinished p budget masks empties (take count old) levels → (count ≤ length new) × AreFinished p other masks empties (take count new) more
+grown_finished p budget other masks empties old new count levels more within grows same names is =
+    let longer = grows_length old new grows in
+    (omega (arith, within, longer), same_finished p budget other masks empties (take count old) (take count new) levels more same (take-grows old new count grows within) names is)
+
+-- and with one more ply all of it is finished
+pub all_finished : (p : Position) (budget other : ℕ) (masks : List ℕ) (empties table : List Automaton) (count : ℕ) (levels more : List Names) → other ≡ budget → count ≡ length table → more ≡ levels → AreFinished p budget masks empties table levels → (count ≤ length table) × AreFinished p other masks empties (take count table) more
+all_finished p budget other masks empties table count levels more same all names is =
+    (omega (arith, all), same_finished p budget other masks empties table (take count table) levels more same (take_all count table (omega (arith, all))) names is)

@@ -1,5 +1,5 @@
 -- What a solver has finished, from one state to a later one.
-use Rattle.std.proofs.Common.{◌≡◌, ℕ, suc, ◌+◌, ◌<◌, ◌≤◌, List, [], ◌∷◌, ◌++◌, length, take, map, append_assoc, refl, sym, ap, ◌∙◌, arith}
+use Rattle.std.proofs.Common.{◌≡◌, ℕ, suc, ◌+◌, ◌<◌, ◌≤◌, List, [], ◌∷◌, ◌++◌, length, take, map, append_assoc, refl, sym, ap, ◌∙◌, subst, arith}
 use Rattle.std.specs.List.{All}
 use Rattle.std.proofs.lemmas.List.{append-nil, map_push, take_all}
 use Rattle.auto_core.specs.Automaton.{Automaton}
@@ -55,6 +55,10 @@ module _ (p : Position) (winner : Side) (empties : List Automaton) where
         ap (λ b. state_of b (take count new) more) same
         ∙ ap (λ t. state_of budget t more) (take-grows old new count grows within)
         ∙ ap (λ l. state_of budget (take count old) l) is
+
+    pub after_grown : (more : List Names) → more ≡ levels → IsSolverAfter (state_of budget (take count old) levels) (state_of other (take count new) more)
+    after_grown more is =
+        subst (λ (s : SolverState). IsSolverAfter (state_of budget (take count old) levels) s) (sym (state-grows more is)) (after_self (state_of budget (take count old) levels))
 
     -- one more ply
     pub after_push : (size : ℕ) (ids : Names) (more : List Names) → All (AreNames p.men (take count old) (masks_of p)) levels → size ≡ length new → more ≡ levels ++ ids ∷ [] → IsSolverAfter (state_of budget (take count old) levels) (state_of other (take size new) more)
