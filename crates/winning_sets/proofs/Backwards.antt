@@ -1,5 +1,5 @@
 -- A plan's way back, ply by ply.
-use Rattle.std.proofs.Common.{◌≡◌, ℕ, zero, suc, ◌+◌, ◌-◌, ◌*◌, ◌%◌, ◌<◌, ◌≤◌, ◌⊎◌, inl, inr, if◌then◌else◌, Bool, true, false, List, [], ◌∷◌, ◌++◌, length, get_or, take, map, Option, Some, None, refl, sym, ap, ◌∙◌, subst, arith}
+use Rattle.std.proofs.Common.{◌≡◌, ℕ, zero, suc, ◌+◌, ◌-◌, ◌*◌, ◌%◌, ◌<◌, ◌≤◌, ◌⊎◌, inl, inr, if◌then◌else◌, Bool, true, false, List, [], ◌∷◌, ◌++◌, length, get_or, take, map, Option, Some, None, Result, refl, sym, ap, ◌∙◌, subst, arith}
 use Rattle.std.specs.Prelude.{reverse}
 use Rattle.std.specs.List.{All}
 use Rattle.std.proofs.lemmas.List.{length-append, length-map, length-reverse, length-take-le, map_more, map_push, reverse-append, take_all}
@@ -10,7 +10,7 @@ use Rattle.game_rules.specs.declared.men.Side.{Side}
 use Rattle.lin_formula.specs.declared.formula.SetId.{SetId}
 use Rattle.set_plan.specs.Program.{Give, bind}
 use Rattle.rule_formula.specs.Fits.{masks_of}
-use Rattle.set_plan.specs.Outcome.{Ends, IsPlanError}
+use Rattle.set_plan.specs.Outcome.{Answers, Ends, IsPlanError}
 use Rattle.set_plan.specs.Sets.{Grows}
 use Rattle.set_plan.specs.declared.stop.PlanError.{PlanError}
 use Rattle.set_plan.proofs.Composition.{Ends-give, Error-bind, LeadsTo, LeadsTo-error, LeadsTo-later, LeadsTo-self}
@@ -34,13 +34,24 @@ odd_is : (n : ℕ) → (n % 2 ≡ 0 → ⊥) → is_even n ≡ false
 odd_is n odd = elim (two_steps n) [ inl (k, e, is) ↦ absurd (odd (omega (arith, e))) | inr (k, e, is) ↦ is ]
 
 -- at an even number of plies before the last the winner is to move
-pub kept_won : (rules : Rules) (first : Side) (ply left : ℕ) (reach reach1 kept1 : Level) → left % 2 ≡ 0 → kept_level rules first ply left reach reach1 kept1 ≡ win_level rules (turn_at first ply) ply reach kept1
+kept_won : (rules : Rules) (first : Side) (ply left : ℕ) (reach reach1 kept1 : Level) → left % 2 ≡ 0 → kept_level rules first ply left reach reach1 kept1 ≡ win_level rules (turn_at first ply) ply reach kept1
 kept_won rules first ply left reach reach1 kept1 even =
     ap (λ (b : Bool). if b then win_level rules (turn_at first ply) ply reach kept1 else lost_level rules (turn_at first ply) ply reach reach1 kept1) (even_is left even)
 
-pub kept_lost : (rules : Rules) (first : Side) (ply left : ℕ) (reach reach1 kept1 : Level) → (left % 2 ≡ 0 → ⊥) → kept_level rules first ply left reach reach1 kept1 ≡ lost_level rules (turn_at first ply) ply reach reach1 kept1
+kept_lost : (rules : Rules) (first : Side) (ply left : ℕ) (reach reach1 kept1 : Level) → (left % 2 ≡ 0 → ⊥) → kept_level rules first ply left reach reach1 kept1 ≡ lost_level rules (turn_at first ply) ply reach reach1 kept1
 kept_lost rules first ply left reach reach1 kept1 odd =
     ap (λ (b : Bool). if b then win_level rules (turn_at first ply) ply reach kept1 else lost_level rules (turn_at first ply) ply reach reach1 kept1) (odd_is left odd)
+
+module _ {R : Type 0} (rules : Rules) (first side : Side) (ply left : ℕ) (reach reach1 kept1 : Level) (budget : ℕ) (view : R → Level) (r : Result R (PlanError PartName)) (turn : side ≡ turn_at first ply) where
+  pub won_answers : left % 2 ≡ 0 → Answers (win_level rules side ply reach kept1) budget view r → Answers (kept_level rules first ply left reach reach1 kept1) budget view r
+  won_answers even h =
+      let here = subst (λ (s : Side). Answers (win_level rules s ply reach kept1) budget view r) turn h in
+      subst (λ (m : Program Level). Answers m budget view r) (sym (kept_won rules first ply left reach reach1 kept1 even)) here
+
+  pub lost_answers : (left % 2 ≡ 0 → ⊥) → Answers (lost_level rules side ply reach reach1 kept1) budget view r → Answers (kept_level rules first ply left reach reach1 kept1) budget view r
+  lost_answers odd h =
+      let here = subst (λ (s : Side). Answers (lost_level rules s ply reach reach1 kept1) budget view r) turn h in
+      subst (λ (m : Program Level). Answers m budget view r) (sym (kept_lost rules first ply left reach reach1 kept1 odd)) here
 
 reverse_push : {X : Type 0} (xs : List X) (x : X) → reverse (xs ++ x ∷ []) ≡ x ∷ reverse xs
 reverse_push xs x = reverse-append xs (x ∷ [])
@@ -52,7 +63,7 @@ map-reverse f (x ∷ xs) =
     ∙ sym (reverse-append (f x ∷ []) (map f xs))
 
 -- one more at the front of what is turned
-reversed_more : {X Y : Type 0} (f : X → Y) (xs : List X) (i : ℕ) (d : X) → i < length xs → reverse (map f (take (suc i) xs)) ≡ f (get_or xs i d) ∷ reverse (map f (take i xs))
+pub reversed_more : {X Y : Type 0} (f : X → Y) (xs : List X) (i : ℕ) (d : X) → i < length xs → reverse (map f (take (suc i) xs)) ≡ f (get_or xs i d) ∷ reverse (map f (take i xs))
 reversed_more {X} f xs i d within =
     let one : suc i ≡ i + 1 = omega arith in
     ap (λ n. reverse (map f (take n xs))) one ∙ ap reverse (map_more f xs i d within) ∙ reverse_push (map f (take i xs)) (f (get_or xs i d))

@@ -4,7 +4,7 @@ use Rattle.std.specs.Prelude.{reverse}
 use Rattle.std.specs.List.{All}
 use Rattle.std.proofs.lemmas.Bool.{cases_lt}
 use Rattle.std.proofs.lemmas.List.{length-append, map_push, reverse-append, take-append-le, take_all}
-use Rattle.std.proofs.lemmas.List.Elements.{All-push, All-take}
+use Rattle.std.proofs.lemmas.List.Elements.{All-get_or, All-push, All-take}
 use Rattle.auto_core.specs.Automaton.{Automaton}
 use Rattle.game_rules.specs.Game.{Position, Sound}
 use Rattle.game_rules.specs.declared.men.Side.{Side}
@@ -20,7 +20,8 @@ use Rattle.mate_plan.specs.PlanOf.{last_ply, plan_of, plan_to, rules_of}
 use Rattle.mate_plan.specs.declared.names.PartName.{PartName}
 use Rattle.winning_sets.specs.Finished.{AreFinished}
 use Rattle.winning_sets.specs.Lent.{AreEmpties}
-use Rattle.winning_sets.proofs.Growing.{all_names-grow, levels-grow}
+use Rattle.winning_sets.proofs.Backwards.{reversed_more}
+use Rattle.winning_sets.proofs.Growing.{all_names-grow, grows-trans, grows_length, level-grows, levels-grow, take-grows}
 use Rattle.winning_sets.proofs.LentLemmas.{Names}
 
 module _ (rules : Rules) (first : Side) (mask budget : ℕ) where
@@ -146,3 +147,80 @@ module _ (p : Position) (budget : ℕ) where
         empties_are = λ within. empties_are;
         ends = pushed-ends;
       }
+
+-- what comes after the last ply that is finished, over a table that has more sets
+module _ (p : Position) (budget : ℕ) (masks : List ℕ) (empties old table : List Automaton) (levels : List Names) (is : AreFinished p budget masks empties old levels) (grows : Grows old table) where
+  module _ (n : ℕ) (count : length levels ≡ suc n) (ids : Names) (at : ids ≡ get_or levels n ids) (side : Side) (turn : side ≡ turn_at p.turn n) where
+    abbrev before : List Level
+    before = LevelsIn p budget old (take n levels)
+
+    named : AreNames p.men old (masks_of p) ids
+    named = subst (AreNames p.men old (masks_of p)) (sym at) (All-get_or (AreNames p.men old (masks_of p)) levels n ids (omega (arith, count)) is.names)
+
+    same_level : level_of table (masks_of p) ids ≡ level_of old (masks_of p) ids
+    same_level = level-grows old table grows p.men (masks_of p) ids named
+
+    opens : LevelsIn p budget old (take (suc n) levels) ≡ level_of table (masks_of p) ids ∷ before
+    opens =
+        reversed_more (level_of old (masks_of p)) levels n ids (omega (arith, count))
+        ∙ ap (λ (l : Level). l ∷ before) (ap (level_of old (masks_of p)) (sym at) ∙ sym same_level)
+
+    ends : Ends (forward (rules_of p) p.turn (mask_of p) n) budget (level_of table (masks_of p) ids ∷ before)
+    ends = subst (λ (l : List Level). Ends (forward (rules_of p) p.turn (mask_of p) n) budget l) opens (is.ends n (omega (arith, count)))
+
+    abbrev next : Side → Program Level
+    next s = reach_level (rules_of p) s (suc n) (level_of table (masks_of p) ids)
+
+    pub next_error : (e : PlanError PartName) → IsPlanError (reach_level (rules_of p) side (suc n) (level_of table (masks_of p) ids)) budget e → IsPlanError (forward (rules_of p) p.turn (mask_of p) (suc n)) budget e
+    next_error e h =
+        forward_next_error (rules_of p) p.turn (mask_of p) budget n (level_of table (masks_of p) ids) before e ends
+        (subst (λ (s : Side). IsPlanError (next s) budget e) turn h)
+
+    pub next_finished : (new : List Automaton) (more : Names) → Grows table new → length levels ≤ 41 → AreNames p.men new (masks_of p) more → Ends (reach_level (rules_of p) side (suc n) (level_of table (masks_of p) ids)) budget (level_of new (masks_of p) more) → AreFinished p budget masks empties new (levels ++ more ∷ [])
+    next_finished new more later room named_more h =
+        let all = grows-trans old table new grows later in
+        let whole : take (suc n) levels ≡ levels = take_all (suc n) levels (omega (arith, count)) in
+        let same : LevelsIn p budget new levels ≡ level_of table (masks_of p) ids ∷ before =
+        ap reverse (levels-grow old new all p.men (masks_of p) levels is.names) ∙ ap (LevelsIn p budget old) (sym whole) ∙ opens in
+        let here = forward_next (rules_of p) p.turn (mask_of p) budget n (level_of table (masks_of p) ids) (level_of new (masks_of p) more) before ends (subst (λ (s : Side). Ends (next s) budget (level_of new (masks_of p) more)) turn h) in
+        let there = subst (λ (l : List Level). Ends (forward (rules_of p) p.turn (mask_of p) (suc n)) budget (level_of new (masks_of p) more ∷ l)) (sym same) here in
+        let at_end = subst (λ (k : ℕ). Ends (forward (rules_of p) p.turn (mask_of p) k) budget (level_of new (masks_of p) more ∷ LevelsIn p budget new levels)) (sym count) there in
+        finished_push p budget masks empties old new levels is all masks empties more room named_more (is.masks_are (omega (arith, count))) (is.empties_are (omega (arith, count))) at_end
+
+  module _ (last : ℕ) (some : 0 < last) (within : last < length levels) where
+    whole_ends : Ends (forward (rules_of p) p.turn (mask_of p) last) budget (LevelsIn p budget table (take (last + 1) levels))
+    whole_ends =
+        let one : suc last ≡ last + 1 = omega arith in
+        let named = All-take (AreNames p.men old (masks_of p)) (last + 1) levels is.names in
+        let same : LevelsIn p budget table (take (last + 1) levels) ≡ LevelsIn p budget old (take (last + 1) levels) = ap reverse (levels-grow old table grows p.men (masks_of p) (take (last + 1) levels) named) in
+        let here = subst (λ (k : ℕ). Ends (forward (rules_of p) p.turn (mask_of p) last) budget (LevelsIn p budget old (take k levels))) one (is.ends last within) in
+        subst (λ (l : List Level). Ends (forward (rules_of p) p.turn (mask_of p) last) budget l) (sym same) here
+
+    pub finished_plan : (kept : List Level) → Ends (backward_from (rules_of p) p.turn (reverse (map (level_of table (masks_of p)) (take (last + 1) levels)))) budget kept → Ends (plan_to p last) budget kept
+    finished_plan kept h = plan_ends p budget last some (LevelsIn p budget table (take (last + 1) levels)) kept whole_ends h
+
+    pub finished_plan_error : (e : PlanError PartName) → IsPlanError (backward_from (rules_of p) p.turn (reverse (map (level_of table (masks_of p)) (take (last + 1) levels)))) budget e → IsPlanError (plan_to p last) budget e
+    finished_plan_error e h = plan_later_error p budget last some (LevelsIn p budget table (take (last + 1) levels)) e whole_ends h
+
+-- the first ply
+pub first_finished : (p : Position) (budget : ℕ) (masks : List ℕ) (empties old new : List Automaton) (masks' : List ℕ) (empties' : List Automaton) (ids : Names) → AreFinished p budget masks empties old [] → Grows old new → AreNames p.men new (masks_of p) ids → masks' ≡ masks_of p → AreEmpties p.men (masks_of p) empties' → Ends (point_level (rules_of p) (mask_of p)) budget (level_of new (masks_of p) ids) → AreFinished p budget masks' empties' new (ids ∷ [])
+first_finished p budget masks empties old new masks' empties' ids is grows named masks_are empties_are h =
+    finished_push p budget masks empties old new [] is grows masks' empties' ids (omega arith) named masks_are empties_are (forward_first (rules_of p) p.turn (mask_of p) budget (level_of new (masks_of p) ids) h)
+
+-- the same under other names
+pub same_finished : (p : Position) (budget other : ℕ) (masks : List ℕ) (empties table shown : List Automaton) (levels more : List Names) → other ≡ budget → shown ≡ table → more ≡ levels → AreFinished p budget masks empties table levels → AreFinished p other masks empties shown more
+same_finished p budget other masks empties table shown levels more b t l is =
+    subst (λ (n : ℕ). AreFinished p n masks empties shown more) (sym b)
+    (subst (λ (sets : List Automaton). AreFinished p budget masks empties sets more) (sym t)
+    (subst (λ (names : List Names). AreFinished p budget masks empties table names) (sym l) is))
+
+-- a table that has grown begins with what is finished
+pub grown_finished : (p : Position) (budget other : ℕ) (masks : List ℕ) (empties old new : List Automaton) (count : ℕ) (levels more : List Names) → count ≤ length old → Grows old new → other ≡ budget → more ≡ levels → AreFinished p budget masks empties (take count old) levels → (count ≤ length new) × AreFinished p other masks empties (take count new) more
+grown_finished p budget other masks empties old new count levels more within grows same names is =
+    let longer = grows_length old new grows in
+    (omega (arith, within, longer), same_finished p budget other masks empties (take count old) (take count new) levels more same (take-grows old new count grows within) names is)
+
+-- and with one more ply all of it is finished
+pub all_finished : (p : Position) (budget other : ℕ) (masks : List ℕ) (empties table : List Automaton) (count : ℕ) (levels more : List Names) → other ≡ budget → count ≡ length table → more ≡ levels → AreFinished p budget masks empties table levels → (count ≤ length table) × AreFinished p other masks empties (take count table) more
+all_finished p budget other masks empties table count levels more same all names is =
+    (omega (arith, all), same_finished p budget other masks empties table (take count table) levels more same (take_all count table (omega (arith, all))) names is)

@@ -41,6 +41,12 @@ take-grows (a ∷ old) (b ∷ new) (suc n) grows within =
     let rest = take-grows old new n (λ k c e. grows (suc k) c e) (omega (arith, within)) in
     ap (λ (x : Automaton). x ∷ take n new) same ∙ ap (λ (l : List Automaton). a ∷ l) rest
 
+-- and is no shorter
+pub grows_length : (old new : List Automaton) → Grows old new → length old ≤ length new
+grows_length [] new grows = omega arith
+grows_length (a ∷ old) [] grows = none_some (sym (grows 0 a refl))
+grows_length (a ∷ old) (b ∷ new) grows = let rest = grows_length old new (λ k c e. grows (suc k) c e) in omega (arith, rest)
+
 module _ (old new : List Automaton) (grows : Grows old new) where
   name-grows : (tracks : List Var) (id : Option SetId) → IsNameOn tracks old id → IsNameOn tracks new id
   name-grows tracks None is = is
@@ -66,7 +72,7 @@ module _ (old new : List Automaton) (grows : Grows old new) where
   pub level-grows : (stock : List Man) (masks : List ℕ) (ids : Names) → AreNames stock old masks ids → level_of new masks ids ≡ level_of old masks ids
   level-grows stock masks ids names = level_from-grows stock masks ids no_sets names
 
-  lent-grows : (tracks : List Var) (other : Automaton) (id : Option SetId) → IsNameOn tracks old id → set_or new other id ≡ set_or old other id
+  pub lent-grows : (tracks : List Var) (other : Automaton) (id : Option SetId) → IsNameOn tracks old id → set_or new other id ≡ set_or old other id
   lent-grows tracks other None is = refl
   lent-grows tracks other (Some id) (a, found, on) =
       let in_new : get_or new id.0 other ≡ a = get_or_from_slice_get new id.0 a other (grows id.0 a found) in

@@ -1,9 +1,9 @@
 -- The sets that are lent for the names of levels are those of the levels.
-use Rattle.std.proofs.Common.{◌≡◌, ◌↔◌, ◌⊎◌, ℕ, zero, suc, ◌+◌, ◌-◌, ◌<◌, ◌≤◌, ◌==◌, if◌then◌else◌, Bool, true, false, List, [], ◌∷◌, ◌++◌, length, get_or, map, Option, Some, None, ℤ, inl, inr, refl, sym, ap, ◌∙◌, subst, arith}
+use Rattle.std.proofs.Common.{◌≡◌, ◌↔◌, ◌⊎◌, ℕ, zero, suc, ◌+◌, ◌-◌, ◌<◌, ◌≤◌, ◌==◌, if◌then◌else◌, Bool, true, false, List, [], ◌∷◌, ◌++◌, length, get_or, take, map, Option, Some, None, ℤ, inl, inr, refl, sym, ap, ◌∙◌, subst, arith}
 use Rattle.std.specs.Prelude.{Contains, IfSome, IsSomeAnd, replicate, slice_get, option_and_then}
 use Rattle.std.specs.List.{All}
 use Rattle.std.proofs.lemmas.Bool.{eqb-true, eq-eqb}
-use Rattle.std.proofs.lemmas.List.{length-map}
+use Rattle.std.proofs.lemmas.List.{length-map, take_all, take_more}
 use Rattle.std.proofs.lemmas.List.Elements.{All-cons, All-get_or, All-nil, All-weaker, Contains-append_left, Contains-push, Contains-push_cases}
 use Rattle.std.proofs.lemmas.Option.{get_or_from_slice_get, option_and_then_some, slice_get-map, slice_get-get_or, slice_get_within}
 use Rattle.auto_core.specs.Automaton.{Automaton}
@@ -258,7 +258,7 @@ empty_sets_are Set p game others empties none =
     one zero l at = subst (IsLevelOf (Set 0)) (same_some at) nothing
     one (suc number) l at = none_some (sym at)
 
-names_within : (stock : List Man) (table : List Automaton) (masks : List ℕ) (others : List Automaton) (ids : Names) → AreEmpties stock masks others → AreNames stock table masks ids → AreWithin (length table) (length others) ids
+pub names_within : (stock : List Man) (table : List Automaton) (masks : List ℕ) (others : List Automaton) (ids : Names) → AreEmpties stock masks others → AreNames stock table masks ids → AreWithin (length table) (length others) ids
 names_within stock table [] [] [] empties names = record { names = All-nil (λ id. IfSome id (λ k. k.0 < length table)); count = omega arith }
 names_within stock table [] [] (id ∷ ids) empties names = absurd names
 names_within stock table [] (other ∷ others) ids empties names = absurd empties
@@ -279,3 +279,37 @@ names_within stock table (mask ∷ masks) (other ∷ others) (id ∷ ids) (empty
 pub all_within : (stock : List Man) (table : List Automaton) (masks : List ℕ) (others : List Automaton) (levels : List Names) → AreEmpties stock masks others → All (AreNames stock table masks) levels → All (AreWithin (length table) (length others)) levels
 all_within stock table masks others levels empties named =
     All-weaker (AreNames stock table masks) (AreWithin (length table) (length others)) (λ ids is. names_within stock table masks others ids empties is) levels named
+
+zip_push : (stock : List Man) (masks : List ℕ) (sets : List Automaton) (mask : ℕ) (a : Automaton) → AreEmpties stock masks sets → IsEmptyOn (tracks_of stock (is_live mask)) a → AreEmpties stock (masks ++ mask ∷ []) (sets ++ a ∷ [])
+zip_push stock [] [] mask a are is = (is, tt)
+zip_push stock [] (b ∷ sets) mask a are is = absurd are
+zip_push stock (m ∷ masks) [] mask a are is = absurd are
+zip_push stock (m ∷ masks) (b ∷ sets) mask a (first, are) is = (first, zip_push stock masks sets mask a are is)
+
+-- an empty set for one more of the masks
+pub empties_more : (stock : List Man) (masks : List ℕ) (sets : List Automaton) (i d : ℕ) (a : Automaton) → i < length masks → AreEmpties stock (take i masks) sets → IsEmptyOn (tracks_of stock (is_live (get_or masks i d))) a → AreEmpties stock (take (i + 1) masks) (sets ++ a ∷ [])
+empties_more stock masks sets i d a within are is =
+    subst (λ (ms : List ℕ). AreEmpties stock ms (sets ++ a ∷ [])) (sym (take_more masks i d within)) (zip_push stock (take i masks) sets (get_or masks i d) a are is)
+
+pub lent_count : (table others : List Automaton) (ids : Names) → length ids ≤ length others → length (sets_or table others ids) ≡ length ids
+lent_count table [] [] few = refl
+lent_count table [] (id ∷ ids) few = absurd (omega (arith, few))
+lent_count table (other ∷ others) [] few = refl
+lent_count table (other ∷ others) (id ∷ ids) few = ap suc (lent_count table others ids (omega (arith, few)))
+
+pub lent_at_place : (table others : List Automaton) (ids : Names) (k : ℕ) (a d : Automaton) (id : Option SetId) → k < length ids → k < length others → get_or (sets_or table others ids) k d ≡ set_or table (get_or others k a) (get_or ids k id)
+lent_at_place table [] ids k a d id in_ids in_others = absurd (omega (arith, in_others))
+lent_at_place table (other ∷ others) [] k a d id in_ids in_others = absurd (omega (arith, in_ids))
+lent_at_place table (other ∷ others) (i ∷ ids) zero a d id in_ids in_others = refl
+lent_at_place table (other ∷ others) (i ∷ ids) (suc k) a d id in_ids in_others = lent_at_place table others ids k a d id (omega (arith, in_ids)) (omega (arith, in_others))
+
+-- one more of the sets that are lent
+pub lent_more : (table others : List Automaton) (ids : Names) (k : ℕ) (a : Automaton) (id : Option SetId) (sets : List Automaton) → k < length ids → length ids ≤ length others → sets ≡ take k (sets_or table others ids) → sets ++ set_or table (get_or others k a) (get_or ids k id) ∷ [] ≡ take (k + 1) (sets_or table others ids)
+lent_more table others ids k a id sets within few are =
+    let here = lent_at_place table others ids k a a id within (omega (arith, within, few)) in
+    ap (λ l. l ++ set_or table (get_or others k a) (get_or ids k id) ∷ []) are
+    ∙ ap (λ x. take k (sets_or table others ids) ++ x ∷ []) (sym here)
+    ∙ sym (take_more (sets_or table others ids) k a (omega (arith, lent_count table others ids few, within)))
+
+pub lent_all : (table others : List Automaton) (ids : Names) (k : ℕ) → k ≡ length ids → length ids ≤ length others → take k (sets_or table others ids) ≡ sets_or table others ids
+lent_all table others ids k is few = take_all k (sets_or table others ids) (omega (arith, is, lent_count table others ids few))

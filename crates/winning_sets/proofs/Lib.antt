@@ -17,3 +17,4 @@ pub mod Places
 pub mod Empties
 pub mod Tuples
 pub mod States
+pub mod Reached

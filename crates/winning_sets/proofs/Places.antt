@@ -1,7 +1,8 @@
 -- Where the set of a mask is.
-use Rattle.std.proofs.Common.{◌≡◌, ℕ, zero, suc, ◌<◌, ◌==◌, if◌then◌else◌, Bool, true, false, List, [], ◌∷◌, length, get_or, Option, Some, None, refl, sym, ap, ◌∙◌, arith}
+use Rattle.std.proofs.Common.{◌≡◌, ℕ, zero, suc, ◌<◌, ◌≤◌, ◌==◌, if◌then◌else◌, Bool, true, false, List, [], ◌∷◌, length, get_or, Option, Some, None, refl, sym, ap, ◌∙◌, arith}
 use Rattle.std.specs.Prelude.{slice_get, option_and_then}
 use Rattle.std.proofs.lemmas.Bool.{eqb-true, eq-eqb}
+use Rattle.std.proofs.lemmas.Option.{slice_get-get_or, slice_get_past}
 use Rattle.auto_core.specs.Automaton.{Automaton}
 use Rattle.winning_sets.specs.Solve.{set_of, sets_at}
 
@@ -43,3 +44,13 @@ sets_at-none masks plies ply mask none = by (slice_get plies ply)
     by : (o : Option (List Automaton)) → option_and_then (λ sets. set_of masks sets mask) o ≡ None
     by None = refl
     by (Some sets) = set_of-none masks sets mask none
+
+-- at a ply, the set at the first place of the mask
+pub sets_at-place : (masks : List ℕ) (plies : List (List Automaton)) (sets : List Automaton) (ply mask k : ℕ) → ply < length plies → sets ≡ get_or plies ply sets → k < length masks → get_or masks k 0 ≡ mask → ((j : ℕ) → j < k → get_or masks j 0 ≡ mask → ⊥) → sets_at masks plies ply mask ≡ slice_get sets k
+sets_at-place masks plies sets ply mask k in_plies at within is before =
+    let there : slice_get plies ply ≡ Some sets = slice_get-get_or plies ply sets in_plies ∙ ap Some (sym at) in
+    ap (option_and_then (λ s. set_of masks s mask)) there ∙ set_of-place masks sets mask k within is before
+
+-- and past the last ply none
+pub sets_at-past : (masks : List ℕ) (plies : List (List Automaton)) (ply mask : ℕ) → length plies ≤ ply → sets_at masks plies ply mask ≡ None
+sets_at-past masks plies ply mask past = ap (option_and_then (λ s. set_of masks s mask)) (slice_get_past plies ply past)

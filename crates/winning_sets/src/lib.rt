@@ -2,11 +2,20 @@
 //! say which positions the sets have, `specs/Solve` what is answered.
 #![tactic(auto)]
 
+mod empty;
+mod kept;
 pub mod laws;
+mod lent;
 mod names;
+mod place;
 mod ply_sets;
 mod solved;
 mod solver;
+mod stock;
+#[cfg(test)]
+mod tests;
+mod tuple;
+mod turns;
 
 pub use mate_plan::{Part, PartName};
 pub use names::{SolveError, StepName};

@@ -1,6 +1,10 @@
 //! Names of steps, and why there is no answer.
 
-use mate_plan::Part;
+ghost use Rattle.std.specs.Prelude.{◌≡◌};
+ghost use Rattle.winning_sets.specs.Solve.{solve_error_of};
+
+use mate_plan::{Part, PartName};
+use set_plan::PlanError;
 
 /// A step of a plan.
 #[derive(Clone, Copy, Debug, PartialEq, Eq)]
@@ -23,4 +27,20 @@ pub enum SolveError {
     Over(StepName),
     /// Memory ran out.
     Memory,
+}
+
+/// Why a plan of so many moves has no end.
+pub(crate) fn solve_error(moves: u8, error: PlanError<PartName>) -> SolveError
+    ensures { result ≡ solve_error_of moves error }
+{
+    match error {
+        PlanError::Over(name) => SolveError::Over(StepName {
+            moves,
+            ply: name.part.ply,
+            mask: name.part.mask,
+            part: name.part.part,
+            at: name.at,
+        }),
+        PlanError::Memory => SolveError::Memory,
+    }
 }

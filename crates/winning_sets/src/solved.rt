@@ -1,29 +1,35 @@
 //! Solved positions.
-ghost use Rattle.std.specs.Prelude.{◌≡◌, ◌↔◌, IsTrue, option_copied};
+ghost use Rattle.std.specs.Prelude.{◌≡◌, ◌↔◌, ◌≤◌, IsSomeAnd, IsTrue, option_copied};
+ghost use Rattle.auto_core.specs.Integers.{IsAccepted};
 ghost use Rattle.game_rules.specs.Game.{Value};
-ghost use Rattle.winning_sets.specs.Solve.{IsSolution, end_of, kept_at, reach_at};
+ghost use Rattle.rule_formula.specs.Fits.{HasStock, mask_of, masks_of};
+ghost use Rattle.rule_formula.specs.Placed.{tuple_of};
+ghost use Rattle.winning_sets.specs.Solve.{IsKeptIn, IsSolution, end_of, kept_at, reach_at};
 
+use crate::place::set_at;
 use crate::ply_sets::PlySets;
+use crate::stock::has_stock;
+use crate::tuple::coordinates;
+use crate::turns::{last_ply, side_at};
 use auto_core::Auto;
 use chess_game::{Position, Side};
 use smallvec::SmallVec;
 use std::marker::Model;
 
 /// A position with the sets of the positions that are reached from it, and of those of them from which the winner still mates in time.
+/// A set has the coordinates of the live men, two for each, in their order.
 #[derive(Drop)]
 pub struct Solved {
     position: Position,
     winner: Side,
     moves: u8,
-    won: bool,
     masks: SmallVec<u8, 32>,
     kept: Vec<PlySets>,
     reach: Vec<PlySets>,
 }
 
 impl Model for Solved {
-    ghost use Rattle.std.specs.Prelude.{◌≡◌, ◌↔◌, IsTrue};
-    ghost use Rattle.game_rules.specs.Game.{Value as Mates};
+    ghost use Rattle.std.specs.Prelude.{◌≡◌};
     ghost use Rattle.rule_formula.specs.Fits.{masks_of};
     ghost use Rattle.winning_sets.specs.Solve.{IsSolution, Solution};
 
@@ -31,10 +37,33 @@ impl Model for Solved {
 
     ghost view = { λ s. record { position = s.position; winner = s.winner; moves = s.moves; kept = s.kept.items; reach = s.reach.items } };
 
-    ghost invariant = { λ s. IsSolution (record { position = s.position; winner = s.winner; moves = s.moves; kept = s.kept.items; reach = s.reach.items }) × (s.masks.items ≡ masks_of s.position) × (IsTrue s.won ↔ Mates s.winner s.moves s.position) };
+    ghost invariant = { λ s. IsSolution (record { position = s.position; winner = s.winner; moves = s.moves; kept = s.kept.items; reach = s.reach.items }) × (s.masks.items ≡ masks_of s.position) };
 }
 
 impl Solved {
+    /// A solution with its sets, ply by ply and in each ply in the order of the masks.
+    pub(crate) fn new(
+        position: Position,
+        winner: Side,
+        moves: u8,
+        masks: SmallVec<u8, 32>,
+        kept: Vec<PlySets>,
+        reach: Vec<PlySets>,
+    ) -> Solved
+        requires masks { masks.items ≡ masks_of position }
+        requires valid { IsSolution (record { position = position; winner = winner; moves = moves; kept = kept.items; reach = reach.items }) }
+        ensures { result ≡ record { position = position; winner = winner; moves = moves; kept = kept.items; reach = reach.items } }
+    {
+        Solved {
+            position,
+            winner,
+            moves,
+            masks,
+            kept,
+            reach,
+        }
+    }
+
     /// The starting position.
     pub fn position(&self) -> Position
         ensures { result ≡ self.now.position }
@@ -56,11 +85,55 @@ impl Solved {
         self.moves
     }
 
+    /// The last ply, at which the winner is to move and has no move left.
+    pub fn last_ply(&self) -> u8
+        ensures { result ≡ end_of self.now }
+    {
+        last_ply(self.winner, self.position.turn(), self.moves)
+    }
+
+    /// The set of the positions at a ply, with the live men of a mask, from which the winner mates in time.
+    pub fn set(&self, ply: u8, mask: u8) -> Option<&Auto>
+        ensures set { option_copied result ≡ kept_at self.now ply mask }
+        ensures valid { IsSolution self.now }
+    {
+        set_at(self.masks.as_slice(), self.kept.as_slice(), ply, mask)
+    }
+
+    /// The set of the positions that are reached at a ply, with the live men of a mask. There is none where the plan has no step.
+    pub fn reach(&self, ply: u8, mask: u8) -> Option<&Auto>
+        ensures set { option_copied result ≡ reach_at self.now ply mask }
+        ensures valid { IsSolution self.now }
+    {
+        set_at(self.masks.as_slice(), self.reach.as_slice(), ply, mask)
+    }
+
+    /// Whether the position of these men, with the turn of the ply, is in the set of its own live men.
+    pub fn keeps(&self, ply: u8, p: &Position) -> bool
+        ensures keeps { IsTrue result ↔ IsKeptIn self.now ply p.now }
+        ensures valid { IsSolution self.now }
+    {
+        has_stock(&self.position, p)
+            && p.turn() == side_at(self.position.turn(), ply)
+            && self.has_tuple(ply, p)
+    }
+
+    /// Whether the coordinates of the position are in the set of its own live men.
+    fn has_tuple(&self, ply: u8, p: &Position) -> bool
+        requires { HasStock self.now.position.men p.now }
+        ensures { IsTrue result ↔ IsSomeAnd (kept_at self.now ply (mask_of p.now)) (λ a. IsAccepted a (tuple_of p.now)) }
+    {
+        match self.set(ply, p.mask()) {
+            Some(set) => set.member(coordinates(p).as_slice()),
+            None => false,
+        }
+    }
+
     /// Whether the winner mates within so many moves from the starting position.
     pub fn verdict(&self) -> bool
         ensures mates { IsTrue result ↔ Value self.now.winner self.now.moves self.now.position }
         ensures valid { IsSolution self.now }
     {
-        self.won
+        self.keeps(0, &self.position)
     }
 }

@@ -1,35 +1,57 @@
 //! Solving a position for one number of moves after another.
-ghost use Rattle.std.specs.Prelude.{◌≡◌, ◌≤◌, [], IfErr, IfOk, IfNone, IfSome, OnOk, length};
+ghost use Rattle.std.specs.Prelude.{◌≡◌, ◌+◌, ◌<◌, ◌≤◌, [], IfErr, IfOk, IfNone, IfSome, OnErr, OnOk, length};
 ghost use Rattle.game_rules.specs.Game.{Sound};
-ghost use Rattle.mate_plan.specs.PlanOf.{last_ply, plan_of};
-ghost use Rattle.winning_sets.specs.Solve.{AreKept, AreReachedTo, IsOf, IsSolveError, IsSolverAfter, IsWithin, kept_at, plies_of, reach_at};
+ghost use Rattle.rule_formula.specs.Fits.{mask_of, masks_of};
+ghost use Rattle.set_plan.specs.Outcome.{IsPlanError};
+ghost use Rattle.mate_plan.specs.Plan.{forward};
+ghost use Rattle.mate_plan.specs.PlanOf.{last_ply as last_of, plan_of, rules_of};
+ghost use Rattle.winning_sets.specs.Solve.{AreKept, AreReachedTo, IsAnswer, IsOf, IsReachedSet, IsSolveError, IsSolverAfter, IsUnreached, IsWithin, kept_at, plies_of, reach_at, sets_at};
 
-use crate::names::SolveError;
+use crate::kept::{kept_levels, push_level};
+use crate::lent::{copied, empty_sets, lent};
+use crate::names::{SolveError, solve_error};
+use crate::place::place_of;
 use crate::ply_sets::PlySets;
 use crate::solved::Solved;
+use crate::turns::{last_ply, side_at};
+use auto_core::Auto;
 use chess_game::{Position, Side};
-use std::alloc::Global;
+use formula_auto::Memo;
+use mate_plan::{LevelNames, PartName, point_level, reach_level};
+use rule_formula::masks;
+use set_plan::{PlanError, Sets};
+use smallvec::SmallVec;
+use std::alloc::{AllocError, Global};
 use std::marker::Model;
 
 /// A position that is solved for one number of moves after another. The sets that are reached at a ply are made once.
 #[derive(Drop)]
 pub struct Solver {
+    alloc: Global,
     position: Position,
     winner: Side,
-    budget: u32,
-    reach: Vec<PlySets>,
+    memo: Memo,
+    /// The sets of the levels, and after them what an unfinished answer has left.
+    sets: Sets,
+    /// The number of sets of the levels.
+    count: u32,
+    masks: SmallVec<u8, 32>,
+    empties: Vec<Auto>,
+    /// What is reached at each ply.
+    levels: Vec<LevelNames>,
 }
 
 impl Model for Solver {
-    ghost use Rattle.std.specs.Prelude.{◌≤◌, length};
-    ghost use Rattle.game_rules.specs.Game.{Sound};
+    ghost use Rattle.std.specs.Prelude.{◌≤◌, length, map, take};
+    ghost use Rattle.winning_sets.specs.Lent.{sets_or};
     ghost use Rattle.winning_sets.specs.Solve.{SolverState};
+    ghost use Rattle.winning_sets.specs.Finished.{AreFinished};
 
     ghost Value = { SolverState };
 
-    ghost view = { λ s. record { position = s.position; winner = s.winner; budget = s.budget; reach = s.reach.items } };
+    ghost view = { λ s. record { position = s.position; winner = s.winner; budget = s.memo.budget; reach = map (sets_or (take s.count s.sets) s.empties.items) s.levels.items } };
 
-    ghost invariant = { λ s. Sound s.position × (length s.position.men ≤ 8) × (1 ≤ s.budget) × (s.budget ≤ 200000) };
+    ghost invariant = { λ s. (s.count ≤ length s.sets) × AreFinished s.position s.memo.budget s.masks.items s.empties.items (take s.count s.sets) s.levels.items };
 }
 
 impl Solver {
@@ -41,11 +63,46 @@ impl Solver {
         ensures { result ≡ record { position = p.now; winner = winner; budget = budget; reach = [] } }
     {
         Solver {
+            alloc,
             position: *p,
             winner,
-            budget,
-            reach: Vec::new(alloc),
+            memo: Memo::new(alloc, budget),
+            sets: Sets::new(alloc),
+            count: 0,
+            masks: SmallVec::new(alloc),
+            empties: Vec::new(alloc),
+            levels: Vec::new(alloc),
         }
+    }
+
+    /// The last ply at which all that is reached is known, or 0 where nothing is. It never falls.
+    pub fn plies(&self) -> u8
+        ensures { result ≡ plies_of self.now }
+    {
+        match self.levels.len() {
+            0 => 0,
+            count => (count - 1) as u8,
+        }
+    }
+
+    /// The number of plies at which all that is reached is known.
+    fn finished(&self) -> usize
+        ensures { result ≡ length self.now.reach }
+    {
+        self.levels.len()
+    }
+
+    /// The set of the positions that are reached at a ply after the first, with the live men of a mask.
+    pub fn reach(&self, ply: u8, mask: u8) -> Option<&Auto>
+        ensures some { IfSome result (λ a. IsReachedSet self.now ply mask a.now) }
+        ensures none { IfNone result (IsUnreached self.now ply mask) }
+    {
+        if ply == 0 || ply as usize >= self.levels.len() {
+            return None;
+        }
+        let k = place_of(self.masks.as_slice(), mask)?;
+        let names = self.levels[ply as usize].as_slice();
+        Some(lent(&self.sets, &self.empties[k], names[k]))
     }
 
     /// Solves the position for so many moves of the winner. What is reached at the plies that were finished before is not made again, also
@@ -54,26 +111,162 @@ impl Solver {
         requires moves { moves ≤ 20 }
         ensures game { IfOk result (IsOf self.old.position self.old.winner moves) }
         ensures kept { IfOk result (λ s. AreKept self.old.winner self.old.position moves (kept_at s)) }
-        ensures reached { IfOk result (λ s. AreReachedTo self.old.position (last_ply self.old.winner self.old.position.turn moves) (reach_at s)) }
+        ensures reached { IfOk result (λ s. AreReachedTo self.old.position (last_of self.old.winner self.old.position.turn moves) (reach_at s)) }
         ensures within { OnOk result (IsWithin (plan_of self.old.winner self.old.position moves) self.old.budget) }
         ensures error { IfErr result (IsSolveError (plan_of self.old.winner self.old.position moves) moves self.old.budget) }
         ensures after { IsSolverAfter self.old self.new }
-        ensures plies { OnOk result (last_ply self.old.winner self.old.position.turn moves ≤ plies_of self.new) }
+        ensures plies { OnOk result (last_of self.old.winner self.old.position.turn moves ≤ plies_of self.new) }
     {
-        Err(SolveError::Memory)
+        let answer = self.answer(moves);
+        self.let_go();
+        match answer {
+            Ok(solved) => Ok(solved),
+            Err(error) => Err(solve_error(moves, error)),
+        }
+    }
+
+    /// The answer of the plan. Sets that are not of the levels may be left.
+    fn answer(&mut self, moves: u8) -> Result<Solved, PlanError<PartName>>
+        requires moves { moves ≤ 20 }
+        ensures answer { IfOk result (IsAnswer self.old.position self.old.winner moves) }
+        ensures within { OnOk result (IsWithin (plan_of self.old.winner self.old.position moves) self.old.budget) }
+        ensures error { IfErr result (IsPlanError (plan_of self.old.winner self.old.position moves) self.old.budget) }
+        ensures after { IsSolverAfter self.old self.new }
+        ensures plies { OnOk result (last_of self.old.winner self.old.position.turn moves ≤ plies_of self.new) }
+    {
+        let last = last_ply(self.winner, self.position.turn(), moves);
+        if last == 0 {
+            return Ok(self.without_steps(moves)?);
+        }
+        self.reach_to(last)?;
+        let kept = self.kept_sets(moves, last)?;
+        Ok(self.with_steps(moves, last, kept)?)
+    }
+
+    /// The answer where the winner is to move and has no move.
+    fn without_steps(&self, moves: u8) -> Result<Solved, AllocError>
+        requires moves { moves ≤ 20 }
+        requires none { last_of self.now.winner self.now.position.turn moves ≡ 0 }
+        ensures { IfOk result (IsAnswer self.now.position self.now.winner moves) }
+    {
+        let all = masks(self.alloc, &self.position)?;
+        let empties = empty_sets(self.alloc, &self.position, all.as_slice())?;
+        let mut kept = Vec::new(self.alloc);
+        kept.push(PlySets::new(empties))?;
+        Ok(Solved::new(self.position, self.winner, moves, all, kept, Vec::new(self.alloc)))
+    }
+
+    /// The answer with what is kept at each ply.
+    fn with_steps(&self, moves: u8, last: u8, kept: Vec<PlySets>) -> Result<Solved, AllocError>
+        requires moves { moves ≤ 20 }
+        requires last { last ≡ last_of self.now.winner self.now.position.turn moves }
+        requires some { 0 < last }
+        requires finished { last < length self.now.reach }
+        requires kept { AreKept self.now.winner self.now.position moves (sets_at (masks_of self.now.position) kept.items) }
+        ensures { IfOk result (IsAnswer self.now.position self.now.winner moves) }
+    {
+        let all = masks(self.alloc, &self.position)?;
+        let levels = &self.levels.as_slice()[..last as usize + 1];
+        let reach = copied(self.alloc, &self.sets, self.empties.as_slice(), levels)?;
+        Ok(Solved::new(self.position, self.winner, moves, all, kept, reach))
+    }
+
+    /// Makes what is reached at the plies up to the last that are not finished.
+    fn reach_to(&mut self, last: u8) -> Result<(), PlanError<PartName>>
+        requires { last ≤ 41 }
+        ensures error { IfErr result (IsPlanError (forward (rules_of self.old.position) self.old.position.turn (mask_of self.old.position) last) self.old.budget) }
+        ensures after { IsSolverAfter self.old self.new }
+        ensures plies { OnOk result (last < length self.new.reach) }
+    {
+        if self.finished() == 0 {
+            self.start()?;
+        }
+        'plies: while self.finished() <= last as usize {
+            self.reach_next()?;
+        }
+        Ok(())
+    }
+
+    /// Makes what is reached at the first ply.
+    fn start(&mut self) -> Result<(), PlanError<PartName>>
+        requires { self.old.reach ≡ [] }
+        ensures error { IfErr result (IsPlanError (forward (rules_of self.old.position) self.old.position.turn (mask_of self.old.position) 0) self.old.budget) }
+        ensures after { IsSolverAfter self.old self.new }
+        ensures count { OnOk result (length self.new.reach ≡ 1) }
+    {
+        let all = masks(self.alloc, &self.position)?;
+        let empties = empty_sets(self.alloc, &self.position, all.as_slice())?;
+        let level = point_level(self.alloc, &mut self.memo, &mut self.sets, &self.position)?;
+        push_level(&mut self.levels, level)?;
+        self.masks = all;
+        self.empties = empties;
+        self.count = self.sets.count();
+        Ok(())
+    }
+
+    /// Makes what is reached at the next ply.
+    fn reach_next(&mut self) -> Result<(), PlanError<PartName>>
+        requires some { 0 < length self.old.reach }
+        requires room { length self.old.reach ≤ 41 }
+        ensures error { IfErr result (IsPlanError (forward (rules_of self.old.position) self.old.position.turn (mask_of self.old.position) (length self.old.reach)) self.old.budget) }
+        ensures after { IsSolverAfter self.old self.new }
+        ensures count { OnOk result (length self.new.reach ≡ length self.old.reach + 1) }
+    {
+        let ply = self.levels.len() as u8;
+        let side = side_at(self.position.turn(), ply - 1);
+        let level = reach_level(
+            self.alloc,
+            &mut self.memo,
+            &mut self.sets,
+            &self.position,
+            side,
+            ply,
+            &self.levels[ply as usize - 1],
+        )?;
+        push_level(&mut self.levels, level)?;
+        self.count = self.sets.count();
+        Ok(())
+    }
+
+    /// What is kept at each ply. Sets that are not of the levels are left.
+    fn kept_sets(&mut self, moves: u8, last: u8) -> Result<Vec<PlySets>, PlanError<PartName>>
+        requires last { last ≡ last_of self.old.winner self.old.position.turn moves }
+        requires some { 0 < last }
+        requires finished { last < length self.old.reach }
+        ensures kept { IfOk result (λ sets. AreKept self.old.winner self.old.position moves (sets_at (masks_of self.old.position) sets.items)) }
+        ensures within { OnOk result (IsWithin (plan_of self.old.winner self.old.position moves) self.old.budget) }
+        ensures error { IfErr result (IsPlanError (plan_of self.old.winner self.old.position moves) self.old.budget) }
+        ensures same { self.new ≡ self.old }
+    {
+        let levels = &self.levels.as_slice()[..last as usize + 1];
+        let kept = kept_levels(self.alloc, &mut self.memo, &mut self.sets, &self.position, levels)?;
+        Ok(copied(self.alloc, &self.sets, self.empties.as_slice(), kept.as_slice())?)
+    }
+
+    /// Lets go the sets that are not of the levels.
+    fn let_go(&mut self)
+        ensures { self.new ≡ self.old }
+    {
+        self.sets.truncate(self.count);
     }
 }
 
 /// Within a budget of states for a step, the sets of the positions from which the winner mates within so many moves of his own, ply by ply;
 /// or the first step that needs more states.
-pub fn solve(alloc: Global, p: &Position, winner: Side, moves: u8, budget: u32) -> Result<Solved, SolveError>
+pub fn solve(
+    alloc: Global,
+    p: &Position,
+    winner: Side,
+    moves: u8,
+    budget: u32,
+) -> Result<Solved, SolveError>
     requires sound { Sound p.now }
     requires men { length p.now.men ≤ 8 }
     requires moves { moves ≤ 20 }
     requires budget { (1 ≤ budget) × (budget ≤ 200000) }
     ensures game { IfOk result (IsOf p.now winner moves) }
     ensures kept { IfOk result (λ s. AreKept winner p.now moves (kept_at s)) }
-    ensures reached { IfOk result (λ s. AreReachedTo p.now (last_ply winner p.now.turn moves) (reach_at s)) }
+    ensures reached { IfOk result (λ s. AreReachedTo p.now (last_of winner p.now.turn moves) (reach_at s)) }
     ensures within { OnOk result (IsWithin (plan_of winner p.now moves) budget) }
     ensures error { IfErr result (IsSolveError (plan_of winner p.now moves) moves budget) }
 {

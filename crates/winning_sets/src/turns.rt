@@ -1,0 +1,36 @@
+//! Plies and turns.
+ghost use Rattle.std.specs.Prelude.{◌≡◌, ◌≤◌};
+ghost use Rattle.game_rules.specs.Game.{other as other_of};
+ghost use Rattle.mate_plan.specs.Plan.{turn_at};
+ghost use Rattle.mate_plan.specs.PlanOf.{last_ply as last_of};
+
+use chess_game::Side;
+
+/// The other side.
+fn other(side: Side) -> Side
+    ensures { result ≡ other_of side }
+{
+    match side {
+        Side::White => Side::Black,
+        Side::Black => Side::White,
+    }
+}
+
+/// Whose turn it is after so many moves.
+pub(crate) fn side_at(first: Side, ply: u8) -> Side
+    ensures { result ≡ turn_at first ply }
+{
+    if ply % 2 == 0 { first } else { other(first) }
+}
+
+/// The last ply of so many moves of the winner. He is to move there, and has no move left.
+pub(crate) fn last_ply(winner: Side, first: Side, moves: u8) -> u8
+    requires { moves ≤ 20 }
+    ensures last { result ≡ last_of winner first moves }
+    ensures few { result ≤ 41 }
+{
+    match (winner, first) {
+        (Side::White, Side::White) | (Side::Black, Side::Black) => 2 * moves,
+        (Side::White, Side::Black) | (Side::Black, Side::White) => 2 * moves + 1,
+    }
+}
