@@ -1,7 +1,7 @@
 -- A report of `decide` is exact.
-use Rattle.std.proofs.Common.{◌≡◌, ◌↔◌, ◌⊎◌, ℕ, List, Result, Ok, inl, inr, refl, ap, sym, subst, ◌∙◌, get_or, arith}
+use Rattle.std.proofs.Common.{◌≡◌, ◌↔◌, ℕ, List, Result, Ok, inl, inr, refl, ap, sym, subst, ◌∙◌, get_or, arith}
 use Rattle.desk_base.specs.Files.{Files}
-use Rattle.desk_base.specs.Lines.{Lines, lines_of}
+use Rattle.desk_base.specs.Lines.{lines_of}
 use Rattle.game_rules.specs.Game.{Position, Sound, Value}
 use Rattle.game_rules.specs.declared.men.Side.TheVariants.{White}
 use Rattle.chess_game.proofs.FaultLemmas.{fault_unsound}
