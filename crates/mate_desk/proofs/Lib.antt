@@ -1,3 +1,4 @@
+pub mod Exact
 pub mod OneReport
 pub mod OneStep
 pub mod PlanOnce

@@ -1,5 +1,5 @@
 -- What a run reports.
-use Rattle.std.specs.Prelude.{◌≡◌, ◌⊎◌, ℕ, ◌<◌, ◌≤◌, List, ◌∷◌, ◌++◌, false, Option, Some, None, Result, Ok, Err, codes, count_by, is_some, unwrap_or}
+use Rattle.std.specs.Prelude.{◌≡◌, ◌↔◌, ◌⊎◌, ℕ, ◌<◌, ◌≤◌, List, ◌∷◌, ◌++◌, false, Option, Some, None, Result, Ok, Err, codes, count_by, is_some, unwrap_or}
 use Rattle.std.specs.Fmt.{decimal}
 use Rattle.desk_base.specs.Files.{Files}
 use Rattle.desk_base.specs.Lines.{Lines}
@@ -14,7 +14,7 @@ use Rattle.mate_plan.specs.PlanOf.{plan_of}
 use Rattle.winning_sets.specs.Solve.{IsWithin, IsSolveError}
 use Rattle.winning_sets.specs.declared.names.SolveError.TheVariants as solve_error
 use Rattle.winning_sets.specs.declared.names.StepName.{StepName}
-use Rattle.mate_desk.specs.Answer.{Answer, writes, exceeds}
+use Rattle.mate_desk.specs.Answer.{Answer, writes, exceeds, budget_line}
 use Rattle.mate_desk.specs.Order.{Ordered, usage_line}
 use Rattle.mate_desk.specs.Outcome.{Report, refusal_as, report_of}
 use Rattle.mate_desk.specs.Text.{Text, TextAt, whole, refused, is_end, refusal_line}
@@ -31,11 +31,16 @@ unsound_line (KingGone s) = codes "unsound king gone " ++ side_letter s ∷ code
 unsound_line (SameSquare i j) = codes "unsound same square " ++ decimal i ++ codes " " ++ decimal j ++ codes "\n"
 unsound_line OtherInCheck = codes "unsound other side in check\n"
 
+-- the two lines of a verdict
+abbrev pub mate_line : ℕ → List ℕ
+mate_line n = codes "mate in " ++ decimal n ++ codes "\n"
+
+abbrev pub no_mate_line : ℕ → List ℕ
+no_mate_line n = codes "no mate in " ++ decimal n ++ codes "\n"
+
 -- the line says whether White mates within n moves of his own, whatever is replied
 abbrev pub IsVerdict : ℕ → Position → List ℕ → Type 0
-IsVerdict n p line =
-    ((line ≡ codes "mate in " ++ decimal n ++ codes "\n") × Value White n p)
-    ⊎ ((line ≡ codes "no mate in " ++ decimal n ++ codes "\n") × (Value White n p → ⊥))
+IsVerdict n p line = ((line ≡ mate_line n) × Value White n p) ⊎ ((line ≡ no_mate_line n) × (Value White n p → ⊥))
 
 -- no step of the plan by which White is to mate within n moves exceeds the budget
 abbrev pub FitsBudget : Position → ℕ → ℕ → Type 0
@@ -132,3 +137,20 @@ OneReport =
     → Reports words bytes files one
     → Reports words bytes files other
     → one ≡ other
+
+-- What a run of `decide` reports of a sound position: it is done, with the one line exactly where White mates within n moves of his own,
+-- and the other exactly where he does not; or it names the first step that exceeds the budget.
+pub record IsExact (n budget : ℕ) (p : Position) (report : Report) : Type 0 where
+  pub cause : (report.status ≡ is.Done) ⊎ ((report.status ≡ is.Budget) × ((step : StepName) × ExceedsAt p budget n step × (report.fault ≡ budget_line step)))
+  pub mate : report.status ≡ is.Done → (report.text ≡ mate_line n) ↔ Value White n p
+  pub no_mate : report.status ≡ is.Done → (report.text ≡ no_mate_line n) ↔ (¬ Value White n p)
+
+-- each report of `decide` on the text of a sound position is exact
+abbrev pub DecidesExactly : Type 0
+DecidesExactly =
+    (words : List (List ℕ)) (bytes : List ℕ) (files : Files) (n budget : ℕ) (p : Position) (rest : Lines) (report : Report)
+    → Ordered words (Ok (orders.Decide n budget))
+    → TextAt bytes (whole p rest)
+    → Sound p
+    → Reports words bytes files report
+    → IsExact n budget p report
