@@ -1,5 +1,5 @@
 -- A plan's way back, ply by ply.
-use Rattle.std.proofs.Common.{◌≡◌, ℕ, zero, suc, ◌+◌, ◌-◌, ◌*◌, ◌%◌, ◌<◌, ◌≤◌, ◌⊎◌, inl, inr, if◌then◌else◌, Bool, true, false, List, [], ◌∷◌, ◌++◌, length, get_or, take, map, Option, Some, None, Result, refl, sym, ap, ◌∙◌, subst, arith}
+use Rattle.std.proofs.Common.{◌≡◌, ℕ, suc, ◌+◌, ◌-◌, ◌%◌, ◌<◌, ◌≤◌, inl, inr, if◌then◌else◌, Bool, true, false, List, [], ◌∷◌, ◌++◌, length, get_or, take, map, Result, refl, sym, ap, ◌∙◌, subst, arith}
 use Rattle.std.specs.Prelude.{reverse}
 use Rattle.std.specs.List.{All}
 use Rattle.std.proofs.lemmas.List.{length-append, length-map, length-reverse, length-take-le, map_more, map_push, reverse-append, take_all}
@@ -7,7 +7,6 @@ use Rattle.std.proofs.lemmas.List.Elements.{All-push, All-take}
 use Rattle.auto_core.specs.Automaton.{Automaton}
 use Rattle.game_rules.specs.Game.{Position}
 use Rattle.game_rules.specs.declared.men.Side.{Side}
-use Rattle.lin_formula.specs.declared.formula.SetId.{SetId}
 use Rattle.set_plan.specs.Program.{Give, bind}
 use Rattle.rule_formula.specs.Fits.{masks_of}
 use Rattle.set_plan.specs.Outcome.{Answers, Ends, IsPlanError}

@@ -1,6 +1,5 @@
 -- The automaton of the set without a tuple, and the tracks of masks.
-use Rattle.std.proofs.Common.{◌≡◌, ◌≢◌, ◌↔◌, ℕ, zero, suc, ◌+◌, ◌*◌, ◌^◌, ◌<◌, ◌≤◌, if◌then◌else◌, Bool, true, false, List, [], ◌∷◌, ◌++◌, length, get_or, IsTrue, refl, sym, ap, ◌∙◌, subst, arith}
-use Rattle.std.specs.List.{All}
+use Rattle.std.proofs.Common.{◌≡◌, ℕ, zero, suc, ◌*◌, ◌^◌, ◌<◌, ◌≤◌, Bool, false, List, [], ◌∷◌, ◌++◌, length, get_or, refl, sym, ap, ◌∙◌, subst, arith}
 use Rattle.std.proofs.lemmas.List.{length-append}
 use Rattle.std.proofs.lemmas.List.Elements.{All-cons, All-get_or, All-nil}
 use Rattle.std.proofs.lemmas.Nat.{pow_pos}
@@ -9,8 +8,8 @@ use Rattle.track_word.specs.Tracks.{IsAscending}
 use Rattle.track_word.specs.Word.{IsWord, repeat_first}
 use Rattle.letter_diagram.specs.declared.diagrams.Shape.{Shape}
 use Rattle.letter_diagram.specs.Diagram.{LooksBelow, map_at}
-use Rattle.auto_core.specs.Automaton.{Accepts, Automaton, IsAutomaton, is_final, state_of, width}
-use Rattle.auto_core.specs.Reduced.{IsReachedState, IsReduced}
+use Rattle.auto_core.specs.Automaton.{Accepts, Automaton, IsAutomaton, is_final, state_of}
+use Rattle.auto_core.specs.Reduced.{IsReduced}
 use Rattle.auto_core.specs.Rows.{AreRows}
 use Rattle.game_rules.specs.declared.men.Man.{Man}
 use Rattle.lin_formula.specs.Tree.{Among, Or}

@@ -1,5 +1,5 @@
 -- A plan's way forward, ply by ply, and what is finished of it.
-use Rattle.std.proofs.Common.{◌≡◌, ◌⊎◌, ℕ, zero, suc, ◌+◌, ◌-◌, ◌<◌, ◌≤◌, List, [], ◌∷◌, ◌++◌, length, get_or, take, map, Option, Some, None, Result, Ok, Err, inl, inr, refl, sym, ap, ◌∙◌, subst, arith}
+use Rattle.std.proofs.Common.{◌≡◌, ℕ, zero, suc, ◌+◌, ◌<◌, ◌≤◌, List, [], ◌∷◌, ◌++◌, length, get_or, take, map, inl, inr, sym, ap, ◌∙◌, subst, arith}
 use Rattle.std.specs.Prelude.{reverse}
 use Rattle.std.specs.List.{All}
 use Rattle.std.proofs.lemmas.Bool.{cases_lt}
@@ -10,13 +10,13 @@ use Rattle.game_rules.specs.Game.{Position, Sound}
 use Rattle.game_rules.specs.declared.men.Side.{Side}
 use Rattle.rule_formula.specs.Fits.{mask_of, masks_of}
 use Rattle.set_plan.specs.Program.{Give}
-use Rattle.set_plan.specs.Outcome.{Answers, Ends, IsPlanError, Stops}
+use Rattle.set_plan.specs.Outcome.{Ends, IsPlanError}
 use Rattle.set_plan.specs.Sets.{Grows}
 use Rattle.set_plan.specs.declared.stop.PlanError.{PlanError}
-use Rattle.set_plan.proofs.Composition.{Answers-later, Ends-bind, Ends-give, Error-bind, Error-later}
+use Rattle.set_plan.proofs.Composition.{Ends-bind, Ends-give, Error-bind, Error-later}
 use Rattle.mate_plan.specs.Levels.{AreNames, level_of}
 use Rattle.mate_plan.specs.Plan.{Level, Program, Rules, backward_from, forward, plan, point_level, reach_level, reach_more, turn_at}
-use Rattle.mate_plan.specs.PlanOf.{last_ply, plan_of, plan_to, rules_of}
+use Rattle.mate_plan.specs.PlanOf.{plan_to, rules_of}
 use Rattle.mate_plan.specs.declared.names.PartName.{PartName}
 use Rattle.winning_sets.specs.Finished.{AreFinished}
 use Rattle.winning_sets.specs.Lent.{AreEmpties}

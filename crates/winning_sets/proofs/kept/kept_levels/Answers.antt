@@ -1,9 +1,9 @@
-use Rattle.std.proofs.Common.{◌≡◌, ℕ, suc, ◌+◌, ◌-◌, get_or, length, List, map, ap, sym, subst, ◌∙◌, arith}
+use Rattle.std.proofs.Common.{◌≡◌, suc, ◌+◌, ◌-◌, get_or, length, List, map, sym, subst, ◌∙◌, arith}
 use Rattle.std.proofs.lemmas.Result.{err_from_is_err_and}
 use Rattle.rule_formula.specs.Fits.{masks_of}
 use Rattle.set_plan.specs.Outcome.{Ends, IsPlanError}
 use Rattle.mate_plan.specs.Levels.{level_of}
-use Rattle.mate_plan.specs.Plan.{Level, kept_level}
+use Rattle.mate_plan.specs.Plan.{kept_level}
 use Rattle.mate_plan.specs.PlanOf.{rules_of}
 use Rattle.winning_sets.proofs.Backwards.{IsBack, back_error, back_last, back_next, whole_back}
 use Rattle.winning_sets.proofs.LentLemmas.{Names}
@@ -56,8 +56,7 @@ loop-left-preserved c =
     let more = c.in_ok-level.level in
     let said : Ends (kept_level (rules_of p) p.turn ply left (level r0) (level r1) (level k1)) c.args.memo.now.budget (level_of new (masks_of p) more) =
     subst (λ b. Ends (kept_level (rules_of p) p.turn ply left (level r0) (level r1) (level k1)) b (level_of new (masks_of p) more)) c.loop-left.invariant.1 c.in_ok-level.ensures.answers in
-    let back = back_next p c.args.memo.now.budget c.args.sets.now reach table c.loop-left.kept.items ply left r0 r1 k1 sum first c.loop-left.invariant.0 is0 is1 is_kept new more c.in_ok-level.ensures.grows c.in_ok-level.ensures.names said in
-    (
+    let back = back_next p c.args.memo.now.budget c.args.sets.now reach table c.loop-left.kept.items ply left r0 r1 k1 sum first c.loop-left.invariant.0 is0 is1 is_kept new more c.in_ok-level.ensures.grows c.in_ok-level.ensures.names said in (
       subst (λ (kept : List Names). IsBack p c.args.memo.now.budget (whole_back p c.args.sets.now reach) c.args.sets.now new reach kept (left + 1)) (sym c.in_ok-push_level-2.ensures.ok) back,
       c.in_ok-level.ensures.budget ∙ c.loop-left.invariant.1,
     )
