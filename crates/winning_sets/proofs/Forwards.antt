@@ -6,7 +6,7 @@ use Rattle.std.proofs.lemmas.Bool.{cases_lt}
 use Rattle.std.proofs.lemmas.List.{length-append, map_push, reverse-append, take-append-le, take_all}
 use Rattle.std.proofs.lemmas.List.Elements.{All-get_or, All-push, All-take}
 use Rattle.auto_core.specs.Automaton.{Automaton}
-use Rattle.game_rules.specs.Game.{Position, Sound}
+use Rattle.game_rules.specs.Game.{Position}
 use Rattle.game_rules.specs.declared.men.Side.{Side}
 use Rattle.rule_formula.specs.Fits.{mask_of, masks_of}
 use Rattle.set_plan.specs.Program.{Give}
@@ -88,18 +88,6 @@ reverse_push xs x = reverse-append xs (x ∷ [])
 module _ (p : Position) (budget : ℕ) where
   abbrev LevelsIn : List Automaton → List Names → List Level
   LevelsIn table levels = reverse (map (level_of table (masks_of p)) levels)
-
-  -- nothing is finished at first
-  pub finished_none : (masks : List ℕ) (empties table : List Automaton) → Sound p → length p.men ≤ 8 → AreFinished p budget masks empties table []
-  finished_none masks empties table sound few = record {
-    sound = sound;
-    few = few;
-    short = omega arith;
-    names = λ k d within. absurd (omega (arith, within));
-    masks_are = λ within. absurd (omega (arith, within));
-    empties_are = λ within. absurd (omega (arith, within));
-    ends = λ ply within. absurd (omega (arith, within));
-  }
 
   module _ (masks : List ℕ) (empties old new : List Automaton) (levels : List Names) (is : AreFinished p budget masks empties old levels) (grows : Grows old new) where
     grown-names : All (AreNames p.men new (masks_of p)) levels

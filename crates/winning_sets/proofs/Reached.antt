@@ -1,7 +1,6 @@
 -- The sets that a solver lends.
-use Rattle.std.proofs.Common.{◌≡◌, ◌⊎◌, ℕ, zero, suc, ◌<◌, ◌≤◌, List, [], ◌∷◌, length, get_or, map, Option, Some, None, inl, inr, refl, sym, ap, ◌∙◌, subst, arith}
+use Rattle.std.proofs.Common.{◌≡◌, ℕ, zero, suc, ◌<◌, List, [], ◌∷◌, length, get_or, map, Option, Some, None, inr, refl, sym, ap, ◌∙◌, subst, arith}
 use Rattle.std.specs.Prelude.{IfSome, IsSomeAnd, option_and_then, slice_get}
-use Rattle.std.proofs.lemmas.Bool.{cases_lt}
 use Rattle.std.proofs.lemmas.List.{get_or_default, length-map}
 use Rattle.std.proofs.lemmas.List.Elements.{All-get_or}
 use Rattle.std.proofs.lemmas.Option.{slice_get-get_or}
@@ -99,13 +98,6 @@ module _ (p : Position) (winner : Side) (budget : ℕ) (masks : List ℕ) (empti
             tuples = subst (λ o. IsSomeAnd o (HasTuplesOf (Reach p ply) mask)) is_there (are.found ply mask last game);
             formed = are.formed ply mask a is_there;
           }
-
-  -- there is none at the first ply, nor past the last
-  pub none_past : (ply mask : ℕ) → (ply ≡ 0) ⊎ (length levels ≤ ply) → IsUnreached (record { position = p; winner = winner; budget = budget; reach = map (sets_or table empties) levels }) ply mask
-  none_past ply mask (inl first) = inl first
-  none_past ply mask (inr past) =
-      let count = length-map levels (sets_or table empties) in
-      elim (cases_lt 0 ply) [ inl some ↦ inr (inl (omega (arith, some, past, count))) | inr none ↦ inl (omega (arith, none)) ]
 
   -- nor of a mask that is none of the position
   pub none_of : (ply mask : ℕ) → 0 < length levels → ((j : ℕ) → j < length masks → get_or masks j 0 ≡ mask → ⊥) → IsUnreached (record { position = p; winner = winner; budget = budget; reach = map (sets_or table empties) levels }) ply mask
