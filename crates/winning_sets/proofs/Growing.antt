@@ -16,9 +16,6 @@ use Rattle.winning_sets.specs.Lent.{set_or, sets_or}
 use Rattle.winning_sets.proofs.KeptTakes.{same_some}
 use Rattle.winning_sets.proofs.LentLemmas.{Names}
 
-pub grows-self : (table : List Automaton) → Grows table table
-grows-self table k a e = e
-
 pub grows-trans : (x y z : List Automaton) → Grows x y → Grows y z → Grows x z
 grows-trans x y z h k n a e = k n a (h n a e)
 

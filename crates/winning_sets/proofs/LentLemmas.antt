@@ -69,10 +69,6 @@ if_true : {A : Type 0} (b : Bool) (x y : A) → b ≡ true → (if b then x else
 if_true true x y e = refl
 if_true false x y e = cc
 
-if_false : {A : Type 0} (b : Bool) (x y : A) → b ≡ false → (if b then x else y) ≡ y
-if_false true x y e = cc
-if_false false x y e = refl
-
 module _ (table : List Automaton) where
   -- a mask that is not one of the masks has what it had
   level_from-other : (masks : List ℕ) (ids : Names) (level : Level) (m : ℕ) → (Contains masks m → ⊥) → level_from table level masks ids m ≡ level m
