@@ -1,5 +1,5 @@
 -- A plan's way back, ply by ply.
-use Rattle.std.proofs.Common.{◌≡◌, ℕ, zero, suc, ◌+◌, ◌-◌, ◌*◌, ◌%◌, ◌<◌, ◌≤◌, ◌⊎◌, inl, inr, if◌then◌else◌, Bool, true, false, List, [], ◌∷◌, ◌++◌, length, get_or, take, map, Option, Some, None, Result, refl, sym, ap, ◌∙◌, subst, arith}
+use Rattle.std.proofs.Common.{◌≡◌, ℕ, suc, ◌+◌, ◌-◌, ◌%◌, ◌<◌, ◌≤◌, inl, inr, if◌then◌else◌, Bool, true, false, List, [], ◌∷◌, ◌++◌, length, get_or, take, map, Result, refl, sym, ap, ◌∙◌, subst, arith}
 use Rattle.std.specs.Prelude.{reverse}
 use Rattle.std.specs.List.{All}
 use Rattle.std.proofs.lemmas.List.{length-append, length-map, length-reverse, length-take-le, map_more, map_push, reverse-append, take_all}
@@ -7,18 +7,17 @@ use Rattle.std.proofs.lemmas.List.Elements.{All-push, All-take}
 use Rattle.auto_core.specs.Automaton.{Automaton}
 use Rattle.game_rules.specs.Game.{Position}
 use Rattle.game_rules.specs.declared.men.Side.{Side}
-use Rattle.lin_formula.specs.declared.formula.SetId.{SetId}
 use Rattle.set_plan.specs.Program.{Give, bind}
 use Rattle.rule_formula.specs.Fits.{masks_of}
 use Rattle.set_plan.specs.Outcome.{Answers, Ends, IsPlanError}
 use Rattle.set_plan.specs.Sets.{Grows}
 use Rattle.set_plan.specs.declared.stop.PlanError.{PlanError}
-use Rattle.set_plan.proofs.Composition.{Ends-give, Error-bind, LeadsTo, LeadsTo-error, LeadsTo-later, LeadsTo-self}
+use Rattle.set_plan.proofs.Composition.{Ends-give, Error-bind, LeadsTo, LeadsTo-error, LeadsTo-later}
 use Rattle.mate_plan.specs.Levels.{AreNames, level_of}
 use Rattle.mate_plan.specs.Plan.{Level, Program, Rules, backward, backward_from, is_even, kept_level, lost_level, no_sets, turn_at, win_level}
 use Rattle.mate_plan.specs.PlanOf.{rules_of}
 use Rattle.mate_plan.specs.declared.names.PartName.{PartName}
-use Rattle.winning_sets.proofs.Growing.{all_names-grow, grows-self, grows-trans, levels-grow}
+use Rattle.winning_sets.proofs.Growing.{all_names-grow, grows-trans, levels-grow}
 use Rattle.winning_sets.proofs.KeptParts.{two_steps}
 use Rattle.winning_sets.proofs.LentLemmas.{Names}
 
@@ -157,23 +156,6 @@ module _ (p : Position) (budget : ℕ) (old : List Automaton) (reach : List Name
   starts : (rs : List Level) → 0 < length rs → way_back (rules_of p) p.turn rs (no_sets ∷ []) ≡ backward_from (rules_of p) p.turn rs
   starts [] none = absurd (omega (arith, none))
   starts (r ∷ rs) some = refl
-
-  -- nothing is kept at the last ply
-  pub back_first : (none : Names) → level_of old (masks_of p) none ≡ no_sets → AreNames p.men old (masks_of p) none → 0 < length reach → All (AreNames p.men old (masks_of p)) reach → IsBack p budget (whole_back p old reach) old old reach (none ∷ []) 1
-  back_first none no_level is some named =
-      let all : take (suc (length reach) - 1) reach ≡ reach = take_all (suc (length reach) - 1) reach (omega arith) in
-      let count : length (turned (masks_of p) old reach) ≡ length reach = length-reverse (map (level_of old (masks_of p)) reach) ∙ length-map reach (level_of old (masks_of p)) in
-      let same : way_back (rules_of p) p.turn (turned (masks_of p) old (take (suc (length reach) - 1) reach)) (turned (masks_of p) old (none ∷ [])) ≡ whole_back p old reach =
-      ap (λ rs. way_back (rules_of p) p.turn (turned (masks_of p) old rs) (turned (masks_of p) old (none ∷ []))) all
-      ∙ ap (λ (l : Level). way_back (rules_of p) p.turn (turned (masks_of p) old reach) (l ∷ [])) no_level
-      ∙ starts (turned (masks_of p) old reach) (omega (arith, count, some)) in
-      record {
-        grows = grows-self old;
-        reach_named = named;
-        kept_named = All-push (AreNames p.men old (masks_of p)) [] none (λ k d within. absurd (omega (arith, within))) is;
-        count = refl;
-        leads = subst (λ (m : Program (List Level)). LeadsTo m (whole_back p old reach) budget) (sym same) (LeadsTo-self (whole_back p old reach) budget);
-      }
 
   module _ (table : List Automaton) (kept : List Names) (ply left : ℕ) (r0 r1 k1 : Names) (sum : suc (ply + left) ≡ length reach) (some : 0 < left) (is : IsBack p budget (whole_back p old reach) old table reach kept left) (is0 : r0 ≡ get_or reach ply r0) (is1 : r1 ≡ get_or reach (suc ply) r1) (is_kept : k1 ≡ get_or kept (left - 1) k1) where
     abbrev taken : ℕ → Type 0

@@ -1,17 +1,13 @@
 -- The automaton of the set without a tuple, and the tracks of masks.
-use Rattle.std.proofs.Common.{◌≡◌, ◌≢◌, ◌↔◌, ℕ, zero, suc, ◌+◌, ◌*◌, ◌^◌, ◌<◌, ◌≤◌, if◌then◌else◌, Bool, true, false, List, [], ◌∷◌, ◌++◌, length, get_or, IsTrue, refl, sym, ap, ◌∙◌, subst, arith}
-use Rattle.std.specs.List.{All}
+use Rattle.std.proofs.Common.{◌≡◌, ℕ, zero, suc, ◌*◌, ◌^◌, ◌<◌, ◌≤◌, Bool, false, List, [], ◌∷◌, ◌++◌, length, get_or, refl, ap, ◌∙◌, subst, arith}
 use Rattle.std.proofs.lemmas.List.{length-append}
 use Rattle.std.proofs.lemmas.List.Elements.{All-cons, All-get_or, All-nil}
 use Rattle.std.proofs.lemmas.Nat.{pow_pos}
 use Rattle.track_word.specs.declared.tracks.Var.{Var}
 use Rattle.track_word.specs.Tracks.{IsAscending}
 use Rattle.track_word.specs.Word.{IsWord, repeat_first}
-use Rattle.letter_diagram.specs.declared.diagrams.Shape.{Shape}
-use Rattle.letter_diagram.specs.Diagram.{LooksBelow, map_at}
-use Rattle.auto_core.specs.Automaton.{Accepts, Automaton, IsAutomaton, is_final, state_of, width}
-use Rattle.auto_core.specs.Reduced.{IsReachedState, IsReduced}
-use Rattle.auto_core.specs.Rows.{AreRows}
+use Rattle.auto_core.specs.Automaton.{Accepts, Automaton, IsAutomaton, is_final, state_of}
+use Rattle.auto_core.specs.Reduced.{IsReduced}
 use Rattle.game_rules.specs.declared.men.Man.{Man}
 use Rattle.lin_formula.specs.Tree.{Among, Or}
 use Rattle.lin_formula.proofs.FreeVars.{free_vars-ascend, if_cases}
@@ -61,32 +57,6 @@ module _ (tracks : List Var) (a : Automaton) (tracks_are : a.tracks ≡ tracks) 
     };
     none = λ tuple h. never h.word h.accepts;
   }
-
--- the one row leads to the one state
-pub one_row : (tracks : List Var) (shapes : List Shape) (row : ℕ) (rows : List ℕ) (flags : List Bool) → IsAscending tracks → length tracks ≤ 20 → row < length shapes → ((letter : ℕ) → map_at shapes row letter ≡ 0) → rows ≡ row ∷ [] → flags ≡ false ∷ [] → AreRows tracks shapes row rows flags
-one_row tracks shapes row rows flags ascending few known zeros rows_are flags_are =
-    subst (AreRows tracks shapes row rows) (sym flags_are) (subst (λ (rs : List ℕ). AreRows tracks shapes row rs (false ∷ [])) (sym rows_are) are)
-  where
-    looks : (n : ℕ) → LooksBelow shapes row n
-    looks n = record { same = λ a b bits. zeros a ∙ sym (zeros b) }
-
-    within : (letter : ℕ) → map_at shapes row letter < 1
-    within letter = let is = zeros letter in omega (arith, is)
-
-    are : AreRows tracks shapes row (row ∷ []) (false ∷ [])
-    are = record {
-      ascending = ascending;
-      few_tracks = few;
-      some_state = omega arith;
-      few_states = omega arith;
-      rows_size = refl;
-      first_known = known;
-      first_narrow = looks (length tracks);
-      first_within = within;
-      rows_known = All-cons (λ node. node < length shapes) row [] known (All-nil (λ node. node < length shapes));
-      rows_narrow = All-cons (λ node. LooksBelow shapes node (length tracks)) row [] (looks (length tracks)) (All-nil (λ node. LooksBelow shapes node (length tracks)));
-      rows_within = All-cons (λ node. (letter : ℕ) → map_at shapes node letter < 1) row [] within (All-nil (λ node. (letter : ℕ) → map_at shapes node letter < 1));
-    }
 
 -- the tracks of a mask ascend
 pub tracks_ascend : (stock : List Man) (mask : ℕ) → IsAscending (tracks_of stock (is_live mask))

@@ -1,22 +1,22 @@
 -- A plan's way forward, ply by ply, and what is finished of it.
-use Rattle.std.proofs.Common.{◌≡◌, ◌⊎◌, ℕ, zero, suc, ◌+◌, ◌-◌, ◌<◌, ◌≤◌, List, [], ◌∷◌, ◌++◌, length, get_or, take, map, Option, Some, None, Result, Ok, Err, inl, inr, refl, sym, ap, ◌∙◌, subst, arith}
+use Rattle.std.proofs.Common.{◌≡◌, ℕ, zero, suc, ◌+◌, ◌<◌, ◌≤◌, List, [], ◌∷◌, ◌++◌, length, get_or, take, map, inl, inr, sym, ap, ◌∙◌, subst, arith}
 use Rattle.std.specs.Prelude.{reverse}
 use Rattle.std.specs.List.{All}
 use Rattle.std.proofs.lemmas.Bool.{cases_lt}
 use Rattle.std.proofs.lemmas.List.{length-append, map_push, reverse-append, take-append-le, take_all}
 use Rattle.std.proofs.lemmas.List.Elements.{All-get_or, All-push, All-take}
 use Rattle.auto_core.specs.Automaton.{Automaton}
-use Rattle.game_rules.specs.Game.{Position, Sound}
+use Rattle.game_rules.specs.Game.{Position}
 use Rattle.game_rules.specs.declared.men.Side.{Side}
 use Rattle.rule_formula.specs.Fits.{mask_of, masks_of}
 use Rattle.set_plan.specs.Program.{Give}
-use Rattle.set_plan.specs.Outcome.{Answers, Ends, IsPlanError, Stops}
+use Rattle.set_plan.specs.Outcome.{Ends, IsPlanError}
 use Rattle.set_plan.specs.Sets.{Grows}
 use Rattle.set_plan.specs.declared.stop.PlanError.{PlanError}
-use Rattle.set_plan.proofs.Composition.{Answers-later, Ends-bind, Ends-give, Error-bind, Error-later}
+use Rattle.set_plan.proofs.Composition.{Ends-bind, Ends-give, Error-bind, Error-later}
 use Rattle.mate_plan.specs.Levels.{AreNames, level_of}
 use Rattle.mate_plan.specs.Plan.{Level, Program, Rules, backward_from, forward, plan, point_level, reach_level, reach_more, turn_at}
-use Rattle.mate_plan.specs.PlanOf.{last_ply, plan_of, plan_to, rules_of}
+use Rattle.mate_plan.specs.PlanOf.{plan_to, rules_of}
 use Rattle.mate_plan.specs.declared.names.PartName.{PartName}
 use Rattle.winning_sets.specs.Finished.{AreFinished}
 use Rattle.winning_sets.specs.Lent.{AreEmpties}
@@ -88,18 +88,6 @@ reverse_push xs x = reverse-append xs (x ∷ [])
 module _ (p : Position) (budget : ℕ) where
   abbrev LevelsIn : List Automaton → List Names → List Level
   LevelsIn table levels = reverse (map (level_of table (masks_of p)) levels)
-
-  -- nothing is finished at first
-  pub finished_none : (masks : List ℕ) (empties table : List Automaton) → Sound p → length p.men ≤ 8 → AreFinished p budget masks empties table []
-  finished_none masks empties table sound few = record {
-    sound = sound;
-    few = few;
-    short = omega arith;
-    names = λ k d within. absurd (omega (arith, within));
-    masks_are = λ within. absurd (omega (arith, within));
-    empties_are = λ within. absurd (omega (arith, within));
-    ends = λ ply within. absurd (omega (arith, within));
-  }
 
   module _ (masks : List ℕ) (empties old new : List Automaton) (levels : List Names) (is : AreFinished p budget masks empties old levels) (grows : Grows old new) where
     grown-names : All (AreNames p.men new (masks_of p)) levels

@@ -1,8 +1,6 @@
 -- Names keep their sets where a table grows.
-use Rattle.std.proofs.Common.{◌≡◌, ℕ, zero, suc, ◌<◌, ◌≤◌, ◌-◌, ◌+◌, List, [], ◌∷◌, length, get_or, take, map, Option, Some, None, refl, sym, ap, ◌∙◌, subst, arith}
-use Rattle.std.specs.Prelude.{slice_get}
+use Rattle.std.proofs.Common.{◌≡◌, ℕ, zero, suc, ◌≤◌, List, [], ◌∷◌, length, get_or, take, map, Option, Some, None, refl, sym, ap, ◌∙◌, arith}
 use Rattle.std.specs.List.{All}
-use Rattle.std.proofs.lemmas.List.{length-take, take_all}
 use Rattle.std.proofs.lemmas.List.Elements.{All-head, All-tail, All-weaker}
 use Rattle.std.proofs.lemmas.Option.{get_or_from_slice_get}
 use Rattle.track_word.specs.declared.tracks.Var.{Var}
@@ -17,9 +15,6 @@ use Rattle.mate_plan.specs.Plan.{Level, level_with, no_sets}
 use Rattle.winning_sets.specs.Lent.{set_or, sets_or}
 use Rattle.winning_sets.proofs.KeptTakes.{same_some}
 use Rattle.winning_sets.proofs.LentLemmas.{Names}
-
-pub grows-self : (table : List Automaton) → Grows table table
-grows-self table k a e = e
 
 pub grows-trans : (x y z : List Automaton) → Grows x y → Grows y z → Grows x z
 grows-trans x y z h k n a e = k n a (h n a e)

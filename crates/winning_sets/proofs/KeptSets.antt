@@ -59,9 +59,6 @@ module _ (p : Position) (mean : RulesMean p) where
   abbrev rules : Rules
   rules = rules_of p
 
-  abbrev Fitting : Side → Position → Type 0
-  Fitting side q = Fits p side q
-
   free : (m : ℕ) → free_vars (Or (Among 0 (mask_tracks p m)) (Among 1 (mask_tracks p m))) ≡ mask_tracks p m
   free m = mean.game.tracks m 0 1
 

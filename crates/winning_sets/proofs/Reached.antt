@@ -1,8 +1,6 @@
 -- The sets that a solver lends.
-use Rattle.std.proofs.Common.{◌≡◌, ◌⊎◌, ℕ, zero, suc, ◌+◌, ◌-◌, ◌<◌, ◌≤◌, List, [], ◌∷◌, length, get_or, map, Option, Some, None, inl, inr, refl, sym, ap, ◌∙◌, subst, arith}
-use Rattle.std.specs.Prelude.{Contains, IfSome, IsSomeAnd, option_and_then, slice_get}
-use Rattle.std.specs.List.{All}
-use Rattle.std.proofs.lemmas.Bool.{cases_lt}
+use Rattle.std.proofs.Common.{◌≡◌, ℕ, zero, suc, ◌<◌, List, [], ◌∷◌, length, get_or, map, Option, Some, None, inr, refl, sym, ap, ◌∙◌, subst, arith}
+use Rattle.std.specs.Prelude.{IfSome, IsSomeAnd, option_and_then, slice_get}
 use Rattle.std.proofs.lemmas.List.{get_or_default, length-map}
 use Rattle.std.proofs.lemmas.List.Elements.{All-get_or}
 use Rattle.std.proofs.lemmas.Option.{slice_get-get_or}
@@ -11,11 +9,11 @@ use Rattle.game_rules.specs.Game.{Position}
 use Rattle.game_rules.specs.declared.men.Man.{Man}
 use Rattle.game_rules.specs.declared.men.Side.{Side}
 use Rattle.lin_formula.specs.declared.formula.SetId.{SetId}
-use Rattle.rule_formula.specs.Fits.{IsGameMask, masks_of}
+use Rattle.rule_formula.specs.Fits.{masks_of}
 use Rattle.set_plan.specs.Sets.{Grows}
 use Rattle.mate_plan.specs.Levels.{AreNames}
 use Rattle.winning_sets.specs.Finished.{AreFinished}
-use Rattle.winning_sets.specs.Lent.{AreEmpties, AreWithin, set_or, sets_or}
+use Rattle.winning_sets.specs.Lent.{AreEmpties, set_or, sets_or}
 use Rattle.winning_sets.specs.Reach.{Reach}
 use Rattle.winning_sets.specs.Solve.{HasTuplesOf, IsReachedSet, IsUnreached, SolverState, set_of, sets_at}
 use Rattle.winning_sets.proofs.Answered.{all_reached_are}
@@ -101,18 +99,11 @@ module _ (p : Position) (winner : Side) (budget : ℕ) (masks : List ℕ) (empti
             formed = are.formed ply mask a is_there;
           }
 
-  -- there is none at the first ply, nor past the last
-  pub none_past : (ply mask : ℕ) → (ply ≡ 0) ⊎ (length levels ≤ ply) → IsUnreached (record { position = p; winner = winner; budget = budget; reach = map (sets_or table empties) levels }) ply mask
-  none_past ply mask (inl first) = inl first
-  none_past ply mask (inr past) =
-      let count = length-map levels (sets_or table empties) in
-      elim (cases_lt 0 ply) [ inl some ↦ inr (inl (omega (arith, some, past, count))) | inr none ↦ inl (omega (arith, none)) ]
-
   -- nor of a mask that is none of the position
   pub none_of : (ply mask : ℕ) → 0 < length levels → ((j : ℕ) → j < length masks → get_or masks j 0 ≡ mask → ⊥) → IsUnreached (record { position = p; winner = winner; budget = budget; reach = map (sets_or table empties) levels }) ply mask
   none_of ply mask some none =
       let masks_are = is.masks_are some in
       inr (inr (λ game.
-        let (j, within, same) = ((mean p is.sound is.few).game.masks mask).1 game in
-        let less : j < length masks = omega (arith, within, ap length masks_are) in
-        none j less (ap (λ ms. get_or ms j 0) masks_are ∙ get_or_default (masks_of p) j 0 mask within ∙ same)))
+      let (j, within, same) = ((mean p is.sound is.few).game.masks mask).1 game in
+      let less : j < length masks = omega (arith, within, ap length masks_are) in
+      none j less (ap (λ ms. get_or ms j 0) masks_are ∙ get_or_default (masks_of p) j 0 mask within ∙ same)))

@@ -1,5 +1,5 @@
 -- What a solver has finished, from one state to a later one.
-use Rattle.std.proofs.Common.{◌≡◌, ℕ, suc, ◌+◌, ◌<◌, ◌≤◌, List, [], ◌∷◌, ◌++◌, length, take, map, append_assoc, refl, sym, ap, ◌∙◌, subst, arith}
+use Rattle.std.proofs.Common.{◌≡◌, ℕ, ◌≤◌, List, [], ◌∷◌, ◌++◌, length, take, map, refl, sym, ap, ◌∙◌, subst, arith}
 use Rattle.std.specs.List.{All}
 use Rattle.std.proofs.lemmas.List.{append-nil, map_push, take_all}
 use Rattle.auto_core.specs.Automaton.{Automaton}
@@ -7,28 +7,14 @@ use Rattle.game_rules.specs.Game.{Position}
 use Rattle.game_rules.specs.declared.men.Side.{Side}
 use Rattle.rule_formula.specs.Fits.{masks_of}
 use Rattle.set_plan.specs.Sets.{Grows}
-use Rattle.set_plan.specs.Outcome.{IsPlanError}
-use Rattle.set_plan.specs.declared.stop.PlanError.{PlanError}
-use Rattle.set_plan.specs.declared.stop.PlanError.TheVariants as plan_error
 use Rattle.mate_plan.specs.Levels.{AreNames}
-use Rattle.mate_plan.specs.Plan.{Program}
-use Rattle.mate_plan.specs.declared.names.PartName.{PartName}
 use Rattle.winning_sets.specs.Lent.{sets_or}
-use Rattle.winning_sets.specs.Solve.{IsSolveError, IsSolverAfter, SolverState, solve_error_of}
+use Rattle.winning_sets.specs.Solve.{IsSolverAfter, SolverState}
 use Rattle.winning_sets.proofs.Growing.{all_lent-grow, grows-take, grows-trans, take-grows}
 use Rattle.winning_sets.proofs.LentLemmas.{Names}
 
 pub after_self : (s : SolverState) → IsSolverAfter s s
 after_self s = record { position = refl; winner = refl; budget = refl; added = []; reach = sym (append-nil s.reach) }
-
-pub after_later : (s t u : SolverState) → IsSolverAfter s t → IsSolverAfter t u → IsSolverAfter s u
-after_later s t u h k = record {
-  position = k.position ∙ h.position;
-  winner = k.winner ∙ h.winner;
-  budget = k.budget ∙ h.budget;
-  added = h.added ++ k.added;
-  reach = k.reach ∙ ap (λ l. l ++ k.added) h.reach ∙ append_assoc s.reach h.added k.added;
-}
 
 -- the first sets that are finished
 pub after_first : (s t : SolverState) → t.position ≡ s.position → t.winner ≡ s.winner → t.budget ≡ s.budget → s.reach ≡ [] → IsSolverAfter s t
@@ -74,8 +60,3 @@ module _ (p : Position) (winner : Side) (empties : List Automaton) where
               ap (λ t. map (sets_or t empties) more) whole ∙ ap (map (sets_or new empties)) is ∙ map_push (sets_or new empties) levels ids
               ∙ ap (λ l. l ++ sets_or new empties ids ∷ []) (all_lent-grow (take count old) new later p.men (masks_of p) empties levels named);
         }
-
--- why a plan has no end is why there is no answer
-pub solve_error_is : {A : Type 0} (program : Program A) (moves budget : ℕ) (e : PlanError PartName) → IsPlanError program budget e → IsSolveError program moves budget (solve_error_of moves e)
-solve_error_is program moves budget (plan_error.Over name) h = (refl, h)
-solve_error_is program moves budget plan_error.Memory h = tt

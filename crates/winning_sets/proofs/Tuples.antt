@@ -1,10 +1,9 @@
 -- The coordinates of a position of a stock.
-use Rattle.std.proofs.Common.{◌≡◌, ℕ, zero, suc, ◌+◌, ◌%◌, ◌≤◌, Bool, List, length, Some, ◌<◌, inl, inr, ◌⊎◌, refl, sym, ap, ◌∙◌, arith}
+use Rattle.std.proofs.Common.{◌≡◌, ℕ, zero, suc, ◌+◌, ◌%◌, ◌≤◌, Bool, List, length, Some, inl, inr, ◌⊎◌, refl, sym, ap, ◌∙◌, arith}
 use Rattle.std.proofs.lemmas.Bool.{cases_lt}
 use Rattle.std.proofs.lemmas.List.{length-map}
 use Rattle.std.proofs.lemmas.Option.{slice_get_within}
-use Rattle.track_word.specs.declared.tracks.Var.{Var}
-use Rattle.track_word.specs.Tracks.{Values, values_at}
+use Rattle.track_word.specs.Tracks.{Values}
 use Rattle.game_rules.specs.Game.{Position, man_at, other}
 use Rattle.game_rules.specs.declared.men.Man.{Man}
 use Rattle.game_rules.specs.declared.men.Side.{Side}

@@ -51,7 +51,9 @@ fn kept_at(
     if left % 2 == 0 {
         win_level(alloc, memo, sets, p, side, ply, reach, next_kept)
     } else {
-        lost_level(alloc, memo, sets, p, side, ply, reach, next_reach, next_kept)
+        lost_level(
+            alloc, memo, sets, p, side, ply, reach, next_reach, next_kept,
+        )
     }
 }
 

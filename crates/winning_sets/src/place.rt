@@ -28,12 +28,7 @@ fn set_in(sets: &[Auto], k: usize) -> Option<&Auto>
 }
 
 /// The set of a ply and a mask, where each ply has one for each of the masks.
-pub(crate) fn set_at<'a>(
-    masks: &[u8],
-    plies: &'a [PlySets],
-    ply: u8,
-    mask: u8,
-) -> Option<&'a Auto>
+pub(crate) fn set_at<'a>(masks: &[u8], plies: &'a [PlySets], ply: u8, mask: u8) -> Option<&'a Auto>
     ensures { option_copied result ≡ sets_at masks.now plies.now ply mask }
 {
     let k = place_of(masks, mask)?;

@@ -153,7 +153,14 @@ impl Solver {
         let empties = empty_sets(self.alloc, &self.position, all.as_slice())?;
         let mut kept = Vec::new(self.alloc);
         kept.push(PlySets::new(empties))?;
-        Ok(Solved::new(self.position, self.winner, moves, all, kept, Vec::new(self.alloc)))
+        Ok(Solved::new(
+            self.position,
+            self.winner,
+            moves,
+            all,
+            kept,
+            Vec::new(self.alloc),
+        ))
     }
 
     /// The answer with what is kept at each ply.
@@ -239,8 +246,19 @@ impl Solver {
         ensures same { self.new ≡ self.old }
     {
         let levels = &self.levels.as_slice()[..last as usize + 1];
-        let kept = kept_levels(self.alloc, &mut self.memo, &mut self.sets, &self.position, levels)?;
-        Ok(copied(self.alloc, &self.sets, self.empties.as_slice(), kept.as_slice())?)
+        let kept = kept_levels(
+            self.alloc,
+            &mut self.memo,
+            &mut self.sets,
+            &self.position,
+            levels,
+        )?;
+        Ok(copied(
+            self.alloc,
+            &self.sets,
+            self.empties.as_slice(),
+            kept.as_slice(),
+        )?)
     }
 
     /// Lets go the sets that are not of the levels.

@@ -63,7 +63,7 @@ fn without_moves_there_is_no_step(rt: HostRuntime) -> Result<(), Fail> {
 #[test]
 fn two_kings_do_not_mate(rt: HostRuntime) -> Result<(), Fail> {
     let p = two_kings()?;
-    let solved = solve(rt.alloc(), &p, Side::White, 1, 1000)?;
+    let solved = solve(rt.alloc(), &p, Side::White, 1, 100_000)?;
     assert!(rt; !solved.verdict());
     assert_eq!(rt; solved.last_ply(), 2);
     assert!(rt; solved.reach(2, 3).is_some());

@@ -1,4 +1,4 @@
-use Rattle.std.proofs.Common.{◌≡◌, false, List, Bool, [], ◌∷◌, ◌++◌, ap, ◌∙◌}
+use Rattle.std.proofs.Common.{false, List, Bool, [], ◌∷◌, ◌++◌, ap, ◌∙◌}
 use Rattle.winning_sets.proofs.Empties.{empty_on}
 use Rattle.winning_sets.proofs.empty.empty_set.Goals as goal
 

@@ -1,64 +1,57 @@
-use Rattle.std.proofs.Common.{◌≡◌, ℕ, suc, ◌+◌, ◌-◌, get_or, length, List, map, ap, sym, subst, ◌∙◌, arith}
+use Rattle.std.proofs.Common.{◌≡◌, ℕ, suc, ◌+◌, ◌-◌, ◌≤◌, get_or, length, List, map, sym, subst, ◌∙◌, arith}
 use Rattle.std.proofs.lemmas.Result.{err_from_is_err_and}
 use Rattle.rule_formula.specs.Fits.{masks_of}
 use Rattle.set_plan.specs.Outcome.{Ends, IsPlanError}
 use Rattle.mate_plan.specs.Levels.{level_of}
-use Rattle.mate_plan.specs.Plan.{Level, kept_level}
+use Rattle.mate_plan.specs.Plan.{Level, Program, kept_level}
 use Rattle.mate_plan.specs.PlanOf.{rules_of}
 use Rattle.winning_sets.proofs.Backwards.{IsBack, back_error, back_last, back_next, whole_back}
 use Rattle.winning_sets.proofs.LentLemmas.{Names}
+use Rattle.winning_sets.proofs.kept.kept_levels.Goals.{After-kept_at}
 use Rattle.winning_sets.proofs.kept.kept_levels.Goals as goal
+
+-- the ply of this turn of the loop
+abbrev ply : After-kept_at → ℕ
+ply c = length c.args.reach.now - 1 - c.loop-left.left
+
+before_last : (c : After-kept_at) → suc (ply c + c.loop-left.left) ≡ length c.args.reach.now
+before_last c = omega (arith, c.loop-left.auto.left, c.loop-left-test.true)
+
+next_reach : (c : After-kept_at) → c.index-reach-ply-in-loop-left.result ≡ get_or c.args.reach.now (suc (ply c)) c.index-reach-ply-in-loop-left.result
+next_reach c =
+    let names = c.index-reach-ply-in-loop-left.result in
+    let next : ply c + 1 ≡ suc (ply c) = omega arith in
+    subst (λ n. names ≡ get_or c.args.reach.now n names) next c.index-reach-ply-in-loop-left.is
+
+-- what it computes
+abbrev part : After-kept_at → Program Level
+part c =
+    let level = level_of c.loop-left.sets (masks_of c.args.p.now) in
+    kept_level (rules_of c.args.p.now) c.args.p.now.turn (ply c) c.loop-left.left (level c.index-reach-ply.result) (level c.index-reach-ply-in-loop-left.result) (level c.index.result.now)
 
 pub returns-in_err-level-clause-answers : goal.returns-in_err-level-clause-answers
 returns-in_err-level-clause-answers c =
     let why = err_from_is_err_and c.from_residual-in_err-level.result c.from_residual-in_err-level.ensures.1 in
-    let p = c.args.p.now in
-    let reach = c.args.reach.now in
-    let table = c.loop-left.sets in
-    let left = c.loop-left.left in
-    let ply = length reach - 1 - left in
-    let first = c.loop-left.auto.left in
-    let within = c.loop-left-test.true in
-    let sum : suc (ply + left) ≡ length reach = omega arith in
-    let next : ply + 1 ≡ suc ply = omega arith in
-    let r0 = c.index-reach-ply.result in
-    let r1 = c.index-reach-ply-in-loop-left.result in
-    let k1 = c.index.result.now in
-    let is0 : r0 ≡ get_or reach ply r0 = c.index-reach-ply.is in
-    let is1 : r1 ≡ get_or reach (suc ply) r1 = subst (λ n. r1 ≡ get_or reach n r1) next c.index-reach-ply-in-loop-left.is in
-    let is_kept : k1 ≡ get_or c.loop-left.kept.items (left - 1) k1 = c.index.ensures in
+    let turn = (goal.at.returns-in_err-level-clause-answers c).After-kept_at in
     let error = c.in_err-level.field-0.0 in
-    let level = level_of table (masks_of p) in
-    let said : IsPlanError (kept_level (rules_of p) p.turn ply left (level r0) (level r1) (level k1)) c.args.memo.now.budget error =
-    subst (λ b. IsPlanError (kept_level (rules_of p) p.turn ply left (level r0) (level r1) (level k1)) b error) c.loop-left.invariant.1 c.in_err-level.ensures.answers in
+    let budget = c.args.memo.now.budget in
+    let said = subst (λ b. IsPlanError (part turn) b error) c.loop-left.invariant.1 c.in_err-level.ensures.answers in
     rw (why.1, why.2)
-    (back_error p c.args.memo.now.budget c.args.sets.now reach table c.loop-left.kept.items ply left r0 r1 k1 sum first c.loop-left.invariant.0 is0 is1 is_kept error said)
+    (back_error c.args.p.now budget c.args.sets.now c.args.reach.now c.loop-left.sets c.loop-left.kept.items (ply turn) c.loop-left.left c.index-reach-ply.result c.index-reach-ply-in-loop-left.result c.index.result.now
+    (before_last turn) c.loop-left.auto.left c.loop-left.invariant.0 c.index-reach-ply.is (next_reach turn) c.index.ensures error said)
 
 pub loop-left-preserved : goal.loop-left-preserved
 loop-left-preserved c =
+    let turn = (goal.at.loop-left-preserved c).After-kept_at in
     let p = c.args.p.now in
-    let reach = c.args.reach.now in
-    let table = c.loop-left.sets in
-    let left = c.loop-left.left in
-    let ply = length reach - 1 - left in
-    let first = c.loop-left.auto.left in
-    let within = c.loop-left-test.true in
-    let sum : suc (ply + left) ≡ length reach = omega arith in
-    let next : ply + 1 ≡ suc ply = omega arith in
-    let r0 = c.index-reach-ply.result in
-    let r1 = c.index-reach-ply-in-loop-left.result in
-    let k1 = c.index.result.now in
-    let is0 : r0 ≡ get_or reach ply r0 = c.index-reach-ply.is in
-    let is1 : r1 ≡ get_or reach (suc ply) r1 = subst (λ n. r1 ≡ get_or reach n r1) next c.index-reach-ply-in-loop-left.is in
-    let is_kept : k1 ≡ get_or c.loop-left.kept.items (left - 1) k1 = c.index.ensures in
-    let level = level_of table (masks_of p) in
+    let budget = c.args.memo.now.budget in
     let new = c.kept_at.new.sets in
     let more = c.in_ok-level.level in
-    let said : Ends (kept_level (rules_of p) p.turn ply left (level r0) (level r1) (level k1)) c.args.memo.now.budget (level_of new (masks_of p) more) =
-    subst (λ b. Ends (kept_level (rules_of p) p.turn ply left (level r0) (level r1) (level k1)) b (level_of new (masks_of p) more)) c.loop-left.invariant.1 c.in_ok-level.ensures.answers in
-    let back = back_next p c.args.memo.now.budget c.args.sets.now reach table c.loop-left.kept.items ply left r0 r1 k1 sum first c.loop-left.invariant.0 is0 is1 is_kept new more c.in_ok-level.ensures.grows c.in_ok-level.ensures.names said in
+    let said = subst (λ b. Ends (part turn) b (level_of new (masks_of p) more)) c.loop-left.invariant.1 c.in_ok-level.ensures.answers in
+    let back = back_next p budget c.args.sets.now c.args.reach.now c.loop-left.sets c.loop-left.kept.items (ply turn) c.loop-left.left c.index-reach-ply.result c.index-reach-ply-in-loop-left.result c.index.result.now
+    (before_last turn) c.loop-left.auto.left c.loop-left.invariant.0 c.index-reach-ply.is (next_reach turn) c.index.ensures new more c.in_ok-level.ensures.grows c.in_ok-level.ensures.names said in
     (
-      subst (λ (kept : List Names). IsBack p c.args.memo.now.budget (whole_back p c.args.sets.now reach) c.args.sets.now new reach kept (left + 1)) (sym c.in_ok-push_level-2.ensures.ok) back,
+      subst (λ (kept : List Names). IsBack p budget (whole_back p c.args.sets.now c.args.reach.now) c.args.sets.now new c.args.reach.now kept (c.loop-left.left + 1)) (sym c.in_ok-push_level-2.ensures.ok) back,
       c.in_ok-level.ensures.budget ∙ c.loop-left.invariant.1,
     )
 
@@ -66,8 +59,7 @@ pub returns-clause-answers : goal.returns-clause-answers
 returns-clause-answers c =
     let p = c.args.p.now in
     let reach = c.args.reach.now in
-    let first = c.loop-left.auto.left in
     let last = c.loop-left.auto.left-end c.requires.some in
     let whole : c.loop-left.left ≡ length reach = omega (arith, c.loop-left-test.false) in
-    let ends = back_last p c.args.memo.now.budget c.args.sets.now reach c.loop-left.sets c.loop-left.kept.items c.loop-left.left first whole c.loop-left.invariant.0 in
+    let ends = back_last p c.args.memo.now.budget c.args.sets.now reach c.loop-left.sets c.loop-left.kept.items c.loop-left.left c.loop-left.auto.left whole c.loop-left.invariant.0 in
     subst (λ (kept : List Names). Ends (whole_back p c.args.sets.now reach) c.args.memo.now.budget (map (level_of c.loop-left.sets (masks_of p)) kept)) (sym c.reverse.ensures.items) ends

@@ -1,10 +1,9 @@
-use Rattle.std.proofs.Common.{◌≡◌, ◌↔◌, IsTrue, Option, Some, None, List, length, ap, subst, sym, ◌∙◌, ℤ}
+use Rattle.std.proofs.Common.{◌≡◌, Option, Some, None, length, ap, subst, sym, ◌∙◌}
 use Rattle.std.specs.Prelude.{IsSomeAnd, option_copied}
 use Rattle.auto_core.specs.Automaton.{Automaton}
 use Rattle.auto_core.specs.Integers.{IsAccepted}
 use Rattle.rule_formula.specs.Fits.{mask_of}
-use Rattle.rule_formula.specs.Placed.{is_live, tuple_of}
-use Rattle.rule_formula.specs.Trees.{tracks_of}
+use Rattle.rule_formula.specs.Placed.{tuple_of}
 use Rattle.rule_formula.proofs.FitLemmas.{mask_one}
 use Rattle.winning_sets.specs.Solve.{kept_at}
 use Rattle.winning_sets.proofs.Tuples.{tuple_count}
@@ -31,8 +30,7 @@ pub returns-in-Some : goal.returns-in-Some
 returns-in-Some c =
     let same = c.as_slice.ensures.value ∙ c.coordinates.ensures in
     let some = here (goal.at.returns-in-Some c).In-Some in
-    let Has : Option Automaton → Type 0 = λ o. IsSomeAnd o (λ a. IsAccepted a (tuple_of c.args.p.now)) in
-    (
+    let Has : Option Automaton → Type 0 = λ o. IsSomeAnd o (λ a. IsAccepted a (tuple_of c.args.p.now)) in (
       λ is. subst Has (sym some) (subst (IsAccepted c.in-Some.set.now) same (c.member.ensures.member.0 is)),
       λ has. c.member.ensures.member.1 (subst (IsAccepted c.in-Some.set.now) (sym same) (subst Has some has)),
     )

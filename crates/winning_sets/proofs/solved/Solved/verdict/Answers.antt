@@ -1,4 +1,4 @@
-use Rattle.std.proofs.Common.{◌≡◌, ◌↔◌, IsTrue, ap, subst}
+use Rattle.std.proofs.Common.{◌↔◌, IsTrue, ap, subst}
 use Rattle.game_rules.specs.Game.{Position}
 use Rattle.winning_sets.specs.Solve.{IsKeptIn}
 use Rattle.winning_sets.proofs.Answered.{start_kept}

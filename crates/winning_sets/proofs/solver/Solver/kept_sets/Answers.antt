@@ -8,7 +8,7 @@ use Rattle.auto_core.specs.Automaton.{Automaton}
 use Rattle.rule_formula.specs.Fits.{masks_of}
 use Rattle.set_plan.specs.Outcome.{Ends, IsPlanError}
 use Rattle.mate_plan.specs.Levels.{AreNames, level_of}
-use Rattle.mate_plan.specs.Plan.{Level, backward_from}
+use Rattle.mate_plan.specs.Plan.{backward_from}
 use Rattle.mate_plan.specs.PlanOf.{last_ply, plan_of, plan_to, rules_of}
 use Rattle.winning_sets.specs.Lent.{AreWithin, sets_or}
 use Rattle.winning_sets.specs.Solve.{AreKept, IsWithin, SolverState, sets_at}

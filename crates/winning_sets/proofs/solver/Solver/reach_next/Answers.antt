@@ -1,14 +1,12 @@
-use Rattle.std.proofs.Common.{◌≡◌, ℕ, suc, ◌+◌, ◌-◌, ◌<◌, ◌≤◌, ◌++◌, ◌∷◌, [], get_or, length, map, take, List, ap, refl, sym, subst, ◌∙◌, arith}
+use Rattle.std.proofs.Common.{◌≡◌, ℕ, suc, ◌-◌, ◌<◌, ◌≤◌, ◌++◌, ◌∷◌, [], length, take, ap, refl, sym, subst, ◌∙◌, arith}
 use Rattle.std.proofs.lemmas.List.{length-map}
 use Rattle.std.proofs.lemmas.List.Elements.{All-get_or}
 use Rattle.std.proofs.lemmas.Result.{err_from_is_err_and}
-use Rattle.auto_core.specs.Automaton.{Automaton}
 use Rattle.rule_formula.specs.Fits.{mask_of, masks_of}
 use Rattle.set_plan.specs.Outcome.{Ends, IsPlanError}
 use Rattle.mate_plan.specs.Levels.{AreNames, level_of}
 use Rattle.mate_plan.specs.Plan.{forward, reach_level, turn_at}
 use Rattle.mate_plan.specs.PlanOf.{rules_of}
-use Rattle.winning_sets.specs.Finished.{AreFinished}
 use Rattle.winning_sets.specs.Lent.{sets_or}
 use Rattle.winning_sets.specs.Solve.{IsSolverAfter, SolverState}
 use Rattle.winning_sets.proofs.Forwards.{all_finished, grown_finished, next_error, next_finished}
