@@ -1,4 +1,4 @@
-use Rattle.std.proofs.Common.{◌≡◌, ℕ, suc, ◌+◌, ◌-◌, ◌≤◌, get_or, length, List, map, sym, subst, ◌∙◌, arith}
+use Rattle.std.proofs.Common.{◌≡◌, ℕ, suc, ◌+◌, ◌-◌, get_or, length, List, map, sym, subst, ◌∙◌, arith}
 use Rattle.std.proofs.lemmas.Result.{err_from_is_err_and}
 use Rattle.rule_formula.specs.Fits.{masks_of}
 use Rattle.set_plan.specs.Outcome.{Ends, IsPlanError}
@@ -49,8 +49,7 @@ loop-left-preserved c =
     let more = c.in_ok-level.level in
     let said = subst (λ b. Ends (part turn) b (level_of new (masks_of p) more)) c.loop-left.invariant.1 c.in_ok-level.ensures.answers in
     let back = back_next p budget c.args.sets.now c.args.reach.now c.loop-left.sets c.loop-left.kept.items (ply turn) c.loop-left.left c.index-reach-ply.result c.index-reach-ply-in-loop-left.result c.index.result.now
-    (before_last turn) c.loop-left.auto.left c.loop-left.invariant.0 c.index-reach-ply.is (next_reach turn) c.index.ensures new more c.in_ok-level.ensures.grows c.in_ok-level.ensures.names said in
-    (
+    (before_last turn) c.loop-left.auto.left c.loop-left.invariant.0 c.index-reach-ply.is (next_reach turn) c.index.ensures new more c.in_ok-level.ensures.grows c.in_ok-level.ensures.names said in (
       subst (λ (kept : List Names). IsBack p budget (whole_back p c.args.sets.now c.args.reach.now) c.args.sets.now new c.args.reach.now kept (c.loop-left.left + 1)) (sym c.in_ok-push_level-2.ensures.ok) back,
       c.in_ok-level.ensures.budget ∙ c.loop-left.invariant.1,
     )
