@@ -14,6 +14,7 @@ pub mod Forwards
 pub mod Backwards
 pub mod Answered
 pub mod Places
+pub mod MostStates
 pub mod Empties
 pub mod Tuples
 pub mod States

@@ -119,6 +119,16 @@ pub record IsKeptIn (s : Solution) (ply : ℕ) (q : Position) : Type 0 where
   pub turn : q.turn ≡ turn_at s.position.turn ply
   pub is_in : IsSomeAnd (kept_at s ply (mask_of q)) (λ a. IsAccepted a (tuple_of q))
 
+-- how many states a set has, and none where there is no set
+abbrev pub states_of : Option Automaton → ℕ
+states_of None = 0
+states_of (Some a) = length a.accept
+
+-- the number is the greatest number of states of the kept sets: none of them has more, and it is the least such number
+pub record IsMostStates (s : Solution) (count : ℕ) : Type 0 where
+  pub within : (ply mask : ℕ) (a : Automaton) → kept_at s ply mask ≡ Some a → length a.accept ≤ count
+  pub least : (n : ℕ) → ((ply mask : ℕ) (a : Automaton) → kept_at s ply mask ≡ Some a → length a.accept ≤ n) → count ≤ n
+
 -- the solution is one of this position
 pub record IsOf (p : Position) (winner : Side) (moves : ℕ) (s : Solution) : Type 0 where
   pub position : s.position ≡ p

@@ -1,10 +1,10 @@
 //! Solved positions.
-ghost use Rattle.std.specs.Prelude.{◌≡◌, ◌↔◌, ◌≤◌, IsSomeAnd, IsTrue, option_copied};
+ghost use Rattle.std.specs.Prelude.{◌≡◌, ◌↔◌, ◌+◌, ◌≤◌, ℕ, IsSomeAnd, IsTrue, option_copied};
 ghost use Rattle.auto_core.specs.Integers.{IsAccepted};
 ghost use Rattle.game_rules.specs.Game.{Value};
 ghost use Rattle.rule_formula.specs.Fits.{HasStock, mask_of, masks_of};
 ghost use Rattle.rule_formula.specs.Placed.{tuple_of};
-ghost use Rattle.winning_sets.specs.Solve.{IsKeptIn, IsSolution, end_of, kept_at, reach_at};
+ghost use Rattle.winning_sets.specs.Solve.{IsKeptIn, IsMostStates, IsSolution, end_of, kept_at, reach_at, states_of};
 
 use crate::place::set_at;
 use crate::ply_sets::PlySets;
@@ -106,6 +106,55 @@ impl Solved {
         ensures valid { IsSolution self.now }
     {
         set_at(self.masks.as_slice(), self.reach.as_slice(), ply, mask)
+    }
+
+    /// The greatest number of states among the sets that `set` hands out.
+    pub fn most_states(&self) -> u32
+        ensures most { IsMostStates self.now result }
+    {
+        let mut most: u32 = 0;
+        for ply in 0..self.plies() {
+            most = most.max(self.most_states_at(ply));
+        }
+        most
+    }
+
+    /// At how many plies there are kept sets.
+    fn plies(&self) -> u8
+        ensures plies { result ≡ end_of self.now + 1 }
+        ensures valid { IsSolution self.now }
+    {
+        last_ply(self.winner, self.position.turn(), self.moves) + 1
+    }
+
+    /// The greatest number of states among the kept sets of a ply.
+    fn most_states_at(&self, ply: u8) -> u32
+        ensures within { (mask : ℕ) → states_of (kept_at self.now ply mask) ≤ result }
+        ensures least { (n : ℕ) → ((mask : ℕ) → states_of (kept_at self.now ply mask) ≤ n) → result ≤ n }
+    {
+        let mut most: u32 = 0;
+        for mask in self.masks() {
+            most = most.max(self.states(ply, *mask));
+        }
+        most
+    }
+
+    /// The masks of the starting position, ascending.
+    fn masks(&self) -> &[u8]
+        ensures masks { result.now ≡ masks_of self.now.position }
+        ensures valid { IsSolution self.now }
+    {
+        self.masks.as_slice()
+    }
+
+    /// How many states the set of a ply and a mask has, and none where there is no set.
+    fn states(&self, ply: u8, mask: u8) -> u32
+        ensures { result ≡ states_of (kept_at self.now ply mask) }
+    {
+        match self.set(ply, mask) {
+            Some(set) => set.states(),
+            None => 0,
+        }
     }
 
     /// Whether the position of these men, with the turn of the ply, is in the set of its own live men.

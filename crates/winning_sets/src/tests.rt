@@ -56,6 +56,7 @@ fn without_moves_there_is_no_step(rt: HostRuntime) -> Result<(), Fail> {
     assert!(rt; solved.set(1, 3).is_none());
     assert!(rt; solved.set(0, 1).is_none());
     assert!(rt; solved.reach(0, 3).is_none());
+    assert_eq!(rt; solved.most_states(), 1);
     assert!(rt; !solved.keeps(0, &p));
     Ok(())
 }

@@ -1,0 +1,42 @@
+-- The greatest number of states among sets.
+use Rattle.std.proofs.Common.{◌≡◌, ℕ, ◌+◌, ◌<◌, ◌≤◌, max, List, length, get_or, Option, Some, None, inl, inr, refl, sym, subst, arith}
+use Rattle.std.specs.List.{Contains}
+use Rattle.std.proofs.lemmas.Bool.{cases_lt}
+use Rattle.std.proofs.lemmas.List.Elements.{at_from_Contains}
+use Rattle.auto_core.specs.Automaton.{Automaton}
+use Rattle.rule_formula.specs.Fits.{masks_of}
+use Rattle.rule_formula.proofs.MasksTheorem.{masks_are}
+use Rattle.winning_sets.specs.Solve.{IsMostStates, IsSolution, Solution, end_of, kept_at, states_of}
+
+-- the greater of the number so far and one more is at least each number that is gone through
+pub within_more : (f : ℕ → ℕ) (n most number next : ℕ) → ((j : ℕ) → j < n → f j ≤ most) → f n ≤ number → next ≡ max most number → (j : ℕ) → j < n + 1 → f j ≤ next
+within_more f n most number next so_far here is j less =
+    elim (cases_lt j n) [
+      | inl before ↦ let old = so_far j before in omega (arith, old, is)
+      | inr last ↦
+          let at : n ≡ j = omega (arith, last, less) in
+          subst (λ k. f k ≤ next) at (omega (arith, here, is))
+    ]
+
+-- a number that is at least the states of the set, if there is one, is at least the states where there may be none
+pub states_within : (o : Option Automaton) (n : ℕ) → ((a : Automaton) → o ≡ Some a → length a.accept ≤ n) → states_of o ≤ n
+states_within None n each = omega arith
+states_within (Some a) n each = each a refl
+
+-- each set of a ply is the set of one of the masks of the position
+pub ply_within : (s : Solution) → IsSolution s → (masks : List ℕ) → masks ≡ masks_of s.position → (ply most : ℕ) → ((j : ℕ) → j < length masks → states_of (kept_at s ply (get_or masks j 0)) ≤ most) → (mask : ℕ) → states_of (kept_at s ply mask) ≤ most
+ply_within s valid masks is ply most each mask =
+    states_within (kept_at s ply mask) most (λ a some.
+    let game = (valid.kept.only ply mask a some).1 in
+    let among = at_from_Contains masks mask (subst (λ l. Contains l mask) (sym is) ((masks_are s.position mask).1 game)) in
+    let found = subst (λ m. states_of (kept_at s ply m) ≤ most) (among.2 0) (each among.0 among.1) in
+    subst (λ (o : Option Automaton). states_of o ≤ most) some found)
+
+-- each kept set is one of a ply up to the last
+pub most_is : (s : Solution) → IsSolution s → (count : ℕ) → ((i : ℕ) → i < end_of s + 1 → (mask : ℕ) → states_of (kept_at s i mask) ≤ count) → ((n : ℕ) → ((ply mask : ℕ) → states_of (kept_at s ply mask) ≤ n) → count ≤ n) → IsMostStates s count
+most_is s valid count within least = record {
+  within = λ ply mask a some.
+      let high = (valid.kept.only ply mask a some).0 in
+      subst (λ (o : Option Automaton). states_of o ≤ count) some (within ply (omega (arith, high)) mask);
+  least = λ n each. least n (λ ply mask. states_within (kept_at s ply mask) n (each ply mask));
+}
