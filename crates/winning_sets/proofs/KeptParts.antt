@@ -43,27 +43,27 @@ pub record Without (S Q : Positions) (q : Position) : Type 0 where
   pub is_in : S q
   pub not_in : Q q → ⊥
 
--- the parts of a loser's ply: R is what is reached there, R1 and K1 what is reached and kept at the next ply
+-- the parts of a loser's ply: AtPly is what is reached there, AfterPly and KeptAfter what is reached and kept at the next ply
 abbrev pub Rest : Positions → Positions → Positions
-Rest R1 K1 = Without R1 K1
+Rest AfterPly KeptAfter = Without AfterPly KeptAfter
 
 abbrev pub Escape : Positions → Positions → Positions → Positions
-Escape R R1 K1 = Pre R (Rest R1 K1)
+Escape AtPly AfterPly KeptAfter = Pre AtPly (Rest AfterPly KeptAfter)
 
 abbrev pub Calm : Positions → Positions → Positions → Positions
-Calm R R1 K1 = Without R (Escape R R1 K1)
+Calm AtPly AfterPly KeptAfter = Without AtPly (Escape AtPly AfterPly KeptAfter)
 
 abbrev pub Check : Positions → Positions → Positions → Positions
-Check R R1 K1 = Checked (Calm R R1 K1)
+Check AtPly AfterPly KeptAfter = Checked (Calm AtPly AfterPly KeptAfter)
 
 abbrev pub Quiet : Positions → Positions → Positions → Positions
-Quiet R R1 K1 = Without (Calm R R1 K1) (Check R R1 K1)
+Quiet AtPly AfterPly KeptAfter = Without (Calm AtPly AfterPly KeptAfter) (Check AtPly AfterPly KeptAfter)
 
 abbrev pub Reply : Positions → Positions → Positions → Positions
-Reply R R1 K1 = Pre (Quiet R R1 K1) R1
+Reply AtPly AfterPly KeptAfter = Pre (Quiet AtPly AfterPly KeptAfter) AfterPly
 
 abbrev pub LostPart : Positions → Positions → Positions → Positions
-LostPart R R1 K1 q = Check R R1 K1 q ⊎ Reply R R1 K1 q
+LostPart AtPly AfterPly KeptAfter q = Check AtPly AfterPly KeptAfter q ⊎ Reply AtPly AfterPly KeptAfter q
 
 -- who has moved
 mover-is : (p q : Position) → StepsTo p q → other q.turn ≡ p.turn
@@ -108,9 +108,9 @@ turn-reach p q zero e = ap (λ r. r.turn) e
 turn-reach p q (suc j) (before, reached, (i, z, legal)) = legal.step.after.turn ∙ ap other (turn-reach p before j reached)
 
 -- a ply of the winner
-module _ (winner : Side) (p : Position) (j r : ℕ) (K1 : Positions) (turn : (q : Position) → Reach p j q → q.turn ≡ winner)
-    (next : (q : Position) → K1 q ↔ (Reach p (suc j) q × Lost winner r q)) where
-  pub win-part : (q : Position) → Pre (Reach p j) K1 q ↔ (Reach p j q × Win winner (suc r) q)
+module _ (winner : Side) (p : Position) (j r : ℕ) (KeptAfter : Positions) (turn : (q : Position) → Reach p j q → q.turn ≡ winner)
+    (next : (q : Position) → KeptAfter q ↔ (Reach p (suc j) q × Lost winner r q)) where
+  pub win-part : (q : Position) → Pre (Reach p j) KeptAfter q ↔ (Reach p j q × Win winner (suc r) q)
   win-part q = (
     λ h.
         let (reached, lost) = (next h.next).0 h.leads in
@@ -127,11 +127,11 @@ module _ (winner : Side) (p : Position) (j r : ℕ) (K1 : Positions) (turn : (q 
   )
 
 -- a ply of the loser
-module _ (winner : Side) (p : Position) (sound : Sound p) (j r : ℕ) (K1 : Positions) (turn : (q : Position) → Reach p j q → q.turn ≡ other winner)
-    (next : (q : Position) → K1 q ↔ (Reach p (suc j) q × Win winner r q))
-    (kept_or_not : (q : Position) → Reach p (suc j) q → K1 q ⊎ (K1 q → ⊥)) where
+module _ (winner : Side) (p : Position) (sound : Sound p) (j r : ℕ) (KeptAfter : Positions) (turn : (q : Position) → Reach p j q → q.turn ≡ other winner)
+    (next : (q : Position) → KeptAfter q ↔ (Reach p (suc j) q × Win winner r q))
+    (kept_or_not : (q : Position) → Reach p (suc j) q → KeptAfter q ⊎ (KeptAfter q → ⊥)) where
   -- from a calm position each move leads to a win of the other side
-  calm_wins : (q : Position) → Calm (Reach p j) (Reach p (suc j)) K1 q → (i : ℕ) (z : Square) (q' : Position) → Legal q i z q' → Win winner r q'
+  calm_wins : (q : Position) → Calm (Reach p j) (Reach p (suc j)) KeptAfter q → (i : ℕ) (z : Square) (q' : Position) → Legal q i z q' → Win winner r q'
   calm_wins q h i z q' legal =
       let moves : Moves q q' = (i, z, legal) in
       let reached : Reach p (suc j) q' = (q, h.is_in, moves) in
@@ -141,7 +141,7 @@ module _ (winner : Side) (p : Position) (sound : Sound p) (j r : ℕ) (K1 : Posi
       ]
 
   -- where each move leads to a win of the other side, the position is calm
-  wins_calm : (q : Position) → Reach p j q → ((i : ℕ) (z : Square) (q' : Position) → Legal q i z q' → Win winner r q') → Calm (Reach p j) (Reach p (suc j)) K1 q
+  wins_calm : (q : Position) → Reach p j q → ((i : ℕ) (z : Square) (q' : Position) → Legal q i z q' → Win winner r q') → Calm (Reach p j) (Reach p (suc j)) KeptAfter q
   wins_calm q reached wins = record {
     is_in = reached;
     not_in = λ e.
@@ -149,18 +149,18 @@ module _ (winner : Side) (p : Position) (sound : Sound p) (j r : ℕ) (K1 : Posi
         e.leads.not_in ((next e.next).1 (e.leads.is_in, wins i z e.next legal));
   }
 
-  lost_reached : (q : Position) → LostPart (Reach p j) (Reach p (suc j)) K1 q → Reach p j q
+  lost_reached : (q : Position) → LostPart (Reach p j) (Reach p (suc j)) KeptAfter q → Reach p j q
   lost_reached q (inl c) = c.is_in.is_in
   lost_reached q (inr h) = h.is_in.is_in.is_in
 
-  lost_from : (q : Position) → LostPart (Reach p j) (Reach p (suc j)) K1 q → Lost winner r q
+  lost_from : (q : Position) → LostPart (Reach p j) (Reach p (suc j)) KeptAfter q → Lost winner r q
   lost_from q (inl c) =
       flat_lost winner (Win winner r) q (reached_sound p sound j q c.is_in.is_in) (turn q c.is_in.is_in, inl c.check, calm_wins q c.is_in)
   lost_from q (inr h) =
       let (i, z, legal) = Moves-reached p q h.next j h.leads h.step in
       flat_lost winner (Win winner r) q (reached_sound p sound j q h.is_in.is_in.is_in) (turn q h.is_in.is_in.is_in, inr (i, z, h.next, legal), calm_wins q h.is_in.is_in)
 
-  lost_to : (q : Position) → Reach p j q → Lost winner r q → LostPart (Reach p j) (Reach p (suc j)) K1 q
+  lost_to : (q : Position) → Reach p j q → Lost winner r q → LostPart (Reach p j) (Reach p (suc j)) KeptAfter q
   lost_to q reached lost =
       let (is, first, wins) = lost_flat winner (Win winner r) q lost in
       let calm = wins_calm q reached wins in
@@ -179,7 +179,7 @@ module _ (winner : Side) (p : Position) (sound : Sound p) (j r : ℕ) (K1 : Posi
         ]
       ]
 
-  pub lost-part : (q : Position) → LostPart (Reach p j) (Reach p (suc j)) K1 q ↔ (Reach p j q × Lost winner r q)
+  pub lost-part : (q : Position) → LostPart (Reach p j) (Reach p (suc j)) KeptAfter q ↔ (Reach p j q × Lost winner r q)
   lost-part q = (λ h. (lost_reached q h, lost_from q h), λ (reached, lost). lost_to q reached lost)
 
 turn_two : (s : Side) (k : ℕ) → turn_at s (2 * k) ≡ s

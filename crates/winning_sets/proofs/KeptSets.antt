@@ -114,11 +114,11 @@ module _ (p : Position) (mean : RulesMean p) where
       )
 
   -- the level of a winner's ply stands for what a step leads from into what is kept
-  pub win-stands : (side : Side) (ply : ℕ) (reach kept1 level : Level) (xs : Entries) (R K1 : Positions) → ((q : Position) → R q → Sound q) → Stands p side reach R → Stands p (other side) kept1 K1 → Takes (win_level rules side ply reach kept1) xs (Some level) → Stands p side level (Pre R K1)
-  win-stands side ply reach kept1 level xs R K1 sound reaches keeps t q fits =
+  pub win-stands : (side : Side) (ply : ℕ) (reach kept1 level : Level) (xs : Entries) (AtPly KeptAfter : Positions) → ((q : Position) → AtPly q → Sound q) → Stands p side reach AtPly → Stands p (other side) kept1 KeptAfter → Takes (win_level rules side ply reach kept1) xs (Some level) → Stands p side level (Pre AtPly KeptAfter)
+  win-stands side ply reach kept1 level xs AtPly KeptAfter sound reaches keeps t q fits =
       let Is : ℕ → SetOf → Type 0 = λ m s. (ys : Entries) × Takes (win_set rules side ply reach kept1 m) ys (Some s) in
       let (ys, made) = for_masks-level (win_set rules side ply reach kept1) Is (masks_of p) (λ m i s zs h. (zs, h)) no_sets level xs t (mask_of q) (inr (in_masks side q fits)) in
-      pre-stands side ply kind.Win q (reach (mask_of q)) (level (mask_of q)) kept1 ys R K1 fits (sound q) (reaches q fits) keeps made
+      pre-stands side ply kind.Win q (reach (mask_of q)) (level (mask_of q)) kept1 ys AtPly KeptAfter fits (sound q) (reaches q fits) keeps made
 
   checked : (side : Side) (q : Position) → Fits p side q → InCheck q q.turn → InCheck q (other (other side))
   checked side q fits h =
@@ -157,8 +157,8 @@ module _ (p : Position) (mean : RulesMean p) where
       )
 
   -- the parts of a loser's ply at one mask
-  lost_set-stands : (side : Side) (ply : ℕ) (q : Position) (reach s : SetOf) (reach1 rests : Level) (xs : Entries) (R R1 K1 : Positions) → Fits p side q → (R q → Sound q) → IsOver (mask_tracks p (mask_of q)) reach → Member reach (tuple_of q) ↔ R q → Stands p (other side) reach1 R1 → Stands p (other side) rests (Rest R1 K1) → Takes (lost_set rules side ply (mask_of q) reach reach1 rests) xs (Some s) → Member s (tuple_of q) ↔ LostPart R R1 K1 q
-  lost_set-stands side ply q reach s reach1 rests xs R R1 K1 fits sound over reaches reaches1 rested t =
+  lost_set-stands : (side : Side) (ply : ℕ) (q : Position) (reach s : SetOf) (reach1 rests : Level) (xs : Entries) (AtPly AfterPly KeptAfter : Positions) → Fits p side q → (AtPly q → Sound q) → IsOver (mask_tracks p (mask_of q)) reach → Member reach (tuple_of q) ↔ AtPly q → Stands p (other side) reach1 AfterPly → Stands p (other side) rests (Rest AfterPly KeptAfter) → Takes (lost_set rules side ply (mask_of q) reach reach1 rests) xs (Some s) → Member s (tuple_of q) ↔ LostPart AtPly AfterPly KeptAfter q
+  lost_set-stands side ply q reach s reach1 rests xs AtPly AfterPly KeptAfter fits sound over reaches reaches1 rested t =
       let m = mask_of q in
       let game = mean.game.mask_is side q fits in
       let (a1, b1, escape, order, t1, r1) = Takes-split (union rules ply m kind.Escape (pre_items rules side m reach rests)) _ xs s t in
@@ -166,12 +166,12 @@ module _ (p : Position) (mean : RulesMean p) where
       let (a3, b3, check, order, t3, r3) = Takes-split (union rules ply m kind.Check (bear_items rules (other side) m calm)) _ b2 s r2 in
       let (a4, b4, quiet, order, t4, r4) = Takes-split (difference rules ply m kind.Quiet calm check) _ b3 s r3 in
       let (a5, b5, reply, order, t5, r5) = Takes-split (union rules ply m kind.Reply (pre_items rules side m quiet reach1)) _ b4 s r4 in
-      let escapes = pre-stands side ply kind.Escape q reach escape rests a1 R (Rest R1 K1) fits sound reaches rested t1 in
-      let calms = difference-stands ply kind.Calm q reach escape calm a2 R (Escape R R1 K1) over reaches escapes t2 in
+      let escapes = pre-stands side ply kind.Escape q reach escape rests a1 AtPly (Rest AfterPly KeptAfter) fits sound reaches rested t1 in
+      let calms = difference-stands ply kind.Calm q reach escape calm a2 AtPly (Escape AtPly AfterPly KeptAfter) over reaches escapes t2 in
       let calm_over = remainder_over (mask_tracks p m) (name ply m kind.Calm) (free m) reach escape a2 calm over t2 in
-      let checks = check-stands side ply q calm check a3 (Calm R R1 K1) fits calms t3 in
-      let quiets = difference-stands ply kind.Quiet q calm check quiet a4 (Calm R R1 K1) (Check R R1 K1) calm_over calms checks t4 in
-      let replies = pre-stands side ply kind.Reply q quiet reply reach1 a5 (Quiet R R1 K1) R1 fits (λ h. sound h.is_in.is_in) quiets reaches1 t5 in
+      let checks = check-stands side ply q calm check a3 (Calm AtPly AfterPly KeptAfter) fits calms t3 in
+      let quiets = difference-stands ply kind.Quiet q calm check quiet a4 (Calm AtPly AfterPly KeptAfter) (Check AtPly AfterPly KeptAfter) calm_over calms checks t4 in
+      let replies = pre-stands side ply kind.Reply q quiet reply reach1 a5 (Quiet AtPly AfterPly KeptAfter) AfterPly fits (λ h. sound h.is_in.is_in) quiets reaches1 t5 in
       let check_over = union_over (mask_tracks p m) (name ply m kind.Check) (free m) (bear_items rules (other side) m calm) a3 check (bear_have (other side) m calm game) t3 in
       let reply_over = union_over (mask_tracks p m) (name ply m kind.Reply) (free m) (pre_items rules side m quiet reach1) a5 reply (pre_have side m quiet reach1 game) t5 in
       let joined = together-members (mask_tracks p m) (name ply m kind.Lost) (free m) check reply b5 s check_over reply_over r5 (tuple_of q) in (
@@ -179,33 +179,33 @@ module _ (p : Position) (mean : RulesMean p) where
         λ h. elim h [ inl c ↦ joined.1 (inl (checks.1 c)) | inr r ↦ joined.1 (inr (replies.1 r)) ],
       )
 
-  lost_or_empty : (side : Side) (ply : ℕ) (q : Position) (reach reach1 rests : Level) (s : SetOf) (xs : Entries) (R R1 K1 : Positions) → Fits p side q → (R q → Sound q) → IsOver (mask_tracks p (mask_of q)) (reach (mask_of q)) → Member (reach (mask_of q)) (tuple_of q) ↔ R q → Stands p (other side) reach1 R1 → Stands p (other side) rests (Rest R1 K1) → Takes (lost_set_if rules side ply reach reach1 rests (mask_of q)) xs (Some s) → Member s (tuple_of q) ↔ LostPart R R1 K1 q
-  lost_or_empty side ply q reach reach1 rests s xs R R1 K1 fits sound over reaches reaches1 rested (inl (e, o)) = none_some o
-  lost_or_empty side ply q reach reach1 rests s xs R R1 K1 fits sound over reaches reaches1 rested (inr (inl (inl empty, t))) =
+  lost_or_empty : (side : Side) (ply : ℕ) (q : Position) (reach reach1 rests : Level) (s : SetOf) (xs : Entries) (AtPly AfterPly KeptAfter : Positions) → Fits p side q → (AtPly q → Sound q) → IsOver (mask_tracks p (mask_of q)) (reach (mask_of q)) → Member (reach (mask_of q)) (tuple_of q) ↔ AtPly q → Stands p (other side) reach1 AfterPly → Stands p (other side) rests (Rest AfterPly KeptAfter) → Takes (lost_set_if rules side ply reach reach1 rests (mask_of q)) xs (Some s) → Member s (tuple_of q) ↔ LostPart AtPly AfterPly KeptAfter q
+  lost_or_empty side ply q reach reach1 rests s xs AtPly AfterPly KeptAfter fits sound over reaches reaches1 rested (inl (e, o)) = none_some o
+  lost_or_empty side ply q reach reach1 rests s xs AtPly AfterPly KeptAfter fits sound over reaches reaches1 rested (inr (inl (inl empty, t))) =
       let is : s ≡ Nothing = Takes-give Nothing s xs t in
-      let none = λ (h : R q). empty (tuple_of q) (reaches.1 h) in
+      let none = λ (h : AtPly q). empty (tuple_of q) (reaches.1 h) in
       rw is (λ h. absurd h, λ h. elim h [ inl c ↦ none c.is_in.is_in | inr r ↦ none r.is_in.is_in.is_in ])
-  lost_or_empty side ply q reach reach1 rests s xs R R1 K1 fits sound over reaches reaches1 rested (inr (inl (inr never, t))) = absurd never
-  lost_or_empty side ply q reach reach1 rests s xs R R1 K1 fits sound over reaches reaches1 rested (inr (inr (some, t))) =
-      lost_set-stands side ply q (reach (mask_of q)) s reach1 rests xs R R1 K1 fits sound over reaches reaches1 rested t
+  lost_or_empty side ply q reach reach1 rests s xs AtPly AfterPly KeptAfter fits sound over reaches reaches1 rested (inr (inl (inr never, t))) = absurd never
+  lost_or_empty side ply q reach reach1 rests s xs AtPly AfterPly KeptAfter fits sound over reaches reaches1 rested (inr (inr (some, t))) =
+      lost_set-stands side ply q (reach (mask_of q)) s reach1 rests xs AtPly AfterPly KeptAfter fits sound over reaches reaches1 rested t
 
   -- each set of the level is over the tracks of its mask
   abbrev pub AreOver : Level → Type 0
   AreOver level = (m : ℕ) → IsOver (mask_tracks p m) (level m)
 
   -- the level of a loser's ply stands for what is lost
-  pub lost-stands : (side : Side) (ply : ℕ) (reach reach1 kept1 level : Level) (xs : Entries) (R R1 K1 : Positions) → ((q : Position) → R q → Sound q) → AreOver reach → AreOver reach1 → Stands p side reach R → Stands p (other side) reach1 R1 → Stands p (other side) kept1 K1 → Takes (lost_level rules side ply reach reach1 kept1) xs (Some level) → Stands p side level (LostPart R R1 K1)
-  lost-stands side ply reach reach1 kept1 level xs R R1 K1 sound over over1 reaches reaches1 keeps t q fits =
+  pub lost-stands : (side : Side) (ply : ℕ) (reach reach1 kept1 level : Level) (xs : Entries) (AtPly AfterPly KeptAfter : Positions) → ((q : Position) → AtPly q → Sound q) → AreOver reach → AreOver reach1 → Stands p side reach AtPly → Stands p (other side) reach1 AfterPly → Stands p (other side) kept1 KeptAfter → Takes (lost_level rules side ply reach reach1 kept1) xs (Some level) → Stands p side level (LostPart AtPly AfterPly KeptAfter)
+  lost-stands side ply reach reach1 kept1 level xs AtPly AfterPly KeptAfter sound over over1 reaches reaches1 keeps t q fits =
       let rest_of = rest_set rules (suc ply) reach1 kept1 in
       let (us, vs, rests, order, first, last) = Takes-split (for_masks (masks_of p) rest_of no_sets) (λ rests. for_masks (masks_of p) (lost_set_if rules side ply reach reach1 rests) no_sets) xs level t in
       let IsRest : ℕ → SetOf → Type 0 = λ m s. (ys : Entries) × Takes (rest_of m) ys (Some s) in
-      let rested : Stands p (other side) rests (Rest R1 K1) = λ r fits_r.
+      let rested : Stands p (other side) rests (Rest AfterPly KeptAfter) = λ r fits_r.
       let (ys, made) = for_masks-level rest_of IsRest (masks_of p) (λ m i s zs h. (zs, h)) no_sets rests us first (mask_of r) (inr (in_masks (other side) r fits_r)) in
-      difference-stands (suc ply) kind.Rest r (reach1 (mask_of r)) (kept1 (mask_of r)) (rests (mask_of r)) ys R1 K1 (over1 (mask_of r)) (reaches1 r fits_r) (keeps r fits_r) made in
+      difference-stands (suc ply) kind.Rest r (reach1 (mask_of r)) (kept1 (mask_of r)) (rests (mask_of r)) ys AfterPly KeptAfter (over1 (mask_of r)) (reaches1 r fits_r) (keeps r fits_r) made in
       let set_of = lost_set_if rules side ply reach reach1 rests in
       let Is : ℕ → SetOf → Type 0 = λ m s. (ys : Entries) × Takes (set_of m) ys (Some s) in
       let (ys, made) = for_masks-level set_of Is (masks_of p) (λ m i s zs h. (zs, h)) no_sets level vs last (mask_of q) (inr (in_masks side q fits)) in
-      lost_or_empty side ply q reach reach1 rests (level (mask_of q)) ys R R1 K1 fits (sound q) (over (mask_of q)) (reaches q fits) reaches1 rested made
+      lost_or_empty side ply q reach reach1 rests (level (mask_of q)) ys AtPly AfterPly KeptAfter fits (sound q) (over (mask_of q)) (reaches q fits) reaches1 rested made
 
   -- what the union of images has, tuple by tuple
   record IsImageTuple (side : Side) (to : ℕ) (reach : Level) (tuple : List ℤ) : Type 0 where
@@ -249,8 +249,8 @@ module _ (p : Position) (mean : RulesMean p) where
       (r, fits_r, target ∙ same, is)
 
   -- the union of images at a position that fits
-  image-stands : (side : Side) (ply : ℕ) (r : Position) (reach : Level) (s : SetOf) (xs : Entries) (R : Positions) → AreFitting side reach → Stands p side reach R → ((q : Position) → R q → Fits p side q × Sound q) → Fits p (other side) r → Takes (union rules ply (mask_of r) kind.Image (image_items rules side (mask_of r) reach)) xs (Some s) → Member s (tuple_of r) ↔ Image R r
-  image-stands side ply r reach s xs R fitting stands inside fits t =
+  image-stands : (side : Side) (ply : ℕ) (r : Position) (reach : Level) (s : SetOf) (xs : Entries) (AtPly : Positions) → AreFitting side reach → Stands p side reach AtPly → ((q : Position) → AtPly q → Fits p side q × Sound q) → Fits p (other side) r → Takes (union rules ply (mask_of r) kind.Image (image_items rules side (mask_of r) reach)) xs (Some s) → Member s (tuple_of r) ↔ Image AtPly r
+  image-stands side ply r reach s xs AtPly fitting stands inside fits t =
       let tuples = image-tuples side ply (mask_of r) reach s xs fitting t (tuple_of r) in (
         λ h.
             let it = tuples.0 h in
@@ -313,13 +313,13 @@ module _ (p : Position) (mean : RulesMean p) where
       (means b (contains_head b bearings)).safe_within 0 (λ _. made.0) tuple ((is.same tuple).0 (narrow_within ply m u tuple bearings (λ c i. means c (contains_rest b bearings c i)) next vs rest h))
 
   -- what is reached at the next ply with one mask
-  pub reach_set-stands : (side : Side) (ply : ℕ) (reach : Level) (s : SetOf) (xs : Entries) (R : Positions) (r : Position) → AreFitting side reach → Stands p side reach R → ((q : Position) → R q → Fits p side q × Sound q) → Fits p (other side) r → Takes (reach_set rules side ply reach (mask_of r)) xs (Some s) → Member s (tuple_of r) ↔ Safe (Image R) r
-  reach_set-stands side ply reach s xs R r fitting stands inside fits t =
+  pub reach_set-stands : (side : Side) (ply : ℕ) (reach : Level) (s : SetOf) (xs : Entries) (AtPly : Positions) (r : Position) → AreFitting side reach → Stands p side reach AtPly → ((q : Position) → AtPly q → Fits p side q × Sound q) → Fits p (other side) r → Takes (reach_set rules side ply reach (mask_of r)) xs (Some s) → Member s (tuple_of r) ↔ Safe (Image AtPly) r
+  reach_set-stands side ply reach s xs AtPly r fitting stands inside fits t =
       let m = mask_of r in
       let game = mean.game.mask_is (other side) r fits in
       let bearings = bearings_of p.men m (other side) in
       let (us, vs, moved, order, first, rest) = Takes-split (union rules ply m kind.Image (image_items rules side m reach)) (λ moved. narrow rules ply m bearings (moved, 1)) xs s t in
-      let images = image-stands side ply r reach moved us R fitting stands inside fits first in
+      let images = image-stands side ply r reach moved us AtPly fitting stands inside fits first in
       let narrows = narrow-stands (other side) (other side) ply r s fits bearings (λ b i. mean.bearings m (other side) b game i) (moved, 1) vs rest in
       let P : Side → Type 0 = λ s. InCheck r (other s) in
       let checks = mean.game.checks (other side) (other side) r fits in (
