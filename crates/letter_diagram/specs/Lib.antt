@@ -11,3 +11,4 @@ pub mod Sets
 pub mod Merged
 pub mod Merger
 pub mod Leaves
+pub mod NodeMemo

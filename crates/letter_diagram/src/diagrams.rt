@@ -21,6 +21,15 @@ impl Model for Node {
     ghost inverse = { λ i. record { 0 = i } };
 }
 
+impl Node {
+    /// How many nodes were made before it.
+    pub fn number(self) -> usize
+        ensures { result ≡ self }
+    {
+        self.0
+    }
+}
+
 /// What a diagram looks at first.
 #[derive(Debug, Clone, Copy, PartialEq, Eq, Hash)]
 pub enum Shape {

@@ -9,6 +9,7 @@ mod leaves;
 mod map_leaves;
 mod merge;
 mod merger;
+mod node_memo;
 mod pairs;
 mod product;
 mod relabel;
@@ -19,6 +20,7 @@ mod tests;
 
 pub use diagrams::{Diagrams, Node, Shape};
 pub use merger::Merger;
+pub use node_memo::NodeMemo;
 pub use pairs::{Pairs, PairsError};
 pub use product::Product;
 pub use sets::Sets;

@@ -1,0 +1,13 @@
+-- Answers for nodes, by the nodes' numbers.
+use Rattle.std.specs.Prelude.{◌≡◌, ◌≢◌, ◌<◌, ◌⊎◌, ℕ, List, length, slice_index_or, Option, Some, None}
+
+-- the answer that a memo has for a node
+abbrev pub answer_of : List (Option ℕ) → ℕ → Option ℕ
+answer_of memo node = slice_index_or memo node None
+
+-- one more answer is remembered, where the memo has room for the node, and nothing else changes
+pub record Remembers (old new : List (Option ℕ)) (node answer : ℕ) : Type 0 where
+  pub only : (a r : ℕ) → answer_of new a ≡ Some r → (answer_of old a ≡ Some r) ⊎ ((a ≡ node) × (r ≡ answer))
+  pub here : node < length old → answer_of new node ≡ Some answer
+  pub others : (other : ℕ) → other ≢ node → answer_of new other ≡ answer_of old other
+  pub room : length new ≡ length old

@@ -1,0 +1,50 @@
+//! Answers for nodes, by the nodes' numbers.
+ghost use Rattle.std.specs.Prelude.{◌≡◌, ◌<◌, ℕ, length, slice_index_or, IfOk};
+ghost use Rattle.letter_diagram.specs.NodeMemo.{answer_of, Remembers};
+
+use crate::diagrams::Node;
+use std::alloc::{AllocError, Global};
+use std::marker::Model;
+
+/// Answers for nodes of one `Diagrams`, by the nodes' numbers.
+#[derive(Drop)]
+pub struct NodeMemo {
+    answers: Vec<Option<Node>>,
+}
+
+impl Model for NodeMemo {
+    ghost use Rattle.std.specs.Prelude.{List, ℕ};
+    ghost use Rattle.std.specs.Prelude.{Option};
+
+    ghost Value = { List (Option ℕ) };
+
+    ghost view = { λ m. m.answers.items };
+}
+
+impl NodeMemo {
+    /// No node below `nodes` has an answer.
+    pub fn new(alloc: Global, nodes: usize) -> Result<Self, AllocError>
+        ensures none { IfOk result (λ memo. (node : ℕ) → answer_of memo node ≡ None) }
+        ensures len { IfOk result (λ memo. length memo ≡ nodes) }
+    {
+        Ok(NodeMemo {
+            answers: vec![in alloc; None; nodes]?,
+        })
+    }
+
+    /// The answer for a node.
+    pub fn get(&self, node: Node) -> Option<Node>
+        ensures { result ≡ answer_of self.now node }
+    {
+        self.answers.get(node.number()).copied().flatten()
+    }
+
+    /// A node past those that the memo was made for is not remembered.
+    pub fn insert(&mut self, node: Node, answer: Node)
+        ensures { Remembers self.old self.new node answer }
+    {
+        if let Some(place) = self.answers.get_mut(node.number()) {
+            *place = Some(answer);
+        }
+    }
+}
