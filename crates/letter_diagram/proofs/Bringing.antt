@@ -1,12 +1,12 @@
 -- Maps of other nodes, as nodes are added.
-use Rattle.std.proofs.Common.{◌≡◌, ℕ, ◌<◌, ◌≤◌, List, length, nat_eq, Some, arith, sym, ◌∙◌, subst, if◌then◌else◌}
+use Rattle.std.proofs.Common.{◌≡◌, ℕ, ◌<◌, ◌≤◌, List, Option, length, nat_eq, arith, sym, ◌∙◌, subst, if◌then◌else◌}
 use Rattle.std.specs.Int.{bit_at}
-use Rattle.std.specs.HashMap.{HashMap, Updates}
 use Rattle.letter_diagram.specs.declared.diagrams.Shape.{Shape}
 use Rattle.letter_diagram.specs.declared.diagrams.Shape.TheVariants.{Leaf, Test}
 use Rattle.letter_diagram.specs.Diagram.{map_at, top_track, chosen, IsAt, Grows}
 use Rattle.letter_diagram.specs.Brought.{IsBrought, RemembersBrought}
-use Rattle.letter_diagram.proofs.Memos.{answers-insert}
+use Rattle.letter_diagram.specs.NodeMemo.{Remembers}
+use Rattle.letter_diagram.proofs.Memos.{node_answers-insert}
 
 pub IsBrought-grows : (from old new : List Shape) (a r : ℕ) → Grows old new → IsBrought from old a r → IsBrought from new a r
 IsBrought-grows from old new a r grows is =
@@ -21,11 +21,11 @@ IsBrought-grows from old new a r grows is =
       top = omega arith;
     }
 
-pub RemembersBrought-grows : {S : Type 0} (from old new : List Shape) (memo : HashMap ℕ ℕ S) → Grows old new → RemembersBrought from old memo → RemembersBrought from new memo
+pub RemembersBrought-grows : (from old new : List Shape) (memo : List (Option ℕ)) → Grows old new → RemembersBrought from old memo → RemembersBrought from new memo
 RemembersBrought-grows from old new memo grows all = record { brought = λ a r at. IsBrought-grows from old new a r grows (all.brought a r at) }
 
-pub RemembersBrought-insert : {S : Type 0} (from shapes : List Shape) (memo new : HashMap ℕ ℕ S) (a r : ℕ) → RemembersBrought from shapes memo → Updates nat_eq memo new a (Some r) → IsBrought from shapes a r → RemembersBrought from shapes new
-RemembersBrought-insert from shapes memo new a r all updates is = record { brought = answers-insert (IsBrought from shapes) memo new a r all.brought updates is }
+pub RemembersBrought-insert : (from shapes : List Shape) (memo new : List (Option ℕ)) (a r : ℕ) → RemembersBrought from shapes memo → Remembers memo new a r → IsBrought from shapes a r → RemembersBrought from shapes new
+RemembersBrought-insert from shapes memo new a r all remembers is = record { brought = node_answers-insert (IsBrought from shapes) memo new a r all.brought remembers is }
 
 -- a test of nodes that were brought, in the shapes that have them
 pub IsBrought-test : (from shapes : List Shape) (a r track low high low' high' : ℕ) → IsAt from a (Test track low high) → IsBrought from shapes low low' → IsBrought from shapes high high'

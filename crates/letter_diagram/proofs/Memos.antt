@@ -1,8 +1,9 @@
 -- What a memo keeps of its answers.
-use Rattle.std.proofs.Common.{◌≡◌, ℕ, Bool, true, false, nat_eq, Some, arith, refl, sym, ◌∙◌, subst, inl, inr}
+use Rattle.std.proofs.Common.{◌≡◌, ℕ, List, Option, Bool, true, false, nat_eq, Some, arith, refl, sym, ◌∙◌, subst, inl, inr}
 use Rattle.std.specs.HashMap.{HashMap, get, Updates}
 use Rattle.std.proofs.lemmas.Grind.{common_steps}
 use Rattle.std.proofs.lemmas.Bool.{cases_eq}
+use Rattle.letter_diagram.specs.NodeMemo.{answer_of, Remembers}
 use Rattle.letter_diagram.specs.Paired.{pair_eq}
 use Rattle.letter_diagram.proofs.PairNumbers.{pair_eq-true}
 
@@ -12,6 +13,13 @@ pub answers-insert : {S X : Type 0} (R : ℕ → X → Type 0) (memo new : HashM
 answers-insert R memo new a r all updates here b s at = elim (cases_eq a b) [
   | inl e ↦ subst (λ n. R n s) e (subst (R a) (grind (arith, common_steps, updates.1, at, e)) here)
   | inr ne ↦ all b s (grind (arith, common_steps, updates.0 b, at, ne))
+]
+
+-- the same where a node's number is an answer's place
+pub node_answers-insert : (R : ℕ → ℕ → Type 0) (memo new : List (Option ℕ)) (a r : ℕ) → ((b s : ℕ) → answer_of memo b ≡ Some s → R b s) → Remembers memo new a r → R a r → (b s : ℕ) → answer_of new b ≡ Some s → R b s
+node_answers-insert R memo new a r all remembers here b s at = elim (remembers.only b s at) [
+  | inl before ↦ all b s before
+  | inr now ↦ subst (λ n. R n s) (sym now.0) (subst (R a) (sym now.1) here)
 ]
 
 -- the same where the keys are pairs

@@ -1,7 +1,6 @@
 -- Which tracks a map looks at.
-use Rattle.std.proofs.Common.{◌≡◌, ◌≢◌, ℕ, ◌<◌, ◌≤◌, ◌+◌, ◌*◌, ◌%◌, ◌/◌, zero, suc, AllPairs, List, [], ◌∷◌, length, get_or, map, slice_index, slice_get, nat_eq, Some, arith, refl, sym, ap, ◌∙◌, inl, inr, if◌then◌else◌}
+use Rattle.std.proofs.Common.{◌≡◌, ◌≢◌, ℕ, ◌<◌, ◌≤◌, ◌+◌, ◌*◌, ◌%◌, ◌/◌, zero, suc, AllPairs, List, Option, [], ◌∷◌, length, get_or, map, slice_index, slice_get, nat_eq, Some, arith, refl, sym, ap, ◌∙◌, inl, inr, if◌then◌else◌}
 use Rattle.std.specs.Int.{bit_at}
-use Rattle.std.specs.HashMap.{HashMap, Updates}
 use Rattle.std.proofs.lemmas.Bool.{cases_eq, cases_lt}
 use Rattle.std.proofs.lemmas.List.{get_or-map, length-map}
 use Rattle.std.proofs.lemmas.Option.{get_or_from_slice_get, slice_get_within}
@@ -11,8 +10,9 @@ use Rattle.letter_diagram.specs.declared.diagrams.Shape.TheVariants.{Leaf, Test}
 use Rattle.letter_diagram.specs.Diagram.{map_at, chosen, IsDiagram, IsTest, IsAt, Grows, LooksBelow}
 use Rattle.letter_diagram.specs.Paired.{AreAnswers}
 use Rattle.letter_diagram.specs.Relabelled.{relabelled, pick_of, IsRelabelled, RemembersRelabelled}
+use Rattle.letter_diagram.specs.NodeMemo.{Remembers}
 use Rattle.letter_diagram.proofs.Canonical.{flip, bit_at-flip_same, bit_at-flip_other, bit_cases, flipped, low_is, high_is, node-from_map, map_at-agree}
-use Rattle.letter_diagram.proofs.Memos.{answers-insert}
+use Rattle.letter_diagram.proofs.Memos.{node_answers-insert}
 
 module _ (shapes : List Shape) (is : IsDiagram shapes) (node track low high : ℕ) (at : IsAt shapes node (Test track low high)) (fits : IsTest shapes node track low high) where
   -- a side's value at a letter is the node's at a letter with that bit
@@ -106,11 +106,11 @@ IsRelabelled-grows old new tracks a r grows is =
       map = λ letter. grows.map r letter is.known ∙ is.map letter ∙ sym (grows.map a (relabelled tracks letter) is.source_known);
     }
 
-pub RemembersRelabelled-grows : {S : Type 0} (old new : List Shape) (tracks : List ℕ) (memo : HashMap ℕ ℕ S) → Grows old new → RemembersRelabelled old tracks memo → RemembersRelabelled new tracks memo
+pub RemembersRelabelled-grows : (old new : List Shape) (tracks : List ℕ) (memo : List (Option ℕ)) → Grows old new → RemembersRelabelled old tracks memo → RemembersRelabelled new tracks memo
 RemembersRelabelled-grows old new tracks memo grows all = record { relabelled = λ a r at. IsRelabelled-grows old new tracks a r grows (all.relabelled a r at) }
 
-pub RemembersRelabelled-insert : {S : Type 0} (shapes : List Shape) (tracks : List ℕ) (memo new : HashMap ℕ ℕ S) (a r : ℕ) → RemembersRelabelled shapes tracks memo → Updates nat_eq memo new a (Some r) → IsRelabelled shapes tracks a r → RemembersRelabelled shapes tracks new
-RemembersRelabelled-insert shapes tracks memo new a r all updates is = record { relabelled = answers-insert (IsRelabelled shapes tracks) memo new a r all.relabelled updates is }
+pub RemembersRelabelled-insert : (shapes : List Shape) (tracks : List ℕ) (memo new : List (Option ℕ)) (a r : ℕ) → RemembersRelabelled shapes tracks memo → Remembers memo new a r → IsRelabelled shapes tracks a r → RemembersRelabelled shapes tracks new
+RemembersRelabelled-insert shapes tracks memo new a r all remembers is = record { relabelled = node_answers-insert (IsRelabelled shapes tracks) memo new a r all.relabelled remembers is }
 
 -- a test of relabelled sides
 pub IsRelabelled-test : (shapes : List Shape) (tracks : List ℕ) (a r track low high low' high' : ℕ) → a < length shapes → ((letter : ℕ) → map_at shapes a letter ≡ chosen shapes track low high letter)

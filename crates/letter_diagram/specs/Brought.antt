@@ -1,8 +1,8 @@
 -- Nodes of one list of shapes that have the maps of nodes of another.
-use Rattle.std.specs.Prelude.{◌≡◌, ℕ, ◌<◌, ◌≤◌, List, length, Some, nat_eq}
-use Rattle.std.specs.HashMap.{HashMap, get}
+use Rattle.std.specs.Prelude.{◌≡◌, ℕ, ◌<◌, ◌≤◌, List, Option, length, Some}
 use Rattle.letter_diagram.specs.declared.diagrams.Shape.{Shape}
 use Rattle.letter_diagram.specs.Diagram.{map_at, top_track}
+use Rattle.letter_diagram.specs.NodeMemo.{answer_of}
 
 -- r has the map that a has among other shapes
 pub record IsBrought (from shapes : List Shape) (a r : ℕ) : Type 0 where
@@ -11,5 +11,5 @@ pub record IsBrought (from shapes : List Shape) (a r : ℕ) : Type 0 where
   pub map : (letter : ℕ) → map_at shapes r letter ≡ map_at from a letter
   pub top : top_track from a ≤ top_track shapes r
 
-pub record RemembersBrought {S : Type 0} (from shapes : List Shape) (memo : HashMap ℕ ℕ S) : Type 0 where
-  pub brought : (a r : ℕ) → get nat_eq memo a ≡ Some r → IsBrought from shapes a r
+pub record RemembersBrought (from shapes : List Shape) (memo : List (Option ℕ)) : Type 0 where
+  pub brought : (a r : ℕ) → answer_of memo a ≡ Some r → IsBrought from shapes a r

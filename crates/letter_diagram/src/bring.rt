@@ -5,8 +5,8 @@ ghost use Rattle.letter_diagram.specs.Brought.{IsBrought, RemembersBrought};
 ghost use Rattle.letter_diagram.specs.Listed.{EachAnswers};
 
 use crate::diagrams::{Diagrams, Node, Shape};
+use crate::node_memo::NodeMemo;
 use std::alloc::{AllocError, Global};
-use std::collections::HashMap;
 
 impl Diagrams {
     /// The nodes here that have the maps of nodes of `from`, in their order.
@@ -15,7 +15,7 @@ impl Diagrams {
         ensures brought { IfOk result (λ answers. EachAnswers (IsBrought from.now self.new) nodes.now answers.items) }
         ensures grows { Grows self.old self.new }
     {
-        let mut memo = HashMap::new(self.alloc());
+        let mut memo = NodeMemo::new(self.alloc(), from.len())?;
         let mut answers = Vec::new(self.alloc());
         for node in nodes {
             let answer = self.brought(from, *node, &mut memo)?;
@@ -24,20 +24,15 @@ impl Diagrams {
         Ok(answers)
     }
 
-    fn brought(
-        &mut self,
-        from: &Diagrams,
-        a: Node,
-        memo: &mut HashMap<Node, Node>,
-    ) -> Result<Node, AllocError>
+    fn brought(&mut self, from: &Diagrams, a: Node, memo: &mut NodeMemo) -> Result<Node, AllocError>
         requires known { a < length from.now }
         requires remembered { RemembersBrought from.now self.old memo.old }
         ensures brought { IfOk result (λ node. IsBrought from.now self.new a node) }
         ensures remembered { OnOk result (RemembersBrought from.now self.new memo.new) }
         ensures grows { Grows self.old self.new }
     {
-        if let Some(node) = memo.get(&a) {
-            return Ok(*node);
+        if let Some(node) = memo.get(a) {
+            return Ok(node);
         }
         let node = match from.shape(a) {
             Shape::Leaf(value) => self.leaf(value)?,
@@ -47,7 +42,7 @@ impl Diagrams {
                 self.node(track, low, high)?
             }
         };
-        memo.insert(a, node)?;
+        memo.insert(a, node);
         Ok(node)
     }
 }

@@ -13,8 +13,7 @@ pub struct NodeMemo {
 }
 
 impl Model for NodeMemo {
-    ghost use Rattle.std.specs.Prelude.{List, ℕ};
-    ghost use Rattle.std.specs.Prelude.{Option};
+    ghost use Rattle.std.specs.Prelude.{List, Option, ℕ};
 
     ghost Value = { List (Option ℕ) };
 

@@ -6,9 +6,9 @@ ghost use Rattle.letter_diagram.specs.Relabelled.{relabelled, pick_of, IsRelabel
 ghost use Rattle.letter_diagram.specs.Listed.{EachAnswers};
 
 use crate::diagrams::{Diagrams, Node, Shape};
+use crate::node_memo::NodeMemo;
 use crate::pairs::Pairs;
 use std::alloc::{AllocError, Global};
-use std::collections::HashMap;
 
 /// For each pick, a bit and the number of a pair, the side of the pair that the bit picks.
 fn picked_values(alloc: Global, picks: &Pairs, pairs: &Pairs) -> Result<Vec<u32>, AllocError>
@@ -35,7 +35,7 @@ impl Diagrams {
         ensures map { IfOk result (λ node. (letter : ℕ) → map_at self.new node letter ≡ map_at self.old a (relabelled tracks.now letter)) }
         ensures grows { Grows self.old self.new }
     {
-        let mut memo = HashMap::new(self.alloc());
+        let mut memo = NodeMemo::new(self.alloc(), self.len())?;
         self.relabelled(a, tracks, &mut memo)
     }
 
@@ -47,7 +47,7 @@ impl Diagrams {
         ensures relabelled { IfOk result (λ answers. EachAnswers (IsRelabelled self.new tracks.now) nodes.now answers.items) }
         ensures grows { Grows self.old self.new }
     {
-        let mut memo = HashMap::new(self.alloc());
+        let mut memo = NodeMemo::new(self.alloc(), self.len())?;
         let mut answers = Vec::new(self.alloc());
         for node in nodes {
             let answer = self.relabelled(*node, tracks, &mut memo)?;
@@ -60,7 +60,7 @@ impl Diagrams {
         &mut self,
         a: Node,
         tracks: &[u8],
-        memo: &mut HashMap<Node, Node>,
+        memo: &mut NodeMemo,
     ) -> Result<Node, AllocError>
         requires known { a < length self.old }
         requires narrow { LooksBelow self.old a (length tracks.now) }
@@ -70,14 +70,14 @@ impl Diagrams {
         ensures remembered { OnOk result (RemembersRelabelled self.new tracks.now memo.new) }
         ensures grows { Grows self.old self.new }
     {
-        if let Some(node) = memo.get(&a) {
-            return Ok(*node);
+        if let Some(node) = memo.get(a) {
+            return Ok(node);
         }
         if let Shape::Test { track, low, high } = self.shape(a) {
             let low = self.relabelled(low, tracks, memo)?;
             let high = self.relabelled(high, tracks, memo)?;
             let node = self.choose(tracks[track as usize], low, high)?;
-            memo.insert(a, node)?;
+            memo.insert(a, node);
             Ok(node)
         } else {
             Ok(a)

@@ -7,9 +7,9 @@ use Rattle.letter_diagram.proofs.diagrams.Diagrams.+brought.Goals as goal
 use Rattle.letter_diagram.proofs.diagrams.Diagrams.+brought.Goals.{in-Leaf+in_ok-node-in-Leaf, in-Test+in_ok-low-in-Test+in_ok-high-in-Test+in_ok-node-in-Test}
 
 pub returns-in-Some-clause-brought : goal.returns-in-Some-clause-brought
-returns-in-Some-clause-brought t c = c.requires.remembered.brought _ _ (sym c.in-Some.ensures.value)
+returns-in-Some-clause-brought t c = c.requires.remembered.brought _ _ (sym c.in-Some.ensures)
 
-made : (t : ℕ) (c : goal.In_ok-insert t) → IsBrought c.args.from.now c.match-shape.self c.args.a c.match-shape.node
+made : (t : ℕ) (c : goal.After-insert t) → IsBrought c.args.from.now c.match-shape.self c.args.a c.match-shape.node
 made t c = elim c.match-shape.branch [
   | in-Leaf+in_ok-node-in-Leaf w ↦ rw (w.self-is, w.node-is) (let e = w.in_ok-node-in-Leaf.ensures in IsBrought-leaf _ _ _ _ _ w.in-Leaf.ensures.at e.known e.map e.top)
   | in-Test+in_ok-low-in-Test+in_ok-high-in-Test+in_ok-node-in-Test w ↦ rw (w.self-is, w.node-is) (
@@ -32,4 +32,4 @@ returns-clause-remembered t c =
       | in-Leaf+in_ok-node-in-Leaf w ↦ rw (w.self-is, w.memo-is) (RemembersBrought-grows _ _ _ _ w.in_ok-node-in-Leaf.ensures.grows c.requires.remembered)
       | in-Test+in_ok-low-in-Test+in_ok-high-in-Test+in_ok-node-in-Test w ↦ rw (w.self-is, w.memo-is) (RemembersBrought-grows _ _ _ _ w.in_ok-node-in-Test.ensures.grows w.in_ok-high-in-Test.ensures.remembered)
     ] in
-    RemembersBrought-insert _ _ _ _ _ _ before c.in_ok-insert.ensures.updates (made t c)
+    RemembersBrought-insert _ _ _ _ _ _ before c.insert.ensures (made t c)

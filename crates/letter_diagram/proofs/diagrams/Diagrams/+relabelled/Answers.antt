@@ -4,9 +4,10 @@ use Rattle.letter_diagram.proofs.Maps.{Grows-trans}
 use Rattle.letter_diagram.proofs.Pairings.{chosen-grows}
 use Rattle.letter_diagram.proofs.Narrow.{LooksBelow-low, LooksBelow-high, LooksBelow-grows, track-below, IsRelabelled-grows, RemembersRelabelled-grows, RemembersRelabelled-insert, IsRelabelled-test}
 use Rattle.letter_diagram.proofs.diagrams.Diagrams.+relabelled.Goals as goal
+use Rattle.letter_diagram.proofs.diagrams.Diagrams.+relabelled.Goals.{After-insert}
 
 pub returns-in-Some-clause-relabelled : goal.returns-in-Some-clause-relabelled
-returns-in-Some-clause-relabelled t c = c.requires.remembered.relabelled _ _ (sym c.in-Some.ensures.value)
+returns-in-Some-clause-relabelled t c = c.requires.remembered.relabelled _ _ (sym c.in-Some.ensures)
 
 pub relabelled-requires : goal.relabelled-requires
 relabelled-requires t c =
@@ -26,7 +27,7 @@ relabelled-requires-in-Test t c =
 pub bounds-tracks-track : goal.bounds-tracks-track
 bounds-tracks-track t c = let e = c.in-Test.ensures in track-below _ e.diagram _ _ _ _ e.at e.fits _ c.requires.narrow
 
-made : (t : ℕ) (c : goal.In_ok-insert t) → IsRelabelled c.choose.new.self c.args.tracks.now c.args.a c.in_ok-node.node
+made : (t : ℕ) (c : After-insert t) → IsRelabelled c.choose.new.self c.args.tracks.now c.args.a c.in_ok-node.node
 made t c =
     let e = c.in-Test.ensures in
     let from_high = c.in_ok-node.ensures.grows in
@@ -45,9 +46,9 @@ made t c =
     (IsRelabelled-grows _ _ _ _ _ from_low low) (IsRelabelled-grows _ _ _ _ _ from_high high) c.in_ok-node.ensures.known (track-below _ e.diagram _ _ _ _ e.at e.fits _ c.requires.narrow)
     (λ letter. c.in_ok-node.ensures.map letter ∙ sym (chosen-grows _ _ _ _ _ letter (omega arith) high.known from_high))
 
-pub returns-in_ok-insert-clause-relabelled : goal.returns-in_ok-insert-clause-relabelled
-returns-in_ok-insert-clause-relabelled t c = made t c
+pub returns-in_ok-node-clause-relabelled : goal.returns-in_ok-node-clause-relabelled
+returns-in_ok-node-clause-relabelled t c = made t c
 
-pub returns-in_ok-insert-clause-remembered : goal.returns-in_ok-insert-clause-remembered
-returns-in_ok-insert-clause-remembered t c =
-    RemembersRelabelled-insert _ _ _ _ _ _ (RemembersRelabelled-grows _ _ _ _ c.in_ok-node.ensures.grows c.in_ok-high.ensures.remembered) c.in_ok-insert.ensures.updates (made t c)
+pub returns-in_ok-node-clause-remembered : goal.returns-in_ok-node-clause-remembered
+returns-in_ok-node-clause-remembered t c =
+    RemembersRelabelled-insert _ _ _ _ _ _ (RemembersRelabelled-grows _ _ _ _ c.in_ok-node.ensures.grows c.in_ok-high.ensures.remembered) c.insert.ensures (made t c)
