@@ -9,6 +9,7 @@ pub mod Pairings
 pub mod Restrictions
 pub mod Bringing
 pub mod Narrow
+pub mod BroughtRelabelled
 pub mod Lists
 pub mod SetNumbers
 pub mod Mergings

@@ -112,15 +112,19 @@ RemembersRelabelled-grows old new tracks memo grows all = record { relabelled = 
 pub RemembersRelabelled-insert : (shapes : List Shape) (tracks : List ℕ) (memo new : List (Option ℕ)) (a r : ℕ) → RemembersRelabelled shapes tracks memo → Remembers memo new a r → IsRelabelled shapes tracks a r → RemembersRelabelled shapes tracks new
 RemembersRelabelled-insert shapes tracks memo new a r all remembers is = record { relabelled = node_answers-insert (IsRelabelled shapes tracks) memo new a r all.relabelled remembers is }
 
--- a test of relabelled sides
+-- a test at the track that its own takes its bit from, of relabelled sides
+pub relabelled-chosen : (from shapes : List Shape) (tracks : List ℕ) (a r track low high low' high' : ℕ) → ((letter : ℕ) → map_at from a letter ≡ chosen from track low high letter) → ((letter : ℕ) → map_at shapes low' letter ≡ map_at from low (relabelled tracks letter))
+    → ((letter : ℕ) → map_at shapes high' letter ≡ map_at from high (relabelled tracks letter)) → track < length tracks → ((letter : ℕ) → map_at shapes r letter ≡ chosen shapes (get_or tracks track 0) low' high' letter) → (letter : ℕ) → map_at shapes r letter ≡ map_at from a (relabelled tracks letter)
+relabelled-chosen from shapes tracks a r track low high low' high' source_map l h within map letter =
+    let bit : bit_at letter (get_or tracks track 0) ≡ bit_at (relabelled tracks letter) track = sym (bit_at-relabelled tracks letter track 0 within) in
+    map letter ∙ (λ i. if nat_eq (bit i) 0 then l letter i else h letter i) ∙ sym (source_map (relabelled tracks letter))
+
 pub IsRelabelled-test : (shapes : List Shape) (tracks : List ℕ) (a r track low high low' high' : ℕ) → a < length shapes → ((letter : ℕ) → map_at shapes a letter ≡ chosen shapes track low high letter)
     → IsRelabelled shapes tracks low low' → IsRelabelled shapes tracks high high' → r < length shapes → track < length tracks → ((letter : ℕ) → map_at shapes r letter ≡ chosen shapes (get_or tracks track 0) low' high' letter) → IsRelabelled shapes tracks a r
 IsRelabelled-test shapes tracks a r track low high low' high' source_known source_map l h known within map = record {
   known = known;
   source_known = source_known;
-  map = λ letter.
-      let bit : bit_at letter (get_or tracks track 0) ≡ bit_at (relabelled tracks letter) track = sym (bit_at-relabelled tracks letter track 0 within) in
-      map letter ∙ (λ i. if nat_eq (bit i) 0 then l.map letter i else h.map letter i) ∙ sym (source_map (relabelled tracks letter));
+  map = relabelled-chosen shapes shapes tracks a r track low high low' high' source_map l.map h.map within map;
 }
 
 pub IsRelabelled-leaf : (shapes : List Shape) (tracks : List ℕ) (a value : ℕ) → IsAt shapes a (Leaf value) → IsRelabelled shapes tracks a a

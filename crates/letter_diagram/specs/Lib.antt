@@ -4,6 +4,7 @@ pub mod Paired
 pub mod Restricted
 pub mod Brought
 pub mod Relabelled
+pub mod BroughtRelabelled
 pub mod Least
 pub mod Product
 pub mod Listed

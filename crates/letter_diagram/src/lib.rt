@@ -3,6 +3,7 @@
 
 mod apply2;
 mod bring;
+mod bring_relabelled;
 mod diagrams;
 pub mod laws;
 mod leaves;
