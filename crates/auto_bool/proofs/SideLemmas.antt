@@ -2,14 +2,13 @@
 use Rattle.std.proofs.Common.{◌≡◌, ℕ, suc, ◌<◌, ◌≤◌, ◌+◌, ◌*◌, ◌^◌, List, ◌∷◌, length, map, get_or, slice_get, Some, arith, sym, ap, ◌∙◌, subst}
 use Rattle.std.specs.List.{All}
 use Rattle.std.proofs.lemmas.List.{length-map}
-use Rattle.std.proofs.lemmas.List.Elements.{All-cons, All-from_get_or, All-weaker}
+use Rattle.std.proofs.lemmas.List.Elements.{All-cons, All-weaker}
 use Rattle.std.proofs.lemmas.Option.{slice_get-get_or, slice_get_within, get_or_from_slice_get}
 use Rattle.track_word.specs.declared.tracks.Var.{Var}
 use Rattle.track_word.specs.Tracks.{place, restrict}
 use Rattle.letter_diagram.specs.declared.diagrams.Shape.{Shape}
 use Rattle.letter_diagram.specs.Diagram.{map_at, LooksBelow, Grows}
-use Rattle.letter_diagram.specs.Brought.{IsBrought}
-use Rattle.letter_diagram.specs.Relabelled.{relabelled, IsRelabelled}
+use Rattle.letter_diagram.specs.BroughtRelabelled.{IsBroughtRelabelled}
 use Rattle.letter_diagram.specs.Listed.{EachAnswers}
 use Rattle.auto_core.specs.Automaton.{Automaton, IsAutomaton, width, first_state, next_state}
 use Rattle.auto_core.specs.Rows.{IsOverNodes}
@@ -36,21 +35,10 @@ IsSide-kept old new all a nodes grows s = record {
 pub all_known : (a : Automaton) → IsOverNodes a → All (λ node. node < length a.shapes) (a.first_node ∷ a.row_nodes)
 all_known a over = All-cons (λ node. node < length a.shapes) a.first_node a.row_nodes over.nodes.first_known over.nodes.rows_known
 
-all_narrow : (a : Automaton) → IsOverNodes a → All (λ node. LooksBelow a.shapes node (length a.tracks)) (a.first_node ∷ a.row_nodes)
-all_narrow a over = All-cons (λ node. LooksBelow a.shapes node (length a.tracks)) a.first_node a.row_nodes over.nodes.first_narrow over.nodes.rows_narrow
-
--- what is brought is known and as narrow
-pub brought-known : (from shapes : List Shape) (sources own : List ℕ) → EachAnswers (IsBrought from shapes) sources own → All (λ node. node < length shapes) own
-brought-known from shapes sources own each = All-from_get_or (λ node. node < length shapes) own 0 (λ i h. (each.each i (let s = each.size in omega (arith, s, h))).known)
-
-pub brought-narrow : (a : Automaton) (shapes : List Shape) (all : List Var) (own : List ℕ) → IsOverNodes a → EachAnswers (IsBrought a.shapes shapes) (a.first_node ∷ a.row_nodes) own
-    → All (λ node. LooksBelow shapes node (length (map (place all) a.tracks))) own
-brought-narrow a shapes all own over each = All-from_get_or (λ node. LooksBelow shapes node (length (map (place all) a.tracks))) own 0 (λ i h.
-    let size = each.size in
-    let inside : i < length (a.first_node ∷ a.row_nodes) = omega (arith, size, h) in
-    let b = each.each i inside in
-    let narrow = all_narrow a over i 0 inside in
-    record { same = λ x y agree. b.map x ∙ narrow.same x y (λ k below. agree k (let l = length-map a.tracks (place all) in omega (arith, l, below))) ∙ sym (b.map y) })
+pub all_narrow : (a : Automaton) (all : List Var) → IsOverNodes a → All (λ node. LooksBelow a.shapes node (length (map (place all) a.tracks))) (a.first_node ∷ a.row_nodes)
+all_narrow a all over =
+    subst (λ bound. All (λ node. LooksBelow a.shapes node bound) (a.first_node ∷ a.row_nodes)) (sym (length-map a.tracks (place all)))
+    (All-cons (λ node. LooksBelow a.shapes node (length a.tracks)) a.first_node a.row_nodes over.nodes.first_narrow over.nodes.rows_narrow)
 
 pub places-small : (all some : List Var) → length all ≤ 20 → AreAmong all some → All (λ track. track < 20) (map (place all) some)
 places-small all some few among = All-weaker (λ track. track < length all) (λ track. track < 20) (λ track h. omega arith) (map (place all) some) among.within
@@ -62,24 +50,17 @@ module _ (a : Automaton) (valid : IsAutomaton a) (over : IsOverNodes a) where
   row-map : (state letter : ℕ) → state < length a.row_nodes → letter < width a → map_at a.shapes (get_or a.row_nodes state 0) letter ≡ next_state a state letter
   row-map state letter known below = sym (ap (λ l. get_or l (state * width a + letter) 0) over.next ∙ get_or-rows_of a.shapes (2 ^ length a.tracks) a.row_nodes state letter 0 known below)
 
-  module _ (all : List Var) (mid shapes : List Shape) (own nodes : List ℕ) (among : AreAmong all a.tracks) (grows : Grows mid shapes)
-      (brought : EachAnswers (IsBrought a.shapes mid) (a.first_node ∷ a.row_nodes) own) (each : EachAnswers (IsRelabelled shapes (map (place all) a.tracks)) own nodes) where
+  module _ (all : List Var) (shapes : List Shape) (nodes : List ℕ) (among : AreAmong all a.tracks) (brought : EachAnswers (IsBroughtRelabelled a.shapes shapes (map (place all) a.tracks)) (a.first_node ∷ a.row_nodes) nodes) where
     reads-at : (i node : ℕ) (value : ℕ → ℕ) → slice_get nodes i ≡ Some node → ((letter : ℕ) → letter < width a → map_at a.shapes (get_or (a.first_node ∷ a.row_nodes) i 0) letter ≡ value letter)
         → Reads shapes (length all) node (λ letter. value (restrict all a.tracks letter))
     reads-at i node value at says =
         let within = slice_get_within nodes i node at in
         let here = get_or_from_slice_get nodes i node 0 at in
-        let nodes_size = each.size in
-        let own_size = brought.size in
-        let in_own : i < length own = omega (arith, nodes_size, within) in
-        let in_source : i < length (a.first_node ∷ a.row_nodes) = omega (arith, own_size, in_own) in
-        let r = each.each i in_own in
-        let b = brought.each i in_source in
-        let narrow = all_narrow a over i 0 in_source in
-        let maps = λ (letter : ℕ). ap (λ n. map_at shapes n letter) (sym here) ∙ r.map letter ∙ grows.map (get_or own i 0) (relabelled (map (place all) a.tracks) letter) b.known
-        ∙ b.map (relabelled (map (place all) a.tracks) letter) ∙ ap (map_at a.shapes (get_or (a.first_node ∷ a.row_nodes) i 0)) (relabelled-places all a.tracks letter) in
+        let size = brought.size in
+        let b = brought.each i (omega (arith, size, within)) in
+        let maps = λ (letter : ℕ). ap (λ n. map_at shapes n letter) (sym here) ∙ b.map letter ∙ ap (map_at a.shapes (get_or (a.first_node ∷ a.row_nodes) i 0)) (relabelled-places all a.tracks letter) in
         record {
-          known = subst (λ n. n < length shapes) here r.known;
+          known = subst (λ n. n < length shapes) here b.known;
           narrow = record { same = λ x y agree. maps x ∙ ap (map_at a.shapes (get_or (a.first_node ∷ a.row_nodes) i 0)) (restrict-same all a.tracks x y among agree) ∙ sym (maps y) };
           reads = λ letter below. maps letter ∙ says (restrict all a.tracks letter) (restrict-below all a.tracks letter);
         }
@@ -87,15 +68,14 @@ module _ (a : Automaton) (valid : IsAutomaton a) (over : IsOverNodes a) where
     pub IsSide-made : IsSide shapes all a nodes
     IsSide-made =
         let rows_size = over.nodes.rows_size in
-        let own_size = brought.size in
-        let nodes_size = each.size in
+        let size = brought.size in
         record {
           valid = valid;
-          size = omega (arith, rows_size, own_size, nodes_size);
+          size = omega (arith, rows_size, size);
           first = λ node at. reads-at 0 node (first_state a) at first-map;
           rows = λ state node at.
               let within = slice_get_within nodes (state + 1) node at in
-              let known : state < length a.row_nodes = omega (arith, own_size, nodes_size, within) in
+              let known : state < length a.row_nodes = omega (arith, size, within) in
               let e : state + 1 ≡ suc state = omega arith in
               reads-at (state + 1) node (next_state a state) at (λ letter below.
               ap (λ i. map_at a.shapes (get_or (a.first_node ∷ a.row_nodes) i 0) letter) e ∙ row-map state letter known below);

@@ -37,7 +37,6 @@ pub fn side(
 {
     let places = places_of(alloc, all, a.tracks())?;
     let nodes = all_nodes(alloc, a)?;
-    let own = diagrams.bring(a.diagrams(), nodes.as_slice())?;
-    let nodes = diagrams.relabel_all(own.as_slice(), places.as_slice())?;
+    let nodes = diagrams.bring_relabelled(a.diagrams(), nodes.as_slice(), places.as_slice())?;
     Ok(nodes)
 }
