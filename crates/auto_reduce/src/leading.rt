@@ -24,7 +24,8 @@ pub fn lead_node(
     Ok(made)
 }
 
-/// The same of several nodes, in their order. What they share is done once. Costs the nodes led, and a memo with room for each node of `from`.
+/// The same of several nodes, in their order. What they share is done once.
+/// Costs the nodes that are led, and a memo with room for each node of `from`.
 pub fn lead_nodes(
     from: &Diagrams,
     nodes: &[Node],
