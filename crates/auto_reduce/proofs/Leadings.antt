@@ -1,11 +1,10 @@
 -- Maps of other nodes, led through a table, as nodes are added.
-use Rattle.std.proofs.Common.{◌≡◌, ℕ, ◌<◌, ◌≤◌, Bool, true, false, List, length, get_or, nat_eq, Some, arith, refl, sym, ap, ◌∙◌, subst, if◌then◌else◌}
+use Rattle.std.proofs.Common.{◌≡◌, ℕ, ◌<◌, ◌≤◌, Bool, true, false, List, length, get_or, nat_eq, Option, arith, refl, sym, ap, ◌∙◌, subst, inl, inr, if◌then◌else◌}
 use Rattle.std.specs.Int.{bit_at}
-use Rattle.std.specs.HashMap.{HashMap, Updates}
 use Rattle.letter_diagram.specs.declared.diagrams.Shape.{Shape}
 use Rattle.letter_diagram.specs.declared.diagrams.Shape.TheVariants.{Leaf, Test}
 use Rattle.letter_diagram.specs.Diagram.{map_at, top_track, chosen, IsAt, Grows}
-use Rattle.letter_diagram.proofs.Memos.{answers-insert}
+use Rattle.letter_diagram.specs.NodeMemo.{Remembers}
 use Rattle.auto_reduce.specs.Leading.{IsLedFrom, RemembersLed}
 
 pub IsLedFrom-grows : (from old new : List Shape) (table : List ℕ) (a r : ℕ) → Grows old new → IsLedFrom from old table a r → IsLedFrom from new table a r
@@ -21,11 +20,16 @@ IsLedFrom-grows from old new table a r grows is =
       top = omega (arith, top, top_r);
     }
 
-pub RemembersLed-grows : {S : Type 0} (from old new : List Shape) (table : List ℕ) (memo : HashMap ℕ ℕ S) → Grows old new → RemembersLed from old table memo → RemembersLed from new table memo
+pub RemembersLed-grows : (from old new : List Shape) (table : List ℕ) (memo : List (Option ℕ)) → Grows old new → RemembersLed from old table memo → RemembersLed from new table memo
 RemembersLed-grows from old new table memo grows all = record { led = λ a r at. IsLedFrom-grows from old new table a r grows (all.led a r at) }
 
-pub RemembersLed-insert : {S : Type 0} (from shapes : List Shape) (table : List ℕ) (memo new : HashMap ℕ ℕ S) (a r : ℕ) → RemembersLed from shapes table memo → Updates nat_eq memo new a (Some r) → IsLedFrom from shapes table a r → RemembersLed from shapes table new
-RemembersLed-insert from shapes table memo new a r all updates is = record { led = answers-insert (IsLedFrom from shapes table) memo new a r all.led updates is }
+pub RemembersLed-insert : (from shapes : List Shape) (table : List ℕ) (memo new : List (Option ℕ)) (a r : ℕ) → RemembersLed from shapes table memo → Remembers memo new a r → IsLedFrom from shapes table a r → RemembersLed from shapes table new
+RemembersLed-insert from shapes table memo new a r all remembers is = record {
+  led = λ b s at. elim (remembers.only b s at) [
+    | inl before ↦ all.led b s before
+    | inr here ↦ rw (here.0, here.1) is
+  ];
+}
 
 -- a table's entry at one of two values
 pub entry-either : (table : List ℕ) (b : Bool) (v w : ℕ) → get_or table (if b then v else w) 0 ≡ (if b then get_or table v 0 else get_or table w 0)

@@ -1,12 +1,10 @@
 -- Nodes by places: what placing one more keeps, and which marks tell of a node.
-use Rattle.std.proofs.Common.{◌≡◌, ℕ, ◌<◌, ◌≤◌, ◌+◌, ◌||◌, nat_eq, if◌then◌else◌, Bool, true, false, List, [], ◌∷◌, ◌++◌, length, get_or, slice_get, Some, arith, refl, sym, ap, ◌∙◌, subst, inl, inr}
+use Rattle.std.proofs.Common.{◌≡◌, ℕ, ◌<◌, ◌≤◌, ◌+◌, ◌||◌, nat_eq, if◌then◌else◌, Bool, true, false, List, [], ◌∷◌, ◌++◌, length, get_or, slice_get, set, Option, Some, None, arith, refl, sym, ap, ◌∙◌, subst, inl, inr}
 use Rattle.std.specs.Int.{bit_at}
-use Rattle.std.specs.HashMap.{HashMap, Updates}
 use Rattle.std.proofs.lemmas.Bool.{cases_eq, cases_lt}
-use Rattle.std.proofs.lemmas.Grind.{common_steps}
-use Rattle.std.proofs.lemmas.List.{length_push, get_or_push, get_or_append_left}
+use Rattle.std.proofs.lemmas.List.{length_push, get_or_push, get_or_append_left, length-set, get_or-set_same, get_or-set_other}
 use Rattle.std.proofs.lemmas.List.Elements.{All-from_get_or}
-use Rattle.std.proofs.lemmas.Option.{slice_get_within, slice_get-get_or, get_or_from_slice_get}
+use Rattle.std.proofs.lemmas.Option.{same_Some, slice_get_within, slice_get-get_or, get_or_from_slice_get}
 use Rattle.letter_diagram.specs.declared.diagrams.Shape.{Shape}
 use Rattle.letter_diagram.specs.declared.diagrams.Shape.TheVariants.{Leaf, Test}
 use Rattle.letter_diagram.specs.Diagram.{map_at, IsAt}
@@ -91,23 +89,28 @@ pub IsPlaced-low : (shapes : List Shape) (first ways : List Way) (node track low
 IsPlaced-low shapes first ways node track low high l h kept at lp hp = IsPlaced-test shapes ways node track low high l h at (IsPlaced-grows shapes first ways low l kept lp) hp
 
 -- ---- places that are remembered
-pub RemembersPlaced-grows : {S : Type 0} (states : ℕ) (shapes : List Shape) (old new : List Way) (memo : HashMap ℕ ℕ S) → KeepsWays old new → AreWays states new → RemembersPlaced states shapes old memo → RemembersPlaced states shapes new memo
-RemembersPlaced-grows states shapes old new memo kept fits all = record { fits = fits; placed = λ node place at. IsPlaced-grows shapes old new node place kept (all.placed node place at) }
+RemembersPlaced-grows : (states : ℕ) (shapes : List Shape) (old new : List Way) (places : List (Option ℕ)) → KeepsWays old new → AreWays states new → RemembersPlaced states shapes old places → RemembersPlaced states shapes new places
+RemembersPlaced-grows states shapes old new places kept fits all = record { size = all.size; fits = fits; placed = λ node place at. IsPlaced-grows shapes old new node place kept (all.placed node place at) }
 
-pub RemembersPlaced-insert : {S : Type 0} (states : ℕ) (shapes : List Shape) (ways : List Way) (memo new : HashMap ℕ ℕ S) (node place : ℕ) → RemembersPlaced states shapes ways memo → Updates nat_eq memo new node (Some place) → IsPlaced shapes ways node place → RemembersPlaced states shapes ways new
-RemembersPlaced-insert states shapes ways memo new node place all updates is = record {
+RemembersPlaced-set : (states : ℕ) (shapes : List Shape) (ways : List Way) (places : List (Option ℕ)) (node place : ℕ) → RemembersPlaced states shapes ways places → node < length places → IsPlaced shapes ways node place → RemembersPlaced states shapes ways (set places node (Some place))
+RemembersPlaced-set states shapes ways places node place all within is = record {
+  size = length-set places node (Some place) ∙ all.size;
   fits = all.fits;
-  placed = λ b s at. elim (cases_eq node b) [
-    | inl e ↦ subst (λ n. IsPlaced shapes ways n s) e (subst (IsPlaced shapes ways node) (grind (arith, common_steps, updates.1, at, e)) is)
-    | inr ne ↦ all.placed b s (grind (arith, common_steps, updates.0 b, at, ne))
+  placed = λ n p at. elim (cases_eq node n) [
+    | inl e ↦
+        let here = subst (λ i. get_or (set places node (Some place)) i None ≡ Some p) (sym e) at in
+        let same = same_Some place p (sym (get_or-set_same places node (Some place) None within) ∙ here) in
+        subst (λ i. IsPlaced shapes ways i p) e (subst (IsPlaced shapes ways node) same is)
+    | inr ne ↦ all.placed n p (sym (get_or-set_other places node n (Some place) None (λ e. ne (sym e))) ∙ at)
   ];
 }
 
-pub RemembersPlaced-next : {S : Type 0} (states : ℕ) (shapes : List Shape) (ways new : List Way) (memo more : HashMap ℕ ℕ S) (way : Way) (node : ℕ) → RemembersPlaced states shapes ways memo → FitsAt states (length ways) way
-    → IsPlaced shapes (ways ++ way ∷ []) node (length ways) → new ≡ ways ++ way ∷ [] → Updates nat_eq memo more node (Some (length ways)) → RemembersPlaced states shapes new more
-RemembersPlaced-next states shapes ways new memo more way node remembered fits placed are updates =
-    let grown = RemembersPlaced-grows states shapes ways (ways ++ way ∷ []) memo (KeepsWays-push ways way) (AreWays-push states ways way remembered.fits fits) remembered in
-    rw are (RemembersPlaced-insert states shapes (ways ++ way ∷ []) memo more node (length ways) grown updates placed)
+pub RemembersPlaced-next : (states : ℕ) (shapes : List Shape) (ways new : List Way) (places more : List (Option ℕ)) (way : Way) (node : ℕ) → RemembersPlaced states shapes ways places → FitsAt states (length ways) way → node < length shapes
+    → IsPlaced shapes (ways ++ way ∷ []) node (length ways) → new ≡ ways ++ way ∷ [] → more ≡ set places node (Some (length ways)) → RemembersPlaced states shapes new more
+RemembersPlaced-next states shapes ways new places more way node remembered fits known placed are updates =
+    let grown = RemembersPlaced-grows states shapes ways (ways ++ way ∷ []) places (KeepsWays-push ways way) (AreWays-push states ways way remembered.fits fits) remembered in
+    let size = remembered.size in
+    rw (are, updates) (RemembersPlaced-set states shapes (ways ++ way ∷ []) places node (length ways) grown (omega (arith, known, size)) placed)
 
 -- ---- the rows of an automaton
 pub placed_push : (shapes : List Shape) (old new : List Way) (rows places : List ℕ) (index place : ℕ) → KeepsWays old new → length places ≡ index → ((k : ℕ) → k < index → IsPlaced shapes old (get_or rows k 0) (get_or places k 0))

@@ -1,6 +1,5 @@
 -- Nodes by places, each behind the places that it leads to.
-use Rattle.std.specs.Prelude.{◌≡◌, ℕ, ◌<◌, ◌≤◌, ◌||◌, Bool, false, List, length, All, slice_get, slice_index, slice_index_or, Some, nat_eq}
-use Rattle.std.specs.HashMap.{HashMap, get}
+use Rattle.std.specs.Prelude.{◌≡◌, ℕ, ◌<◌, ◌≤◌, ◌||◌, Bool, false, List, length, All, slice_get, slice_index, slice_index_or, Option, Some, None}
 use Rattle.letter_diagram.specs.declared.diagrams.Shape.{Shape}
 use Rattle.letter_diagram.specs.Diagram.{map_at}
 use Rattle.auto_core.specs.Automaton.{Automaton, width, next_state}
@@ -39,10 +38,11 @@ pub record IsPlaced (shapes : List Shape) (ways : List Way) (node place : ℕ) :
   pub within : place < length ways
   pub none : (states marks : List Bool) → AreMarks ways states marks → slice_index_or marks place false ≡ false → (letter : ℕ) → slice_index_or states (map_at shapes node letter) false ≡ false
 
--- ways, and the places of the nodes in a memo
-pub record RemembersPlaced {S : Type 0} (states : ℕ) (shapes : List Shape) (ways : List Way) (memo : HashMap ℕ ℕ S) : Type 0 where
+-- ways, and for each node its place if it has one
+pub record RemembersPlaced (states : ℕ) (shapes : List Shape) (ways : List Way) (places : List (Option ℕ)) : Type 0 where
+  pub size : length places ≡ length shapes
   pub fits : AreWays states ways
-  pub placed : (node place : ℕ) → get nat_eq memo node ≡ Some place → IsPlaced shapes ways node place
+  pub placed : (node place : ℕ) → slice_index_or places node None ≡ Some place → IsPlaced shapes ways node place
 
 -- ways, and the place of each state's row: whatever states have marks, where the place has none no next state has one
 pub record AreRowWays (a : Automaton) (ways : List Way) (rows : List ℕ) : Type 0 where

@@ -4,9 +4,8 @@ ghost use Rattle.letter_diagram.specs.Diagram.{map_at, Grows};
 ghost use Rattle.letter_diagram.specs.Listed.{EachAnswers};
 ghost use Rattle.auto_reduce.specs.Leading.{IsLedFrom, RemembersLed};
 
-use letter_diagram::{Diagrams, Node, Shape};
+use letter_diagram::{Diagrams, Node, NodeMemo, Shape};
 use std::alloc::AllocError;
-use std::collections::HashMap;
 
 /// The node in `to` that gives the entry of `table` at each value of a node of `from`.
 pub fn lead_node(
@@ -20,12 +19,13 @@ pub fn lead_node(
     ensures led { IfOk result (IsLedFrom from.now to.new table.now node) }
     ensures grows { Grows to.old to.new }
 {
-    let mut memo = HashMap::new(to.alloc());
+    let mut memo = NodeMemo::new(to.alloc(), from.len())?;
     let made = led(from, node, table, to, &mut memo)?;
     Ok(made)
 }
 
 /// The same of several nodes, in their order. What they share is done once.
+/// Costs the nodes that are led, and a memo with room for each node of `from`.
 pub fn lead_nodes(
     from: &Diagrams,
     nodes: &[Node],
@@ -37,7 +37,7 @@ pub fn lead_nodes(
     ensures led { IfOk result (λ answers. EachAnswers (IsLedFrom from.now to.new table.now) nodes.now answers.items) }
     ensures grows { Grows to.old to.new }
 {
-    let mut memo = HashMap::new(to.alloc());
+    let mut memo = NodeMemo::new(to.alloc(), from.len())?;
     let mut answers = Vec::new(to.alloc());
     for node in nodes {
         let answer = led(from, *node, table, to, &mut memo)?;
@@ -51,7 +51,7 @@ fn led(
     node: Node,
     table: &[u32],
     to: &mut Diagrams,
-    memo: &mut HashMap<Node, Node>,
+    memo: &mut NodeMemo,
 ) -> Result<Node, AllocError>
     requires known { node < length from.now }
     requires leaves { (letter : ℕ) → map_at from.now node letter < length table.now }
@@ -60,8 +60,8 @@ fn led(
     ensures remembered { OnOk result (RemembersLed from.now to.new table.now memo.new) }
     ensures grows { Grows to.old to.new }
 {
-    if let Some(known) = memo.get(&node) {
-        return Ok(*known);
+    if let Some(known) = memo.get(node) {
+        return Ok(known);
     }
     let made = match from.shape(node) {
         Shape::Leaf(value) => to.leaf(table[value as usize])?,
@@ -71,6 +71,6 @@ fn led(
             to.node(track, low, high)?
         }
     };
-    memo.insert(node, made)?;
+    memo.insert(node, made);
     Ok(made)
 }

@@ -1,6 +1,5 @@
 //! The nodes of rows by places, each behind the places that it leads to.
-ghost use Rattle.std.specs.Prelude.{◌≡◌, ◌<◌, ◌++◌, ◌∷◌, [], ℕ, length, nat_eq, Some, IfOk, OnOk};
-ghost use Rattle.std.specs.HashMap.{Updates};
+ghost use Rattle.std.specs.Prelude.{◌≡◌, ◌<◌, ◌++◌, ◌∷◌, [], ℕ, length, slice_set, Some, IfOk, OnOk};
 ghost use Rattle.letter_diagram.specs.Diagram.{map_at};
 ghost use Rattle.auto_reduce.specs.Partition.{AreRowNodes};
 ghost use Rattle.auto_reduce.specs.Ways.{FitsAt, mark_of_way, AreWays, AreMarks, AreMoved, KeepsWays, IsPlaced, RemembersPlaced, AreRowWays};
@@ -8,7 +7,6 @@ ghost use Rattle.auto_reduce.specs.Ways.{FitsAt, mark_of_way, AreWays, AreMarks,
 use auto_core::Auto;
 use letter_diagram::{Diagrams, Node, Shape};
 use std::alloc::{AllocError, Global};
-use std::collections::HashMap;
 
 /// What a place leads to.
 #[derive(Debug, Clone, Copy)]
@@ -31,15 +29,16 @@ fn place_next(
     node: Node,
     way: Way,
     ways: &mut Vec<Way>,
-    places: &mut HashMap<Node, usize>,
+    places: &mut [Option<usize>],
 ) -> Result<usize, AllocError>
+    requires { node < length places.old }
     ensures place { IfOk result (λ place. place ≡ length ways.old.items) }
     ensures ways { OnOk result (ways.new.items ≡ ways.old.items ++ way ∷ []) }
-    ensures places { OnOk result (Updates nat_eq places.old places.new node (Some (length ways.old.items))) }
+    ensures places { OnOk result (places.new ≡ slice_set places.old node (Some (length ways.old.items))) }
 {
     let place = ways.len();
     ways.push(way)?;
-    places.insert(node, place)?;
+    places[node.number()] = Some(place);
     Ok(place)
 }
 
@@ -49,7 +48,7 @@ fn place_of(
     node: Node,
     states: u32,
     ways: &mut Vec<Way>,
-    places: &mut HashMap<Node, usize>,
+    places: &mut [Option<usize>],
 ) -> Result<usize, AllocError>
     requires known { node < length diagrams.now }
     requires leaves { (letter : ℕ) → map_at diagrams.now node letter < states }
@@ -58,8 +57,8 @@ fn place_of(
     ensures remembered { OnOk result (RemembersPlaced states diagrams.now ways.new.items places.new) }
     ensures kept { OnOk result (KeepsWays ways.old.items ways.new.items) }
 {
-    if let Some(place) = places.get(&node) {
-        return Ok(*place);
+    if let Some(place) = places[node.number()] {
+        return Ok(place);
     }
     match diagrams.shape(node) {
         Shape::Leaf(state) => {
@@ -80,11 +79,17 @@ pub fn row_ways(alloc: Global, a: &Auto, rows: &[Node]) -> Result<Ways, AllocErr
     requires { AreRowNodes a.now rows.now }
     ensures { IfOk result (λ all. AreRowWays a.now all.ways.items all.rows.items) }
 {
-    let mut places = HashMap::new(alloc);
+    let mut places = vec![in alloc; None; a.diagrams().len()]?;
     let mut ways = Vec::new(alloc);
     let mut found = Vec::new(alloc);
     for node in rows {
-        let place = place_of(a.diagrams(), *node, a.states(), &mut ways, &mut places)?;
+        let place = place_of(
+            a.diagrams(),
+            *node,
+            a.states(),
+            &mut ways,
+            places.as_mut_slice(),
+        )?;
         found.push(place)?;
     }
     Ok(Ways { ways, rows: found })

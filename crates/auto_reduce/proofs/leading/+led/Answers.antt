@@ -5,7 +5,7 @@ use Rattle.auto_reduce.proofs.leading.+led.Goals as goal
 use Rattle.auto_reduce.proofs.leading.+led.Goals.{in-Leaf+in_ok-made-in-Leaf, in-Test+in_ok-low-in-Test+in_ok-high-in-Test+in_ok-made-in-Test}
 
 pub returns-in-Some-clause-led : goal.returns-in-Some-clause-led
-returns-in-Some-clause-led t c = c.requires.remembered.led _ _ (sym c.in-Some.ensures.value)
+returns-in-Some-clause-led t c = c.requires.remembered.led _ _ (sym c.in-Some.ensures)
 
 pub bounds-table-value : goal.bounds-table-value
 bounds-table-value t c =
@@ -24,7 +24,7 @@ led-requires-in-Test t c =
     let known = c.requires.known in
     (omega (arith, high_before, c.decreases), (omega (arith, high_before, known), (λ letter. let v = (c.in-Test.ensures.children letter).1 in rw (← v.1) (c.requires.leaves v.0), c.in_ok-low-in-Test.ensures.remembered)))
 
-made : (t : ℕ) (c : goal.In_ok-insert t) → IsLedFrom c.args.from.now c.match-shape.to c.args.table.now c.args.node c.match-shape.made
+made : (t : ℕ) (c : goal.After-insert t) → IsLedFrom c.args.from.now c.match-shape.to c.args.table.now c.args.node c.match-shape.made
 made t c = elim c.match-shape.branch [
   | in-Leaf+in_ok-made-in-Leaf w ↦ rw (w.to-is, w.made-is) (let e = w.in_ok-made-in-Leaf.ensures in IsLedFrom-leaf _ _ _ _ _ w.in-Leaf.value _ w.in-Leaf.ensures.at refl e.known e.map e.top)
   | in-Test+in_ok-low-in-Test+in_ok-high-in-Test+in_ok-made-in-Test w ↦ rw (w.to-is, w.made-is) (
@@ -43,4 +43,4 @@ returns-clause-remembered t c =
       | in-Leaf+in_ok-made-in-Leaf w ↦ rw (w.to-is, w.memo-is) (RemembersLed-grows _ _ _ _ _ w.in_ok-made-in-Leaf.ensures.grows c.requires.remembered)
       | in-Test+in_ok-low-in-Test+in_ok-high-in-Test+in_ok-made-in-Test w ↦ rw (w.to-is, w.memo-is) (RemembersLed-grows _ _ _ _ _ w.in_ok-made-in-Test.ensures.grows w.in_ok-high-in-Test.ensures.remembered)
     ] in
-    RemembersLed-insert _ _ _ _ _ _ _ before c.in_ok-insert.ensures.updates (made t c)
+    RemembersLed-insert _ _ _ _ _ _ _ before c.insert.ensures (made t c)

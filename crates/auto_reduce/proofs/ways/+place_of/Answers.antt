@@ -1,9 +1,9 @@
-use Rattle.std.proofs.Common.{arith, sym}
+use Rattle.std.proofs.Common.{arith}
 use Rattle.auto_reduce.proofs.Placed.{IsPlaced-leaf, IsPlaced-low, IsPlaced-grows, RemembersPlaced-next, KeepsWays-push, KeepsWays-trans}
 use Rattle.auto_reduce.proofs.ways.+place_of.Goals as goal
 
 pub returns-in-Some-clause-placed : goal.returns-in-Some-clause-placed
-returns-in-Some-clause-placed t c = c.requires.remembered.placed _ _ (sym c.in-Some.ensures.value)
+returns-in-Some-clause-placed t c = c.requires.remembered.placed _ _ (rw c.number.ensures at c.in-Some.is)
 
 pub place_of-requires : goal.place_of-requires
 place_of-requires t c =
@@ -23,7 +23,7 @@ pub returns-in_ok-place-in-Leaf-clause-remembered : goal.returns-in_ok-place-in-
 returns-in_ok-place-in-Leaf-clause-remembered t c =
     let e = c.in_ok-place-in-Leaf.ensures in
     let m = c.in-Leaf.ensures.at.map 0 in
-    RemembersPlaced-next _ _ _ _ _ _ _ _ c.requires.remembered (rw (← m) (c.requires.leaves 0)) (IsPlaced-leaf _ _ _ _ c.in-Leaf.ensures.at) e.ways e.places
+    RemembersPlaced-next _ _ _ _ _ _ _ _ c.requires.remembered (rw (← m) (c.requires.leaves 0)) c.requires.known (IsPlaced-leaf _ _ _ _ c.in-Leaf.ensures.at) e.ways e.places
 
 pub returns-in_ok-place-in-Leaf-clause-kept : goal.returns-in_ok-place-in-Leaf-clause-kept
 returns-in_ok-place-in-Leaf-clause-kept t c = rw c.in_ok-place-in-Leaf.ensures.ways (KeepsWays-push _ _)
@@ -40,7 +40,7 @@ returns-in_ok-place-in-Test-clause-remembered t c =
     let low = c.in_ok-low-in-Test.ensures in
     let high = c.in_ok-high-in-Test.ensures in
     let lq = IsPlaced-grows _ _ _ _ _ high.kept low.placed in
-    RemembersPlaced-next _ _ _ _ _ _ _ _ high.remembered (lq.within, high.placed.within) (IsPlaced-low _ _ _ _ _ _ _ _ _ high.kept c.in-Test.ensures.at low.placed high.placed) e.ways e.places
+    RemembersPlaced-next _ _ _ _ _ _ _ _ high.remembered (lq.within, high.placed.within) c.requires.known (IsPlaced-low _ _ _ _ _ _ _ _ _ high.kept c.in-Test.ensures.at low.placed high.placed) e.ways e.places
 
 pub returns-in_ok-place-in-Test-clause-kept : goal.returns-in_ok-place-in-Test-clause-kept
 returns-in_ok-place-in-Test-clause-kept t c =
