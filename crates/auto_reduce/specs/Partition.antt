@@ -1,5 +1,5 @@
 -- Partitions of the states of an automaton into numbered classes.
-use Rattle.std.specs.Prelude.{◌≡◌, ◌≢◌, ◌↔◌, ℕ, ◌<◌, Bool, true, false, List, length, All, Contains, slice_get, slice_index, slice_index_or, Some}
+use Rattle.std.specs.Prelude.{◌≡◌, ◌≢◌, ◌↔◌, ℕ, ◌<◌, ◌≤◌, ◌-◌, Bool, true, false, List, length, All, Contains, slice_get, slice_index, slice_index_or, Some}
 use Rattle.letter_diagram.specs.declared.diagrams.Shape.{Shape}
 use Rattle.letter_diagram.specs.Diagram.{map_at, LooksBelow}
 use Rattle.auto_core.specs.Automaton.{Automaton, width, next_state, is_final}
@@ -42,6 +42,36 @@ pub record AreClassSignatures (classes : List ℕ) (count : ℕ) (nodes : List �
   pub size : length signatures ≡ count
   pub signed : AreSignatures classes nodes signatures
   pub class : (number class node : ℕ) → slice_get signatures number ≡ Some (class, node) → class ≡ number
+
+-- a state of a class that has a node
+pub record IsClassNode (classes nodes : List ℕ) (class node : ℕ) : Type 0 where
+  pub state : ℕ
+  pub within : state < length classes
+  pub has : slice_index classes state ≡ class
+  pub is : slice_index nodes state ≡ node
+
+-- for each class the node of one of its states
+pub record AreClassNodes (classes : List ℕ) (count : ℕ) (nodes chosen : List ℕ) : Type 0 where
+  pub size : length chosen ≡ count
+  pub of : (class : ℕ) → class < count → IsClassNode classes nodes class (slice_index chosen class)
+
+-- the number of the states of a class that have a node: the class where the node is the chosen one, and else that of their signature, after all classes
+pub record IsPartNumber (count chosen : ℕ) (signatures : List (ℕ × ℕ)) (class node number : ℕ) : Type 0 where
+  pub same : node ≡ chosen → number ≡ class
+  pub other : node ≢ chosen → (count ≤ number) × (slice_get signatures (number - count) ≡ Some (class, node))
+
+-- the signature of a state whose node is not the chosen one of its class
+pub record IsSplitOff (current nodes chosen : List ℕ) (signatures : List (ℕ × ℕ)) (place : ℕ) : Type 0 where
+  pub state : ℕ
+  pub within : state < length current
+  pub is : slice_get signatures place ≡ Some (slice_index current state, slice_index nodes state)
+  pub other : slice_index nodes state ≢ slice_index chosen (slice_index current state)
+
+-- the first states have the numbers of their parts as their classes
+pub record NumbersParts (current nodes chosen : List ℕ) (count : ℕ) (signatures : List (ℕ × ℕ)) (classes : List ℕ) : Type 0 where
+  pub at : (state : ℕ) → state < length classes
+      → IsPartNumber count (slice_index chosen (slice_index current state)) signatures (slice_index current state) (slice_index nodes state) (slice_index classes state)
+  pub split_off : (place : ℕ) → place < length signatures → IsSplitOff current nodes chosen signatures place
 
 -- a state whose new class is an old number has its old class
 pub record KeepsNumbers (old : List ℕ) (count : ℕ) (new : List ℕ) : Type 0 where
