@@ -1,12 +1,12 @@
 -- Maps at one bit of a track, as nodes are added.
-use Rattle.std.proofs.Common.{◌≡◌, ◌≢◌, ℕ, ◌<◌, ◌≤◌, List, Option, length, nat_eq, arith, sym, ap, ◌∙◌, subst, if◌then◌else◌}
+use Rattle.std.proofs.Common.{◌≡◌, ◌≢◌, ℕ, ◌<◌, ◌≤◌, List, length, nat_eq, Some, arith, sym, ap, ◌∙◌, subst, if◌then◌else◌}
+use Rattle.std.specs.HashMap.{HashMap, Updates}
 use Rattle.letter_diagram.specs.declared.diagrams.Shape.{Shape}
 use Rattle.letter_diagram.specs.Diagram.{map_at, top_track, chosen, IsDiagram, Grows}
 use Rattle.letter_diagram.specs.Paired.{IsSplit}
 use Rattle.letter_diagram.specs.Restricted.{IsWithBit, IsRestricted, RemembersRestricted}
-use Rattle.letter_diagram.specs.NodeMemo.{Remembers}
 use Rattle.letter_diagram.proofs.Canonical.{map_at-agree}
-use Rattle.letter_diagram.proofs.Memos.{node_answers-insert}
+use Rattle.letter_diagram.proofs.Memos.{answers-insert}
 
 -- a side of a split does not look at the track
 pub side_map : (shapes : List Shape) → IsDiagram shapes → (track bit side letter other : ℕ) → side < length shapes → track < top_track shapes side → IsWithBit other letter track bit → map_at shapes side letter ≡ map_at shapes side other
@@ -60,8 +60,8 @@ IsRestricted-grows old new track bit a r grows is =
       top = omega arith;
     }
 
-pub RemembersRestricted-grows : (old new : List Shape) (track bit : ℕ) (memo : List (Option ℕ)) → Grows old new → RemembersRestricted old track bit memo → RemembersRestricted new track bit memo
+pub RemembersRestricted-grows : {S : Type 0} (old new : List Shape) (track bit : ℕ) (memo : HashMap ℕ ℕ S) → Grows old new → RemembersRestricted old track bit memo → RemembersRestricted new track bit memo
 RemembersRestricted-grows old new track bit memo grows all = record { restricted = λ a r at. IsRestricted-grows old new track bit a r grows (all.restricted a r at) }
 
-pub RemembersRestricted-insert : (shapes : List Shape) (track bit : ℕ) (memo new : List (Option ℕ)) (a r : ℕ) → RemembersRestricted shapes track bit memo → Remembers memo new a r → IsRestricted shapes track bit a r → RemembersRestricted shapes track bit new
-RemembersRestricted-insert shapes track bit memo new a r all remembers is = record { restricted = node_answers-insert (IsRestricted shapes track bit) memo new a r all.restricted remembers is }
+pub RemembersRestricted-insert : {S : Type 0} (shapes : List Shape) (track bit : ℕ) (memo new : HashMap ℕ ℕ S) (a r : ℕ) → RemembersRestricted shapes track bit memo → Updates nat_eq memo new a (Some r) → IsRestricted shapes track bit a r → RemembersRestricted shapes track bit new
+RemembersRestricted-insert shapes track bit memo new a r all updates is = record { restricted = answers-insert (IsRestricted shapes track bit) memo new a r all.restricted updates is }

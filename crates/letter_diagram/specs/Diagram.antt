@@ -1,9 +1,9 @@
 -- The maps of nodes.
-use Rattle.std.specs.Prelude.{◌≡◌, ◌≢◌, ℕ, ◌<◌, ◌≤◌, List, Option, [], ◌∷◌, ◌++◌, length, fold, slice_index, slice_index_or, slice_get, Some, nat_eq, if◌then◌else◌}
+use Rattle.std.specs.Prelude.{◌≡◌, ◌≢◌, ℕ, ◌<◌, ◌≤◌, List, [], ◌∷◌, ◌++◌, length, fold, slice_index, slice_index_or, slice_get, Some, nat_eq, if◌then◌else◌}
 use Rattle.std.specs.Int.{bit_at}
+use Rattle.std.specs.HashMap.{HashMap, get}
 use Rattle.letter_diagram.specs.declared.diagrams.Shape.{Shape}
 use Rattle.letter_diagram.specs.declared.diagrams.Shape.TheVariants.{Leaf, Test}
-use Rattle.letter_diagram.specs.NodeMemo.{answer_of}
 
 -- the value that a shape gives at a letter, from the values there of the nodes before it
 abbrev pub value_of : ℕ → List ℕ → Shape → ℕ
@@ -81,8 +81,8 @@ pub record IsMapped (shapes : List Shape) (table : List ℕ) (a r : ℕ) : Type 
   pub top : top_track shapes a ≤ top_track shapes r
 
 -- the nodes in a memo are led through the table
-pub record RemembersMapped (shapes : List Shape) (table : List ℕ) (memo : List (Option ℕ)) : Type 0 where
-  pub mapped : (a r : ℕ) → answer_of memo a ≡ Some r → IsMapped shapes table a r
+pub record RemembersMapped {S : Type 0} (shapes : List Shape) (table : List ℕ) (memo : HashMap ℕ ℕ S) : Type 0 where
+  pub mapped : (a r : ℕ) → get nat_eq memo a ≡ Some r → IsMapped shapes table a r
 
 -- a node's map looks only at tracks below a bound
 pub record LooksBelow (shapes : List Shape) (node bound : ℕ) : Type 0 where

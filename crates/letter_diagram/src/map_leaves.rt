@@ -4,8 +4,8 @@ ghost use Rattle.letter_diagram.specs.Diagram.{map_at, top_track, Grows, IsMappe
 ghost use Rattle.letter_diagram.specs.Listed.{EachAnswers};
 
 use crate::diagrams::{Diagrams, Node, Shape};
-use crate::node_memo::NodeMemo;
 use std::alloc::AllocError;
+use std::collections::HashMap;
 
 impl Diagrams {
     /// The map that gives the entry of `table` at each value of `a`.
@@ -16,7 +16,7 @@ impl Diagrams {
         ensures map { IfOk result (λ node. (letter : ℕ) → map_at self.new node letter ≡ slice_index table.now (map_at self.old a letter)) }
         ensures grows { Grows self.old self.new }
     {
-        let mut memo = NodeMemo::new(self.alloc(), self.len())?;
+        let mut memo = HashMap::new(self.alloc());
         self.mapped(a, table, &mut memo)
     }
 
@@ -27,7 +27,7 @@ impl Diagrams {
         ensures mapped { IfOk result (λ answers. EachAnswers (IsMapped self.new table.now) nodes.now answers.items) }
         ensures grows { Grows self.old self.new }
     {
-        let mut memo = NodeMemo::new(self.alloc(), self.len())?;
+        let mut memo = HashMap::new(self.alloc());
         let mut answers = Vec::new(self.alloc());
         for node in nodes {
             let answer = self.mapped(*node, table, &mut memo)?;
@@ -36,7 +36,12 @@ impl Diagrams {
         Ok(answers)
     }
 
-    fn mapped(&mut self, a: Node, table: &[u32], memo: &mut NodeMemo) -> Result<Node, AllocError>
+    fn mapped(
+        &mut self,
+        a: Node,
+        table: &[u32],
+        memo: &mut HashMap<Node, Node>,
+    ) -> Result<Node, AllocError>
         requires known { a < length self.old }
         requires leaves { (letter : ℕ) → map_at self.old a letter < length table.now }
         requires remembered { RemembersMapped self.old table.now memo.old }
@@ -44,8 +49,8 @@ impl Diagrams {
         ensures remembered { OnOk result (RemembersMapped self.new table.now memo.new) }
         ensures grows { Grows self.old self.new }
     {
-        if let Some(node) = memo.get(a) {
-            return Ok(node);
+        if let Some(node) = memo.get(&a) {
+            return Ok(*node);
         }
         let node = match self.shape(a) {
             Shape::Leaf(value) => self.leaf(table[value as usize])?,
@@ -55,7 +60,7 @@ impl Diagrams {
                 self.node(track, low, high)?
             }
         };
-        memo.insert(a, node);
+        memo.insert(a, node)?;
         Ok(node)
     }
 }

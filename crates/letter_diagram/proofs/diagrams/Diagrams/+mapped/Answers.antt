@@ -1,13 +1,11 @@
-use Rattle.std.proofs.Common.{arith, ℕ, ◌<◌, length, sym, ◌∙◌}
+use Rattle.std.proofs.Common.{rules, arith, ◌<◌, length, sym}
 use Rattle.letter_diagram.specs.Diagram.{IsMapped, RemembersMapped}
-use Rattle.letter_diagram.proofs.Maps.{Grows-trans}
-use Rattle.letter_diagram.proofs.Pairings.{chosen-grows}
-use Rattle.letter_diagram.proofs.Mapped.{IsMapped-grows, IsMapped-leaf, IsMapped-test, RemembersMapped-grows, RemembersMapped-insert}
+use Rattle.letter_diagram.proofs.Mapped.{RemembersMapped-grows, RemembersMapped-insert}
 use Rattle.letter_diagram.proofs.diagrams.Diagrams.+mapped.Goals as goal
 use Rattle.letter_diagram.proofs.diagrams.Diagrams.+mapped.Goals.{in-Leaf+in_ok-node-in-Leaf, in-Test+in_ok-low-in-Test+in_ok-high-in-Test+in_ok-node-in-Test}
 
 pub returns-in-Some-clause-mapped : goal.returns-in-Some-clause-mapped
-returns-in-Some-clause-mapped t c = c.requires.remembered.mapped _ _ (sym c.in-Some.ensures)
+returns-in-Some-clause-mapped t c = c.requires.remembered.mapped _ _ (sym c.in-Some.ensures.value)
 
 pub bounds-table-value : goal.bounds-table-value
 bounds-table-value t c =
@@ -27,28 +25,11 @@ mapped-requires-in-Test t c =
     let known : c.in-Test.high < length c.args.self.now = omega arith in
     (omega arith, (omega arith, (λ letter. let v = (c.in-Test.ensures.children letter).1 in rw (grows.map c.in-Test.high letter known, ← v.1) (c.requires.leaves v.0), c.in_ok-low-in-Test.ensures.remembered)))
 
-made : (t : ℕ) (c : goal.After-insert t) → IsMapped c.match-shape.self c.args.table.now c.args.a c.match-shape.node
-made t c = elim c.match-shape.branch [
-  | in-Leaf+in_ok-node-in-Leaf w ↦ rw (w.self-is, w.node-is) (let e = w.in_ok-node-in-Leaf.ensures in IsMapped-leaf _ _ _ _ _ _ e.grows w.in-Leaf.ensures.at e.known e.map e.top)
-  | in-Test+in_ok-low-in-Test+in_ok-high-in-Test+in_ok-node-in-Test w ↦ rw (w.self-is, w.node-is) (
-      let at = w.in-Test.ensures in
-      let e = w.in_ok-node-in-Test.ensures in
-      let low = w.in_ok-low-in-Test.ensures.mapped in
-      let high = w.in_ok-high-in-Test.ensures.mapped in
-      let from_low = Grows-trans _ _ _ w.in_ok-high-in-Test.ensures.grows e.grows in
-      let low_known = low.known in
-      let high_longer = w.in_ok-high-in-Test.ensures.grows.longer in
-      IsMapped-test _ _ _ _ _ _ _ _ _ _ (Grows-trans _ _ _ w.in_ok-low-in-Test.ensures.grows from_low) at.at at.fits (IsMapped-grows _ _ _ _ _ from_low low) (IsMapped-grows _ _ _ _ _ e.grows high) e.known
-      (λ letter. e.map letter ∙ sym (chosen-grows _ _ _ _ _ letter (omega arith) high.known e.grows)) e.top)
-]
-
-pub returns-clause-mapped : goal.returns-clause-mapped
-returns-clause-mapped t c = made t c
-
 pub returns-clause-remembered : goal.returns-clause-remembered
 returns-clause-remembered t c =
+    let mapped : IsMapped c.match-shape.self c.args.table.now c.args.a c.match-shape.node = search rules in
     let before : RemembersMapped c.match-shape.self c.args.table.now c.match-shape.memo = elim c.match-shape.branch [
       | in-Leaf+in_ok-node-in-Leaf w ↦ rw (w.self-is, w.memo-is) (RemembersMapped-grows _ _ _ _ w.in_ok-node-in-Leaf.ensures.grows c.requires.remembered)
       | in-Test+in_ok-low-in-Test+in_ok-high-in-Test+in_ok-node-in-Test w ↦ rw (w.self-is, w.memo-is) (RemembersMapped-grows _ _ _ _ w.in_ok-node-in-Test.ensures.grows w.in_ok-high-in-Test.ensures.remembered)
     ] in
-    RemembersMapped-insert _ _ _ _ _ _ before c.insert.ensures (made t c)
+    RemembersMapped-insert _ _ _ _ _ _ before c.in_ok-insert.ensures.updates mapped

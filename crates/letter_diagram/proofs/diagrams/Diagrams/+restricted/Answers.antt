@@ -17,9 +17,9 @@ returns-then-track-top-clause-restricted t c =
     ]
 
 pub returns-in-Some-clause-restricted : goal.returns-in-Some-clause-restricted
-returns-in-Some-clause-restricted t c = c.requires.remembered.restricted _ _ (sym c.in-Some.ensures)
+returns-in-Some-clause-restricted t c = c.requires.remembered.restricted _ _ (sym c.in-Some.ensures.value)
 
-made : (t : ℕ) (c : goal.After-insert t) → IsRestricted c.node.new.self c.args.track c.args.bit c.args.a c.in_ok-node.node
+made : (t : ℕ) (c : goal.In_ok-insert t) → IsRestricted c.node.new.self c.args.track c.args.bit c.args.a c.in_ok-node.node
 made t c =
     let from_high = c.in_ok-node.ensures.grows in
     let from_low = Grows-trans _ _ _ c.in_ok-high.ensures.grows from_high in
@@ -43,4 +43,4 @@ returns-clause-restricted t c = made t c
 
 pub returns-clause-remembered : goal.returns-clause-remembered
 returns-clause-remembered t c =
-    RemembersRestricted-insert _ _ _ _ _ _ _ (RemembersRestricted-grows _ _ _ _ _ c.in_ok-node.ensures.grows c.in_ok-high.ensures.remembered) c.insert.ensures (made t c)
+    RemembersRestricted-insert _ _ _ _ _ _ _ (RemembersRestricted-grows _ _ _ _ _ c.in_ok-node.ensures.grows c.in_ok-high.ensures.remembered) c.in_ok-insert.ensures.updates (made t c)
