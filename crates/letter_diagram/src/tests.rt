@@ -132,3 +132,28 @@ fn a_track_takes_the_bit_of_another(rt: HostRuntime) -> Result<(), Fail> {
     assert_eq!(rt; diagrams.read(moved, 1), 0);
     Ok(())
 }
+
+#[test]
+fn a_node_is_brought_on_the_bit_of_another_track(rt: HostRuntime) -> Result<(), Fail> {
+    let mut diagrams = Diagrams::new(rt.alloc());
+    let node = diagrams.bit(0)?;
+    let mut others = Diagrams::new(rt.alloc());
+    let brought = others.bring_relabelled(&diagrams, &[node], &[1])?;
+    assert_eq!(rt; brought.len(), 1);
+    assert_eq!(rt; read(&rt, &others, brought[0], 2), 1);
+    assert_eq!(rt; read(&rt, &others, brought[0], 1), 0);
+    Ok(())
+}
+
+#[test]
+fn a_memo_has_the_answers_of_its_nodes(rt: HostRuntime) -> Result<(), Fail> {
+    let mut diagrams = Diagrams::new(rt.alloc());
+    let a = diagrams.leaf(7)?;
+    let b = diagrams.leaf(8)?;
+    let mut memo = NodeMemo::new(rt.alloc(), 1)?;
+    memo.insert(a, b);
+    memo.insert(b, a);
+    assert_eq!(rt; memo.get(a), Some(b));
+    assert_eq!(rt; memo.get(b), None);
+    Ok(())
+}
