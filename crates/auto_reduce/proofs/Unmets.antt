@@ -1,10 +1,7 @@
 -- Rows in which states that were met stand for one another, and what they add to an order.
-use Rattle.std.proofs.Common.{◌≡◌, ◌≢◌, ℕ, ◌<◌, ◌≤◌, Bool, true, false, nat_eq, List, [], length, get_or, Some, Contains, AllPairs, arith, sym, ap, ◌∙◌, subst, inl, inr, ◌⊎◌, if◌then◌else◌}
+use Rattle.std.proofs.Common.{◌≡◌, ◌≢◌, ℕ, ◌<◌, ◌≤◌, Bool, true, false, nat_eq, List, [], length, get_or, Some, Contains, AllPairs, arith, refl, true≢false, sym, ap, ◌∙◌, subst, inl, inr, ◌⊎◌, if◌then◌else◌}
 use Rattle.std.specs.Int.{bit_at}
 use Rattle.std.specs.HashMap.{HashMap, Updates as MapUpdates}
-use Rattle.std.specs.HashSet.{HashSet, Updates, IsEmpty}
-use Rattle.std.proofs.lemmas.Bool.{cases_eq}
-use Rattle.std.proofs.lemmas.Grind.{common_steps}
 use Rattle.letter_diagram.specs.declared.diagrams.Shape.{Shape}
 use Rattle.letter_diagram.specs.declared.diagrams.Shape.TheVariants.{Leaf, Test}
 use Rattle.letter_diagram.specs.Diagram.{map_at, top_track, chosen, IsAt, Grows}
@@ -12,7 +9,7 @@ use Rattle.letter_diagram.specs.Leaves.{AreLeaves}
 use Rattle.letter_diagram.proofs.Memos.{answers-insert}
 use Rattle.auto_reduce.specs.Quotient.{AddsAll}
 use Rattle.auto_reduce.specs.Leading.{entry_at}
-use Rattle.auto_reduce.specs.Unmet.{AddsRow, IsMetLeaf, IsPruned, RemembersPruned, AreDone}
+use Rattle.auto_reduce.specs.Unmet.{AddsRow, IsMetLeaf, IsPruned, RemembersPruned, AreDone, Notes}
 use Rattle.auto_reduce.proofs.Leadings.{entry-either}
 use Rattle.auto_reduce.proofs.Orders.{place_in, Contains-kept}
 use Rattle.auto_reduce.proofs.Quotients.{different_places}
@@ -72,23 +69,33 @@ IsPruned-test from mid shapes canon met a r track low high low' high' at l h kno
   top = subst (λ t. t ≤ top_track shapes r) (sym at.top) top;
 }
 
-pub AreDone-insert : {S : Type 0} (from shapes : List Shape) (canon met : List ℕ) (done new : HashSet ℕ S) (node r : ℕ) → AreDone from canon met done → Updates nat_eq done new node true
+pub AreDone-note : (from shapes : List Shape) (canon met : List ℕ) (done new : List Bool) (node r : ℕ) → AreDone from canon met done → Notes done new node
     → IsPruned from shapes canon met node r → IsMetLeaf shapes met r → AreDone from canon met new
-AreDone-insert from shapes canon met done new node r all updates is leaf = record {
-  are_met = λ other letter there. elim (cases_eq node other) [
-    | inl e ↦ subst (λ n. Contains met (entry_at canon from n letter)) e (here letter)
-    | inr ne ↦ all.are_met other letter (grind (arith, common_steps, updates.0 other, there, ne))
+AreDone-note from shapes canon met done new node r all notes is leaf = record {
+  are_met = λ other letter there. elim (notes.only other there) [
+    | inl before ↦ all.are_met other letter before
+    | inr e ↦ subst (λ n. Contains met (entry_at canon from n letter)) (sym e) (here letter)
   ];
 }
   where
     here : (letter : ℕ) → Contains met (entry_at canon from node letter)
     here letter = elim (is.map letter) [ inl same ↦ subst (Contains met) same (leaf.is_met letter) | inr both ↦ both.1 ]
 
-pub AreDone-more : {S : Type 0} (from : List Shape) (canon old new values : List ℕ) (done : HashSet ℕ S) → AddsAll old new values → AreDone from canon old done → AreDone from canon new done
+pub AreDone-more : (from : List Shape) (canon old new values : List ℕ) (done : List Bool) → AddsAll old new values → AreDone from canon old done → AreDone from canon new done
 AreDone-more from canon old new values done adds all = record { are_met = λ node letter there. Contains-kept old new values adds _ (all.are_met node letter there) }
 
-pub AreDone-none : {S : Type 0} (from : List Shape) (canon met : List ℕ) (done : HashSet ℕ S) → IsEmpty done → AreDone from canon met done
-AreDone-none from canon met done none = record { are_met = λ node letter there. absurd (grind (arith, common_steps, none, there)) }
+pub AreDone-none : (from : List Shape) (canon met : List ℕ) (done : List Bool) → ((node : ℕ) → get_or done node false ≡ false) → AreDone from canon met done
+AreDone-none from canon met done none = record { are_met = λ node letter there. absurd (true≢false (sym there ∙ none node)) }
+
+-- a row that is done adds nothing
+pub AddsRow-done : (from : List Shape) (canon met : List ℕ) (done : List Bool) (node : ℕ) → AreDone from canon met done → get_or done node false ≡ true → AddsRow (entry_at canon from node) met met
+AddsRow-done from canon met done node all there = record {
+  longer = omega arith;
+  kept = λ place within. refl;
+  has = λ letter. all.are_met node letter there;
+  added = λ place past within. absurd (omega (arith, past, within));
+  in_order = λ i j past less within. absurd (omega (arith, past, less, within));
+}
 
 -- ---- what is added
 module _ (to : List Shape) (row : ℕ → ℕ) (r : ℕ) (old new leaves : List ℕ) (is : (letter : ℕ) → StandsFor old (map_at to r letter) (row letter)) (are : AreLeaves to r leaves) (adds : AddsAll old new leaves) (apart : AllPairs (λ j k. j ≢ k) new) where

@@ -1,7 +1,6 @@
 -- The states to which a row leads and that were not met before it.
-use Rattle.std.specs.Prelude.{◌≡◌, ◌⊎◌, ℕ, ◌<◌, ◌≤◌, List, length, slice_index, Contains, Some, nat_eq, true}
+use Rattle.std.specs.Prelude.{◌≡◌, ◌⊎◌, ℕ, ◌<◌, ◌≤◌, Bool, true, false, List, length, slice_index, slice_index_or, Contains, Some, nat_eq}
 use Rattle.std.specs.HashMap.{HashMap, get}
-use Rattle.std.specs.HashSet.{HashSet, contains}
 use Rattle.letter_diagram.specs.declared.diagrams.Shape.{Shape}
 use Rattle.letter_diagram.specs.Diagram.{map_at, top_track}
 use Rattle.auto_reduce.specs.Leading.{entry_at}
@@ -31,5 +30,12 @@ pub record RemembersPruned {S : Type 0} (from shapes : List Shape) (canon met : 
   pub pruned : (a r : ℕ) → get nat_eq memo a ≡ Some r → IsPruned from shapes canon met a r
 
 -- the canonical states of the values of the nodes that are done are in a list
-pub record AreDone {S : Type 0} (shapes : List Shape) (canon met : List ℕ) (done : HashSet ℕ S) : Type 0 where
-  pub are_met : (node letter : ℕ) → contains nat_eq done node ≡ true → Contains met (entry_at canon shapes node letter)
+pub record AreDone (shapes : List Shape) (canon met : List ℕ) (done : List Bool) : Type 0 where
+  pub are_met : (node letter : ℕ) → slice_index_or done node false ≡ true → Contains met (entry_at canon shapes node letter)
+
+-- one more node is done, if the list has a place for it
+pub record Notes (old new : List Bool) (node : ℕ) : Type 0 where
+  pub size : length new ≡ length old
+  pub noted : node < length old → slice_index_or new node false ≡ true
+  pub kept : (other : ℕ) → slice_index_or old other false ≡ true → slice_index_or new other false ≡ true
+  pub only : (other : ℕ) → slice_index_or new other false ≡ true → (slice_index_or old other false ≡ true) ⊎ (other ≡ node)

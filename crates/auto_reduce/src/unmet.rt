@@ -1,14 +1,56 @@
 //! The canonical states to which a row leads and that were not met before it.
-ghost use Rattle.std.specs.Prelude.{[], ◌≡◌, ◌≢◌, ◌<◌, ◌⊎◌, ℕ, length, IfOk, OnOk, Contains, AllPairs};
+ghost use Rattle.std.specs.Prelude.{[], ◌≡◌, ◌≢◌, ◌<◌, ◌⊎◌, ℕ, true, false, length, slice_index_or, IfOk, OnOk, Contains, AllPairs};
 ghost use Rattle.letter_diagram.specs.Diagram.{map_at, top_track, Grows};
 ghost use Rattle.auto_reduce.specs.Leading.{entry_at};
-ghost use Rattle.auto_reduce.specs.Unmet.{AddsRow, IsMetLeaf, IsPruned, RemembersPruned, AreDone};
+ghost use Rattle.auto_reduce.specs.Unmet.{AddsRow, IsMetLeaf, IsPruned, RemembersPruned, AreDone, Notes};
 
 use crate::leading::lead_node;
 use crate::order::Order;
 use letter_diagram::{Diagrams, Node, Shape};
 use std::alloc::{AllocError, Global};
-use std::collections::{HashMap, HashSet};
+use std::collections::HashMap;
+use std::marker::Model;
+
+/// For each node of one `Diagrams`, by its number, whether it is done: it leads to canonical states that are in the order and to no others.
+#[derive(Drop)]
+pub struct Done {
+    nodes: Vec<bool>,
+}
+
+impl Model for Done {
+    ghost use Rattle.std.specs.Prelude.{List, Bool};
+
+    ghost Value = { List Bool };
+
+    ghost view = { λ d. d.nodes.items };
+}
+
+impl Done {
+    /// None of so many nodes is done.
+    pub fn new(alloc: Global, nodes: usize) -> Result<Self, AllocError>
+        ensures none { IfOk result (λ done. (node : ℕ) → slice_index_or done node false ≡ false) }
+        ensures len { IfOk result (λ done. length done ≡ nodes) }
+    {
+        Ok(Done {
+            nodes: vec![in alloc; false; nodes]?,
+        })
+    }
+
+    fn has(&self, node: Node) -> bool
+        ensures { result ≡ slice_index_or self.now node false }
+    {
+        self.nodes.get(node.number()).copied().unwrap_or(false)
+    }
+
+    /// A node past those that this was made for is not noted.
+    fn add(&mut self, node: Node)
+        ensures { Notes self.old self.new node }
+    {
+        if let Some(place) = self.nodes.get_mut(node.number()) {
+            *place = true;
+        }
+    }
+}
 
 /// The leaf of a state, or where it was met that of a state that was met.
 fn pruned_leaf(order: &Order, met: Node, to: &mut Diagrams, state: u32) -> Result<Node, AllocError>
@@ -35,7 +77,7 @@ fn pruned(
     met: Node,
     to: &mut Diagrams,
     memo: &mut HashMap<Node, Node>,
-    done: &mut HashSet<Node>,
+    done: &mut Done,
 ) -> Result<Node, AllocError>
     requires known { node < length from.now }
     requires leaves { (letter : ℕ) → map_at from.now node letter < length canon.now }
@@ -48,7 +90,7 @@ fn pruned(
     ensures grows { Grows to.old to.new }
 {
     let shape = from.shape(node);
-    if done.contains(&node) {
+    if done.has(node) {
         return Ok(met);
     }
     if let Some(known) = memo.get(&node) {
@@ -64,7 +106,7 @@ fn pruned(
     };
     memo.insert(node, made)?;
     if to.same_map(made, met) {
-        done.insert(node)?;
+        done.add(node);
     }
     Ok(made)
 }
@@ -77,7 +119,7 @@ pub fn add_row(
     row: Node,
     canon: &[u32],
     order: &mut Order,
-    done: &mut HashSet<Node>,
+    done: &mut Done,
 ) -> Result<(), AllocError>
     requires known { row < length from.now }
     requires leaves { (letter : ℕ) → map_at from.now row letter < length canon.now }
@@ -87,8 +129,12 @@ pub fn add_row(
     ensures different { OnOk result (AllPairs (λ j k. j ≢ k) order.new) }
     ensures done { OnOk result (AreDone from.now canon.now order.new done.new) }
 {
+    let first = order.as_slice()[0];
+    if done.has(row) {
+        return Ok(());
+    }
     let mut to = Diagrams::new(alloc);
-    let met = to.leaf(order.as_slice()[0])?;
+    let met = to.leaf(first)?;
     let mut memo = HashMap::new(alloc);
     let unmet = pruned(from, row, canon, order, met, &mut to, &mut memo, done)?;
     let leaves = to.leaves(unmet)?;

@@ -1,7 +1,7 @@
 use Rattle.std.proofs.Common.{◌≡◌, get_or, Contains, sym, ap, ◌∙◌, subst}
 use Rattle.std.proofs.lemmas.List.Elements.{Contains-get_or}
 use Rattle.auto_reduce.specs.Leading.{entry_at}
-use Rattle.auto_reduce.proofs.Unmets.{AddsRow-pruned, AreDone-more}
+use Rattle.auto_reduce.proofs.Unmets.{AddsRow-pruned, AddsRow-done, AreDone-more}
 use Rattle.auto_reduce.proofs.unmet.add_row.Goals as goal
 
 pub pruned-requires-clause-met : goal.pruned-requires-clause-met
@@ -23,3 +23,6 @@ returns-clause-adds c =
 
 pub returns-clause-done : goal.returns-clause-done
 returns-clause-done c = AreDone-more _ _ _ _ _ _ c.in_ok-add_all.ensures.adds c.in_ok-unmet.ensures.done
+
+pub returns-then-has-clause-adds : goal.returns-then-has-clause-adds
+returns-then-has-clause-adds c = AddsRow-done c.args.from.now c.args.canon.now c.args.order.now c.args.done.now c.args.row c.requires.done (sym c.has.ensures ∙ c.if-has.true)
