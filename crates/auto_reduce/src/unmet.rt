@@ -1,8 +1,8 @@
 //! The canonical states to which a row leads and that were not met before it.
-ghost use Rattle.std.specs.Prelude.{[], ◌≡◌, ◌≢◌, ◌<◌, ◌⊎◌, ℕ, true, false, length, slice_index_or, IfOk, OnOk, Contains, AllPairs};
+ghost use Rattle.std.specs.Prelude.{[], ◌∷◌, ◌++◌, ◌≡◌, ◌≢◌, ◌<◌, ◌⊎◌, ℕ, true, false, length, slice_index_or, IfOk, OnOk, Contains, AllPairs};
 ghost use Rattle.letter_diagram.specs.Diagram.{map_at, top_track, Grows};
 ghost use Rattle.auto_reduce.specs.Leading.{entry_at};
-ghost use Rattle.auto_reduce.specs.Unmet.{AddsRow, IsMetLeaf, IsPruned, RemembersPruned, AreDone, Notes};
+ghost use Rattle.auto_reduce.specs.Unmet.{AddsRow, IsMetLeaf, IsPruned, RemembersPruned, AreDone, Notes, Forgets, AreDoneWith, AreDoneBut, Finds};
 
 use crate::leading::lead_node;
 use crate::order::Order;
@@ -50,6 +50,82 @@ impl Done {
             *place = true;
         }
     }
+
+    fn remove(&mut self, node: Node)
+        ensures { Forgets self.old self.new node }
+    {
+        if let Some(place) = self.nodes.get_mut(node.number()) {
+            *place = false;
+        }
+    }
+
+    fn remove_all(&mut self, nodes: &[Node])
+        ensures { (node : ℕ) → slice_index_or self.new node false ≡ true → (slice_index_or self.old node false ≡ true) × ¬ Contains nodes.now node }
+    {
+        let _ = &self.nodes;
+        for node in nodes {
+            self.remove(*node);
+        }
+    }
+}
+
+/// The canonical states that were found beside the order.
+#[derive(Clone, Copy)]
+pub enum Unmet {
+    Nothing,
+    One(u32),
+    Several,
+}
+
+/// What was found, with one more state.
+fn with_state(order: &Order, found: Unmet, state: u32) -> Unmet
+    ensures { Finds order.now found (λ letter. state) result }
+{
+    if order.has(state) {
+        return found;
+    }
+    match found {
+        Unmet::Nothing => Unmet::One(state),
+        Unmet::One(other) if other == state => found,
+        _ => Unmet::Several,
+    }
+}
+
+/// What was found, with the canonical states to which a node leads. Stops where several were found. The nodes that it passes are noted
+/// as done, and as passed: where several were found they aren't done. Costs the nodes that are not done.
+fn unmet_states(
+    from: &Diagrams,
+    node: Node,
+    canon: &[u32],
+    order: &Order,
+    found: Unmet,
+    done: &mut Done,
+    passed: &mut Vec<Node>,
+) -> Result<Unmet, AllocError>
+    requires known { node < length from.now }
+    requires leaves { (letter : ℕ) → map_at from.now node letter < length canon.now }
+    requires done { AreDoneWith from.now canon.now order.now found done.old }
+    requires passed { AreDoneBut from.now canon.now order.now passed.old.items done.old }
+    ensures finds { IfOk result (Finds order.now found (entry_at canon.now from.now node)) }
+    ensures done { IfOk result (λ unmet. AreDoneWith from.now canon.now order.now unmet done.new) }
+    ensures passed { OnOk result (AreDoneBut from.now canon.now order.now passed.new.items done.new) }
+{
+    if let Unmet::Several = found {
+        return Ok(Unmet::Several);
+    }
+    if done.has(node) {
+        return Ok(found);
+    }
+    let unmet = match from.shape(node) {
+        Shape::Leaf(state) => with_state(order, found, canon[state as usize]),
+        Shape::Test { low, high, .. } => {
+            let low = unmet_states(from, low, canon, order, found, done, passed)?;
+            unmet_states(from, high, canon, order, low, done, passed)?
+        }
+    };
+    passed.push(node)?;
+    done.add(node);
+    Ok(unmet)
 }
 
 /// The leaf of a state, or where it was met that of a state that was met.
@@ -111,8 +187,34 @@ fn pruned(
     Ok(made)
 }
 
+/// The same as `add_row`, by a diagram in which the states of the order stand for one another.
+fn add_several(
+    alloc: Global,
+    from: &Diagrams,
+    row: Node,
+    canon: &[u32],
+    order: &mut Order,
+    done: &mut Done,
+) -> Result<(), AllocError>
+    requires known { row < length from.now }
+    requires leaves { (letter : ℕ) → map_at from.now row letter < length canon.now }
+    requires some { 0 < length order.old }
+    requires done { AreDone from.now canon.now order.old done.old }
+    ensures adds { OnOk result (AddsRow (entry_at canon.now from.now row) order.old order.new) }
+    ensures different { OnOk result (AllPairs (λ j k. j ≢ k) order.new) }
+    ensures done { OnOk result (AreDone from.now canon.now order.new done.new) }
+{
+    let mut to = Diagrams::new(alloc);
+    let met = to.leaf(order.as_slice()[0])?;
+    let mut memo = HashMap::new(alloc);
+    let unmet = pruned(from, row, canon, order, met, &mut to, &mut memo, done)?;
+    let leaves = to.leaves(unmet)?;
+    order.add_all(leaves.as_slice())?;
+    Ok(())
+}
+
 /// Puts the canonical states to which a row leads and that are not in the order at its end, by the least letters that lead to them.
-/// Costs the nodes of the row that are not done.
+/// Makes a diagram only where there are several. Costs the nodes of the row that are not done.
 pub fn add_row(
     alloc: Global,
     from: &Diagrams,
@@ -129,17 +231,21 @@ pub fn add_row(
     ensures different { OnOk result (AllPairs (λ j k. j ≢ k) order.new) }
     ensures done { OnOk result (AreDone from.now canon.now order.new done.new) }
 {
-    let first = order.as_slice()[0];
-    if done.has(row) {
-        return Ok(());
+    let _ = order.as_slice();
+    let mut passed = Vec::new(alloc);
+    let unmet = unmet_states(from, row, canon, order, Unmet::Nothing, done, &mut passed)?;
+    match unmet {
+        Unmet::Nothing => Ok(()),
+        Unmet::One(state) => {
+            order.add(state)?;
+            Ok(())
+        }
+        Unmet::Several => {
+            done.remove_all(passed.as_slice());
+            add_several(alloc, from, row, canon, order, done)?;
+            Ok(())
+        }
     }
-    let mut to = Diagrams::new(alloc);
-    let met = to.leaf(first)?;
-    let mut memo = HashMap::new(alloc);
-    let unmet = pruned(from, row, canon, order, met, &mut to, &mut memo, done)?;
-    let leaves = to.leaves(unmet)?;
-    order.add_all(leaves.as_slice())?;
-    Ok(())
 }
 
 /// The canonical states to which the first row leads, by the least letters that lead to them.
