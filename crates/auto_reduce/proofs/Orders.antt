@@ -75,7 +75,7 @@ AddsAll-none old values = record {
   in_order = λ i j past less within. absurd (omega (arith, past, less, within));
 }
 
-one_value : (x v : ℕ) → Contains (x ∷ []) v → x ≡ v
+pub one_value : (x v : ℕ) → Contains (x ∷ []) v → x ≡ v
 one_value x v there =
     let p = place_in (x ∷ []) v there in
     let z : p.0 ≡ 0 = let w = p.1 in omega (arith, w) in

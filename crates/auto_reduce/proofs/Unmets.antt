@@ -1,20 +1,20 @@
 -- Rows in which states that were met stand for one another, and what they add to an order.
-use Rattle.std.proofs.Common.{◌≡◌, ◌≢◌, ℕ, ◌<◌, ◌≤◌, Bool, true, false, nat_eq, List, [], length, get_or, Some, Contains, AllPairs, arith, sym, ap, ◌∙◌, subst, inl, inr, ◌⊎◌, if◌then◌else◌}
+use Rattle.std.proofs.Common.{◌≡◌, ◌≢◌, ℕ, ◌<◌, ◌≤◌, Bool, true, false, nat_eq, List, [], ◌∷◌, ◌++◌, length, get_or, Some, Contains, AllPairs, arith, refl, true≢false, sym, ap, ◌∙◌, subst, inl, inr, ◌⊎◌, if◌then◌else◌}
 use Rattle.std.specs.Int.{bit_at}
 use Rattle.std.specs.HashMap.{HashMap, Updates as MapUpdates}
-use Rattle.std.specs.HashSet.{HashSet, Updates, IsEmpty}
-use Rattle.std.proofs.lemmas.Bool.{cases_eq}
-use Rattle.std.proofs.lemmas.Grind.{common_steps}
 use Rattle.letter_diagram.specs.declared.diagrams.Shape.{Shape}
 use Rattle.letter_diagram.specs.declared.diagrams.Shape.TheVariants.{Leaf, Test}
-use Rattle.letter_diagram.specs.Diagram.{map_at, top_track, chosen, IsAt, Grows}
+use Rattle.letter_diagram.specs.Diagram.{map_at, top_track, chosen, IsAt, Grows, HasChildren}
 use Rattle.letter_diagram.specs.Leaves.{AreLeaves}
 use Rattle.letter_diagram.proofs.Memos.{answers-insert}
 use Rattle.auto_reduce.specs.Quotient.{AddsAll}
 use Rattle.auto_reduce.specs.Leading.{entry_at}
-use Rattle.auto_reduce.specs.Unmet.{AddsRow, IsMetLeaf, IsPruned, RemembersPruned, AreDone}
+use Rattle.auto_reduce.specs.Unmet.{AddsRow, IsMetLeaf, IsPruned, RemembersPruned, AreDone, Notes, IsFound, Finds, AreDoneWith, AreDoneBut}
+use Rattle.auto_reduce.specs.declared.unmet.Unmet.{Unmet}
+use Rattle.auto_reduce.specs.declared.unmet.Unmet.TheVariants.{Nothing, One, Several}
 use Rattle.auto_reduce.proofs.Leadings.{entry-either}
-use Rattle.auto_reduce.proofs.Orders.{place_in, Contains-kept}
+use Rattle.std.proofs.lemmas.List.Elements.{Contains-push, Contains-append_left}
+use Rattle.auto_reduce.proofs.Orders.{place_in, Contains-kept, one_value}
 use Rattle.auto_reduce.proofs.Quotients.{different_places}
 
 -- equal values, or values of a list
@@ -72,23 +72,23 @@ IsPruned-test from mid shapes canon met a r track low high low' high' at l h kno
   top = subst (λ t. t ≤ top_track shapes r) (sym at.top) top;
 }
 
-pub AreDone-insert : {S : Type 0} (from shapes : List Shape) (canon met : List ℕ) (done new : HashSet ℕ S) (node r : ℕ) → AreDone from canon met done → Updates nat_eq done new node true
+pub AreDone-note : (from shapes : List Shape) (canon met : List ℕ) (done new : List Bool) (node r : ℕ) → AreDone from canon met done → Notes done new node
     → IsPruned from shapes canon met node r → IsMetLeaf shapes met r → AreDone from canon met new
-AreDone-insert from shapes canon met done new node r all updates is leaf = record {
-  are_met = λ other letter there. elim (cases_eq node other) [
-    | inl e ↦ subst (λ n. Contains met (entry_at canon from n letter)) e (here letter)
-    | inr ne ↦ all.are_met other letter (grind (arith, common_steps, updates.0 other, there, ne))
+AreDone-note from shapes canon met done new node r all notes is leaf = record {
+  are_met = λ other letter there. elim (notes.only other there) [
+    | inl before ↦ all.are_met other letter before
+    | inr e ↦ subst (λ n. Contains met (entry_at canon from n letter)) (sym e) (here letter)
   ];
 }
   where
     here : (letter : ℕ) → Contains met (entry_at canon from node letter)
     here letter = elim (is.map letter) [ inl same ↦ subst (Contains met) same (leaf.is_met letter) | inr both ↦ both.1 ]
 
-pub AreDone-more : {S : Type 0} (from : List Shape) (canon old new values : List ℕ) (done : HashSet ℕ S) → AddsAll old new values → AreDone from canon old done → AreDone from canon new done
+pub AreDone-more : (from : List Shape) (canon old new values : List ℕ) (done : List Bool) → AddsAll old new values → AreDone from canon old done → AreDone from canon new done
 AreDone-more from canon old new values done adds all = record { are_met = λ node letter there. Contains-kept old new values adds _ (all.are_met node letter there) }
 
-pub AreDone-none : {S : Type 0} (from : List Shape) (canon met : List ℕ) (done : HashSet ℕ S) → IsEmpty done → AreDone from canon met done
-AreDone-none from canon met done none = record { are_met = λ node letter there. absurd (grind (arith, common_steps, none, there)) }
+pub AreDone-none : (from : List Shape) (canon met : List ℕ) (done : List Bool) → ((node : ℕ) → get_or done node false ≡ false) → AreDone from canon met done
+AreDone-none from canon met done none = record { are_met = λ node letter there. absurd (true≢false (sym there ∙ none node)) }
 
 -- ---- what is added
 module _ (to : List Shape) (row : ℕ → ℕ) (r : ℕ) (old new leaves : List ℕ) (is : (letter : ℕ) → StandsFor old (map_at to r letter) (row letter)) (are : AreLeaves to r leaves) (adds : AddsAll old new leaves) (apart : AllPairs (λ j k. j ≢ k) new) where
@@ -135,3 +135,103 @@ module _ (to : List Shape) (row : ℕ → ℕ) (r : ℕ) (old new leaves : List 
 -- the first row is added whole
 pub AddsRow-first : (to : List Shape) (row : ℕ → ℕ) (r : ℕ) (new leaves : List ℕ) → ((letter : ℕ) → map_at to r letter ≡ row letter) → AreLeaves to r leaves → AddsAll [] new leaves → AllPairs (λ j k. j ≢ k) new → AddsRow row [] new
 AddsRow-first to row r new leaves is are adds apart = AddsRow-pruned to row r [] new leaves (λ letter. inl (is letter)) are adds apart
+
+-- ---- what is found before any diagram is made
+is_one : Unmet → Bool
+is_one Nothing = false
+is_one (One state) = true
+is_one Several = false
+
+Nothing≢One : (state : ℕ) → Nothing ≡ One state → ⊥
+unfolding is_one
+Nothing≢One state e = true≢false (sym (ap is_one e))
+
+found-either : (met : List ℕ) (found : Unmet) (b : Bool) (v w : ℕ) → IsFound met found v → IsFound met found w → IsFound met found (if b then v else w)
+found-either met found true v w p q = p
+found-either met found false v w p q = q
+
+pub Finds-leaf : (from : List Shape) (canon met : List ℕ) (before after : Unmet) (node state : ℕ) → IsAt from node (Leaf state) → Finds met before (λ letter. get_or canon state 0) after → Finds met before (entry_at canon from node) after
+Finds-leaf from canon met before after node state at f =
+    let same : (letter : ℕ) → get_or canon state 0 ≡ entry_at canon from node letter = λ letter. sym (ap (λ v. get_or canon v 0) (at.map letter)) in
+    record {
+      leads = λ letter. subst (IsFound met after) (same letter) (f.leads letter);
+      kept = f.kept;
+      given = λ s e. elim (f.given s e) [
+        | inl before_is ↦ inl before_is
+        | inr u ↦ inr (record { letter = u.letter; is = sym (same u.letter) ∙ u.is; unmet = u.unmet })
+      ];
+    }
+
+pub Finds-test : (from : List Shape) (canon met : List ℕ) (before mid after : Unmet) (node track low high : ℕ) → IsAt from node (Test track low high) → HasChildren from node (Test track low high)
+    → Finds met before (entry_at canon from low) mid → Finds met mid (entry_at canon from high) after → Finds met before (entry_at canon from node) after
+Finds-test from canon met before mid after node track low high at children l h = record {
+  leads = λ letter.
+      let entry = ap (λ v. get_or canon v 0) (at.map letter) ∙ entry-either canon (nat_eq (bit_at letter track) 0) (map_at from low letter) (map_at from high letter) in
+      subst (IsFound met after) (sym entry)
+      (found-either met after (nat_eq (bit_at letter track) 0) (entry_at canon from low letter) (entry_at canon from high letter) (h.kept (entry_at canon from low letter) (l.leads letter)) (h.leads letter));
+  kept = λ value f. h.kept value (l.kept value f);
+  given = λ s e. elim (h.given s e) [
+    | inl mid_is ↦ elim (l.given s mid_is) [
+      | inl before_is ↦ inl before_is
+      | inr u ↦ inr (let v = (children u.letter).0 in record { letter = v.0; is = ap (λ x. get_or canon x 0) v.1 ∙ u.is; unmet = u.unmet })
+    ]
+    | inr u ↦ inr (let v = (children u.letter).1 in record { letter = v.0; is = ap (λ x. get_or canon x 0) v.1 ∙ u.is; unmet = u.unmet })
+  ];
+}
+
+pub AreDoneWith-kept : (from : List Shape) (canon met : List ℕ) (before after : Unmet) (row : ℕ → ℕ) (done : List Bool) → Finds met before row after → AreDoneWith from canon met before done → AreDoneWith from canon met after done
+AreDoneWith-kept from canon met before after row done f all = record { are_found = λ node letter there. f.kept (entry_at canon from node letter) (all.are_found node letter there) }
+
+pub AreDoneWith-note : (from : List Shape) (canon met : List ℕ) (before after : Unmet) (done new : List Bool) (node : ℕ) → AreDoneWith from canon met after done → Notes done new node → Finds met before (entry_at canon from node) after → AreDoneWith from canon met after new
+AreDoneWith-note from canon met before after done new node all notes f = record {
+  are_found = λ other letter there. elim (notes.only other there) [
+    | inl was ↦ all.are_found other letter was
+    | inr e ↦ subst (λ n. IsFound met after (entry_at canon from n letter)) (sym e) (f.leads letter)
+  ];
+}
+
+pub AreDoneBut-note : (from : List Shape) (canon met nodes : List ℕ) (done new : List Bool) (node : ℕ) → AreDoneBut from canon met nodes done → Notes done new node → AreDoneBut from canon met (nodes ++ node ∷ []) new
+AreDoneBut-note from canon met nodes done new node all notes = record {
+  are_met = λ other there. elim (notes.only other there) [
+    | inl was ↦ elim (all.are_met other was) [
+      | inl passed ↦ inl (Contains-append_left nodes (node ∷ []) other passed)
+      | inr met_all ↦ inr met_all
+    ]
+    | inr e ↦ inl (subst (Contains (nodes ++ node ∷ [])) (sym e) (Contains-push nodes node))
+  ];
+}
+
+pub AreDone-from_none : (from : List Shape) (canon met : List ℕ) (done : List Bool) → AreDoneWith from canon met Nothing done → AreDone from canon met done
+AreDone-from_none from canon met done all = record { are_met = all.are_found }
+
+one_added : (old new : List ℕ) (state value : ℕ) → AddsAll old new (state ∷ []) → IsFound old (One state) value → Contains new value
+one_added old new state value adds found = elim found [
+  | inl there ↦ Contains-kept old new (state ∷ []) adds value there
+  | inr e ↦ adds.has value (subst (Contains (state ∷ [])) (sym e) (Contains-push [] state))
+]
+
+pub AreDone-from_one : (from : List Shape) (canon old new : List ℕ) (state : ℕ) (done : List Bool) → AddsAll old new (state ∷ []) → AreDoneWith from canon old (One state) done → AreDone from canon new done
+AreDone-from_one from canon old new state done adds all = record { are_met = λ node letter there. one_added old new state (entry_at canon from node letter) adds (all.are_found node letter there) }
+
+pub AddsRow-none : (met : List ℕ) (row : ℕ → ℕ) → Finds met Nothing row Nothing → AddsRow row met met
+AddsRow-none met row f = record {
+  longer = omega arith;
+  kept = λ place within. refl;
+  has = f.leads;
+  added = λ place past within. absurd (omega (arith, past, within));
+  in_order = λ i j past less within. absurd (omega (arith, past, less, within));
+}
+
+pub AddsRow-one : (old new : List ℕ) (row : ℕ → ℕ) (state : ℕ) → Finds old Nothing row (One state) → AddsAll old new (state ∷ []) → AddsRow row old new
+AddsRow-one old new row state f adds = record {
+  longer = adds.longer;
+  kept = adds.kept;
+  has = λ letter. one_added old new state (row letter) adds (f.leads letter);
+  added = λ place past within. elim (f.given state refl) [
+    | inl none ↦ absurd (Nothing≢One state none)
+    | inr u ↦ (u.letter, u.is ∙ one_value state (get_or new place 0) (adds.added place past within))
+  ];
+  in_order = λ i j past less within.
+      let b = adds.in_order i j past less within in
+      absurd (let l = b.less in let w = b.within in omega (arith, l, w));
+}

@@ -1,10 +1,11 @@
 -- The states to which a row leads and that were not met before it.
-use Rattle.std.specs.Prelude.{◌≡◌, ◌⊎◌, ℕ, ◌<◌, ◌≤◌, List, length, slice_index, Contains, Some, nat_eq, true}
+use Rattle.std.specs.Prelude.{◌≡◌, ◌≢◌, ◌⊎◌, ℕ, ◌<◌, ◌≤◌, Bool, true, false, List, length, slice_index, slice_index_or, Contains, Some, nat_eq}
 use Rattle.std.specs.HashMap.{HashMap, get}
-use Rattle.std.specs.HashSet.{HashSet, contains}
 use Rattle.letter_diagram.specs.declared.diagrams.Shape.{Shape}
 use Rattle.letter_diagram.specs.Diagram.{map_at, top_track}
 use Rattle.auto_reduce.specs.Leading.{entry_at}
+use Rattle.auto_reduce.specs.declared.unmet.Unmet.{Unmet}
+use Rattle.auto_reduce.specs.declared.unmet.Unmet.TheVariants.{Nothing, One, Several}
 
 -- an order goes on by the values of a row that it did not have, by the least letters that lead to them
 pub record AddsRow (row : ℕ → ℕ) (old new : List ℕ) : Type 0 where
@@ -31,5 +32,44 @@ pub record RemembersPruned {S : Type 0} (from shapes : List Shape) (canon met : 
   pub pruned : (a r : ℕ) → get nat_eq memo a ≡ Some r → IsPruned from shapes canon met a r
 
 -- the canonical states of the values of the nodes that are done are in a list
-pub record AreDone {S : Type 0} (shapes : List Shape) (canon met : List ℕ) (done : HashSet ℕ S) : Type 0 where
-  pub are_met : (node letter : ℕ) → contains nat_eq done node ≡ true → Contains met (entry_at canon shapes node letter)
+pub record AreDone (shapes : List Shape) (canon met : List ℕ) (done : List Bool) : Type 0 where
+  pub are_met : (node letter : ℕ) → slice_index_or done node false ≡ true → Contains met (entry_at canon shapes node letter)
+
+-- one more node is done, if the list has a place for it
+pub record Notes (old new : List Bool) (node : ℕ) : Type 0 where
+  pub size : length new ≡ length old
+  pub noted : node < length old → slice_index_or new node false ≡ true
+  pub kept : (other : ℕ) → slice_index_or old other false ≡ true → slice_index_or new other false ≡ true
+  pub only : (other : ℕ) → slice_index_or new other false ≡ true → (slice_index_or old other false ≡ true) ⊎ (other ≡ node)
+
+-- a node is no longer done
+pub record Forgets (old new : List Bool) (node : ℕ) : Type 0 where
+  pub size : length new ≡ length old
+  pub others : (other : ℕ) → other ≢ node → slice_index_or new other false ≡ slice_index_or old other false
+  pub only : (other : ℕ) → slice_index_or new other false ≡ true → (slice_index_or old other false ≡ true) × (other ≢ node)
+
+-- a value is in a list or was found beside it; where several were found, any may be
+abbrev pub IsFound : List ℕ → Unmet → ℕ → Type 0
+IsFound met Nothing value = Contains met value
+IsFound met (One state) value = Contains met value ⊎ (value ≡ state)
+IsFound met Several value = Unit {0}
+
+-- a value of a row that is not in a list
+pub record IsUnmetOf (met : List ℕ) (row : ℕ → ℕ) (state : ℕ) : Type 0 where
+  pub letter : ℕ
+  pub is : row letter ≡ state
+  pub unmet : ¬ Contains met state
+
+-- what is found beside a list after what was found before and the values of a row
+pub record Finds (met : List ℕ) (before : Unmet) (row : ℕ → ℕ) (after : Unmet) : Type 0 where
+  pub leads : (letter : ℕ) → IsFound met after (row letter)
+  pub kept : (value : ℕ) → IsFound met before value → IsFound met after value
+  pub given : (state : ℕ) → after ≡ One state → (before ≡ One state) ⊎ IsUnmetOf met row state
+
+-- the canonical states of the values of the nodes that are done are in a list or were found beside it
+pub record AreDoneWith (shapes : List Shape) (canon met : List ℕ) (found : Unmet) (done : List Bool) : Type 0 where
+  pub are_found : (node letter : ℕ) → slice_index_or done node false ≡ true → IsFound met found (entry_at canon shapes node letter)
+
+-- the canonical states of the values of the nodes that are done, but for some nodes, are in a list
+pub record AreDoneBut (shapes : List Shape) (canon met nodes : List ℕ) (done : List Bool) : Type 0 where
+  pub are_met : (node : ℕ) → slice_index_or done node false ≡ true → Contains nodes node ⊎ ((letter : ℕ) → Contains met (entry_at canon shapes node letter))

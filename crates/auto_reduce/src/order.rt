@@ -43,7 +43,7 @@ impl Order {
         self.seen.contains(&state)
     }
 
-    fn add(&mut self, state: u32) -> Result<(), AllocError>
+    pub fn add(&mut self, state: u32) -> Result<(), AllocError>
         ensures adds { OnOk result (AddsAll self.old self.new (state ∷ [])) }
         ensures different { AllPairs (λ x y. x ≢ y) self.new }
     {

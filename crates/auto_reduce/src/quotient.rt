@@ -10,11 +10,10 @@ use crate::canonical::canonical;
 use crate::leading::{lead_node, lead_nodes};
 use crate::order::Order;
 use crate::rows::picked;
-use crate::unmet::{add_row, first_met};
+use crate::unmet::{Done, add_row, first_met};
 use auto_core::Auto;
 use letter_diagram::Diagrams;
 use std::alloc::{AllocError, Global};
-use std::collections::HashSet;
 
 /// The canonical states that words lead to, in the order in which a breadth-first walk in ascending letters meets them.
 fn breadth_first(alloc: Global, a: &Auto, canon: &[u32]) -> Result<Order, AllocError>
@@ -23,7 +22,7 @@ fn breadth_first(alloc: Global, a: &Auto, canon: &[u32]) -> Result<Order, AllocE
     ensures numbered { IfOk result (λ order. IsNumberedTo a.now canon.now order (length order + 1)) }
 {
     let mut order = first_met(alloc, a.diagrams(), a.first_node(), canon)?;
-    let mut done = HashSet::new(alloc);
+    let mut done = Done::new(alloc, a.diagrams().len())?;
     let mut place = 0;
     while place < order.as_slice().len() {
         let row = a.row_node(order.as_slice()[place]);

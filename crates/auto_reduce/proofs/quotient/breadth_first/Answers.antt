@@ -22,7 +22,7 @@ loop-place-init c =
       order_to = order-first a canon c.requires row leads order adds apart;
       numbered = IsNumberedTo-row a canon row 0 (first_state a) [] order leads adds apart (IsNumberedTo-none a canon) (omega arith) (λ letter. refl) (λ row letter none below. absurd (omega (arith, none)));
       within = omega arith;
-      done = AreDone-none a.shapes canon order c.new-done.result c.new-done.ensures.empty;
+      done = AreDone-none a.shapes canon order c.in_ok-done.done c.in_ok-done.ensures.none;
     }
 
 pub row_node-row-requires : goal.row_node-row-requires

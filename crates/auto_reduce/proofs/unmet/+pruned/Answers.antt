@@ -2,9 +2,9 @@ use Rattle.std.proofs.Common.{arith, ℕ, refl, sym, subst}
 use Rattle.letter_diagram.specs.Diagram.{IsAt, IsTest, FitsBelow, HasChildren}
 use Rattle.letter_diagram.proofs.Maps.{Grows-trans}
 use Rattle.auto_reduce.specs.Unmet.{IsMetLeaf, IsPruned, RemembersPruned, AreDone}
-use Rattle.auto_reduce.proofs.Unmets.{IsMetLeaf-grows, IsPruned-leaf, IsPruned-test, IsPruned-grows, RemembersPruned-grows, RemembersPruned-insert, AreDone-insert}
+use Rattle.auto_reduce.proofs.Unmets.{IsMetLeaf-grows, IsPruned-leaf, IsPruned-test, IsPruned-grows, RemembersPruned-grows, RemembersPruned-insert, AreDone-note}
 use Rattle.auto_reduce.proofs.unmet.+pruned.Goals as goal
-use Rattle.auto_reduce.proofs.unmet.+pruned.Goals.{in-Leaf+in_ok-made-in-Leaf, in-Test+in_ok-low-in-Test+in_ok-high-in-Test+in_ok-made-in-Test, then-same_map+in_ok-insert-2, else-same_map}
+use Rattle.auto_reduce.proofs.unmet.+pruned.Goals.{in-Leaf+in_ok-made-in-Leaf, in-Test+in_ok-low-in-Test+in_ok-high-in-Test+in_ok-made-in-Test, then-same_map, else-same_map}
 
 pub returns-in-Some-clause-pruned : goal.returns-in-Some-clause-pruned
 returns-in-Some-clause-pruned t c = c.requires.remembered.pruned _ _ (sym c.in-Some.ensures.value)
@@ -67,8 +67,8 @@ grows t c = elim c.match-shape.branch [
 
 pub returns-clause-done : goal.returns-clause-done
 returns-clause-done t c = elim c.if-same_map.branch [
-  | then-same_map+in_ok-insert-2 w ↦ rw w.done-is (
+  | then-same_map w ↦ rw w.done-is (
       let same = c.same_map.ensures.equal.0 w.if-same_map.true in
-      AreDone-insert c.args.from.now c.match-shape.to c.args.canon.now c.args.order.now _ _ c.args.node c.match-shape.made (before_done t c) w.in_ok-insert-2.ensures.updates (made t c) (subst (IsMetLeaf c.match-shape.to c.args.order.now) (sym same) (grows t c)))
+      AreDone-note c.args.from.now c.match-shape.to c.args.canon.now c.args.order.now _ _ c.args.node c.match-shape.made (before_done t c) w.add.ensures (made t c) (subst (IsMetLeaf c.match-shape.to c.args.order.now) (sym same) (grows t c)))
   | else-same_map w ↦ rw w.done-is (before_done t c)
 ]

@@ -1,25 +1,26 @@
-use Rattle.std.proofs.Common.{◌≡◌, get_or, Contains, sym, ap, ◌∙◌, subst}
-use Rattle.std.proofs.lemmas.List.Elements.{Contains-get_or}
+use Rattle.std.proofs.Common.{subst}
+use Rattle.auto_reduce.specs.declared.unmet.Unmet.TheVariants.{Nothing}
 use Rattle.auto_reduce.specs.Leading.{entry_at}
-use Rattle.auto_reduce.proofs.Unmets.{AddsRow-pruned, AreDone-more}
+use Rattle.auto_reduce.specs.Unmet.{Finds, AreDoneWith}
+use Rattle.auto_reduce.proofs.Unmets.{AddsRow-none, AddsRow-one, AreDone-from_none, AreDone-from_one}
 use Rattle.auto_reduce.proofs.unmet.add_row.Goals as goal
 
-pub pruned-requires-clause-met : goal.pruned-requires-clause-met
-pruned-requires-clause-met c =
-    let made = c.in_ok-met.ensures in
-    let met = c.args.order.now in
-    let first : get_or c.as_slice.result.now 0 0 ≡ get_or met 0 0 = ap (λ l. get_or l 0 0) c.as_slice.ensures.states in
-    record {
-      known = made.known;
-      top = made.top;
-      is_met = λ letter. subst (Contains met) (sym (made.map letter ∙ first)) (Contains-get_or met 0 0 c.requires.some);
-    }
+pub returns-in-Nothing-clause-adds : goal.returns-in-Nothing-clause-adds
+returns-in-Nothing-clause-adds c =
+    let row = entry_at c.args.canon.now c.args.from.now c.args.row in
+    AddsRow-none c.args.order.now row (subst (Finds c.args.order.now Nothing row) c.in-Nothing.is c.in_ok-unmet.ensures.finds)
 
-pub returns-clause-adds : goal.returns-clause-adds
-returns-clause-adds c =
-    let leaves = c.in_ok-leaves.leaves.items in
-    let added = rw c.as_slice-2.ensures.value at c.in_ok-add_all.ensures.adds in
-    AddsRow-pruned c.pruned.new.to (entry_at c.args.canon.now c.args.from.now c.args.row) c.in_ok-unmet.unmet c.args.order.now c.add_all.new.self leaves c.in_ok-unmet.ensures.pruned.map c.in_ok-leaves.ensures added c.add_all.ensures.different
+pub returns-in-Nothing-clause-done : goal.returns-in-Nothing-clause-done
+returns-in-Nothing-clause-done c =
+    AreDone-from_none c.args.from.now c.args.canon.now c.args.order.now c.unmet_states.new.done
+    (subst (λ unmet. AreDoneWith c.args.from.now c.args.canon.now c.args.order.now unmet c.unmet_states.new.done) c.in-Nothing.is c.in_ok-unmet.ensures.done)
 
-pub returns-clause-done : goal.returns-clause-done
-returns-clause-done c = AreDone-more _ _ _ _ _ _ c.in_ok-add_all.ensures.adds c.in_ok-unmet.ensures.done
+pub returns-in-One-clause-adds : goal.returns-in-One-clause-adds
+returns-in-One-clause-adds c =
+    let row = entry_at c.args.canon.now c.args.from.now c.args.row in
+    AddsRow-one c.args.order.now c.add.new.self row c.in-One.state (subst (Finds c.args.order.now Nothing row) c.in-One.is c.in_ok-unmet.ensures.finds) c.in_ok-add-in-One.ensures.adds
+
+pub returns-in-One-clause-done : goal.returns-in-One-clause-done
+returns-in-One-clause-done c =
+    AreDone-from_one c.args.from.now c.args.canon.now c.args.order.now c.add.new.self c.in-One.state c.unmet_states.new.done c.in_ok-add-in-One.ensures.adds
+    (subst (λ unmet. AreDoneWith c.args.from.now c.args.canon.now c.args.order.now unmet c.unmet_states.new.done) c.in-One.is c.in_ok-unmet.ensures.done)
