@@ -1,14 +1,17 @@
 -- What a round of splits keeps, and what is true when it splits no class.
-use Rattle.std.proofs.Common.{◌≡◌, ◌≢◌, ◌⊎◌, ℕ, ◌<◌, ◌≤◌, zero, suc, List, [], ◌∷◌, ◌++◌, length, get_or, All, AllPairs, arith, refl, sym, ap, ◌∙◌, subst, inl, inr}
+use Rattle.std.proofs.Common.{◌≡◌, ◌≢◌, ◌⊎◌, ◌↔◌, ℕ, ◌+◌, ◌<◌, ◌≤◌, Bool, true, false, true≢false, cond, not, nat_eq, MatchBool, zero, suc, List, [], ◌∷◌, ◌++◌, length, get_or, All, AllPairs, arith, refl, sym, ap, ◌∙◌, subst, inl, inr}
+use mathlib.Core.Bool.{beq}
+use Rattle.std.specs.List.{IsAnyAnswer}
 use Rattle.std.proofs.lemmas.Bool.{cases_eq}
+use Rattle.std.proofs.lemmas.Bool.Decides.{Decides-eqb}
 use Rattle.std.proofs.lemmas.List.{length_push}
-use Rattle.std.proofs.lemmas.List.Elements.{All-nil, All-cons, All-push, All-weaker, All-get_or}
+use Rattle.std.proofs.lemmas.List.Elements.{All-nil, All-cons, All-push, All-weaker, All-get_or, All-from_get_or}
 use Rattle.std.proofs.lemmas.List.Quantifiers.{all_pairs_push}
 use Rattle.letter_diagram.specs.declared.diagrams.Shape.{Shape}
 use Rattle.letter_diagram.specs.Diagram.{map_at, LooksBelow, IsDiagram}
 use Rattle.letter_diagram.proofs.Canonical.{node-from_map}
 use Rattle.auto_core.proofs.RowLemmas.{map_at-narrow}
-use Rattle.auto_core.specs.Automaton.{Automaton, IsAutomaton, width, next_state}
+use Rattle.auto_core.specs.Automaton.{Automaton, IsAutomaton, width, next_state, is_final}
 use Rattle.auto_reduce.proofs.States.{next_within}
 use Rattle.auto_reduce.specs.Leading.{IsLedFrom}
 use Rattle.auto_reduce.specs.Partition.{IsLed, IsPartition, IsSplit, AreRowNodes, AreLedRows, IsFiner, IsRound, IsFlag, IsSound, IsCoarsest}
@@ -93,17 +96,69 @@ agree_or_differ f g (suc n) =
       | inr found ↦ inr (found.0, omega (arith, found.1), found.2)
     ]
 
-pub IsSound-flags : (a : Automaton) (flags alike classes : List ℕ) (count : ℕ) → IsFlag a flags → ((j k : ℕ) → j < length flags → k < length flags → get_or alike j 0 ≡ get_or alike k 0) → IsSplit flags alike classes count → IsSound a classes count
-IsSound-flags a flags alike classes count f same s = record {
-  partition = subst (λ l. IsPartition l classes count) f.states s.partition;
-  flags = λ j k jw kw e. (f.flags j k (omega (arith, f.states)) (omega (arith, f.states))).0 ((s.same j k (omega (arith, f.states)) (omega (arith, f.states))).0 e).0;
+-- ---- the partition by flags
+-- the class of a flag
+abbrev pub flag_class : Bool → Bool → ℕ
+flag_class flag first = cond (not (beq flag first)) 1 0
+
+same_class : (flag other first : Bool) → (flag_class flag first ≡ flag_class other first) ↔ (flag ≡ other)
+same_class true true first = (λ _. refl, λ _. refl)
+same_class false false first = (λ _. refl, λ _. refl)
+same_class true false true = (λ e. absurd (omega (arith, e)), λ e. absurd (true≢false e))
+same_class true false false = (λ e. absurd (omega (arith, e)), λ e. absurd (true≢false e))
+same_class false true true = (λ e. absurd (omega (arith, e)), λ e. absurd (true≢false (sym e)))
+same_class false true false = (λ e. absurd (omega (arith, e)), λ e. absurd (true≢false (sym e)))
+
+small_class : (flag first : Bool) → flag_class flag first < 2
+small_class true true = omega arith
+small_class true false = omega arith
+small_class false true = omega arith
+small_class false false = omega arith
+
+first_class : (flag : Bool) → flag_class flag flag ≡ 0
+first_class true = refl
+first_class false = refl
+
+pub IsFlag-from : (a : Automaton) (classes : List ℕ) → 0 < length a.accept → length classes ≡ length a.accept
+    → ((k : ℕ) → k < length classes → get_or classes k 0 ≡ flag_class (is_final a k) (is_final a 0)) → IsFlag a classes
+IsFlag-from a classes some size at = record {
+  states = size;
+  below = All-from_get_or (λ class. class < 2) classes 0 (λ k inside. let value = at k inside in let small = small_class (is_final a k) (is_final a 0) in omega (arith, value, small));
+  first = at 0 (omega (arith, some, size)) ∙ first_class (is_final a 0);
+  flags = λ j k jw kw. let same = same_class (is_final a j) (is_final a k) (is_final a 0) in (λ e. same.0 (sym (at j jw) ∙ e ∙ at k kw), λ e. at j jw ∙ same.1 e ∙ sym (at k kw));
+}
+
+-- both classes where some state has class 1, else one
+abbrev pub HasOther : List ℕ → Bool → Type 0
+HasOther classes both = MatchBool both ((k : ℕ) × (k < length classes) × (get_or classes k 0 ≡ 1)) ((k : ℕ) → k < length classes → get_or classes k 0 ≢ 1)
+
+pub HasOther-from : (classes : List ℕ) (both : Bool) → IsAnyAnswer (λ class b. nat_eq class 1 ≡ b) classes both → HasOther classes both
+HasOther-from classes true found = (found.0, found.1, (Decides-eqb _ _).0 (found.2 0))
+HasOther-from classes false none = λ k inside e. true≢false (sym ((Decides-eqb _ _).1 e) ∙ none k 0 (omega arith) inside)
+
+IsPartition-flags : (a : Automaton) (classes : List ℕ) (both : Bool) → 0 < length a.accept → IsFlag a classes → HasOther classes both → IsPartition (length a.accept) classes (1 + cond both 1 0)
+IsPartition-flags a classes true some f found = record {
+  states = f.states;
+  within = f.below;
+  attained = λ class within. elim (cases_eq class 0) [
+    | inl none ↦ record { state = 0; within = omega (arith, some, f.states); has = f.first ∙ sym none }
+    | inr more ↦ record { state = found.0; within = found.1; has = found.2 ∙ omega (arith, within, more) }
+  ];
+}
+IsPartition-flags a classes false some f none = record {
+  states = f.states;
+  within = All-from_get_or (λ class. class < 1) classes 0 (λ k inside. let below = All-get_or (λ class. class < 2) classes k 0 inside f.below in let not = none k inside in omega (arith, below, not));
+  attained = λ class within. record { state = 0; within = omega (arith, some, f.states); has = f.first ∙ omega (arith, within) };
+}
+
+pub IsSound-flags : (a : Automaton) (classes : List ℕ) (both : Bool) → 0 < length a.accept → IsFlag a classes → HasOther classes both → IsSound a classes (1 + cond both 1 0)
+IsSound-flags a classes both some f h = record {
+  partition = IsPartition-flags a classes both some f h;
+  flags = λ j k jw kw. (f.flags j k (omega (arith, jw, f.states)) (omega (arith, kw, f.states))).0;
   apart = λ j k jw kw other. record {
     letters = [];
     are_letters = All-nil (λ letter. letter < width a);
-    differ = λ e.
-        let jf : j < length flags = omega (arith, f.states) in
-        let kf : k < length flags = omega (arith, f.states) in
-        other ((s.same j k jf kf).1 ((f.flags j k jf kf).1 e, same j k jf kf));
+    differ = λ e. other ((f.flags j k (omega (arith, jw, f.states)) (omega (arith, kw, f.states))).1 e);
   };
 }
 

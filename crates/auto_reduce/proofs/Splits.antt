@@ -1,58 +1,16 @@
--- What numbering the signatures of classes makes.
+-- Classes that are split, of which one part each keeps the number.
 use Rattle.std.proofs.Common.{◌≡◌, ◌≢◌, ◌↔◌, ℕ, ◌<◌, ◌+◌, ◌-◌, List, [], ◌∷◌, ◌++◌, length, slice_get, get_or, Some, AllPairs, arith, sym, ap, ◌∙◌, subst, inl, inr}
 use Rattle.std.proofs.lemmas.Bool.{cases_lt, cases_eq}
 use Rattle.std.proofs.lemmas.List.{length_push, get_or_push, get_or_append_left}
 use Rattle.std.proofs.lemmas.List.Elements.{All-get_or, All-from_get_or}
 use Rattle.std.proofs.lemmas.Option.{slice_get_within, slice_get-get_or, get_or_from_slice_get, same_Some}
 use Rattle.letter_diagram.specs.Numbering.{Numbers, PairsKept}
-use Rattle.auto_reduce.specs.Partition.{AreSignatures, NumbersSignatures, KeepsSignatures, KeepsNumbers, IsSplit, IsAttained, IsPartition, AreClassNodes, IsPartNumber, NumbersParts}
+use Rattle.auto_reduce.specs.Partition.{KeepsNumbers, IsSplit, IsAttained, IsPartition, AreClassNodes, IsPartNumber, NumbersParts}
 use Rattle.auto_reduce.specs.Quotient.{AreMembers, ArePicked}
 
 -- the last of a list
 slice_get-last : {A : Type 0} (xs : List A) (x : A) (place : ℕ) → length xs ≡ place → slice_get (xs ++ x ∷ []) place ≡ Some x
 slice_get-last xs x place here = slice_get-get_or (xs ++ x ∷ []) place x (let l = length_push xs x in omega (arith, l, here)) ∙ ap Some (get_or_push xs x x place here)
-
-module _ (current nodes : List ℕ) (old new : List (ℕ × ℕ)) (kept : PairsKept old new) where
-  -- one more signature is that of a state
-  pub AreSignatures-more : (state : ℕ) → state < length current → AreSignatures current nodes old → Numbers old new (get_or current state 0, get_or nodes state 0) → AreSignatures current nodes new
-  AreSignatures-more state within signed changed number less =
-      elim (cases_lt number (length old)) [
-        | inl before ↦ let s = signed number before in record { state = s.state; within = s.within; is = kept.at number _ s.is }
-        | inr past ↦ elim changed [
-          | inl same ↦ let l = ap length same in absurd (omega (arith, l, less, past))
-          | inr more ↦
-              let p : ℕ × ℕ = (get_or current state 0, get_or nodes state 0) in
-              let l = ap length more.0 ∙ length_push old p in
-              record { state = state; within = within; is = ap (λ all. slice_get all number) more.0 ∙ slice_get-last old p number (omega (arith, l, less, past)) }
-        ]
-      ]
-
-  pub NumbersSignatures-push : (classes : List ℕ) (class state : ℕ) → state < length current
-      → NumbersSignatures current nodes old classes → length classes ≡ state
-      → Numbers old new (get_or current state 0, get_or nodes state 0)
-      → slice_get new class ≡ Some (get_or current state 0, get_or nodes state 0)
-      → NumbersSignatures current nodes new (classes ++ class ∷ [])
-  NumbersSignatures-push classes class state state_in h size changed at = record {
-    at = λ k within.
-        let inside : k < length classes + 1 = subst (λ n. k < n) (length_push classes class) within in
-        elim (cases_lt k (length classes)) [
-          | inl before ↦ rw (get_or_append_left classes (class ∷ []) 0 k before) (kept.at _ _ (h.at k before))
-          | inr after ↦
-              let here : length classes ≡ k = omega arith in
-              let last : k ≡ state = omega arith in
-              rw (get_or_push classes class 0 k here, last) at
-        ];
-    signed = AreSignatures-more state state_in h.signed changed;
-  }
-
--- what had a number is no other signature
-pub KeepsSignatures-from : (current nodes classes : List ℕ) (before after : List (ℕ × ℕ)) → PairsKept before after → NumbersSignatures current nodes after classes → KeepsSignatures current nodes before classes
-KeepsSignatures-from current nodes classes before after kept h = record {
-  at = λ state within less.
-      let p : ℕ × ℕ = (0, 0) in
-      let was = slice_get-get_or before (get_or classes state 0) p less in
-      was ∙ sym (kept.at _ _ was) ∙ h.at state within;
-}
 
 -- a signature stands at one place
 one_place : (signatures : List (ℕ × ℕ)) → AllPairs (λ p q. p ≢ q) signatures → (i j : ℕ) (p : ℕ × ℕ) → slice_get signatures i ≡ Some p → slice_get signatures j ≡ Some p → i ≡ j
@@ -66,27 +24,6 @@ one_place signatures distinct i j p at_i at_j =
     apart i j at_i at_j less =
         distinct i j p less (slice_get_within signatures j p at_j) (get_or_from_slice_get signatures i p p at_i ∙ sym (get_or_from_slice_get signatures j p p at_j))
 
--- numbered signatures of which no two are equal split the classes
-pub IsSplit-from : (current nodes : List ℕ) (signatures : List (ℕ × ℕ)) (classes : List ℕ)
-    → NumbersSignatures current nodes signatures classes → AllPairs (λ p q. p ≢ q) signatures → length classes ≡ length current → IsSplit current nodes classes (length signatures)
-IsSplit-from current nodes signatures classes h distinct size = record {
-  partition = record {
-    states = size;
-    within = All-from_get_or (λ c. c < length signatures) classes 0 (λ i w. slice_get_within signatures _ _ (h.at i w));
-    attained = λ class within.
-        let s = h.signed class within in
-        let inside : s.state < length classes = let w = s.within in omega (arith, w, size) in
-        record { state = s.state; within = inside; has = one_place signatures distinct _ _ _ (h.at s.state inside) s.is };
-  };
-  same = λ j k jw kw.
-      let jin : j < length classes = omega arith in
-      let kin : k < length classes = omega arith in (
-        λ e. let both = same_Some _ _ (sym (h.at j jin) ∙ ap (slice_get signatures) e ∙ h.at k kin) in (ap (λ p. p.0) both, ap (λ p. p.1) both),
-        λ e. one_place signatures distinct _ _ _ (h.at j jin) (h.at k kin ∙ ap Some (λ i. (sym e.0 i, sym e.1 i))),
-      );
-}
-
--- ---- classes that are split, of which one part each keeps the number
 -- the members' nodes
 pub AreClassNodes-from : (classes nodes members chosen : List ℕ) (count : ℕ) → AreMembers classes count members → ArePicked nodes members chosen → AreClassNodes classes count nodes chosen
 AreClassNodes-from classes nodes members chosen count m p = record {

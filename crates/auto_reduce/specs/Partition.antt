@@ -17,32 +17,6 @@ pub record IsPartition (size : ℕ) (classes : List ℕ) (count : ℕ) : Type 0 
   pub within : All (λ class. class < count) classes
   pub attained : (class : ℕ) → class < count → IsAttained classes class
 
--- the number of the signature of a state: of its class and its node
-pub record IsSignature (current nodes : List ℕ) (signatures : List (ℕ × ℕ)) (number : ℕ) : Type 0 where
-  pub state : ℕ
-  pub within : state < length current
-  pub is : slice_get signatures number ≡ Some (slice_index current state, slice_index nodes state)
-
--- signatures, each of a state
-abbrev pub AreSignatures : List ℕ → List ℕ → List (ℕ × ℕ) → Type 0
-AreSignatures current nodes signatures = (number : ℕ) → number < length signatures → IsSignature current nodes signatures number
-
--- the first states have the numbers of their signatures as their classes
-pub record NumbersSignatures (current nodes : List ℕ) (signatures : List (ℕ × ℕ)) (classes : List ℕ) : Type 0 where
-  pub at : (state : ℕ) → state < length classes → slice_get signatures (slice_index classes state) ≡ Some (slice_index current state, slice_index nodes state)
-  pub signed : AreSignatures current nodes signatures
-
--- a state whose class is a number that was given before has the signature of that number
-pub record KeepsSignatures (current nodes : List ℕ) (before : List (ℕ × ℕ)) (classes : List ℕ) : Type 0 where
-  pub at : (state : ℕ) → state < length classes → slice_index classes state < length before
-      → slice_get before (slice_index classes state) ≡ Some (slice_index current state, slice_index nodes state)
-
--- a signature of each class, numbered as the class
-pub record AreClassSignatures (classes : List ℕ) (count : ℕ) (nodes : List ℕ) (signatures : List (ℕ × ℕ)) : Type 0 where
-  pub size : length signatures ≡ count
-  pub signed : AreSignatures classes nodes signatures
-  pub class : (number class node : ℕ) → slice_get signatures number ≡ Some (class, node) → class ≡ number
-
 -- a state of a class that has a node
 pub record IsClassNode (classes nodes : List ℕ) (class node : ℕ) : Type 0 where
   pub state : ℕ
@@ -151,9 +125,11 @@ pub record IsRound (a : Automaton) (start classes : List ℕ) (count : ℕ) : Ty
       → (slice_index classes j ≡ slice_index classes k)
       ↔ ((slice_index start j ≡ slice_index start k) × ((letter : ℕ) → letter < width a → slice_index start (next_state a j letter) ≡ slice_index start (next_state a k letter)))
 
--- the flag of each state as a class
+-- the flag of each state as one of the classes 0 and 1, that of the first state as 0
 pub record IsFlag (a : Automaton) (classes : List ℕ) : Type 0 where
   pub states : length classes ≡ length a.accept
+  pub below : All (λ class. class < 2) classes
+  pub first : slice_index classes 0 ≡ 0
   pub flags : (j k : ℕ) → j < length classes → k < length classes → (slice_index classes j ≡ slice_index classes k) ↔ (is_final a j ≡ is_final a k)
 
 -- classes that agree with the flags; states of different classes are told apart

@@ -2,7 +2,7 @@
 ghost use Rattle.std.specs.Prelude.{◌≡◌, ◌≤◌, ◌<◌, ◌^◌, ◌+◌, ◌-◌, length, IfOk, OnOk};
 ghost use Rattle.letter_diagram.specs.Numbering.{Numbers, PairsKept};
 ghost use Rattle.auto_core.specs.Automaton.{IsAutomaton};
-ghost use Rattle.auto_reduce.specs.Partition.{IsSplit, IsPartition, IsRound, IsFlag, IsSound, IsCoarsest, AreLedRows, AreSignatures, KeepsSignatures, AreClassNodes, IsPartNumber, KeepsNumbers};
+ghost use Rattle.auto_reduce.specs.Partition.{IsSplit, IsPartition, IsRound, IsFlag, IsSound, IsCoarsest, AreLedRows, AreClassNodes, IsPartNumber, KeepsNumbers};
 
 use crate::classes::{Partition, members};
 use crate::rows::{picked, row_nodes};
@@ -12,32 +12,6 @@ use crate::ways::row_ways;
 use auto_core::Auto;
 use letter_diagram::{Diagrams, Node};
 use std::alloc::{AllocError, Global};
-
-/// Splits classes by the nodes of their states. Some signatures have their numbers already.
-fn split(
-    alloc: Global,
-    before: Signatures,
-    current: &[u32],
-    nodes: &[Node],
-) -> Result<Partition, AllocError>
-    requires same { length current.now ≡ length nodes.now }
-    requires few { length current.now < 2 ^ 31 }
-    requires room { length before ≤ length current.now }
-    requires signed { AreSignatures current.now nodes.now before }
-    ensures split { IfOk result (λ p. IsSplit current.now nodes.now p.classes.items p.count) }
-    ensures kept { IfOk result (λ p. KeepsSignatures current.now nodes.now before p.classes.items) }
-{
-    let mut signatures = before;
-    let mut classes = Vec::new(alloc);
-    for state in 0..current.len() {
-        let class = signatures.add(current[state], nodes[state])?;
-        classes.push(class)?;
-    }
-    Ok(Partition {
-        classes,
-        count: signatures.len(),
-    })
-}
 
 /// A node of each class.
 fn class_nodes(
@@ -79,7 +53,7 @@ fn part_number(
 
 /// Splits the classes of a partition by the nodes of their states. One part of each class keeps its number, so a class that isn't
 /// split does, and only the states of the other parts are hashed.
-fn split_classes(alloc: Global, start: &Partition, nodes: &[Node]) -> Result<Partition, AllocError>
+fn split(alloc: Global, start: &Partition, nodes: &[Node]) -> Result<Partition, AllocError>
     requires partition { IsPartition (length nodes.now) start.now.classes.items start.now.count }
     requires few { length nodes.now < 2 ^ 31 }
     ensures split { IfOk result (λ p. IsSplit start.now.classes.items nodes.now p.classes.items p.count) }
@@ -114,36 +88,35 @@ fn round(
     ensures kept { IfOk result (λ p. KeepsNumbers start.now.classes.items start.now.count p.classes.items) }
 {
     let _ = a.states();
-    let split = split_classes(diagrams.alloc(), start, led)?;
+    let split = split(diagrams.alloc(), start, led)?;
     Ok(split)
 }
 
-/// The flag of each state as a class.
+/// The flag of each state as a class, that of the first state as class 0.
 fn flag_classes(alloc: Global, a: &Auto) -> Result<Vec<u32>, AllocError>
     ensures flags { IfOk result (λ classes. IsFlag a.now classes.items) }
     ensures valid { IsAutomaton a.now }
 {
-    let mut classes = Vec::new(alloc);
-    for state in 0..a.states() {
-        classes.push(u32::from(a.accept_of(state)))?;
+    let states = a.states();
+    let first = a.accept_of(0);
+    let mut classes = Vec::with_capacity(alloc, states as usize)?;
+    for state in 0..states {
+        classes.push(u32::from(a.accept_of(state) != first))?;
     }
     Ok(classes)
 }
 
-/// The partition by flags: before the first round all states count as having one row.
+/// The partition by flags.
 fn by_flags(alloc: Global, a: &Auto) -> Result<Partition, AllocError>
     ensures sound { IfOk result (λ p. IsSound a.now p.classes.items p.count) }
     ensures valid { IsAutomaton a.now }
 {
-    let flags = flag_classes(alloc, a)?;
-    let alike = vec![in alloc; a.first_node(); flags.len()]?;
-    let split = split(
-        alloc,
-        Signatures::new(alloc),
-        flags.as_slice(),
-        alike.as_slice(),
-    )?;
-    Ok(split)
+    let classes = flag_classes(alloc, a)?;
+    let both = classes.as_slice().contains(&1);
+    Ok(Partition {
+        classes,
+        count: 1 + usize::from(both),
+    })
 }
 
 /// The partition whose classes are the states that nothing tells apart: it starts with the flags, and splits classes
