@@ -1,6 +1,6 @@
 //! Nodes with the maps of nodes of another `Diagrams`, whose tracks take their bits from other tracks.
-ghost use Rattle.std.specs.Prelude.{◌≡◌, ◌<◌, ◌≤◌, ℕ, length, All, IfOk, OnOk};
-ghost use Rattle.letter_diagram.specs.Diagram.{map_at, Grows, LooksBelow};
+ghost use Rattle.std.specs.Prelude.{◌<◌, length, All, IfOk, OnOk};
+ghost use Rattle.letter_diagram.specs.Diagram.{Grows, LooksBelow};
 ghost use Rattle.letter_diagram.specs.BroughtRelabelled.{IsBroughtRelabelled, RemembersBroughtRelabelled};
 ghost use Rattle.letter_diagram.specs.Listed.{EachAnswers};
 

@@ -1,5 +1,5 @@
 //! Answers for nodes, by the nodes' numbers.
-ghost use Rattle.std.specs.Prelude.{◌≡◌, ◌<◌, ℕ, length, slice_index_or, IfOk};
+ghost use Rattle.std.specs.Prelude.{◌≡◌, ℕ, length, IfOk};
 ghost use Rattle.letter_diagram.specs.NodeMemo.{answer_of, Remembers};
 
 use crate::diagrams::Node;
