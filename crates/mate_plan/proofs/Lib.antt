@@ -1,6 +1,7 @@
 pub mod LevelLemmas
 pub mod PlainFormulas
 pub mod ItemLemmas
+pub mod ItemSteps
 pub mod PartItems
 pub mod Loops
 pub mod PartAnswers

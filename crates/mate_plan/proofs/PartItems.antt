@@ -36,6 +36,7 @@ use Rattle.mate_plan.specs.Levels.{AreNames, level_of}
 use Rattle.mate_plan.specs.Plan.{Level, Rules, bear_item, bear_items, choices_into, image_item, image_items, pre_item, pre_items, safe_item}
 use Rattle.mate_plan.specs.PlanOf.{rules_of}
 use Rattle.mate_plan.proofs.ItemLemmas.{lacks_first, lacks_one, lacks_second, nothing_empty, same_one, same_two, thinned-each, thinned-flat_map, thinned-map, thinned-none}
+use Rattle.mate_plan.proofs.ItemSteps.{HasStep, bear_step, image_step, pre_step, safe_step}
 use Rattle.mate_plan.proofs.LevelLemmas.{name_is_on, set_of_name}
 use Rattle.mate_plan.proofs.PlainFormulas.{bear-positives, bear-relabel, image-positives, image-relabel, pre-positives, pre-relabel, safe-relabel}
 
@@ -58,12 +59,13 @@ has_two tracks others sets source target f on on_target names =
     All-weaker (λ m. IsOver source.0 tracks m ⊎ IsOver target.0 others m) (λ m. IsSetFor sets m.0 (length m.1))
     (λ m over. elim over [ inl a ↦ set_for tracks sets source m on a | inr b ↦ set_for others sets target m on_target b ]) (memberships f) names
 
-is_item : (tracks : List Var) (sets : List Automaton) (f : Tree) → IsModest f → HasSets sets f → free_vars f ≡ tracks → IsItemOn tracks sets f
-is_item tracks sets f modest has over =
+is_item : (tracks : List Var) (sets : List Automaton) (f : Tree) → HasStep f → IsModest f → HasSets sets f → free_vars f ≡ tracks → IsItemOn tracks sets f
+is_item tracks sets f some modest has over =
     let few = modest.variables in
     let short = modest.steps_are_few in
     record {
       compilable = record { well_made = modest.well_made; few_vars = omega (arith, few); has_sets = has };
+      some = some;
       few = omega (arith, short);
       over = over;
     }
@@ -97,7 +99,7 @@ module _ (p : Position) (game : IsGame p) (sets : List Automaton) where
       let f = image_of p.men mask o source.0 in
       let w = choice side mask o i in
       let means : OptionsMean p side mask o = options_mean p game side mask o w in
-      is_item (mask_tracks p to) sets f (image_modest p.men mask o source.0 f game.few w.0 refl)
+      is_item (mask_tracks p to) sets f (image_step p.men mask o source.0 w.0) (image_modest p.men mask o source.0 f game.few w.0 refl)
       (has_one (mask_tracks p mask) sets source f on (image_names p.men mask o source.0 f game.few w.0 refl))
       (means.image_tracks source.0 ∙ ap (mask_tracks p) leads)
 
@@ -149,7 +151,7 @@ module _ (p : Position) (game : IsGame p) (sets : List Automaton) where
       let means : OptionsMean p side mask o = options_mean p game side mask o w in
       let others = tracks_of p.men (without (is_live mask) o.taken) in
       let On : List Var → Type 0 = λ tracks. IsNameOn tracks sets (Some target) in
-      is_item (mask_tracks p mask) sets f (pre_modest p.men mask o source.0 target.0 f game.few w.0 refl)
+      is_item (mask_tracks p mask) sets f (pre_step p.men mask o source.0 target.0 w.0) (pre_modest p.men mask o source.0 target.0 f game.few w.0 refl)
       (has_two (mask_tracks p mask) others sets source target f on (subst On (target_tracks side mask o w) on_target) (pre_names p.men mask o source.0 target.0 f game.few w.0 refl))
       (means.pre_tracks source.0 target.0)
 
@@ -203,14 +205,14 @@ module _ (p : Position) (game : IsGame p) (sets : List Automaton) where
   bear_on mask b source w on =
       let f = bear_of p.men mask b.man b.ray b.king source.0 in
       let means : BearingsMean p mask b = bearings_mean p mask b w in
-      is_item (mask_tracks p mask) sets f (bear_modest p.men mask b.man b.ray b.king source.0 f game.few w refl)
+      is_item (mask_tracks p mask) sets f (bear_step p.men mask b.man b.ray b.king source.0 w) (bear_modest p.men mask b.man b.ray b.king source.0 f game.few w refl)
       (has_one (mask_tracks p mask) sets source f on (bear_names p.men mask b.man b.ray b.king source.0 f game.few w refl)) (means.bear_tracks source.0)
 
   pub safe_on : (mask : ℕ) (b : Bearing) (source : SetId) → IsBearer p.men mask b.man b.ray b.king → IsNameOn (mask_tracks p mask) sets (Some source) → IsItemOn (mask_tracks p mask) sets (safe_of p.men mask b.man b.ray b.king source.0)
   safe_on mask b source w on =
       let f = safe_of p.men mask b.man b.ray b.king source.0 in
       let means : BearingsMean p mask b = bearings_mean p mask b w in
-      is_item (mask_tracks p mask) sets f (safe_modest p.men mask b.man b.ray b.king source.0 f game.few w refl)
+      is_item (mask_tracks p mask) sets f (safe_step p.men mask b.man b.ray b.king source.0) (safe_modest p.men mask b.man b.ray b.king source.0 f game.few w refl)
       (has_one (mask_tracks p mask) sets source f on (safe_names p.men mask b.man b.ray b.king source.0 f game.few w refl)) (means.safe_tracks source.0)
 
   pub bears_on : (side : Side) (mask : ℕ) (source : Option SetId) → IsGameMask p mask → IsNameOn (mask_tracks p mask) sets source → All (IsItemOn (mask_tracks p mask) sets) (bear_trees p side mask source)

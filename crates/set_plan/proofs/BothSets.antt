@@ -1,5 +1,5 @@
 -- Two automata over the same tracks, joined or met.
-use Rattle.std.proofs.Common.{◌≡◌, ◌↔◌, ◌⊎◌, ℕ, zero, suc, ◌+◌, ◌<◌, ◌≤◌, List, [], ◌∷◌, length, map, Bool, true, false, nat_lt, ◌==◌, if◌then◌else◌, refl, sym, ap, ◌∙◌, subst, inl, inr, arith, eq-eqb}
+use Rattle.std.proofs.Common.{◌≡◌, ◌↔◌, ◌⊎◌, ℕ, suc, ◌<◌, ◌≤◌, List, [], ◌∷◌, length, map, true, nat_lt, ◌==◌, if◌then◌else◌, refl, sym, ap, ◌∙◌, subst, inl, inr, arith, eq-eqb}
 use Rattle.std.specs.List.{AllPairs, slice_index_or}
 use Rattle.std.proofs.lemmas.Bool.{ltb-true}
 use Rattle.std.proofs.lemmas.List.Kept.{AllPairs-from_increasing}
@@ -9,7 +9,7 @@ use Rattle.track_word.specs.Tracks.{IsAscending, part_of, with_var, with_vars}
 use Rattle.auto_core.specs.Automaton.{Automaton, Accepts}
 use Rattle.auto_core.specs.Reduced.{IsReduced}
 use Rattle.auto_core.specs.Spread.{BothSpreadExceeds}
-use Rattle.lin_formula.specs.Tree.{Among, And, Not, Or, free_vars}
+use Rattle.lin_formula.specs.Tree.{Among, And, Not, Or}
 use Rattle.lin_formula.specs.SetOf.{Table, members}
 use Rattle.lin_formula.specs.Free.{IsOneOf}
 use Rattle.lin_formula.proofs.FreeVars.{if_cases}
@@ -21,6 +21,7 @@ use Rattle.set_plan.specs.Program.{IsSetOf}
 use Rattle.set_plan.specs.Sets.{IsSetOn}
 use Rattle.set_plan.specs.Unite.{difference, either, two}
 use Rattle.set_plan.proofs.Decided.{Decides-among, DecidesIntegers-decides, IsSetOf-decides, with_vars-ascending}
+use Rattle.set_plan.proofs.FewStates.{few_states}
 
 above : (x : ℕ) (ys : List Var) → ((j : ℕ) → j < length (map (λ v. v.0) ys) → x < slice_index_or (map (λ v. v.0) ys) j 0) → (y : Var) → IsOneOf y ys → x < y.0
 above x [] h y is = absurd is
@@ -87,19 +88,22 @@ module _ (tracks : List Var) (a b : Automaton) (left : IsSetOn tracks a) (right 
   either-is c r tracks_c words_c tracks_r words_r =
       IsSetOf-decides (Or (Among 0 tracks) (Among 1 tracks)) (two (Table a) (Table b)) r (either-decides c r tracks_c words_c tracks_r words_r)
 
+  pub either-exceeds : (budget : ℕ) → BothSpreadExceeds a.tracks b.tracks (Accepts a) (Accepts b) budget ↔ Exceeds (Or (Among 0 tracks) (Among 1 tracks)) (members (two (Table a) (Table b))) budget
+  either-exceeds budget = Exceeds-Or (members (two (Table a) (Table b))) (Among 0 tracks) (Among 1 tracks) a b budget first second
+
   pub either-set : (c r : Automaton) → c.tracks ≡ with_vars a.tracks b.tracks
       → ((word : List ℕ) → IsWord (length c.tracks) word → Accepts c word ↔ (Accepts a (part_of c.tracks a.tracks word) ⊎ Accepts b (part_of c.tracks b.tracks word)))
-      → r.tracks ≡ c.tracks → ((word : List ℕ) → IsWord (length c.tracks) word → Accepts r word ↔ Accepts c word) → IsReduced r → IsSetOn tracks r
-  either-set c r tracks_c words_c tracks_r words_r reduced =
+      → r.tracks ≡ c.tracks → ((word : List ℕ) → IsWord (length c.tracks) word → Accepts r word ↔ Accepts c word) → IsReduced r
+      → (budget : ℕ) → budget ≤ 200000 → (BothSpreadExceeds a.tracks b.tracks (Accepts a) (Accepts b) budget → ⊥) → IsSetOn tracks r
+  either-set c r tracks_c words_c tracks_r words_r reduced budget high within =
       let decides = either-decides c r tracks_c words_c tracks_r words_r in
+      let states = few_states (members (two (Table a) (Table b))) budget (Or (Among 0 tracks) (Among 1 tracks)) r 1 (omega arith) decides reduced (inr (λ over. within ((either-exceeds budget).1 over), refl)) in
       record {
         reduced = reduced;
         integers = DecidesIntegers-decides (Or (Among 0 tracks) (Among 1 tracks)) (two (Table a) (Table b)) r decides;
         tracks_are = decides.tracks ∙ over-tracks;
+        few = omega (arith, states, high);
       }
-
-  pub either-exceeds : (budget : ℕ) → BothSpreadExceeds a.tracks b.tracks (Accepts a) (Accepts b) budget ↔ Exceeds (Or (Among 0 tracks) (Among 1 tracks)) (members (two (Table a) (Table b))) budget
-  either-exceeds budget = Exceeds-Or (members (two (Table a) (Table b))) (Among 0 tracks) (Among 1 tracks) a b budget first second
 
   module _ (n : Automaton) (tracks_n : n.tracks ≡ b.tracks) (words_n : (word : List ℕ) → IsWord (length b.tracks) word → Accepts n word ↔ (¬ Accepts b word)) where
     not-second : Decides n (Not (Among 1 tracks)) (members (two (Table a) (Table b)))
@@ -121,16 +125,19 @@ module _ (tracks : List Var) (a b : Automaton) (left : IsSetOn tracks a) (right 
     except-is c r tracks_c words_c tracks_r words_r =
         IsSetOf-decides (And (Among 0 tracks) (Not (Among 1 tracks))) (two (Table a) (Table b)) r (except-decides c r tracks_c words_c tracks_r words_r)
 
+    pub except-exceeds : (budget : ℕ) → BothSpreadExceeds a.tracks n.tracks (Accepts a) (Accepts n) budget ↔ Exceeds (And (Among 0 tracks) (Not (Among 1 tracks))) (members (two (Table a) (Table b))) budget
+    except-exceeds budget = Exceeds-And (members (two (Table a) (Table b))) (Among 0 tracks) (Not (Among 1 tracks)) a n budget first not-second
+
     pub except-set : (c r : Automaton) → c.tracks ≡ with_vars a.tracks n.tracks
         → ((word : List ℕ) → IsWord (length c.tracks) word → Accepts c word ↔ (Accepts a (part_of c.tracks a.tracks word) × Accepts n (part_of c.tracks n.tracks word)))
-        → r.tracks ≡ c.tracks → ((word : List ℕ) → IsWord (length c.tracks) word → Accepts r word ↔ Accepts c word) → IsReduced r → IsSetOn tracks r
-    except-set c r tracks_c words_c tracks_r words_r reduced =
+        → r.tracks ≡ c.tracks → ((word : List ℕ) → IsWord (length c.tracks) word → Accepts r word ↔ Accepts c word) → IsReduced r
+        → (budget : ℕ) → budget ≤ 200000 → (BothSpreadExceeds a.tracks n.tracks (Accepts a) (Accepts n) budget → ⊥) → IsSetOn tracks r
+    except-set c r tracks_c words_c tracks_r words_r reduced budget high within =
         let decides = except-decides c r tracks_c words_c tracks_r words_r in
+        let states = few_states (members (two (Table a) (Table b))) budget (And (Among 0 tracks) (Not (Among 1 tracks))) r 1 (omega arith) decides reduced (inr (λ over. within ((except-exceeds budget).1 over), refl)) in
         record {
           reduced = reduced;
           integers = DecidesIntegers-decides (And (Among 0 tracks) (Not (Among 1 tracks))) (two (Table a) (Table b)) r decides;
           tracks_are = decides.tracks ∙ over-tracks;
+          few = omega (arith, states, high);
         }
-
-    pub except-exceeds : (budget : ℕ) → BothSpreadExceeds a.tracks n.tracks (Accepts a) (Accepts n) budget ↔ Exceeds (And (Among 0 tracks) (Not (Among 1 tracks))) (members (two (Table a) (Table b))) budget
-    except-exceeds budget = Exceeds-And (members (two (Table a) (Table b))) (Among 0 tracks) (Not (Among 1 tracks)) a n budget first not-second

@@ -1,12 +1,12 @@
--- Lists of formulas.
-use Rattle.std.proofs.Common.{◌≡◌, ℕ, zero, suc, ◌+◌, ◌<◌, List, [], ◌∷◌, length, map, All, drop, drop-cons, add-one, get_or, sym, ap, ◌∙◌, subst, arith}
+-- Lists of formulas, and their sets.
+use Rattle.std.proofs.Common.{◌≡◌, ℕ, zero, suc, ◌+◌, ◌<◌, List, [], ◌∷◌, length, map, All, drop, drop-cons, add-one, get_or, Option, Some, None, IfSome, sym, ap, ◌∙◌, subst, arith}
 use Rattle.std.proofs.lemmas.List.Elements.{All-head}
 use Rattle.track_word.specs.declared.tracks.Var.{Var}
 use Rattle.auto_core.specs.Automaton.{Automaton}
 use Rattle.lin_formula.specs.declared.formula.Formula.{Formula}
-use Rattle.lin_formula.specs.Tree.{Tree}
+use Rattle.lin_formula.specs.Tree.{Tree, free_vars, steps}
 use Rattle.lin_formula.specs.TreeOf.{tree_of}
-use Rattle.set_plan.specs.Sets.{IsItemOn}
+use Rattle.set_plan.specs.Sets.{IsItemOn, IsSetBy, IsSetOn}
 
 -- the front of what is left of a list
 pub drop_front : {X : Type 0} (xs : List X) (i : ℕ) (x : X) → i < length xs → x ≡ get_or xs i x → drop i xs ≡ x ∷ drop (i + 1) xs
@@ -19,3 +19,8 @@ all-at P (g ∷ fs) (suc i) f h less e = all-at P fs i f (λ k d within. h (suc 
 
 pub item-at : (tracks : List Var) (sets : List Automaton) (fs : List Formula) (i : ℕ) (f : Formula) → All (IsItemOn tracks sets) (map tree_of fs) → i < length fs → f ≡ get_or fs i f → IsItemOn tracks sets (tree_of f)
 item-at tracks sets fs i f h less e = all-at (IsItemOn tracks sets) fs i f h less e
+
+-- the set of a formula that has a step
+pub made_on : (tracks : List Var) (f : Tree) → 0 < length (steps f) → free_vars f ≡ tracks → (set : Option Automaton) → IfSome set (IsSetBy f) → IfSome set (IsSetOn tracks)
+made_on tracks f some over None is = tt
+made_on tracks f some over (Some a) is = record { reduced = is.reduced; integers = is.integers; tracks_are = is.tracks_are ∙ over; few = is.few some }

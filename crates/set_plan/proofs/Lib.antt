@@ -7,6 +7,8 @@ pub mod Decided
 pub mod Makes
 pub mod Thinned
 pub mod Empties
+pub mod Residuals
+pub mod FewStates
 pub mod BothSets
 pub mod Kept
 pub mod Items

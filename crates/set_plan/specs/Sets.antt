@@ -1,5 +1,5 @@
 -- Sets that a program has made.
-use Rattle.std.specs.Prelude.{◌≡◌, ◌<◌, ℕ, List, length, Option, Some, None, IfSome, slice_get}
+use Rattle.std.specs.Prelude.{◌≡◌, ◌<◌, ◌≤◌, ℕ, List, length, Option, Some, None, IfSome, slice_get}
 use Rattle.std.specs.Borrow.{Bor}
 use Rattle.track_word.specs.declared.tracks.Var.{Var}
 use Rattle.auto_core.specs.Automaton.{Automaton}
@@ -14,11 +14,19 @@ use Rattle.set_plan.specs.declared.left.Left.{Left}
 use Rattle.set_plan.specs.declared.left.Left.TheVariants.{Whole, Part}
 use Rattle.set_plan.specs.declared.made.Made.{Made}
 
--- the automaton is reduced and decides a set of tuples of integers, one for each of the tracks
+-- the automaton is reduced and decides a set of tuples of integers, one for each of the tracks; it has no more states than the greatest budget
 pub record IsSetOn (tracks : List Var) (a : Automaton) : Type 0 where
   pub reduced : IsReduced a
   pub integers : DecidesIntegers a
   pub tracks_are : a.tracks ≡ tracks
+  pub few : length a.accept ≤ 200000
+
+-- the same over the free variables of a formula, where its number of states is known only if the formula has a step
+pub record IsSetBy (f : Tree) (a : Automaton) : Type 0 where
+  pub reduced : IsReduced a
+  pub integers : DecidesIntegers a
+  pub tracks_are : a.tracks ≡ free_vars f
+  pub few : 0 < length (steps f) → length a.accept ≤ 200000
 
 -- an item whose symbols stand for the automata of a table
 abbrev pub item_of : List Automaton → Tree → Item
@@ -28,9 +36,10 @@ item_of sets f = record { formula = f; sets = tables sets }
 abbrev pub made_of : Made → SetOf × ℕ
 made_of made = (as_set made.set, made.at)
 
--- a formula over these tracks that can be compiled over the table, of fewer than a thousand steps
+-- a formula over these tracks that can be compiled over the table, of at least one and fewer than a thousand steps
 pub record IsItemOn (tracks : List Var) (sets : List Automaton) (f : Tree) : Type 0 where
   pub compilable : IsCompilable f sets
+  pub some : 0 < length (steps f)
   pub few : length (steps f) < 1000
   pub over : free_vars f ≡ tracks
 

@@ -1,12 +1,12 @@
 //! Items, and the union of a list of items.
 ghost use Rattle.std.specs.Prelude.{ℕ, ◌≡◌, ◌<◌, ◌+◌, ◌≤◌, ◌^◌, length, map, All, IfOk, IfSome, ◌∷◌, []};
 ghost use Rattle.auto_core.specs.Reduced.{IsReduced};
-ghost use Rattle.lin_formula.specs.Tree.{free_vars, steps};
+ghost use Rattle.lin_formula.specs.Tree.{steps};
 ghost use Rattle.lin_formula.specs.TreeOf.{tree_of};
 ghost use Rattle.lin_formula.specs.SetOf.{Nothing, as_set};
 ghost use Rattle.formula_auto.specs.Compiled.{IsCompilable};
 ghost use Rattle.set_plan.specs.Outcome.{Answers};
-ghost use Rattle.set_plan.specs.Sets.{IsSetOn, IsItemOn, item_of, made_of};
+ghost use Rattle.set_plan.specs.Sets.{IsSetBy, IsSetOn, IsItemOn, item_of, made_of};
 ghost use Rattle.set_plan.specs.Unite as plan;
 
 use crate::empty::{is_none_or_empty, lacks_a_set};
@@ -34,7 +34,7 @@ pub fn make<P: Copy>(
     requires few { length (steps (tree_of f.now)) < 1000 }
     requires room { at < 2 ^ 31 }
     ensures answers { Answers (plan.make part at (item_of sets.now (tree_of f.now))) memo.old.budget made_of result }
-    ensures set { IfOk result (λ made. IfSome made.set (IsSetOn (free_vars (tree_of f.now)))) }
+    ensures set { IfOk result (λ made. IfSome made.set (IsSetBy (tree_of f.now))) }
     ensures room { IfOk result (λ made. made.at < at + 1000) }
     ensures budget { memo.new.budget ≡ memo.old.budget }
 {
@@ -42,6 +42,7 @@ pub fn make<P: Copy>(
         return Ok(Made { set: None, at });
     }
     let count = step_count(f);
+    let _ = memo.budget();
     match memo.compile(alloc, f, sets) {
         Ok(a) => Ok(Made {
             set: Some(a),

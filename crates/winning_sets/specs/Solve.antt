@@ -31,11 +31,13 @@ pub record IsTupleOf (Set : Position → Type 0) (mask : ℕ) (tuple : List ℤ)
 pub record HasTuplesOf (Set : Position → Type 0) (mask : ℕ) (a : Automaton) : Type 0 where
   pub same : (tuple : List ℤ) → IsAccepted a tuple ↔ IsTupleOf Set mask tuple
 
--- the automaton is reduced and decides a set of integers, and its tracks are those of the mask's men, ascending
+-- the automaton is reduced and decides a set of integers, its tracks are those of the mask's men, ascending, and it has no more states than
+-- the greatest budget
 pub record IsSetAt (stock : List Man) (mask : ℕ) (a : Automaton) : Type 0 where
   pub reduced : IsReduced a
   pub integers : DecidesIntegers a
   pub tracks : a.tracks ≡ tracks_of stock (is_live mask)
+  pub few : length a.accept ≤ 200000
 
 -- the sets of the plies and masks, where there are any
 abbrev pub Sets : Type 0

@@ -1,5 +1,5 @@
 //! Solved positions.
-ghost use Rattle.std.specs.Prelude.{◌≡◌, ◌↔◌, ◌+◌, ◌≤◌, ℕ, IsSomeAnd, IsTrue, option_copied};
+ghost use Rattle.std.specs.Prelude.{◌≡◌, ◌↔◌, ◌+◌, ◌≤◌, ℕ, IfSome, IsSomeAnd, IsTrue, length, option_copied};
 ghost use Rattle.auto_core.specs.Integers.{IsAccepted};
 ghost use Rattle.game_rules.specs.Game.{Value};
 ghost use Rattle.rule_formula.specs.Fits.{HasStock, mask_of, masks_of};
@@ -95,6 +95,7 @@ impl Solved {
     /// The set of the positions at a ply, with the live men of a mask, from which the winner mates in time.
     pub fn set(&self, ply: u8, mask: u8) -> Option<&Auto>
         ensures set { option_copied result ≡ kept_at self.now ply mask }
+        ensures few { IfSome result (λ a. length a.now.accept ≤ 200000) }
         ensures valid { IsSolution self.now }
     {
         set_at(self.masks.as_slice(), self.kept.as_slice(), ply, mask)
@@ -103,6 +104,7 @@ impl Solved {
     /// The set of the positions that are reached at a ply, with the live men of a mask. There is none where the plan has no step.
     pub fn reach(&self, ply: u8, mask: u8) -> Option<&Auto>
         ensures set { option_copied result ≡ reach_at self.now ply mask }
+        ensures few { IfSome result (λ a. length a.now.accept ≤ 200000) }
         ensures valid { IsSolution self.now }
     {
         set_at(self.masks.as_slice(), self.reach.as_slice(), ply, mask)
@@ -111,6 +113,7 @@ impl Solved {
     /// The greatest number of states among the sets that `set` hands out.
     pub fn most_states(&self) -> u32
         ensures most { IsMostStates self.now result }
+        ensures few { result ≤ 200000 }
     {
         let mut most: u32 = 0;
         for ply in 0..self.plies() {

@@ -4,6 +4,7 @@ use Rattle.lin_formula.specs.SetOf.{as_set, tables}
 use Rattle.lin_formula.specs.TreeOf.{tree_of}
 use Rattle.rule_formula.specs.Mean.{mask_tracks}
 use Rattle.set_plan.specs.Sets.{IsSetOn, item_of, made_of}
+use Rattle.set_plan.proofs.Items.{made_on}
 use Rattle.set_plan.proofs.Thinned.{Ends-make_same}
 use Rattle.mate_plan.specs.Plan.{name, safe_item}
 use Rattle.mate_plan.specs.PlanOf.{rules_of}
@@ -42,7 +43,7 @@ pub returns-clause-set : goal.returns-clause-set
 returns-clause-set c =
     let on : IsSetOn (mask_tracks c.args.p.now c.args.stage.mask) c.in-Some.source = rw c.in-Some.is at c.requires.set in
     let item = safe_item_on c.args.p.now (game_of c.args.p.now c.requires.sound c.requires.men) c.put.new.self c.args.stage.mask c.args.bearing c.requires.bearing c.in_ok-id.id (tree_of c.in_ok-formula.formula) c.in_ok-formula.ensures.tree c.in-Some.source c.in_ok-id.ensures.ok on in
-    rw item.over at c.in_ok-made.ensures.set
+    made_on (mask_tracks c.args.p.now c.args.stage.mask) (tree_of c.in_ok-formula.formula) item.some item.over c.in_ok-made.made.set c.in_ok-made.ensures.set
 
 pub returns-clause-grows : goal.returns-clause-grows
 returns-clause-grows c = rw c.truncate.ensures (grows_cut c.args.sets.now c.put.new.self c.count-count.result c.count-count.ensures c.in_ok-id.ensures.grows)

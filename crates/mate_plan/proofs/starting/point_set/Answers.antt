@@ -1,9 +1,12 @@
-use Rattle.std.proofs.Common.{List, subst, arith}
-use Rattle.std.specs.Prelude.{IfOk, IfSome}
-use Rattle.track_word.specs.declared.tracks.Var.{Var}
+use Rattle.std.proofs.Common.{arith}
+use Rattle.std.proofs.lemmas.Result.{IfOk-weaker}
 use Rattle.lin_formula.specs.TreeOf.{tree_of}
+use Rattle.rule_formula.specs.Fits.{mask_of}
+use Rattle.rule_formula.specs.Mean.{mask_tracks}
 use Rattle.rule_formula.proofs.MeanTheorem.{point_mean}
-use Rattle.set_plan.specs.Sets.{IsSetOn, made_of}
+use Rattle.set_plan.specs.Sets.{made_of}
+use Rattle.set_plan.proofs.Items.{made_on}
+use Rattle.mate_plan.proofs.ItemSteps.{point_step}
 use Rattle.mate_plan.proofs.StartAnswers.{plain_compilable, point_answers, some_live}
 use Rattle.mate_plan.proofs.starting.point_set.Goals as goal
 
@@ -23,6 +26,7 @@ returns-clause-answers c = point_answers c.args.p.now c.args.mask c.table.result
 
 pub returns-clause-set : goal.returns-clause-set
 returns-clause-set c =
-    let Over : List Var → Type 0 = λ tracks. IfOk c.make.result (λ made. IfSome made.set (IsSetOn tracks)) in
+    let f = tree_of c.in_ok-formula.formula in
     let means = point_mean c.args.p.now in
-    subst Over (means.tracks (tree_of c.in_ok-formula.formula) c.in_ok-formula.ensures.tree) c.make.ensures.set
+    IfOk-weaker c.make.result _ _
+    (λ made is. made_on (mask_tracks c.args.p.now (mask_of c.args.p.now)) f (point_step c.args.p.now.men f c.in_ok-formula.ensures.tree) (means.tracks f c.in_ok-formula.ensures.tree) made.set is) c.make.ensures.set

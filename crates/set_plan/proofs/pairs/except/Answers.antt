@@ -21,7 +21,7 @@ returns-clause-ok c =
 
 pub returns-clause-set : goal.returns-clause-set
 returns-clause-set c =
-    except-set c.args.tracks.now c.args.a.now c.args.b.now c.requires.first c.requires.second c.tracks.ensures.valid.ascending c.in_ok-others.others c.in_ok-others.ensures.tracks c.in_ok-others.ensures.words c.in_ok-c.c c.in_ok-reduce.field-0 c.in_ok-c.ensures.tracks c.in_ok-c.ensures.words c.in_ok-reduce.ensures.tracks c.in_ok-reduce.ensures.words c.in_ok-reduce.ensures.reduced
+    except-set c.args.tracks.now c.args.a.now c.args.b.now c.requires.first c.requires.second c.tracks.ensures.valid.ascending c.in_ok-others.others c.in_ok-others.ensures.tracks c.in_ok-others.ensures.words c.in_ok-c.c c.in_ok-reduce.field-0 c.in_ok-c.ensures.tracks c.in_ok-c.ensures.words c.in_ok-reduce.ensures.tracks c.in_ok-reduce.ensures.words c.in_ok-reduce.ensures.reduced c.args.budget c.requires.budget.1 c.in_ok-c.ensures.within
 
 pub returns-clause-within : goal.returns-clause-within
 returns-clause-within c = λ over.

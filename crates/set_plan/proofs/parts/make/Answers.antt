@@ -1,10 +1,11 @@
-use Rattle.std.proofs.Common.{arith, ◌≤◌, ◌<◌, ◌+◌, length}
-use Rattle.lin_formula.specs.SetOf.{Table, tables}
+use Rattle.std.proofs.Common.{arith}
+use Rattle.lin_formula.specs.SetOf.{Table, members, tables}
 use Rattle.lin_formula.specs.Tree.{steps}
 use Rattle.lin_formula.specs.TreeOf.{tree_of}
 use Rattle.formula_auto.proofs.Rooms.{ready}
 use Rattle.set_plan.specs.Sets.{item_of}
 use Rattle.set_plan.proofs.Decided.{DecidesIntegers-decides, IsSetOf-decides}
+use Rattle.set_plan.proofs.FewStates.{few_states}
 use Rattle.set_plan.proofs.Makes.{Ends-make, FirstOver-within, Stops-make}
 use Rattle.set_plan.proofs.parts.make.Goals as goal
 
@@ -34,6 +35,10 @@ returns-in-Ok-clause-set g c = record {
   reduced = c.in-Ok.ensures.reduced;
   integers = DecidesIntegers-decides (tree_of c.args.f.now) (tables c.args.sets.now) c.in-Ok.a c.in-Ok.ensures.decides;
   tracks_are = c.in-Ok.ensures.decides.tracks;
+  few = λ some.
+      let high = c.budget.ensures.high in
+      let states = few_states (members (tables c.args.sets.now)) c.args.memo.now.budget (tree_of c.args.f.now) c.in-Ok.a 1 some c.in-Ok.ensures.decides c.in-Ok.ensures.reduced c.in-Ok.ensures.within in
+      omega (arith, states, high, c.budget.ensures.is);
 }
 
 pub returns-in-Err-Over-clause-answers : goal.returns-in-Err-Over-clause-answers

@@ -1,13 +1,12 @@
-use Rattle.std.proofs.Common.{◌≡◌, ◌+◌, ◌∷◌, ◌<◌, length, drop, map, arith, ◌∙◌}
+use Rattle.std.proofs.Common.{◌≡◌, ◌+◌, ◌<◌, length, drop, map, arith, ◌∙◌}
 use Rattle.std.proofs.lemmas.Result.{err_from_is_err_and}
-use Rattle.lin_formula.specs.SetOf.{as_set, Nothing}
 use Rattle.lin_formula.specs.TreeOf.{tree_of}
 use Rattle.set_plan.specs.Program.{bind}
 use Rattle.set_plan.specs.Sets.{item_of, made_of}
 use Rattle.set_plan.specs.Unite as plan
-use Rattle.set_plan.proofs.Composition.{LeadsTo, LeadsTo-error, Error-bind, Error-later}
+use Rattle.set_plan.proofs.Composition.{LeadsTo-error, Error-bind, Error-later}
 use Rattle.set_plan.proofs.Makes.{LeadsTo-item}
-use Rattle.set_plan.proofs.Items.{drop_front, item-at}
+use Rattle.set_plan.proofs.Items.{drop_front, item-at, made_on}
 use Rattle.set_plan.proofs.parts.unite_all.Goals as goal
 
 pub make-requires-clause-compilable : goal.make-requires-clause-compilable
@@ -31,7 +30,7 @@ pub join-requires-clause-next : goal.join-requires-clause-next
 join-requires-clause-next g c =
     let less : c.loop-f.f-index < length c.args.formulas.now = omega arith in
     let item = item-at c.args.tracks.now c.args.sets.now c.args.formulas.now c.loop-f.f-index c.f-item.result c.requires.items less c.f-item.is in
-    rw item.over at c.in_ok-next.ensures.set
+    made_on c.args.tracks.now (tree_of c.f-item.result) item.some item.over c.in_ok-next.next.set c.in_ok-next.ensures.set
 
 pub returns-in_err-made-clause-answers : goal.returns-in_err-made-clause-answers
 returns-in_err-made-clause-answers g c =

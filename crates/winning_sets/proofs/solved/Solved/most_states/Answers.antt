@@ -1,6 +1,6 @@
 use Rattle.std.proofs.Common.{arith}
 use Rattle.winning_sets.specs.Solve.{kept_at, states_of}
-use Rattle.winning_sets.proofs.MostStates.{most_is, within_more}
+use Rattle.winning_sets.proofs.MostStates.{most_few, most_is, within_more}
 use Rattle.winning_sets.proofs.solved.Solved.most_states.Goals as goal
 
 pub loop-ply-preserved : goal.loop-ply-preserved
@@ -19,9 +19,8 @@ loop-ply-preserved c =
 pub returns : goal.returns
 returns c =
     let plies = c.plies-ply-end.ensures in
-    record {
-      most =
-          most_is c.args.self.now plies.valid c.loop-ply.most
-          (λ i less. c.loop-ply.invariant.within i (omega (arith, less, plies.plies, c.loop-ply-test.false)))
-          c.loop-ply.invariant.least;
-    }
+    let most =
+    most_is c.args.self.now plies.valid c.loop-ply.most
+    (λ i less. c.loop-ply.invariant.within i (omega (arith, less, plies.plies, c.loop-ply-test.false)))
+    c.loop-ply.invariant.least in
+    record { most = most; few = most_few c.args.self.now plies.valid c.loop-ply.most most }
