@@ -1,5 +1,6 @@
 pub mod States
 pub mod Leadings
+pub mod Listings
 pub mod Splits
 pub mod Placed
 pub mod Stales

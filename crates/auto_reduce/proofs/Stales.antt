@@ -1,77 +1,66 @@
 -- Rows that are led again, and those whose nodes still lead to the right classes.
-use Rattle.std.proofs.Common.{◌≡◌, ◌≢◌, ◌⊎◌, ℕ, ◌<◌, ◌+◌, ◌&&◌, Bool, true, false, List, [], ◌∷◌, ◌++◌, length, get_or, set, Some, All, Contains, arith, refl, sym, ap, ◌∙◌, subst, inl, inr}
+use Rattle.std.proofs.Common.{◌≡◌, ◌≢◌, ◌⊎◌, ℕ, ◌<◌, ◌+◌, List, [], ◌∷◌, ◌++◌, length, get_or, set, Some, All, Contains, arith, sym, ap, ◌∙◌, subst, inl, inr}
 use Rattle.std.proofs.lemmas.Bool.{cases_eq, cases_lt}
 use Rattle.std.proofs.lemmas.Bool.Decides.{Decides-eqb}
-use Rattle.std.proofs.lemmas.List.{get_or_read, get_or-set_same, get_or-set_other}
-use Rattle.std.proofs.lemmas.List.Elements.{All-get_or, All-from_get_or, Contains-append_left, Contains-push}
+use Rattle.std.proofs.lemmas.List.{get_or_read, get_or_default, get_or-set_same, get_or-set_other}
+use Rattle.std.proofs.lemmas.List.Elements.{All-get_or, All-from_get_or, Contains-append_left, Contains-get_or, Contains-push}
 use Rattle.std.proofs.lemmas.Option.{slice_get-get_or, get_or_from_slice_get}
 use Rattle.std.proofs.lemmas.Map.Made.{is_member-Decides}
 use Rattle.letter_diagram.specs.declared.diagrams.Shape.{Shape}
 use Rattle.letter_diagram.specs.Diagram.{Grows}
 use Rattle.letter_diagram.specs.Listed.{EachAnswers}
 use Rattle.letter_diagram.proofs.Narrow.{LooksBelow-grows}
-use Rattle.auto_core.specs.Automaton.{Automaton, IsAutomaton, next_state}
-use Rattle.auto_reduce.specs.declared.ways.Way.{Way}
-use Rattle.auto_reduce.specs.Ways.{AreMoved, AreMarks, AreRowWays}
+use Rattle.auto_core.specs.Automaton.{Automaton, IsAutomaton, width, next_state}
 use Rattle.auto_reduce.proofs.States.{next_within}
 use Rattle.auto_reduce.specs.Leading.{IsLedFrom}
-use Rattle.auto_reduce.specs.Quotient.{ArePicked}
-use Rattle.auto_reduce.specs.Partition.{IsLed, IsShared, AreShared, IsFiner, AreRowNodes, AreLedRows, AreStale, IsPut, AreLedAgain}
+use Rattle.auto_reduce.specs.Quotient.{ArePicked, AreMembers}
+use Rattle.auto_reduce.specs.Partition.{IsLed, IsShared, IsFiner, IsListing, AreSettled, KeepsOthers, AreRowNodes, AreLedRows, AreStale, IsPut, AreLedAgain}
 use Rattle.auto_reduce.proofs.Counting.{decided}
 use Rattle.auto_reduce.proofs.Rounds.{IsLed-from}
 
 -- ---- states whose rows are to be led again
--- the flag of a shared class is set
-pub flag_set : (classes : List ℕ) (count : ℕ) (shared : List Bool) (state : ℕ) → AreShared classes count shared → state < length classes → IsShared classes state → get_or shared (get_or classes state 0) false ≡ true
-flag_set classes count shared state s within h = elim (cases_lt state h.other) [
-  | inl less ↦ subst (λ class. get_or shared class false ≡ true) (sym h.same) (s.more state h.other less h.within h.same)
-  | inr past ↦ s.more h.other state (let differ = h.differ in omega (arith, past, differ)) within (sym h.same)
+-- two states stand in the list of a class that a state shares
+pub shared_listed : (classes : List ℕ) (count : ℕ) (representatives : List ℕ) (lists : List (List ℕ)) (state : ℕ) → IsListing classes count representatives lists → state < length classes → IsShared classes state
+    → 1 < length (get_or lists (get_or classes state 0) [])
+shared_listed classes count representatives lists state l within h =
+    let list = get_or lists (get_or classes state 0) [] in
+    let one = l.listed state within in
+    let two = subst (λ class. Contains (get_or lists class []) h.other) (sym h.same) (l.listed h.other h.within) in
+    let apart : one.0 ≢ two.0 = (λ e. h.differ (sym one.2 ∙ get_or_default list one.0 state h.other one.1 ∙ ap (λ k. get_or list k h.other) e ∙ two.2)) in
+    let first = one.1 in
+    let second = two.1 in
+    omega (arith, first, second, apart)
+
+-- a state whose class has several states in its list is among the stale ones
+abbrev pub IsSorted : List (List ℕ) → List ℕ → List ℕ → ℕ → Type 0
+IsSorted lists classes stale state = 1 < length (get_or lists (get_or classes state 0) []) → Contains stale state
+
+pub IsSorted-push : (lists : List (List ℕ)) (classes stale found : List ℕ) (turn state : ℕ) → state ≡ get_or found turn 0 → ((k : ℕ) → k < turn → IsSorted lists classes stale (get_or found k 0))
+    → (k : ℕ) → k < turn + 1 → IsSorted lists classes (stale ++ state ∷ []) (get_or found k 0)
+IsSorted-push lists classes stale found turn state is before k less more = elim (cases_lt k turn) [
+  | inl low ↦ Contains-append_left stale (state ∷ []) (get_or found k 0) (before k low more)
+  | inr past ↦ let same : turn ≡ k = omega (arith, less, past) in subst (Contains (stale ++ state ∷ [])) (is ∙ ap (λ n. get_or found n 0) same) (Contains-push stale state)
 ]
 
--- a state whose class is shared and whose place is marked is in the list
-abbrev pub IsSorted : List Bool → List Bool → List ℕ → List ℕ → List ℕ → ℕ → Type 0
-IsSorted shared marks classes rows stale state = get_or shared (get_or classes state 0) false ≡ true → get_or marks (get_or rows state 0) false ≡ true → Contains stale state
-
--- a flag as it was read, by way of another list
-pub flag_read : (flags : List Bool) (places : List ℕ) (state place : ℕ) (flag : Bool) → state < length places → place < length flags → place ≡ get_or places state place → flag ≡ get_or flags place flag
-    → get_or flags (get_or places state 0) false ≡ flag
-flag_read flags places state place flag known inside place_read read =
-    ap (λ p. get_or flags p false) (sym (get_or_read places state place known place_read 0)) ∙ sym (get_or_read flags place flag inside read false)
-
-pub IsSorted-push : (shared marks : List Bool) (classes rows stale : List ℕ) (state : ℕ) → ((k : ℕ) → k < state → IsSorted shared marks classes rows stale k) → (k : ℕ) → k < state + 1 → IsSorted shared marks classes rows (stale ++ state ∷ []) k
-IsSorted-push shared marks classes rows stale state before k less flag on = elim (cases_lt k state) [
-  | inl low ↦ Contains-append_left stale (state ∷ []) k (before k low flag on)
-  | inr past ↦ let same : state ≡ k = omega (arith, less, past) in subst (Contains (stale ++ state ∷ [])) same (Contains-push stale state)
-]
-
-both_off : (a b : Bool) → (a && b) ≡ false → a ≡ true → b ≡ true → ⊥
-both_off true true off x y = cc
-both_off true false off x y = cc
-both_off false b off x y = cc
-
-pub IsSorted-skip : (shared marks : List Bool) (classes rows stale : List ℕ) (state : ℕ) (shares leads : Bool) → get_or shared (get_or classes state 0) false ≡ shares → get_or marks (get_or rows state 0) false ≡ leads → (shares && leads) ≡ false
-    → ((k : ℕ) → k < state → IsSorted shared marks classes rows stale k) → (k : ℕ) → k < state + 1 → IsSorted shared marks classes rows stale k
-IsSorted-skip shared marks classes rows stale state shares leads s l off before k less flag on = elim (cases_lt k state) [
-  | inl low ↦ before k low flag on
+pub IsSorted-skip : (lists : List (List ℕ)) (classes stale found : List ℕ) (turn state : ℕ) → state ≡ get_or found turn 0 → (1 < length (get_or lists (get_or classes state 0) []) → ⊥) → ((k : ℕ) → k < turn → IsSorted lists classes stale (get_or found k 0))
+    → (k : ℕ) → k < turn + 1 → IsSorted lists classes stale (get_or found k 0)
+IsSorted-skip lists classes stale found turn state is alone before k less more = elim (cases_lt k turn) [
+  | inl low ↦ before k low more
   | inr past ↦
-      let same : k ≡ state = omega (arith, less, past) in
-      absurd (both_off shares leads off (sym s ∙ ap (λ n. get_or shared (get_or classes n 0) false) (sym same) ∙ flag) (sym l ∙ ap (λ n. get_or marks (get_or rows n 0) false) (sym same) ∙ on))
+      let same : k ≡ turn = omega (arith, less, past) in
+      absurd (alone (subst (λ s. 1 < length (get_or lists (get_or classes s 0) [])) (ap (λ n. get_or found n 0) same ∙ sym is) more))
 ]
 
-pub AreStale-from : (a : Automaton) → IsAutomaton a → (old new rows stale : List ℕ) (count : ℕ) (ways : List Way) (shared moved marks : List Bool) → length old ≡ length a.accept → length new ≡ length a.accept
-    → AreShared new count shared → AreMoved old new moved → AreRowWays a ways rows → AreMarks ways moved marks
-    → All (λ state. state < length a.accept) stale → ((state : ℕ) → state < length a.accept → IsSorted shared marks new rows stale state) → AreStale a old new stale
-AreStale-from a is old new rows stale count ways shared moved marks old_size new_size s m r marks_are within sorted = record {
+pub AreStale-from : (a : Automaton) (classes moved found stale : List ℕ) (count : ℕ) (representatives : List ℕ) (lists : List (List ℕ)) → length classes ≡ length a.accept → IsListing classes count representatives lists
+    → ((state letter : ℕ) → state < length a.accept → letter < width a → Contains moved (next_state a state letter) → Contains found state)
+    → All (λ state. state < length a.accept) stale → ((turn : ℕ) → turn < length found → IsSorted lists classes stale (get_or found turn 0)) → AreStale a classes moved stale
+AreStale-from a classes moved found stale count representatives lists size l leads within sorted = record {
   within = within;
-  rest = λ state letter known alike absent below.
-      let flag = flag_set new count shared state s (omega (arith, known, new_size)) alike in
-      let next = next_within a is state letter in
-      m.kept (next_state a state letter) (omega (arith, next, old_size)) (r.none moved marks marks_are state letter known below (off (get_or marks (get_or rows state 0) false) (λ on. absent (sorted state known flag on))));
+  rest = λ state letter known alike below there.
+      let f = leads state letter known below there in
+      let is : get_or found f.0 0 ≡ state = get_or_default found f.0 0 state f.1 ∙ f.2 in
+      subst (Contains stale) is (sorted f.0 f.1 (subst (λ s. 1 < length (get_or lists (get_or classes s 0) [])) (sym is) (shared_listed classes count representatives lists state l (omega (arith, known, size)) alike)));
 }
-  where
-    off : (b : Bool) → (b ≡ true → ⊥) → b ≡ false
-    off true never = absurd (never refl)
-    off false never = refl
 
 -- ---- values at their places
 -- a place has its value, or what it had if its turn has not come
@@ -138,10 +127,10 @@ AreLedRows-first a shapes rows classes led r size m = record {
   at = λ state within shared. IsLed-from a shapes rows classes state (get_or led state 0) r within (m.each state (let s = r.size in omega (arith, s, within)));
 }
 
--- what leads to classes leads to those of a finer partition where these are the same
-pub AreLedRows-follow : (a : Automaton) (shapes more : List Shape) (old new stale led next : List ℕ) → AreLedRows a shapes old led → Grows shapes more → length new ≡ length a.accept → IsFiner old new
-    → AreStale a old new stale → AreLedAgain a more stale new led next → AreLedRows a more new next
-AreLedRows-follow a shapes more old new stale led next l grows size finer s again = record {
+-- what leads to classes leads to those of a finer partition where no state moved
+pub AreLedRows-follow : (a : Automaton) → IsAutomaton a → (shapes more : List Shape) (old new moved stale led next : List ℕ) → AreLedRows a shapes old led → Grows shapes more → length new ≡ length a.accept → IsFiner old new
+    → KeepsOthers old new moved → AreStale a new moved stale → AreLedAgain a more stale new led next → AreLedRows a more new next
+AreLedRows-follow a is shapes more old new moved stale led next l grows size finer others s again = record {
   classes_size = size;
   size = again.size ∙ l.size;
   at = λ state within shared. elim (decided _ (is_member-Decides Decides-eqb stale state)) [
@@ -153,7 +142,28 @@ AreLedRows-follow a shapes more old new stale led next l grows size finer s agai
         subst (λ node. IsLed a new more node (next_state a state)) (sym (again.kept state within absent)) (record {
           known = let k = before.known in let g = grows.longer in omega (arith, k, g);
           narrow = LooksBelow-grows shapes more _ (length a.tracks) before.known grows before.narrow;
-          leads = λ letter below. grows.map (get_or led state 0) letter before.known ∙ before.leads letter below ∙ s.rest state letter within shared absent below;
+          leads = λ letter below.
+              let next = next_within a is state letter in
+              let stays = others.kept (next_state a state letter) (let c = l.classes_size in omega (arith, next, c)) (λ there. absent (s.rest state letter within shared below there)) in
+              grows.map (get_or led state 0) letter before.known ∙ before.leads letter below ∙ sym stays;
         })
   ];
+}
+
+-- states whose nodes were kept are as settled as they were
+pub AreSettled-follow : (a : Automaton) (shapes : List Shape) (classes : List ℕ) (count : ℕ) (representatives stale led next : List ℕ) → length classes ≡ length a.accept → All (λ class. class < count) classes → AreMembers classes count representatives
+    → AreSettled classes representatives led [] → AreLedAgain a shapes stale classes led next → AreSettled classes representatives next stale
+AreSettled-follow a shapes classes count representatives stale led next size within m s again = record {
+  at = λ state known fresh too.
+      let class = All-get_or (λ c. c < count) classes state 0 known within in
+      let members_size = m.size in
+      let stands = All-get_or (λ k. k < length classes) representatives (get_or classes state 0) 0 (omega (arith, class, members_size)) m.within in
+      again.kept state (omega (arith, known, size)) fresh ∙ s.at state known (λ h. absurd (omega (arith, h.1))) (λ h. absurd (omega (arith, h.1)))
+      ∙ sym (again.kept (get_or representatives (get_or classes state 0) 0) (omega (arith, stands, size)) too);
+}
+
+-- where all states are stale, none has to be settled
+pub AreSettled-first : (classes representatives nodes stale : List ℕ) (size : ℕ) → length classes ≡ size → length stale ≡ size → ((state : ℕ) → state < size → get_or stale state 0 ≡ state) → AreSettled classes representatives nodes stale
+AreSettled-first classes representatives nodes stale size classes_size stale_size each = record {
+  at = λ state within fresh _. absurd (fresh (subst (Contains stale) (each state (omega (arith, within, classes_size))) (Contains-get_or stale state 0 (omega (arith, within, classes_size, stale_size)))));
 }

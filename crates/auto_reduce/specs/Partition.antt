@@ -1,9 +1,10 @@
 -- Partitions of the states of an automaton into numbered classes.
-use Rattle.std.specs.Prelude.{◌≡◌, ◌≢◌, ◌↔◌, ℕ, ◌<◌, ◌≤◌, ◌-◌, Bool, true, false, List, length, All, Contains, slice_get, slice_index, slice_index_or, Some}
+use Rattle.std.specs.Prelude.{◌≡◌, ◌≢◌, ◌⊎◌, ◌↔◌, ℕ, ◌<◌, ◌≤◌, ◌+◌, ◌-◌, List, [], ◌∷◌, ◌++◌, length, All, AllPairs, Contains, slice_get, slice_index, slice_index_or, slice_set, Some}
 use Rattle.letter_diagram.specs.declared.diagrams.Shape.{Shape}
 use Rattle.letter_diagram.specs.Diagram.{map_at, LooksBelow}
 use Rattle.auto_core.specs.Automaton.{Automaton, width, next_state, is_final}
 use Rattle.auto_core.specs.Reduced.{ToldApart}
+use Rattle.auto_reduce.specs.Quotient.{AreMembers}
 
 -- a state of a class
 pub record IsAttained (classes : List ℕ) (class : ℕ) : Type 0 where
@@ -17,35 +18,57 @@ pub record IsPartition (size : ℕ) (classes : List ℕ) (count : ℕ) : Type 0 
   pub within : All (λ class. class < count) classes
   pub attained : (class : ℕ) → class < count → IsAttained classes class
 
--- a state of a class that has a node
-pub record IsClassNode (classes nodes : List ℕ) (class node : ℕ) : Type 0 where
-  pub state : ℕ
+-- for each class a state that stands for it, and states among which are all of the class
+pub record IsListing (classes : List ℕ) (count : ℕ) (representatives : List ℕ) (lists : List (List ℕ)) : Type 0 where
+  pub members : AreMembers classes count representatives
+  pub size : length lists ≡ count
+  pub within : (class state : ℕ) → Contains (slice_index_or lists class []) state → state < length classes
+  pub listed : (state : ℕ) → state < length classes → Contains (slice_index_or lists (slice_index classes state) []) state
+
+-- a state at the end of the list of a class
+abbrev pub IsPutInto : List (List ℕ) → ℕ → ℕ → List (List ℕ) → Type 0
+IsPutInto old class state new = new ≡ slice_set old class (slice_index_or old class [] ++ state ∷ [])
+
+-- states in the lists of their classes too, with those that were there
+pub record AreListed (old : List (List ℕ)) (states classes : List ℕ) (new : List (List ℕ)) : Type 0 where
+  pub size : length new ≡ length old
+  pub kept : (class state : ℕ) → Contains (slice_index_or old class []) state → Contains (slice_index_or new class []) state
+  pub added : (turn : ℕ) → turn < length states → Contains (slice_index_or new (slice_index classes turn) []) (slice_index states turn)
+  pub only : (class state : ℕ) → Contains (slice_index_or new class []) state → Contains (slice_index_or old class []) state ⊎ Contains states state
+
+-- the node of the state that stands for the class of a state
+abbrev pub chosen_node : List ℕ → List ℕ → List ℕ → ℕ → ℕ
+chosen_node classes representatives nodes state = slice_index nodes (slice_index representatives (slice_index classes state))
+
+-- each state has the node of the one that stands for its class, if neither of them is among some states
+pub record AreSettled (classes representatives nodes stale : List ℕ) : Type 0 where
+  pub at : (state : ℕ) → state < length classes → ¬ Contains stale state → ¬ Contains stale (slice_index representatives (slice_index classes state))
+      → slice_index nodes state ≡ chosen_node classes representatives nodes state
+
+-- some states, and all of a class for which one of these stands
+pub record AreCandidates (classes representatives stale candidates : List ℕ) : Type 0 where
+  pub within : All (λ state. state < length classes) candidates
+  pub each : (state : ℕ) → Contains stale state → Contains candidates state
+  pub led : (state : ℕ) → state < length classes → Contains stale (slice_index representatives (slice_index classes state)) → Contains candidates state
+
+-- the number, after all classes, of the signature of a state whose node is not that of the one that stands for its class
+pub record IsMove (classes representatives nodes : List ℕ) (count : ℕ) (signatures : List (ℕ × ℕ)) (state number : ℕ) : Type 0 where
   pub within : state < length classes
-  pub has : slice_index classes state ≡ class
-  pub is : slice_index nodes state ≡ node
+  pub other : slice_index nodes state ≢ chosen_node classes representatives nodes state
+  pub least : count ≤ number
+  pub is : slice_get signatures (number - count) ≡ Some (slice_index classes state, slice_index nodes state)
 
--- for each class the node of one of its states
-pub record AreClassNodes (classes : List ℕ) (count : ℕ) (nodes chosen : List ℕ) : Type 0 where
-  pub size : length chosen ≡ count
-  pub of : (class : ℕ) → class < count → IsClassNode classes nodes class (slice_index chosen class)
+-- states with the numbers of their signatures, and a state of each signature
+pub record AreMoves (classes representatives nodes : List ℕ) (count : ℕ) (signatures : List (ℕ × ℕ)) (states numbers firsts : List ℕ) : Type 0 where
+  pub unrepeated : AllPairs (λ p q. p ≢ q) signatures
+  pub size : length numbers ≡ length states
+  pub each : (turn : ℕ) → turn < length states → IsMove classes representatives nodes count signatures (slice_index states turn) (slice_index numbers turn)
+  pub firsts_size : length firsts ≡ length signatures
+  pub first : (place : ℕ) → place < length signatures → IsMove classes representatives nodes count signatures (slice_index firsts place) (count + place)
 
--- the number of the states of a class that have a node: the class where the node is the chosen one, and else that of their signature, after all classes
-pub record IsPartNumber (count chosen : ℕ) (signatures : List (ℕ × ℕ)) (class node number : ℕ) : Type 0 where
-  pub same : node ≡ chosen → number ≡ class
-  pub other : node ≢ chosen → (count ≤ number) × (slice_get signatures (number - count) ≡ Some (class, node))
-
--- the signature of a state whose node is not the chosen one of its class
-pub record IsSplitOff (current nodes chosen : List ℕ) (signatures : List (ℕ × ℕ)) (place : ℕ) : Type 0 where
-  pub state : ℕ
-  pub within : state < length current
-  pub is : slice_get signatures place ≡ Some (slice_index current state, slice_index nodes state)
-  pub other : slice_index nodes state ≢ slice_index chosen (slice_index current state)
-
--- the first states have the numbers of their parts as their classes
-pub record NumbersParts (current nodes chosen : List ℕ) (count : ℕ) (signatures : List (ℕ × ℕ)) (classes : List ℕ) : Type 0 where
-  pub at : (state : ℕ) → state < length classes
-      → IsPartNumber count (slice_index chosen (slice_index current state)) signatures (slice_index current state) (slice_index nodes state) (slice_index classes state)
-  pub split_off : (place : ℕ) → place < length signatures → IsSplitOff current nodes chosen signatures place
+-- the other states have the classes that they had
+pub record KeepsOthers (old new moved : List ℕ) : Type 0 where
+  pub kept : (state : ℕ) → state < length old → ¬ Contains moved state → slice_index new state ≡ slice_index old state
 
 -- a state whose new class is an old number has its old class
 pub record KeepsNumbers (old : List ℕ) (count : ℕ) (new : List ℕ) : Type 0 where
@@ -69,11 +92,6 @@ pub record AreRowNodes (a : Automaton) (rows : List ℕ) : Type 0 where
   pub within : All (λ node. (letter : ℕ) → map_at a.shapes node letter < length a.accept) rows
   pub leads : (state letter : ℕ) → state < length a.accept → letter < width a → map_at a.shapes (slice_index rows state) letter ≡ next_state a state letter
 
--- for each class whether more than one state has it
-pub record AreShared (classes : List ℕ) (count : ℕ) (shared : List Bool) : Type 0 where
-  pub size : length shared ≡ count
-  pub more : (j k : ℕ) → j < k → k < length classes → slice_index classes j ≡ slice_index classes k → slice_index_or shared (slice_index classes k) false ≡ true
-
 -- another state has the class of a state
 pub record IsShared (classes : List ℕ) (state : ℕ) : Type 0 where
   pub other : ℕ
@@ -93,11 +111,10 @@ pub record AreLedRows (a : Automaton) (shapes : List Shape) (classes led : List 
   pub size : length led ≡ length a.accept
   pub at : (state : ℕ) → state < length a.accept → IsShared classes state → IsLed a classes shapes (slice_index led state) (next_state a state)
 
--- all states that share their class and lead to a state of another class than before
-pub record AreStale (a : Automaton) (old new stale : List ℕ) : Type 0 where
+-- states among which are all that share their class and lead to one of some states
+pub record AreStale (a : Automaton) (classes moved stale : List ℕ) : Type 0 where
   pub within : All (λ state. state < length a.accept) stale
-  pub rest : (state letter : ℕ) → state < length a.accept → IsShared new state → ¬ Contains stale state → letter < width a
-      → slice_index old (next_state a state letter) ≡ slice_index new (next_state a state letter)
+  pub rest : (state letter : ℕ) → state < length a.accept → IsShared classes state → letter < width a → Contains moved (next_state a state letter) → Contains stale state
 
 -- a value stands at a place for which it is meant
 pub record WasPut (places values new : List ℕ) (place : ℕ) : Type 0 where

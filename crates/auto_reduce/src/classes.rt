@@ -1,7 +1,7 @@
 //! Partitions of the states into numbered classes.
 ghost use Rattle.std.specs.Prelude.{◌≡◌, ◌<◌, ◌^◌, length, IfOk};
 ghost use Rattle.auto_reduce.specs.Quotient.{AreMembers};
-ghost use Rattle.auto_reduce.specs.Partition.{IsPartition, AreShared};
+ghost use Rattle.auto_reduce.specs.Partition.{IsPartition};
 
 use std::alloc::{AllocError, Global};
 
@@ -23,19 +23,4 @@ pub fn members(alloc: Global, partition: &Partition) -> Result<Vec<u32>, AllocEr
         members[partition.classes[state] as usize] = state as u32;
     }
     Ok(members)
-}
-
-/// For each class whether more than one state has it.
-pub fn shared_classes(alloc: Global, partition: &Partition) -> Result<Vec<bool>, AllocError>
-    requires { IsPartition (length partition.now.classes.items) partition.now.classes.items partition.now.count }
-    ensures { IfOk result (λ shared. AreShared partition.now.classes.items partition.now.count shared.items) }
-{
-    let mut seen = vec![in alloc; false; partition.count]?;
-    let mut shared = vec![in alloc; false; partition.count]?;
-    for class in partition.classes.as_slice() {
-        let again = seen[*class as usize] | shared[*class as usize];
-        shared[*class as usize] = again;
-        seen[*class as usize] = true;
-    }
-    Ok(shared)
 }

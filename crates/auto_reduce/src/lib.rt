@@ -8,6 +8,8 @@ mod classes;
 mod empty;
 pub mod laws;
 mod leading;
+mod listing;
+mod moves;
 mod order;
 mod partition;
 mod quotient;

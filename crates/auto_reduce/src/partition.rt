@@ -1,95 +1,105 @@
 //! The coarsest partition of the states that keeps flags and next states apart.
-ghost use Rattle.std.specs.Prelude.{◌≡◌, ◌≤◌, ◌<◌, ◌^◌, ◌+◌, ◌-◌, length, IfOk, OnOk};
-ghost use Rattle.letter_diagram.specs.Numbering.{Numbers, PairsKept};
+ghost use Rattle.std.specs.Prelude.{◌≡◌, ◌<◌, ◌^◌, ◌+◌, ◌++◌, [], All, length, map, replicate, IfOk, OnOk};
 ghost use Rattle.auto_core.specs.Automaton.{IsAutomaton};
-ghost use Rattle.auto_reduce.specs.Partition.{IsSplit, IsPartition, IsRound, IsFlag, IsSound, IsCoarsest, AreLedRows, AreClassNodes, IsPartNumber, KeepsNumbers};
+ghost use Rattle.auto_reduce.specs.Partition.{IsSplit, IsPartition, IsListing, AreListed, AreSettled, IsPut, KeepsOthers, IsRound, IsFlag, IsSound, IsCoarsest, AreLedRows, KeepsNumbers};
 
-use crate::classes::{Partition, members};
-use crate::rows::{picked, row_nodes};
-use crate::signatures::Signatures;
-use crate::stale::{follow, lead};
+use crate::classes::Partition;
+use crate::listing::{Listing, add_lists, all_states, list_each, list_states};
+use crate::moves::{Moves, candidates, find_moves, put_numbers};
+use crate::rows::row_nodes;
+use crate::stale::{lead, lead_again, stale_states};
 use crate::ways::row_ways;
 use auto_core::Auto;
 use letter_diagram::{Diagrams, Node};
 use std::alloc::{AllocError, Global};
 
-/// A node of each class.
-fn class_nodes(
+/// Moves states to their new classes: each of these takes one of its states to stand for it.
+fn move_states(
     alloc: Global,
-    partition: &Partition,
+    moves: &Moves,
+    partition: &mut Partition,
+    listing: &mut Listing,
+) -> Result<(), AllocError>
+    requires states { All (λ state. state < length partition.old.classes.items) moves.now.states.items }
+    requires size { length moves.now.numbers.items ≡ length moves.now.states.items }
+    requires numbers { All (λ number. number < partition.old.count + length moves.now.firsts.items) moves.now.numbers.items }
+    requires lists { length listing.old.lists.items ≡ partition.old.count }
+    requires few { partition.old.count + length moves.now.firsts.items < 2 ^ 32 }
+    ensures classes { OnOk result (IsPut partition.old.classes.items moves.now.states.items moves.now.numbers.items partition.new.classes.items) }
+    ensures count { OnOk result (partition.new.count ≡ partition.old.count + length moves.now.firsts.items) }
+    ensures representatives { OnOk result (listing.new.representatives.items ≡ listing.old.representatives.items ++ moves.now.firsts.items) }
+    ensures lists { OnOk result (AreListed (map (λ list. list.items) listing.old.lists.items ++ replicate (length moves.now.firsts.items) []) moves.now.states.items moves.now.numbers.items (map (λ list. list.items) listing.new.lists.items)) }
+{
+    put_numbers(
+        partition.classes.as_mut_slice(),
+        moves.states.as_slice(),
+        moves.numbers.as_slice(),
+    );
+    partition.count += moves.firsts.len();
+    listing
+        .representatives
+        .extend_from_slice(moves.firsts.as_slice())?;
+    add_lists(alloc, &mut listing.lists, moves.firsts.len())?;
+    list_each(
+        &mut listing.lists,
+        moves.states.as_slice(),
+        moves.numbers.as_slice(),
+    )?;
+    Ok(())
+}
+
+/// Splits the classes of a partition by the nodes of their states. The states with the node of the one that stands for their class
+/// keep its number. Only states that may have another node are looked at. Gives the states that got a new class.
+fn split(
+    alloc: Global,
     nodes: &[Node],
-) -> Result<Vec<Node>, AllocError>
-    requires partition { IsPartition (length nodes.now) partition.now.classes.items partition.now.count }
+    stale: &[u32],
+    partition: &mut Partition,
+    listing: &mut Listing,
+) -> Result<Vec<u32>, AllocError>
+    requires partition { IsPartition (length nodes.now) partition.old.classes.items partition.old.count }
+    requires listing { IsListing partition.old.classes.items partition.old.count listing.old.representatives.items (map (λ list. list.items) listing.old.lists.items) }
+    requires stale { All (λ state. state < length nodes.now) stale.now }
+    requires settled { AreSettled partition.old.classes.items listing.old.representatives.items nodes.now stale.now }
     requires few { length nodes.now < 2 ^ 31 }
-    ensures { IfOk result (λ chosen. AreClassNodes partition.now.classes.items partition.now.count nodes.now chosen.items) }
+    ensures split { OnOk result (IsSplit partition.old.classes.items nodes.now partition.new.classes.items partition.new.count) }
+    ensures kept { OnOk result (KeepsNumbers partition.old.classes.items partition.old.count partition.new.classes.items) }
+    ensures listing { OnOk result (IsListing partition.new.classes.items partition.new.count listing.new.representatives.items (map (λ list. list.items) listing.new.lists.items)) }
+    ensures settled { OnOk result (AreSettled partition.new.classes.items listing.new.representatives.items nodes.now []) }
+    ensures within { IfOk result (λ moved. All (λ state. state < length nodes.now) moved.items) }
+    ensures moved { IfOk result (λ moved. KeepsOthers partition.old.classes.items partition.new.classes.items moved.items) }
 {
-    let members = members(alloc, partition)?;
-    let chosen = picked(alloc, nodes, members.as_slice())?;
-    Ok(chosen)
-}
-
-/// The number of the states of a class that have a node. These with another node than the chosen one get `count`, `count + 1` and so
-/// on, in the order in which their signatures are first seen.
-fn part_number(
-    signatures: &mut Signatures,
-    count: usize,
-    chosen: Node,
-    class: u32,
-    node: Node,
-) -> Result<u32, AllocError>
-    requires few { count + length signatures.old < 2 ^ 32 - 1 }
-    ensures number { IfOk result (IsPartNumber count chosen signatures.new class node) }
-    ensures signatures { OnOk result (Numbers signatures.old signatures.new (class, node)) }
-    ensures same { node ≡ chosen → signatures.new ≡ signatures.old }
-    ensures kept { PairsKept signatures.old signatures.new }
-    ensures room { length signatures.new ≤ length signatures.old + 1 }
-{
-    if node == chosen {
-        return Ok(class);
-    }
-    let place = signatures.add(class, node)?;
-    Ok(count as u32 + place)
-}
-
-/// Splits the classes of a partition by the nodes of their states. One part of each class keeps its number, so a class that isn't
-/// split does, and only the states of the other parts are hashed.
-fn split(alloc: Global, start: &Partition, nodes: &[Node]) -> Result<Partition, AllocError>
-    requires partition { IsPartition (length nodes.now) start.now.classes.items start.now.count }
-    requires few { length nodes.now < 2 ^ 31 }
-    ensures split { IfOk result (λ p. IsSplit start.now.classes.items nodes.now p.classes.items p.count) }
-    ensures kept { IfOk result (λ p. KeepsNumbers start.now.classes.items start.now.count p.classes.items) }
-{
-    let chosen = class_nodes(alloc, start, nodes)?;
-    let mut signatures = Signatures::new(alloc);
-    let mut classes = Vec::with_capacity(alloc, nodes.len())?;
-    for state in 0..nodes.len() {
-        let class = start.classes[state];
-        let kept = chosen[class as usize];
-        let number = part_number(&mut signatures, start.count, kept, class, nodes[state])?;
-        classes.push(number)?;
-    }
-    Ok(Partition {
-        classes,
-        count: start.count + signatures.len(),
-    })
+    let found = candidates(alloc, partition, listing, stale)?;
+    let moves = find_moves(alloc, partition, listing, nodes, found.as_slice())?;
+    move_states(alloc, &moves, partition, listing)?;
+    Ok(moves.states)
 }
 
 /// Splits the classes by the classes of the next states. Equal nodes are equal maps, so the rows, led to classes, are compared as
-/// nodes.
+/// nodes. Gives the states that got a new class.
 fn round(
     diagrams: &Diagrams,
     a: &Auto,
     led: &[Node],
-    start: &Partition,
-) -> Result<Partition, AllocError>
-    requires led { AreLedRows a.now diagrams.now start.now.classes.items led.now }
-    requires partition { IsPartition (length a.now.accept) start.now.classes.items start.now.count }
-    ensures round { IfOk result (λ p. IsRound a.now start.now.classes.items p.classes.items p.count) }
-    ensures kept { IfOk result (λ p. KeepsNumbers start.now.classes.items start.now.count p.classes.items) }
+    stale: &[u32],
+    partition: &mut Partition,
+    listing: &mut Listing,
+) -> Result<Vec<u32>, AllocError>
+    requires led { AreLedRows a.now diagrams.now partition.old.classes.items led.now }
+    requires partition { IsPartition (length a.now.accept) partition.old.classes.items partition.old.count }
+    requires listing { IsListing partition.old.classes.items partition.old.count listing.old.representatives.items (map (λ list. list.items) listing.old.lists.items) }
+    requires stale { All (λ state. state < length a.now.accept) stale.now }
+    requires settled { AreSettled partition.old.classes.items listing.old.representatives.items led.now stale.now }
+    ensures round { OnOk result (IsRound a.now partition.old.classes.items partition.new.classes.items partition.new.count) }
+    ensures kept { OnOk result (KeepsNumbers partition.old.classes.items partition.old.count partition.new.classes.items) }
+    ensures listing { OnOk result (IsListing partition.new.classes.items partition.new.count listing.new.representatives.items (map (λ list. list.items) listing.new.lists.items)) }
+    ensures settled { OnOk result (AreSettled partition.new.classes.items listing.new.representatives.items led.now []) }
+    ensures within { IfOk result (λ moved. All (λ state. state < length a.now.accept) moved.items) }
+    ensures moved { IfOk result (λ moved. KeepsOthers partition.old.classes.items partition.new.classes.items moved.items) }
 {
     let _ = a.states();
-    let split = split(diagrams.alloc(), start, led)?;
-    Ok(split)
+    let moved = split(diagrams.alloc(), led, stale, partition, listing)?;
+    Ok(moved)
 }
 
 /// The flag of each state as a class, that of the first state as class 0.
@@ -120,10 +130,9 @@ fn by_flags(alloc: Global, a: &Auto) -> Result<Partition, AllocError>
 }
 
 /// The partition whose classes are the states that nothing tells apart: it starts with the flags, and splits classes
-/// by the classes of the next states until no class is split (Moore 1956). Costs the nodes of the rows that are led: all in the first
-/// round, and in a later one those of states that share their class and lead to a state whose class changed in the round before.
-/// To find these, a round passes the nodes of all rows, in a list. Each round also passes the states, and hashes those that get a new
-/// class: the ones whose node is not that of the state chosen for their class.
+/// by the classes of the next states until no class is split (Moore 1956). The first round leads all rows and looks at all states. A
+/// later one leads the rows of the states that share their class and lead to a state that got a new class in the round before, and
+/// looks at these states, and at all of a class if one of these stands for it. Only states that get a new class are hashed.
 pub fn coarsest(alloc: Global, a: &Auto) -> Result<Partition, AllocError>
     ensures coarsest { IfOk result (λ p. IsCoarsest a.now p.classes.items p.count) }
     ensures valid { IsAutomaton a.now }
@@ -131,22 +140,31 @@ pub fn coarsest(alloc: Global, a: &Auto) -> Result<Partition, AllocError>
     let rows = row_nodes(alloc, a)?;
     let ways = row_ways(alloc, a, rows.as_slice())?;
     let mut diagrams = Diagrams::new(alloc);
-    let mut current = by_flags(alloc, a)?;
-    let mut led = lead(&mut diagrams, a, rows.as_slice(), &current)?;
+    let mut partition = by_flags(alloc, a)?;
+    let mut listing = list_states(alloc, &partition)?;
+    let mut led = lead(&mut diagrams, a, rows.as_slice(), &partition)?;
+    let mut stale = all_states(alloc, led.len())?;
     loop {
-        let next = round(&diagrams, a, led.as_slice(), &current)?;
-        if next.count == current.count {
-            return Ok(current);
+        let count = partition.count;
+        let moved = round(
+            &diagrams,
+            a,
+            led.as_slice(),
+            stale.as_slice(),
+            &mut partition,
+            &mut listing,
+        )?;
+        if partition.count == count {
+            return Ok(partition);
         }
-        follow(
+        stale = stale_states(alloc, a, &ways, &partition, &listing, moved.as_slice())?;
+        lead_again(
             &mut diagrams,
             a,
             rows.as_slice(),
-            &ways,
-            current.classes.as_slice(),
-            &next,
+            stale.as_slice(),
+            partition.classes.as_slice(),
             led.as_mut_slice(),
         )?;
-        current = next;
     }
 }

@@ -1,39 +1,39 @@
-//! Nodes that lead the rows to the classes of a partition, kept while a round splits none of the classes to which a row leads.
-ghost use Rattle.std.specs.Prelude.{◌≡◌, ◌<◌, All, length, IfOk, OnOk};
+//! Nodes that lead the rows to the classes of a partition, kept while no state to which a row leads moves to another class.
+ghost use Rattle.std.specs.Prelude.{◌≡◌, ◌<◌, All, length, map, IfOk, OnOk};
 ghost use Rattle.letter_diagram.specs.Diagram.{Grows};
 ghost use Rattle.auto_reduce.specs.Ways.{AreRowWays};
-ghost use Rattle.auto_reduce.specs.Partition.{IsPartition, IsFiner, AreRowNodes, AreLedRows, AreStale, IsPut, AreLedAgain};
+ghost use Rattle.auto_reduce.specs.Partition.{IsPartition, IsListing, AreRowNodes, AreLedRows, AreStale, IsPut, AreLedAgain};
 
-use crate::classes::{Partition, shared_classes};
+use crate::classes::Partition;
 use crate::leading::lead_nodes;
+use crate::listing::Listing;
 use crate::rows::picked;
-use crate::ways::{Ways, marked, moved_states};
+use crate::ways::{Ways, leading_to};
 use auto_core::Auto;
 use letter_diagram::{Diagrams, Node};
 use std::alloc::{AllocError, Global};
 
-/// The states that share their class and lead to a state of another class than before.
-fn stale_states(
+/// The states that share their class and lead to one of some states.
+pub fn stale_states(
     alloc: Global,
     a: &Auto,
     ways: &Ways,
-    old: &[u32],
-    new: &Partition,
+    partition: &Partition,
+    listing: &Listing,
+    moved: &[u32],
 ) -> Result<Vec<u32>, AllocError>
     requires ways { AreRowWays a.now ways.now.ways.items ways.now.rows.items }
-    requires old { length old.now ≡ length a.now.accept }
-    requires new { IsPartition (length a.now.accept) new.now.classes.items new.now.count }
-    ensures { IfOk result (λ stale. AreStale a.now old.now new.now.classes.items stale.items) }
+    requires partition { IsPartition (length a.now.accept) partition.now.classes.items partition.now.count }
+    requires listing { IsListing partition.now.classes.items partition.now.count listing.now.representatives.items (map (λ list. list.items) listing.now.lists.items) }
+    requires within { All (λ state. state < length a.now.accept) moved.now }
+    ensures { IfOk result (λ stale. AreStale a.now partition.now.classes.items moved.now stale.items) }
 {
-    let shared = shared_classes(alloc, new)?;
-    let moved = moved_states(alloc, old, new.classes.as_slice())?;
-    let marks = marked(alloc, ways.ways.as_slice(), moved.as_slice())?;
+    let found = leading_to(alloc, a, ways, moved)?;
     let mut stale = Vec::new(alloc);
-    for state in 0..a.states() {
-        let shares = shared[new.classes[state as usize] as usize];
-        let leads_to_moved = marks[ways.rows[state as usize]];
-        if shares & leads_to_moved {
-            stale.push(state)?;
+    for state in found.as_slice() {
+        let class = partition.classes[*state as usize] as usize;
+        if listing.lists[class].len() > 1 {
+            stale.push(*state)?;
         }
     }
     Ok(stale)
@@ -51,7 +51,7 @@ fn put(nodes: &mut [Node], places: &[u32], values: &[Node])
 }
 
 /// Leads the rows of some states to classes. The other states keep their nodes.
-fn lead_again(
+pub fn lead_again(
     diagrams: &mut Diagrams,
     a: &Auto,
     rows: &[Node],
@@ -86,35 +86,4 @@ pub fn lead(
 {
     let led = lead_nodes(a.diagrams(), rows, partition.classes.as_slice(), diagrams)?;
     Ok(led)
-}
-
-/// Leads the rows to the classes of a finer partition. The nodes of states alone in their class aren't looked at again, and rows that
-/// lead to no state of another class than before have the right nodes already.
-pub fn follow(
-    diagrams: &mut Diagrams,
-    a: &Auto,
-    rows: &[Node],
-    ways: &Ways,
-    old: &[u32],
-    new: &Partition,
-    led: &mut [Node],
-) -> Result<(), AllocError>
-    requires rows { AreRowNodes a.now rows.now }
-    requires ways { AreRowWays a.now ways.now.ways.items ways.now.rows.items }
-    requires led { AreLedRows a.now diagrams.old old.now led.old }
-    requires new { IsPartition (length a.now.accept) new.now.classes.items new.now.count }
-    requires finer { IsFiner old.now new.now.classes.items }
-    ensures led { OnOk result (AreLedRows a.now diagrams.new new.now.classes.items led.new) }
-    ensures grows { Grows diagrams.old diagrams.new }
-{
-    let stale = stale_states(diagrams.alloc(), a, ways, old, new)?;
-    lead_again(
-        diagrams,
-        a,
-        rows,
-        stale.as_slice(),
-        new.classes.as_slice(),
-        led,
-    )?;
-    Ok(())
 }

@@ -1,8 +1,9 @@
 //! The nodes of rows by places, each behind the places that it leads to.
-ghost use Rattle.std.specs.Prelude.{◌≡◌, ◌<◌, ◌++◌, ◌∷◌, [], ℕ, length, slice_set, Some, IfOk, OnOk};
+ghost use Rattle.std.specs.Prelude.{◌≡◌, ◌<◌, ◌++◌, ◌∷◌, [], ℕ, true, false, All, Contains, length, slice_index_or, slice_set, Some, IfOk, OnOk};
+ghost use Rattle.auto_core.specs.Automaton.{width, next_state};
 ghost use Rattle.letter_diagram.specs.Diagram.{map_at};
 ghost use Rattle.auto_reduce.specs.Partition.{AreRowNodes};
-ghost use Rattle.auto_reduce.specs.Ways.{FitsAt, mark_of_way, AreWays, AreMarks, AreMoved, KeepsWays, IsPlaced, RemembersPlaced, AreRowWays};
+ghost use Rattle.auto_reduce.specs.Ways.{FitsAt, mark_of_way, AreWays, AreMarks, KeepsWays, IsPlaced, RemembersPlaced, AreRowWays};
 
 use auto_core::Auto;
 use letter_diagram::{Diagrams, Node, Shape};
@@ -95,18 +96,6 @@ pub fn row_ways(alloc: Global, a: &Auto, rows: &[Node]) -> Result<Ways, AllocErr
     Ok(Ways { ways, rows: found })
 }
 
-/// For each state whether it has another class than before.
-pub fn moved_states(alloc: Global, old: &[u32], new: &[u32]) -> Result<Vec<bool>, AllocError>
-    requires { length old.now ≡ length new.now }
-    ensures { IfOk result (λ moved. AreMoved old.now new.now moved.items) }
-{
-    let mut moved = Vec::new(alloc);
-    for state in 0..old.len() {
-        moved.push(old[state] != new[state])?;
-    }
-    Ok(moved)
-}
-
 /// Whether a way leads to a state or a place that has a mark.
 fn mark_of(way: Way, states: &[bool], marks: &[bool]) -> bool
     requires { FitsAt (length states.now) (length marks.now) way }
@@ -130,4 +119,41 @@ pub fn marked(alloc: Global, ways: &[Way], states: &[bool]) -> Result<Vec<bool>,
         marks.push(mark)?;
     }
     Ok(marks)
+}
+
+/// For each state whether it is one of some states.
+fn flags_of(alloc: Global, count: usize, states: &[u32]) -> Result<Vec<bool>, AllocError>
+    requires { All (λ state. state < count) states.now }
+    ensures size { IfOk result (λ flags. length flags.items ≡ count) }
+    ensures set { IfOk result (λ flags. All (λ state. slice_index_or flags.items state false ≡ true) states.now) }
+{
+    let mut flags = vec![in alloc; false; count]?;
+    for state in states {
+        flags[*state as usize] = true;
+    }
+    Ok(flags)
+}
+
+/// The states whose rows lead to one of some states.
+pub fn leading_to(
+    alloc: Global,
+    a: &Auto,
+    ways: &Ways,
+    states: &[u32],
+) -> Result<Vec<u32>, AllocError>
+    requires ways { AreRowWays a.now ways.now.ways.items ways.now.rows.items }
+    requires within { All (λ state. state < length a.now.accept) states.now }
+    ensures within { IfOk result (λ found. All (λ state. state < length a.now.accept) found.items) }
+    ensures leads { IfOk result (λ found. (state letter : ℕ) → state < length a.now.accept → letter < width a.now
+        → Contains states.now (next_state a.now state letter) → Contains found.items state) }
+{
+    let flags = flags_of(alloc, a.states() as usize, states)?;
+    let marks = marked(alloc, ways.ways.as_slice(), flags.as_slice())?;
+    let mut found = Vec::new(alloc);
+    for state in 0..a.states() {
+        if marks[ways.rows[state as usize]] {
+            found.push(state)?;
+        }
+    }
+    Ok(found)
 }

@@ -1,4 +1,4 @@
-use Rattle.std.proofs.Common.{◌<◌, ℕ, length}
+use Rattle.std.proofs.Common.{◌<◌, ℕ, length, map, get_or}
 use Rattle.std.specs.List.{All}
 use Rattle.auto_reduce.proofs.Stales.{IsSorted}
 use Rattle.auto_reduce.proofs.stale.stale_states.Given as goal
@@ -6,5 +6,5 @@ use Rattle.auto_reduce.proofs.stale.stale_states.Given as goal
 abbrev pub invariant-loop-state : goal.invariant-loop-state
 invariant-loop-state l = record {
   within : All (λ state. state < length l.a.accept) l.stale.items;
-  sorted : (k : ℕ) → k < l.state → IsSorted l.shared.items l.marks.items l.new.classes.items l.ways.rows.items l.stale.items k;
+  sorted : (k : ℕ) → k < l.state-index → IsSorted (map (λ list. list.items) l.listing.lists.items) l.partition.classes.items l.stale.items (get_or l.state-items k 0);
 }
