@@ -5,7 +5,7 @@ ghost use Rattle.auto_reduce.specs.Ways.{AreRowWays};
 ghost use Rattle.auto_reduce.specs.Partition.{IsPartition, IsFiner, AreRowNodes, AreLedRows, AreStale, IsPut, AreLedAgain};
 
 use crate::classes::{Partition, shared_classes};
-use crate::leading::lead_nodes;
+use crate::leading::{lead_few, lead_nodes};
 use crate::rows::picked;
 use crate::ways::{Ways, marked, moved_states};
 use auto_core::Auto;
@@ -67,7 +67,7 @@ fn lead_again(
     ensures grows { Grows diagrams.old diagrams.new }
 {
     let picked = picked(diagrams.alloc(), rows, states)?;
-    let nodes = lead_nodes(a.diagrams(), picked.as_slice(), classes, diagrams)?;
+    let nodes = lead_few(a.diagrams(), picked.as_slice(), classes, diagrams)?;
     put(led, states, nodes.as_slice());
     Ok(())
 }
