@@ -2,6 +2,7 @@ pub mod States
 pub mod Leadings
 pub mod Splits
 pub mod Placed
+pub mod Climbs
 pub mod Stales
 pub mod Counting
 pub mod Rounds

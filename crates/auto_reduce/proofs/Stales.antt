@@ -12,7 +12,7 @@ use Rattle.letter_diagram.specs.Listed.{EachAnswers}
 use Rattle.letter_diagram.proofs.Narrow.{LooksBelow-grows}
 use Rattle.auto_core.specs.Automaton.{Automaton, IsAutomaton, next_state}
 use Rattle.auto_reduce.specs.declared.ways.Way.{Way}
-use Rattle.auto_reduce.specs.Ways.{AreMoved, AreMarks, AreRowWays}
+use Rattle.auto_reduce.specs.Ways.{AreMoved, AreMarks, ArePlacedRows}
 use Rattle.auto_reduce.proofs.States.{next_within}
 use Rattle.auto_reduce.specs.Leading.{IsLedFrom}
 use Rattle.auto_reduce.specs.Quotient.{ArePicked}
@@ -59,14 +59,14 @@ IsSorted-skip shared marks classes rows stale state shares leads s l off before 
 ]
 
 pub AreStale-from : (a : Automaton) → IsAutomaton a → (old new rows stale : List ℕ) (count : ℕ) (ways : List Way) (shared moved marks : List Bool) → length old ≡ length a.accept → length new ≡ length a.accept
-    → AreShared new count shared → AreMoved old new moved → AreRowWays a ways rows → AreMarks ways moved marks
+    → AreShared new count shared → AreMoved old new moved → ArePlacedRows a ways rows → AreMarks ways (λ state. get_or moved state false) marks
     → All (λ state. state < length a.accept) stale → ((state : ℕ) → state < length a.accept → IsSorted shared marks new rows stale state) → AreStale a old new stale
 AreStale-from a is old new rows stale count ways shared moved marks old_size new_size s m r marks_are within sorted = record {
   within = within;
   rest = λ state letter known alike absent below.
       let flag = flag_set new count shared state s (omega (arith, known, new_size)) alike in
       let next = next_within a is state letter in
-      m.kept (next_state a state letter) (omega (arith, next, old_size)) (r.none moved marks marks_are state letter known below (off (get_or marks (get_or rows state 0) false) (λ on. absent (sorted state known flag on))));
+      m.kept (next_state a state letter) (omega (arith, next, old_size)) (r.none (λ state. get_or moved state false) marks marks_are state letter known below (off (get_or marks (get_or rows state 0) false) (λ on. absent (sorted state known flag on))));
 }
   where
     off : (b : Bool) → (b ≡ true → ⊥) → b ≡ false

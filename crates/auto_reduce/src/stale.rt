@@ -20,7 +20,7 @@ fn stale_states(
     old: &[u32],
     new: &Partition,
 ) -> Result<Vec<u32>, AllocError>
-    requires ways { AreRowWays a.now ways.now.ways.items ways.now.rows.items }
+    requires ways { AreRowWays a.now ways.now }
     requires old { length old.now ≡ length a.now.accept }
     requires new { IsPartition (length a.now.accept) new.now.classes.items new.now.count }
     ensures { IfOk result (λ stale. AreStale a.now old.now new.now.classes.items stale.items) }
@@ -100,7 +100,7 @@ pub fn follow(
     led: &mut [Node],
 ) -> Result<(), AllocError>
     requires rows { AreRowNodes a.now rows.now }
-    requires ways { AreRowWays a.now ways.now.ways.items ways.now.rows.items }
+    requires ways { AreRowWays a.now ways.now }
     requires led { AreLedRows a.now diagrams.old old.now led.old }
     requires new { IsPartition (length a.now.accept) new.now.classes.items new.now.count }
     requires finer { IsFiner old.now new.now.classes.items }
