@@ -1,6 +1,6 @@
 -- Ways upwards: what is listed as lists grow, and the states that are found by the marks.
-use Rattle.std.proofs.Common.{◌≡◌, ◌≢◌, ◌⊎◌, ℕ, ◌<◌, ◌≤◌, ◌+◌, ◌||◌, Bool, true, false, List, [], ◌∷◌, ◌++◌, length, get_or, slice_get, set, Contains, All, Vec, Some, arith, refl, sym, ap, ◌∙◌, subst, inl, inr, zero, suc, true≢false, nat_eq, below_more}
-use Rattle.std.specs.declared.alloc.Global.{Global}
+use Rattle.std.proofs.Common.{◌≡◌, ◌≢◌, ◌⊎◌, ℕ, ◌<◌, ◌≤◌, ◌+◌, ◌||◌, Bool, true, false, List, [], ◌∷◌, ◌++◌, length, get_or, slice_get, set, Contains, All, Some, arith, refl, sym, ap, ◌∙◌, subst, inl, inr, zero, suc, true≢false, nat_eq, below_more}
+use Rattle.smallvec.specs.SmallVec.{SmallVec}
 use Rattle.std.specs.Set.{is_member}
 use Rattle.std.proofs.lemmas.Bool.Decides.{Decides-eqb}
 use Rattle.std.proofs.lemmas.Bool.{cases_eq, cases_lt}
@@ -34,17 +34,17 @@ get_set_from xs i k y z ne is =
 
 -- ---- lists that grow
 -- what is at a place is in the list there
-listed_in : (lists : List (Vec ℕ Global)) (at x : ℕ) (list : Vec ℕ Global) → slice_get lists at ≡ Some list → IsListed lists at x → Contains list.items x
+listed_in : (lists : List (SmallVec ℕ)) (at x : ℕ) (list : SmallVec ℕ) → slice_get lists at ≡ Some list → IsListed lists at x → Contains list.items x
 listed_in lists at x list is l = subst (λ v. Contains v.items x) (same_Some l.list list (sym l.is ∙ is)) l.has
 
-pub IsListed-set : (lists : List (Vec ℕ Global)) (at x : ℕ) (list new : Vec ℕ Global) → slice_get lists at ≡ Some list → new.items ≡ list.items ++ x ∷ [] → IsListed (set lists at new) at x
+pub IsListed-set : (lists : List (SmallVec ℕ)) (at x : ℕ) (list new : SmallVec ℕ) → slice_get lists at ≡ Some list → new.items ≡ list.items ++ x ∷ [] → IsListed (set lists at new) at x
 IsListed-set lists at x list new is items = record {
   list = new;
   is = get_set_same lists at new (slice_get_within lists at list is);
   has = subst (λ xs. Contains xs x) (sym items) (Contains-push list.items x);
 }
 
-pub AddsListed-set : (lists : List (Vec ℕ Global)) (at x : ℕ) (list new : Vec ℕ Global) → slice_get lists at ≡ Some list → new.items ≡ list.items ++ x ∷ [] → AddsListed lists (set lists at new) x
+pub AddsListed-set : (lists : List (SmallVec ℕ)) (at x : ℕ) (list new : SmallVec ℕ) → slice_get lists at ≡ Some list → new.items ≡ list.items ++ x ∷ [] → AddsListed lists (set lists at new) x
 AddsListed-set lists at x list new is items = record {
   size = length-set lists at new;
   kept = λ k y l. elim (cases_eq k at) [
@@ -66,17 +66,17 @@ AddsListed-set lists at x list new is items = record {
   ];
 }
 
-pub AddsListed-refl : (lists : List (Vec ℕ Global)) (x : ℕ) → AddsListed lists lists x
+pub AddsListed-refl : (lists : List (SmallVec ℕ)) (x : ℕ) → AddsListed lists lists x
 AddsListed-refl lists x = record { size = refl; kept = λ k y l. l; only = λ k y l. inl l }
 
-pub AddsListed-trans : (first second third : List (Vec ℕ Global)) (x : ℕ) → AddsListed first second x → AddsListed second third x → AddsListed first third x
+pub AddsListed-trans : (first second third : List (SmallVec ℕ)) (x : ℕ) → AddsListed first second x → AddsListed second third x → AddsListed first third x
 AddsListed-trans first second third x f s = record {
   size = s.size ∙ f.size;
   kept = λ k y l. s.kept k y (f.kept k y l);
   only = λ k y l. elim (s.only k y l) [ inl before ↦ f.only k y before | inr same ↦ inr same ];
 }
 
-pub AreListedBelow-none : (lists : List (Vec ℕ Global)) (bound : ℕ) → All (λ list. list.items ≡ []) lists → AreListedBelow lists bound
+pub AreListedBelow-none : (lists : List (SmallVec ℕ)) (bound : ℕ) → All (λ list. list.items ≡ []) lists → AreListedBelow lists bound
 AreListedBelow-none lists bound none = record {
   below = λ k x l.
       let empty : l.list.items ≡ [] = subst (λ v. v.items ≡ []) (get_or_from_slice_get lists k l.list l.list l.is) (All-get_or (λ list. list.items ≡ []) lists k l.list (slice_get_within lists k l.list l.is) none) in
@@ -85,7 +85,7 @@ AreListedBelow-none lists bound none = record {
       absurd (omega (arith, less));
 }
 
-pub AreListedBelow-adds : (old new : List (Vec ℕ Global)) (bound : ℕ) → AreListedBelow old bound → AddsListed old new bound → AreListedBelow new (bound + 1)
+pub AreListedBelow-adds : (old new : List (SmallVec ℕ)) (bound : ℕ) → AreListedBelow old bound → AddsListed old new bound → AreListedBelow new (bound + 1)
 AreListedBelow-adds old new bound b adds = record {
   below = λ k x l. elim (adds.only k x l) [
     | inl before ↦ let less = b.below k x before in omega (arith, less)
@@ -94,10 +94,10 @@ AreListedBelow-adds old new bound b adds = record {
 }
 
 -- the list at a place
-pub AreListedBelow-all : (lists : List (Vec ℕ Global)) (bound at : ℕ) (list : Vec ℕ Global) → AreListedBelow lists bound → slice_get lists at ≡ Some list → All (λ x. x < bound) list.items
+pub AreListedBelow-all : (lists : List (SmallVec ℕ)) (bound at : ℕ) (list : SmallVec ℕ) → AreListedBelow lists bound → slice_get lists at ≡ Some list → All (λ x. x < bound) list.items
 AreListedBelow-all lists bound at list b is = All-from_get_or (λ x. x < bound) list.items 0 (λ i inside. b.below at (get_or list.items i 0) (record { list = list; is = is; has = Contains-get_or list.items i 0 inside }))
 
-pub IsLinked-adds : (above more_above leaves more_leaves : List (Vec ℕ Global)) (number place : ℕ) (way : Way) → AddsListed above more_above number → AddsListed leaves more_leaves number → IsLinked above leaves place way → IsLinked more_above more_leaves place way
+pub IsLinked-adds : (above more_above leaves more_leaves : List (SmallVec ℕ)) (number place : ℕ) (way : Way) → AddsListed above more_above number → AddsListed leaves more_leaves number → IsLinked above leaves place way → IsLinked more_above more_leaves place way
 IsLinked-adds above more_above leaves more_leaves number place (State state) up down l = down.kept state place l
 IsLinked-adds above more_above leaves more_leaves number place (Both low high) up down l = (up.kept low place l.0, up.kept high place l.1)
 
@@ -146,7 +146,7 @@ MarksMore-set marks waiting new place known off is = rw is (record {
 })
 
 -- ---- climbing
-pub AreClimbed-step : (above owners : List (Vec ℕ Global)) (marks new : List Bool) (waiting rest more found : List ℕ) (place : ℕ) (next listed : Vec ℕ Global) → AreClimbed above owners marks waiting found → waiting ≡ rest ++ place ∷ []
+pub AreClimbed-step : (above owners : List (SmallVec ℕ)) (marks new : List Bool) (waiting rest more found : List ℕ) (place : ℕ) (next listed : SmallVec ℕ) → AreClimbed above owners marks waiting found → waiting ≡ rest ++ place ∷ []
     → slice_get above place ≡ Some next → slice_get owners place ≡ Some listed → MarksMore marks rest new more → All (λ p. get_or new p false ≡ true) next.items → AreClimbed above owners new more (found ++ listed.items)
 AreClimbed-step above owners marks new waiting rest more found place next listed c popped next_is listed_is m marked = record {
   done = λ p on. elim (m.waits p on) [
@@ -206,7 +206,7 @@ found_above a w states marks found r started c state letter known below there =
         absurd (true≢false (sym is ∙ none))
 
 -- ---- state by state
-pub AreStarted-more : (states : List ℕ) (leaves : List (Vec ℕ Global)) (marks new : List Bool) (index : ℕ) (list : Vec ℕ Global) → ((k place : ℕ) → k < index → IsListed leaves (get_or states k 0) place → get_or marks place false ≡ true)
+pub AreStarted-more : (states : List ℕ) (leaves : List (SmallVec ℕ)) (marks new : List Bool) (index : ℕ) (list : SmallVec ℕ) → ((k place : ℕ) → k < index → IsListed leaves (get_or states k 0) place → get_or marks place false ≡ true)
     → ((place : ℕ) → get_or marks place false ≡ true → get_or new place false ≡ true) → slice_get leaves (get_or states index 0) ≡ Some list → All (λ place. get_or new place false ≡ true) list.items
     → (k place : ℕ) → k < index + 1 → IsListed leaves (get_or states k 0) place → get_or new place false ≡ true
 AreStarted-more states leaves marks new index list before kept is marked k place less l = elim (cases_lt k index) [
@@ -216,14 +216,14 @@ AreStarted-more states leaves marks new index list before kept is marked k place
       All-contains (λ p. get_or new p false ≡ true) list.items place marked (listed_in leaves (get_or states index 0) place list is (subst (λ i. IsListed leaves (get_or states i 0) place) same l))
 ]
 
-pub AreStarted-from : (states : List ℕ) (leaves : List (Vec ℕ Global)) (marks : List Bool) → ((k place : ℕ) → k < length states → IsListed leaves (get_or states k 0) place → get_or marks place false ≡ true) → AreStarted states leaves marks
+pub AreStarted-from : (states : List ℕ) (leaves : List (SmallVec ℕ)) (marks : List Bool) → ((k place : ℕ) → k < length states → IsListed leaves (get_or states k 0) place → get_or marks place false ≡ true) → AreStarted states leaves marks
 AreStarted-from states leaves marks each = record {
   marked = λ state place there l.
       let here = get_or_read states there.0 state there.1 (sym there.2) 0 in
       each there.0 place there.1 (subst (λ s. IsListed leaves s place) here l);
 }
 
-pub AreStarted-kept : (states : List ℕ) (leaves : List (Vec ℕ Global)) (marks new : List Bool) → ((place : ℕ) → get_or marks place false ≡ true → get_or new place false ≡ true) → AreStarted states leaves marks → AreStarted states leaves new
+pub AreStarted-kept : (states : List ℕ) (leaves : List (SmallVec ℕ)) (marks new : List Bool) → ((place : ℕ) → get_or marks place false ≡ true → get_or new place false ≡ true) → AreStarted states leaves marks → AreStarted states leaves new
 AreStarted-kept states leaves marks new kept s = record { marked = λ state place there l. kept place (s.marked state place there l) }
 
 -- the last of what waits, and the rest
@@ -236,7 +236,7 @@ All-waits bound place marks new waiting rest more size is all m = subst (λ n. A
     (subst (λ xs. Contains xs (get_or rest i 0)) (sym is) (Contains-append_left rest (place ∷ []) (get_or rest i 0) (Contains-get_or rest i 0 inside)))))))
 
 -- ---- place by place
-pub linked_more : (ways : List Way) (above more_above leaves more_leaves : List (Vec ℕ Global)) (index : ℕ) (way : Way) → ((place : ℕ) (w : Way) → place < index → slice_get ways place ≡ Some w → IsLinked above leaves place w)
+pub linked_more : (ways : List Way) (above more_above leaves more_leaves : List (SmallVec ℕ)) (index : ℕ) (way : Way) → ((place : ℕ) (w : Way) → place < index → slice_get ways place ≡ Some w → IsLinked above leaves place w)
     → AddsListed above more_above index → AddsListed leaves more_leaves index → slice_get ways index ≡ Some way → IsLinked more_above more_leaves index way
     → (place : ℕ) (w : Way) → place < index + 1 → slice_get ways place ≡ Some w → IsLinked more_above more_leaves place w
 linked_more ways above more_above leaves more_leaves index way before up down at last place w less is = elim (cases_lt place index) [
@@ -247,6 +247,6 @@ linked_more ways above more_above leaves more_leaves index way before up down at
       subst (λ k. IsLinked more_above more_leaves k w) same (subst (IsLinked more_above more_leaves index) way_same last)
 ]
 
-pub owned_more : (rows : List ℕ) (owners more : List (Vec ℕ Global)) (index : ℕ) → ((state : ℕ) → state < index → IsListed owners (get_or rows state 0) state) → AddsListed owners more index → IsListed more (get_or rows index 0) index
+pub owned_more : (rows : List ℕ) (owners more : List (SmallVec ℕ)) (index : ℕ) → ((state : ℕ) → state < index → IsListed owners (get_or rows state 0) state) → AddsListed owners more index → IsListed more (get_or rows index 0) index
     → (state : ℕ) → state < index + 1 → IsListed more (get_or rows state 0) state
 owned_more rows owners more index before adds last = below_more (λ state. IsListed more (get_or rows state 0) state) index (λ state less. adds.kept (get_or rows state 0) state (before state less)) last

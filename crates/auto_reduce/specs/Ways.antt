@@ -1,6 +1,6 @@
 -- Nodes by places, each behind the places that it leads to.
-use Rattle.std.specs.Prelude.{◌≡◌, ℕ, ◌<◌, ◌≤◌, ◌+◌, ◌*◌, ◌⊎◌, ◌||◌, Bool, true, false, List, [], ◌∷◌, length, All, Contains, slice_get, slice_index, slice_index_or, Option, Some, None, Vec}
-use Rattle.std.specs.declared.alloc.Global.{Global}
+use Rattle.std.specs.Prelude.{◌≡◌, ℕ, ◌<◌, ◌≤◌, ◌+◌, ◌*◌, ◌⊎◌, ◌||◌, Bool, true, false, List, [], ◌∷◌, length, All, Contains, slice_get, slice_index, slice_index_or, Option, Some, None}
+use Rattle.smallvec.specs.SmallVec.{SmallVec}
 use Rattle.letter_diagram.specs.declared.diagrams.Shape.{Shape}
 use Rattle.letter_diagram.specs.Diagram.{map_at}
 use Rattle.auto_core.specs.Automaton.{Automaton, width, next_state}
@@ -55,34 +55,34 @@ pub record ArePlacedRows (a : Automaton) (ways : List Way) (rows : List ℕ) : T
       → slice_index_or marks (slice_index rows state) false ≡ false → states (next_state a state letter) ≡ false
 
 -- a number is in the list at a place
-pub record IsListed (lists : List (Vec ℕ Global)) (at number : ℕ) : Type 0 where
-  pub list : Vec ℕ Global
+pub record IsListed (lists : List (SmallVec ℕ)) (at number : ℕ) : Type 0 where
+  pub list : SmallVec ℕ
   pub is : slice_get lists at ≡ Some list
   pub has : Contains list.items number
 
 -- what is listed stays, and at most one number comes
-pub record AddsListed (old new : List (Vec ℕ Global)) (number : ℕ) : Type 0 where
+pub record AddsListed (old new : List (SmallVec ℕ)) (number : ℕ) : Type 0 where
   pub size : length new ≡ length old
   pub kept : (k x : ℕ) → IsListed old k x → IsListed new k x
   pub only : (k x : ℕ) → IsListed new k x → IsListed old k x ⊎ (x ≡ number)
 
 -- all that is listed is below a bound
-pub record AreListedBelow (lists : List (Vec ℕ Global)) (bound : ℕ) : Type 0 where
+pub record AreListedBelow (lists : List (SmallVec ℕ)) (bound : ℕ) : Type 0 where
   pub below : (k x : ℕ) → IsListed lists k x → x < bound
 
 -- a place is listed at what its way leads to
-abbrev pub IsLinked : List (Vec ℕ Global) → List (Vec ℕ Global) → ℕ → Way → Type 0
+abbrev pub IsLinked : List (SmallVec ℕ) → List (SmallVec ℕ) → ℕ → Way → Type 0
 IsLinked above leaves place (State state) = IsListed leaves state place
 IsLinked above leaves place (Both low high) = IsListed above low place × IsListed above high place
 
 -- the ways upwards from states to places, and from places to those that lead to them
-pub record AreWaysUp (ways : List Way) (above leaves : List (Vec ℕ Global)) : Type 0 where
+pub record AreWaysUp (ways : List Way) (above leaves : List (SmallVec ℕ)) : Type 0 where
   pub above_below : AreListedBelow above (length ways)
   pub leaves_below : AreListedBelow leaves (length ways)
   pub linked : (place : ℕ) (way : Way) → slice_get ways place ≡ Some way → IsLinked above leaves place way
 
 -- for each place the states whose row it is
-pub record AreOwners (rows : List ℕ) (owners : List (Vec ℕ Global)) : Type 0 where
+pub record AreOwners (rows : List ℕ) (owners : List (SmallVec ℕ)) : Type 0 where
   pub below : AreListedBelow owners (length rows)
   pub owned : (state : ℕ) → state < length rows → IsListed owners (slice_index rows state) state
 
@@ -115,14 +115,14 @@ pub record MarksMore (old : List Bool) (old_waiting : List ℕ) (new : List Bool
   pub work : work_left new waiting ≤ work_left old old_waiting
 
 -- the leaves of some states are marked
-pub record AreStarted (states : List ℕ) (leaves : List (Vec ℕ Global)) (marks : List Bool) : Type 0 where
+pub record AreStarted (states : List ℕ) (leaves : List (SmallVec ℕ)) (marks : List Bool) : Type 0 where
   pub marked : (state place : ℕ) → Contains states state → IsListed leaves state place → slice_index_or marks place false ≡ true
 
 -- the places that lead to a place are marked, and the states whose row it is are found
-pub record IsClimbed (above owners : List (Vec ℕ Global)) (marks : List Bool) (found : List ℕ) (place : ℕ) : Type 0 where
+pub record IsClimbed (above owners : List (SmallVec ℕ)) (marks : List Bool) (found : List ℕ) (place : ℕ) : Type 0 where
   pub up : (next : ℕ) → IsListed above place next → slice_index_or marks next false ≡ true
   pub rows : (state : ℕ) → IsListed owners place state → Contains found state
 
 -- the marked places that don't wait any more are done
-pub record AreClimbed (above owners : List (Vec ℕ Global)) (marks : List Bool) (waiting found : List ℕ) : Type 0 where
+pub record AreClimbed (above owners : List (SmallVec ℕ)) (marks : List Bool) (waiting found : List ℕ) : Type 0 where
   pub done : (place : ℕ) → slice_index_or marks place false ≡ true → Contains waiting place ⊎ IsClimbed above owners marks found place

@@ -7,7 +7,14 @@ ghost use Rattle.auto_reduce.specs.Ways.{FitsAt, mark_of_way, AreWays, AreMarks,
 
 use auto_core::Auto;
 use letter_diagram::{Diagrams, Node, Shape};
+use smallvec::SmallVec;
 use std::alloc::{AllocError, Global};
+
+/// Some places, few mostly.
+type Places = SmallVec<usize, 2>;
+
+/// Some states, few mostly.
+type States = SmallVec<u32, 2>;
 
 /// What a place leads to.
 #[derive(Debug, Clone, Copy)]
@@ -25,11 +32,11 @@ pub struct Ways {
     /// The place of each row, in the order of the states.
     pub rows: Vec<usize>,
     /// For each place those that lead to it directly.
-    pub above: Vec<Vec<usize>>,
+    pub above: Vec<Places>,
     /// For each place the states whose row it is.
-    pub owners: Vec<Vec<u32>>,
+    pub owners: Vec<States>,
     /// For each state the places that lead to it directly.
-    pub leaves: Vec<Vec<usize>>,
+    pub leaves: Vec<Places>,
 }
 
 /// Gives a node the next place.
@@ -103,13 +110,16 @@ fn place_rows(
 }
 
 /// Empty lists.
-fn no_lists<T: Drop>(alloc: Global, count: usize) -> Result<Vec<Vec<T>>, AllocError>
+fn no_lists<T: Drop + Default>(
+    alloc: Global,
+    count: usize,
+) -> Result<Vec<SmallVec<T, 2>>, AllocError>
     ensures size { IfOk result (λ lists. length lists.items ≡ count) }
     ensures none { IfOk result (λ lists. All (λ list. list.items ≡ []) lists.items) }
 {
     let mut lists = Vec::with_capacity(alloc, count)?;
     for _ in 0..count {
-        lists.push(Vec::new(alloc))?;
+        lists.push(SmallVec::new(alloc))?;
     }
     Ok(lists)
 }
@@ -118,8 +128,8 @@ fn no_lists<T: Drop>(alloc: Global, count: usize) -> Result<Vec<Vec<T>>, AllocEr
 fn link(
     way: Way,
     place: usize,
-    above: &mut [Vec<usize>],
-    leaves: &mut [Vec<usize>],
+    above: &mut [Places],
+    leaves: &mut [Places],
 ) -> Result<(), AllocError>
     requires { FitsAt (length leaves.old) (length above.old) way }
     ensures linked { OnOk result (IsLinked above.new leaves.new place way) }
@@ -136,11 +146,7 @@ fn link(
     Ok(())
 }
 
-fn link_all(
-    ways: &[Way],
-    above: &mut [Vec<usize>],
-    leaves: &mut [Vec<usize>],
-) -> Result<(), AllocError>
+fn link_all(ways: &[Way], above: &mut [Places], leaves: &mut [Places]) -> Result<(), AllocError>
     requires ways { AreWays (length leaves.old) ways.now }
     requires size { length above.old ≡ length ways.now }
     requires above { AreListedBelow above.old 0 }
@@ -154,7 +160,7 @@ fn link_all(
 }
 
 /// Lists each state at the place of its row.
-fn own_all(rows: &[usize], states: u32, owners: &mut [Vec<u32>]) -> Result<(), AllocError>
+fn own_all(rows: &[usize], states: u32, owners: &mut [States]) -> Result<(), AllocError>
     requires within { All (λ place. place < length owners.old) rows.now }
     requires states { length rows.now ≡ states }
     requires none { AreListedBelow owners.old 0 }
@@ -255,7 +261,7 @@ fn mark_all(
 /// Marks the places that lead to some states directly.
 fn mark_leaves(
     states: &[u32],
-    leaves: &[Vec<usize>],
+    leaves: &[Places],
     marks: &mut [bool],
     waiting: &mut Vec<usize>,
 ) -> Result<(), AllocError>
@@ -273,8 +279,8 @@ fn mark_leaves(
 /// Marks what leads to the places that wait, and gives the states whose rows are marked. Each place waits once.
 fn climb(
     alloc: Global,
-    above: &[Vec<usize>],
-    owners: &[Vec<u32>],
+    above: &[Places],
+    owners: &[States],
     marks: &mut [bool],
     mut waiting: Vec<usize>,
 ) -> Result<Vec<u32>, AllocError>

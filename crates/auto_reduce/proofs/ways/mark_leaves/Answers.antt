@@ -10,7 +10,7 @@ mark_all-requires c =
     let leaves = c.args.leaves.now in
     let index = c.loop-state.state-index in
     let within = All-get_or (λ state. state < length leaves) states index 0 c.loop-state-test.true c.requires.states in
-    rw (c.as_slice.ensures.value, c.loop-state.invariant.more.size) (AreListedBelow-all leaves (length c.args.marks.now) (get_or states index 0) c.index-leaves-state.result c.requires.leaves
+    rw (c.as_slice.ensures, c.loop-state.invariant.more.size) (AreListedBelow-all leaves (length c.args.marks.now) (get_or states index 0) c.index-leaves-state.result c.requires.leaves
     (slice_get_read leaves _ (get_or states index 0) c.index-leaves-state.result refl within c.index-leaves-state.is))
 
 pub loop-state-preserved : goal.loop-state-preserved
@@ -24,7 +24,7 @@ loop-state-preserved c =
     record {
       more = MarksMore-trans _ _ _ _ _ _ before.more e.more;
       started = AreStarted-more states leaves c.loop-state.marks c.mark_all.new.marks index c.index-leaves-state.result before.started (λ place on. e.more.kept place on)
-          (slice_get_read leaves _ (get_or states index 0) c.index-leaves-state.result refl within c.index-leaves-state.is) (rw c.as_slice.ensures.value at e.marked);
+          (slice_get_read leaves _ (get_or states index 0) c.index-leaves-state.result refl within c.index-leaves-state.is) (rw c.as_slice.ensures at e.marked);
     }
 
 pub returns-clause-started : goal.returns-clause-started

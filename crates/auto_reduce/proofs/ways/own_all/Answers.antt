@@ -15,7 +15,7 @@ loop-state-preserved c =
     let size = before.size in
     let list = get_or owners place c.index-owners-rows.result in
     let at = slice_get-get_or owners place c.index-owners-rows.result (omega (arith, within, size)) in
-    let items = c.in_ok-push.ensures.items in
+    let items = c.in_ok-push.ensures.ok in
     let adds = AddsListed-set owners place state list c.push.new.self at items in
     record {
       size = adds.size ∙ before.size;
