@@ -3,6 +3,7 @@ pub mod Leadings
 pub mod Listings
 pub mod Splits
 pub mod Placed
+pub mod Climbs
 pub mod Stales
 pub mod Counting
 pub mod Rounds

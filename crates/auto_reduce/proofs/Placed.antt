@@ -1,5 +1,5 @@
 -- Nodes by places: what placing one more keeps, and which marks tell of a node.
-use Rattle.std.proofs.Common.{◌≡◌, ℕ, ◌<◌, ◌≤◌, ◌+◌, ◌||◌, nat_eq, if◌then◌else◌, Bool, true, false, List, [], ◌∷◌, ◌++◌, length, get_or, slice_get, set, Option, Some, None, arith, refl, sym, ap, ◌∙◌, subst, inl, inr}
+use Rattle.std.proofs.Common.{◌≡◌, ℕ, ◌<◌, ◌+◌, ◌||◌, nat_eq, if◌then◌else◌, Bool, true, false, List, [], ◌∷◌, ◌++◌, length, get_or, slice_get, set, Option, Some, None, arith, refl, sym, ap, ◌∙◌, subst, inl, inr}
 use Rattle.std.specs.Int.{bit_at}
 use Rattle.std.proofs.lemmas.Bool.{cases_eq, cases_lt}
 use Rattle.std.proofs.lemmas.List.{length_push, get_or_push, get_or_append_left, length-set, get_or-set_same, get_or-set_other}
@@ -12,7 +12,7 @@ use Rattle.auto_core.specs.Automaton.{Automaton}
 use Rattle.auto_reduce.specs.declared.ways.Way.{Way}
 use Rattle.auto_reduce.specs.declared.ways.Way.TheVariants.{State, Both}
 use Rattle.auto_reduce.specs.Partition.{AreRowNodes}
-use Rattle.auto_reduce.specs.Ways.{FitsAt, mark_of_way, AreWays, AreMarks, KeepsWays, IsPlaced, RemembersPlaced, AreRowWays}
+use Rattle.auto_reduce.specs.Ways.{FitsAt, mark_of_way, AreWays, AreMarks, KeepsWays, IsPlaced, RemembersPlaced, ArePlacedRows}
 
 -- what holds of each entry of a list holds of each with one more
 pub each_push : {X : Type 0} (P : ℕ → X → Type 0) (xs : List X) (x : X) → ((k : ℕ) (y : X) → slice_get xs k ≡ Some y → P k y) → P (length xs) x → (k : ℕ) (y : X) → slice_get (xs ++ x ∷ []) k ≡ Some y → P k y
@@ -47,8 +47,8 @@ last_way : (ways : List Way) (way : Way) → slice_get (ways ++ way ∷ []) (len
 last_way ways way = let l = length_push ways way in slice_get-get_or (ways ++ way ∷ []) (length ways) way (omega (arith, l)) ∙ ap Some (get_or_push ways way way (length ways) refl)
 
 -- marks of more ways are marks of these
-AreMarks-before : (old new : List Way) (states marks : List Bool) → KeepsWays old new → AreMarks new states marks → AreMarks old states marks
-AreMarks-before old new states marks kept m = record { at = λ place way h. m.at place way (kept.at place way h) }
+AreMarks-before : (old new : List Way) (states : ℕ → Bool) (marks : List Bool) → KeepsWays old new → AreMarks new states marks → AreMarks old states marks
+AreMarks-before old new states marks kept m = record { up = λ place way h. m.up place way (kept.at place way h) }
 
 pub IsPlaced-grows : (shapes : List Shape) (old new : List Way) (node place : ℕ) → KeepsWays old new → IsPlaced shapes old node place → IsPlaced shapes new node place
 IsPlaced-grows shapes old new node place kept is = record {
@@ -60,10 +60,15 @@ pub AreWays-push : (states : ℕ) (ways : List Way) (way : Way) → AreWays stat
 AreWays-push states ways way before last = each_push (FitsAt states) ways way before last
 
 -- ---- a node behind the nodes to which it leads
+-- what would set a mark is off where the mark is
+off_below : (on : Bool) {mark : Bool} → (on ≡ true → mark ≡ true) → mark ≡ false → on ≡ false
+off_below true sets off = sym (sets refl) ∙ off
+off_below false sets off = refl
+
 pub IsPlaced-leaf : (shapes : List Shape) (ways : List Way) (node state : ℕ) → IsAt shapes node (Leaf state) → IsPlaced shapes (ways ++ State state ∷ []) node (length ways)
 IsPlaced-leaf shapes ways node state at = record {
   within = let l = length_push ways (State state) in omega (arith, l);
-  none = λ states marks m off letter. ap (λ v. get_or states v false) (at.map letter) ∙ sym (m.at (length ways) (State state) (last_way ways (State state))) ∙ off;
+  none = λ states marks m off letter. ap states (at.map letter) ∙ off_below (states state) (m.up (length ways) (State state) (last_way ways (State state))) off;
 }
 
 or_false : (a b : Bool) → (a || b) ≡ false → (a ≡ false) × (b ≡ false)
@@ -71,7 +76,7 @@ or_false true b off = cc
 or_false false true off = cc
 or_false false false off = (refl, refl)
 
-either_off : (states : List Bool) (bit : Bool) (x y : ℕ) → get_or states x false ≡ false → get_or states y false ≡ false → get_or states (if bit then x else y) false ≡ false
+either_off : (states : ℕ → Bool) (bit : Bool) (x y : ℕ) → states x ≡ false → states y ≡ false → states (if bit then x else y) ≡ false
 either_off states true x y low high = low
 either_off states false x y low high = high
 
@@ -80,8 +85,8 @@ IsPlaced-test shapes ways node track low high l h at lp hp = record {
   within = let l = length_push ways (Both l h) in omega (arith, l);
   none = λ states marks m off letter.
       let before = AreMarks-before ways (ways ++ Both l h ∷ []) states marks (KeepsWays-push ways (Both l h)) m in
-      let both = or_false (get_or marks l false) (get_or marks h false) (sym (m.at (length ways) (Both l h) (last_way ways (Both l h))) ∙ off) in
-      ap (λ v. get_or states v false) (at.map letter)
+      let both = or_false (get_or marks l false) (get_or marks h false) (off_below (mark_of_way states marks (Both l h)) (m.up (length ways) (Both l h) (last_way ways (Both l h))) off) in
+      ap states (at.map letter)
       ∙ either_off states (nat_eq (bit_at letter track) 0) (map_at shapes low letter) (map_at shapes high letter) (lp.none states marks before both.0 letter) (hp.none states marks before both.1 letter);
 }
 
@@ -122,39 +127,13 @@ placed_push shapes old new rows places index place kept size before last k less 
       subst (IsPlaced shapes new (get_or rows k 0)) (sym (get_or_push places place 0 k (size ∙ same))) (subst (λ n. IsPlaced shapes new (get_or rows n 0) place) same last)
 ]
 
-pub AreRowWays-from : (a : Automaton) (rows : List ℕ) (ways : List Way) (places : List ℕ) → AreRowNodes a rows → AreWays (length a.accept) ways → length places ≡ length rows
-    → ((state : ℕ) → state < length rows → IsPlaced a.shapes ways (get_or rows state 0) (get_or places state 0)) → AreRowWays a ways places
-AreRowWays-from a rows ways places r fits size placed = record {
+pub ArePlacedRows-from : (a : Automaton) (rows : List ℕ) (ways : List Way) (places : List ℕ) → AreRowNodes a rows → AreWays (length a.accept) ways → length places ≡ length rows
+    → ((state : ℕ) → state < length rows → IsPlaced a.shapes ways (get_or rows state 0) (get_or places state 0)) → ArePlacedRows a ways places
+ArePlacedRows-from a rows ways places r fits size placed = record {
   fits = fits;
   size = size ∙ r.size;
   within = All-from_get_or (λ place. place < length ways) places 0 (λ state inside. (placed state (omega (arith, inside, size))).within);
   none = λ states marks m state letter known below off.
       let p = placed state (let s = r.size in omega (arith, s, known)) in
-      subst (λ v. get_or states v false ≡ false) (r.leads state letter known below) (p.none states marks m off letter);
+      subst (λ v. states v ≡ false) (r.leads state letter known below) (p.none states marks m off letter);
 }
-
--- ---- marks, place by place
--- the marks of the places that have one
-abbrev pub AreMarksTo : List Way → List Bool → List Bool → Type 0
-AreMarksTo ways states marks = (place : ℕ) (way : Way) → place < length marks → slice_get ways place ≡ Some way → get_or marks place false ≡ mark_of_way states marks way
-
-mark-more : (states marks : List Bool) (mark : Bool) (place : ℕ) (way : Way) → FitsAt (length states) place way → place ≤ length marks → mark_of_way states (marks ++ mark ∷ []) way ≡ mark_of_way states marks way
-mark-more states marks mark place (State state) fits few = refl
-mark-more states marks mark place (Both low high) fits few =
-    let l = get_or_append_left marks (mark ∷ []) false low (let f = fits.0 in omega (arith, f, few)) in
-    let h = get_or_append_left marks (mark ∷ []) false high (let f = fits.1 in omega (arith, f, few)) in
-    ap (λ b. b || get_or (marks ++ mark ∷ []) high false) l ∙ ap (λ b. get_or marks low false || b) h
-
-pub AreMarksTo-push : (ways : List Way) (states marks : List Bool) (mark : Bool) (index : ℕ) (d : Way) → AreWays (length states) ways → length marks ≡ index → index < length ways → mark ≡ mark_of_way states marks (get_or ways index d) → AreMarksTo ways states marks → AreMarksTo ways states (marks ++ mark ∷ [])
-AreMarksTo-push ways states marks mark index d fits size known is before place way inside there =
-    let more = length_push marks mark in
-    elim (cases_lt place (length marks)) [
-      | inl low ↦ get_or_append_left marks (mark ∷ []) false place low ∙ before place way low there ∙ sym (mark-more states marks mark place way (fits place way there) (omega (arith, low)))
-      | inr past ↦
-          let here : length marks ≡ place = omega (arith, inside, past, more) in
-          let same : get_or ways index d ≡ way = ap (λ k. get_or ways k d) (sym size ∙ here) ∙ get_or_from_slice_get ways place way d there in
-          get_or_push marks mark false place here ∙ is ∙ ap (mark_of_way states marks) same ∙ sym (mark-more states marks mark place way (fits place way there) (omega (arith, here)))
-    ]
-
-pub AreMarks-from : (ways : List Way) (states marks : List Bool) → length marks ≡ length ways → AreMarksTo ways states marks → AreMarks ways states marks
-AreMarks-from ways states marks size to = record { at = λ place way there. let within = slice_get_within ways place way there in to place way (omega (arith, within, size)) there }

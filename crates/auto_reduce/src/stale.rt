@@ -5,7 +5,7 @@ ghost use Rattle.auto_reduce.specs.Ways.{AreRowWays};
 ghost use Rattle.auto_reduce.specs.Partition.{IsPartition, IsListing, AreRowNodes, AreLedRows, AreStale, IsPut, AreLedAgain};
 
 use crate::classes::Partition;
-use crate::leading::lead_nodes;
+use crate::leading::{lead_few, lead_nodes};
 use crate::listing::Listing;
 use crate::rows::picked;
 use crate::ways::{Ways, leading_to};
@@ -22,7 +22,7 @@ pub fn stale_states(
     listing: &Listing,
     moved: &[u32],
 ) -> Result<Vec<u32>, AllocError>
-    requires ways { AreRowWays a.now ways.now.ways.items ways.now.rows.items }
+    requires ways { AreRowWays a.now ways.now }
     requires partition { IsPartition (length a.now.accept) partition.now.classes.items partition.now.count }
     requires listing { IsListing partition.now.classes.items partition.now.count listing.now.representatives.items (map (λ list. list.items) listing.now.lists.items) }
     requires within { All (λ state. state < length a.now.accept) moved.now }
@@ -67,7 +67,7 @@ pub fn lead_again(
     ensures grows { Grows diagrams.old diagrams.new }
 {
     let picked = picked(diagrams.alloc(), rows, states)?;
-    let nodes = lead_nodes(a.diagrams(), picked.as_slice(), classes, diagrams)?;
+    let nodes = lead_few(a.diagrams(), picked.as_slice(), classes, diagrams)?;
     put(led, states, nodes.as_slice());
     Ok(())
 }

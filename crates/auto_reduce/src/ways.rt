@@ -1,13 +1,20 @@
 //! The nodes of rows by places, each behind the places that it leads to.
-ghost use Rattle.std.specs.Prelude.{◌≡◌, ◌<◌, ◌++◌, ◌∷◌, [], ℕ, true, false, All, Contains, length, slice_index_or, slice_set, Some, IfOk, OnOk};
-ghost use Rattle.auto_core.specs.Automaton.{width, next_state};
+ghost use Rattle.std.specs.Prelude.{◌≡◌, ◌≤◌, ◌<◌, ◌++◌, ◌∷◌, [], ℕ, true, false, length, All, Contains, slice_index, slice_index_or, slice_set, Some, IfOk, OnOk};
 ghost use Rattle.letter_diagram.specs.Diagram.{map_at};
 ghost use Rattle.auto_reduce.specs.Partition.{AreRowNodes};
-ghost use Rattle.auto_reduce.specs.Ways.{FitsAt, mark_of_way, AreWays, AreMarks, KeepsWays, IsPlaced, RemembersPlaced, AreRowWays};
+ghost use Rattle.auto_core.specs.Automaton.{width, next_state};
+ghost use Rattle.auto_reduce.specs.Ways.{FitsAt, AreWays, KeepsWays, IsPlaced, RemembersPlaced, ArePlacedRows, AreRowWays, AreWaysUp, AreOwners, IsLinked, AddsListed, AreListedBelow, MarksMore, AreStarted, AreClimbed};
 
 use auto_core::Auto;
 use letter_diagram::{Diagrams, Node, Shape};
+use smallvec::SmallVec;
 use std::alloc::{AllocError, Global};
+
+/// Some places, few mostly.
+type Places = SmallVec<usize, 2>;
+
+/// Some states, few mostly.
+type States = SmallVec<u32, 2>;
 
 /// What a place leads to.
 #[derive(Debug, Clone, Copy)]
@@ -18,11 +25,18 @@ pub enum Way {
     Both(usize, usize),
 }
 
-/// The nodes of the rows by places, and the place of each row, in the order of the states.
+/// The nodes of the rows by places, and the ways upwards from the states to the rows that lead to them.
 #[derive(Drop)]
 pub struct Ways {
     pub ways: Vec<Way>,
+    /// The place of each row, in the order of the states.
     pub rows: Vec<usize>,
+    /// For each place those that lead to it directly.
+    pub above: Vec<Places>,
+    /// For each place the states whose row it is.
+    pub owners: Vec<States>,
+    /// For each state the places that lead to it directly.
+    pub leaves: Vec<Places>,
 }
 
 /// Gives a node the next place.
@@ -75,85 +89,221 @@ fn place_of(
     }
 }
 
-/// The nodes of an automaton's rows by places. What the rows share has one place.
-pub fn row_ways(alloc: Global, a: &Auto, rows: &[Node]) -> Result<Ways, AllocError>
-    requires { AreRowNodes a.now rows.now }
-    ensures { IfOk result (λ all. AreRowWays a.now all.ways.items all.rows.items) }
+/// The place of each row, in the order of the states. What the rows share has one place.
+fn place_rows(
+    alloc: Global,
+    a: &Auto,
+    rows: &[Node],
+    ways: &mut Vec<Way>,
+) -> Result<Vec<usize>, AllocError>
+    requires rows { AreRowNodes a.now rows.now }
+    requires none { ways.old.items ≡ [] }
+    ensures { IfOk result (λ found. ArePlacedRows a.now ways.new.items found.items) }
 {
     let mut places = vec![in alloc; None; a.diagrams().len()]?;
-    let mut ways = Vec::new(alloc);
     let mut found = Vec::new(alloc);
     for node in rows {
-        let place = place_of(
-            a.diagrams(),
-            *node,
-            a.states(),
-            &mut ways,
-            places.as_mut_slice(),
-        )?;
+        let place = place_of(a.diagrams(), *node, a.states(), ways, places.as_mut_slice())?;
         found.push(place)?;
     }
-    Ok(Ways { ways, rows: found })
+    Ok(found)
 }
 
-/// Whether a way leads to a state or a place that has a mark.
-fn mark_of(way: Way, states: &[bool], marks: &[bool]) -> bool
-    requires { FitsAt (length states.now) (length marks.now) way }
-    ensures { result ≡ mark_of_way states.now marks.now way }
+/// Empty lists.
+fn no_lists<T: Drop + Default>(
+    alloc: Global,
+    count: usize,
+) -> Result<Vec<SmallVec<T, 2>>, AllocError>
+    ensures size { IfOk result (λ lists. length lists.items ≡ count) }
+    ensures none { IfOk result (λ lists. All (λ list. list.items ≡ []) lists.items) }
+{
+    let mut lists = Vec::with_capacity(alloc, count)?;
+    for _ in 0..count {
+        lists.push(SmallVec::new(alloc))?;
+    }
+    Ok(lists)
+}
+
+/// Lists a place at what its way leads to.
+fn link(
+    way: Way,
+    place: usize,
+    above: &mut [Places],
+    leaves: &mut [Places],
+) -> Result<(), AllocError>
+    requires { FitsAt (length leaves.old) (length above.old) way }
+    ensures linked { OnOk result (IsLinked above.new leaves.new place way) }
+    ensures above { OnOk result (AddsListed above.old above.new place) }
+    ensures leaves { OnOk result (AddsListed leaves.old leaves.new place) }
 {
     match way {
-        Way::State(state) => states[state as usize],
-        Way::Both(low, high) => marks[low] | marks[high],
+        Way::State(state) => leaves[state as usize].push(place)?,
+        Way::Both(low, high) => {
+            above[low].push(place)?;
+            above[high].push(place)?;
+        }
     }
+    Ok(())
 }
 
-/// For each place whether it leads to a state that has a mark.
-pub fn marked(alloc: Global, ways: &[Way], states: &[bool]) -> Result<Vec<bool>, AllocError>
-    requires { AreWays (length states.now) ways.now }
-    ensures marks { IfOk result (λ marks. AreMarks ways.now states.now marks.items) }
-    ensures size { IfOk result (λ marks. length marks.items ≡ length ways.now) }
+fn link_all(ways: &[Way], above: &mut [Places], leaves: &mut [Places]) -> Result<(), AllocError>
+    requires ways { AreWays (length leaves.old) ways.now }
+    requires size { length above.old ≡ length ways.now }
+    requires above { AreListedBelow above.old 0 }
+    requires leaves { AreListedBelow leaves.old 0 }
+    ensures { OnOk result (AreWaysUp ways.now above.new leaves.new) }
 {
-    let mut marks = Vec::new(alloc);
-    for way in ways {
-        let mark = mark_of(*way, states, marks.as_slice());
-        marks.push(mark)?;
+    for place in 0..ways.len() {
+        link(ways[place], place, above, leaves)?;
     }
-    Ok(marks)
+    Ok(())
 }
 
-/// For each state whether it is one of some states.
-fn flags_of(alloc: Global, count: usize, states: &[u32]) -> Result<Vec<bool>, AllocError>
-    requires { All (λ state. state < count) states.now }
-    ensures size { IfOk result (λ flags. length flags.items ≡ count) }
-    ensures set { IfOk result (λ flags. All (λ state. slice_index_or flags.items state false ≡ true) states.now) }
+/// Lists each state at the place of its row.
+fn own_all(rows: &[usize], states: u32, owners: &mut [States]) -> Result<(), AllocError>
+    requires within { All (λ place. place < length owners.old) rows.now }
+    requires states { length rows.now ≡ states }
+    requires none { AreListedBelow owners.old 0 }
+    ensures { OnOk result (AreOwners rows.now owners.new) }
 {
-    let mut flags = vec![in alloc; false; count]?;
+    for state in 0..states {
+        owners[rows[state as usize]].push(state)?;
+    }
+    Ok(())
+}
+
+/// The nodes of an automaton's rows by places, and the ways upwards.
+pub fn row_ways(alloc: Global, a: &Auto, rows: &[Node]) -> Result<Ways, AllocError>
+    requires { AreRowNodes a.now rows.now }
+    ensures { IfOk result (AreRowWays a.now) }
+{
+    let mut ways = Vec::new(alloc);
+    let rows = place_rows(alloc, a, rows, &mut ways)?;
+    let mut above = no_lists(alloc, ways.len())?;
+    let mut leaves = no_lists(alloc, a.states() as usize)?;
+    link_all(ways.as_slice(), above.as_mut_slice(), leaves.as_mut_slice())?;
+    let mut owners = no_lists(alloc, ways.len())?;
+    own_all(rows.as_slice(), a.states(), owners.as_mut_slice())?;
+    Ok(Ways {
+        ways,
+        rows,
+        above,
+        owners,
+        leaves,
+    })
+}
+
+/// Marks a place that has no mark, which then waits.
+fn mark(place: usize, marks: &mut [bool], waiting: &mut Vec<usize>) -> Result<(), AllocError>
+    requires { place < length marks.old }
+    ensures marked { OnOk result (slice_index_or marks.new place false ≡ true) }
+    ensures more { OnOk result (MarksMore marks.old waiting.old.items marks.new waiting.new.items) }
+{
+    if !marks[place] {
+        waiting.push(place)?;
+        marks[place] = true;
+    }
+    Ok(())
+}
+
+fn mark_all(
+    places: &[usize],
+    marks: &mut [bool],
+    waiting: &mut Vec<usize>,
+) -> Result<(), AllocError>
+    requires { All (λ place. place < length marks.old) places.now }
+    ensures marked { OnOk result (All (λ place. slice_index_or marks.new place false ≡ true) places.now) }
+    ensures more { OnOk result (MarksMore marks.old waiting.old.items marks.new waiting.new.items) }
+{
+    for place in places {
+        mark(*place, marks, waiting)?;
+    }
+    Ok(())
+}
+
+/// Marks the places that lead to some states directly.
+fn mark_leaves(
+    states: &[u32],
+    leaves: &[Places],
+    marks: &mut [bool],
+    waiting: &mut Vec<usize>,
+) -> Result<(), AllocError>
+    requires states { All (λ state. state < length leaves.now) states.now }
+    requires leaves { AreListedBelow leaves.now (length marks.old) }
+    ensures started { OnOk result (AreStarted states.now leaves.now marks.new) }
+    ensures more { OnOk result (MarksMore marks.old waiting.old.items marks.new waiting.new.items) }
+{
     for state in states {
-        flags[*state as usize] = true;
+        mark_all(leaves[*state as usize].as_slice(), marks, waiting)?;
     }
-    Ok(flags)
+    Ok(())
 }
 
-/// The states whose rows lead to one of some states.
+/// Marks what leads to the places that wait, and gives the states whose rows are marked. Each place waits once.
+fn climb(
+    alloc: Global,
+    above: &[Places],
+    owners: &[States],
+    marks: &mut [bool],
+    mut waiting: Vec<usize>,
+) -> Result<Vec<u32>, AllocError>
+    requires above_size { length above.now ≡ length marks.old }
+    requires owners_size { length owners.now ≡ length marks.old }
+    requires above { AreListedBelow above.now (length marks.old) }
+    requires within { All (λ place. place < length marks.old) waiting.items }
+    requires waits { (place : ℕ) → slice_index_or marks.old place false ≡ true → Contains waiting.items place }
+    ensures climbed { IfOk result (λ found. AreClimbed above.now owners.now marks.new [] found.items) }
+    ensures kept { OnOk result ((place : ℕ) → slice_index_or marks.old place false ≡ true → slice_index_or marks.new place false ≡ true) }
+    ensures within { IfOk result (λ found. (bound : ℕ) → AreListedBelow owners.now bound → All (λ state. state < bound) found.items) }
+{
+    let mut found = Vec::new(alloc);
+    while let Some(place) = waiting.pop() {
+        found.extend_from_slice(owners[place].as_slice())?;
+        mark_all(above[place].as_slice(), marks, &mut waiting)?;
+    }
+    Ok(found)
+}
+
+/// The states whose rows lead to one of some states, over marks that are off.
+fn climb_from(
+    alloc: Global,
+    a: &Auto,
+    ways: &Ways,
+    states: &[u32],
+    marks: &mut [bool],
+) -> Result<Vec<u32>, AllocError>
+    requires ways { AreRowWays a.now ways.now }
+    requires states { All (λ state. state < length a.now.accept) states.now }
+    requires size { length marks.old ≡ length ways.now.above.items }
+    requires off { (place : ℕ) → slice_index_or marks.old place false ≡ false }
+    ensures within { IfOk result (λ found. All (λ state. state < length a.now.accept) found.items) }
+    ensures leads { IfOk result (λ found. (state letter : ℕ) → state < length a.now.accept → letter < width a.now → Contains states.now (next_state a.now state letter) → Contains found.items state) }
+{
+    let mut waiting = Vec::new(alloc);
+    mark_leaves(states, ways.leaves.as_slice(), marks, &mut waiting)?;
+    let found = climb(
+        alloc,
+        ways.above.as_slice(),
+        ways.owners.as_slice(),
+        marks,
+        waiting,
+    )?;
+    Ok(found)
+}
+
+/// The states whose rows lead to one of some states. Costs the places between these, and a mark for each place.
 pub fn leading_to(
     alloc: Global,
     a: &Auto,
     ways: &Ways,
     states: &[u32],
 ) -> Result<Vec<u32>, AllocError>
-    requires ways { AreRowWays a.now ways.now.ways.items ways.now.rows.items }
+    requires ways { AreRowWays a.now ways.now }
     requires within { All (λ state. state < length a.now.accept) states.now }
     ensures within { IfOk result (λ found. All (λ state. state < length a.now.accept) found.items) }
-    ensures leads { IfOk result (λ found. (state letter : ℕ) → state < length a.now.accept → letter < width a.now
-        → Contains states.now (next_state a.now state letter) → Contains found.items state) }
+    ensures leads { IfOk result (λ found. (state letter : ℕ) → state < length a.now.accept → letter < width a.now → Contains states.now (next_state a.now state letter) → Contains found.items state) }
 {
-    let flags = flags_of(alloc, a.states() as usize, states)?;
-    let marks = marked(alloc, ways.ways.as_slice(), flags.as_slice())?;
-    let mut found = Vec::new(alloc);
-    for state in 0..a.states() {
-        if marks[ways.rows[state as usize]] {
-            found.push(state)?;
-        }
-    }
+    let mut marks = vec![in alloc; false; ways.above.len()]?;
+    let found = climb_from(alloc, a, ways, states, marks.as_mut_slice())?;
     Ok(found)
 }

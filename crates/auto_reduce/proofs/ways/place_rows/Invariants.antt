@@ -1,6 +1,6 @@
 use Rattle.std.proofs.Common.{◌≡◌, ◌<◌, ℕ, length, vec_len, get_or}
 use Rattle.auto_reduce.specs.Ways.{RemembersPlaced, IsPlaced}
-use Rattle.auto_reduce.proofs.ways.row_ways.Given as goal
+use Rattle.auto_reduce.proofs.ways.place_rows.Given as goal
 
 abbrev pub invariant-loop-node : goal.invariant-loop-node
 invariant-loop-node l = record {

@@ -5,15 +5,15 @@ use Rattle.std.proofs.lemmas.List.{get_or_read}
 use Rattle.std.proofs.lemmas.List.Elements.{All-get_or}
 use Rattle.letter_diagram.specs.Diagram.{map_at}
 use Rattle.auto_reduce.specs.Ways.{IsPlaced}
-use Rattle.auto_reduce.proofs.Placed.{AreRowWays-from, placed_push}
-use Rattle.auto_reduce.proofs.ways.row_ways.Goals as goal
+use Rattle.auto_reduce.proofs.Placed.{ArePlacedRows-from, placed_push}
+use Rattle.auto_reduce.proofs.ways.place_rows.Goals as goal
 
 pub place_of-requires-clause-leaves : goal.place_of-requires-clause-leaves
 place_of-requires-clause-leaves c =
     let rows = c.args.rows.now in
     let index = c.loop-node.node-index in
     let node = get_or_read rows index c.node-item.result c.loop-node-test.true c.node-item.is 0 in
-    rw (c.diagrams-in-loop-node.ensures.shapes, c.states.ensures.states, node) (All-get_or (λ n. (letter : ℕ) → map_at c.args.a.now.shapes n letter < length c.args.a.now.accept) rows index 0 c.loop-node-test.true c.requires.within)
+    rw (c.diagrams-in-loop-node.ensures.shapes, c.states.ensures.states, node) (All-get_or (λ n. (letter : ℕ) → map_at c.args.a.now.shapes n letter < length c.args.a.now.accept) rows index 0 c.loop-node-test.true c.requires.rows.within)
 
 pub loop-node-preserved : goal.loop-node-preserved
 loop-node-preserved c =
@@ -38,4 +38,4 @@ pub returns : goal.returns
 returns c =
     let size : length c.loop-node.found.items ≡ c.loop-node.node-index = search rules in
     let end : c.loop-node.node-index ≡ length c.args.rows.now = (let to = c.loop-node.auto.node-index-end in omega (arith, to, c.loop-node-test.false)) in
-    AreRowWays-from c.args.a.now c.args.rows.now c.loop-node.ways.items c.loop-node.found.items c.requires c.loop-node.invariant.remembered.fits (omega (arith, size, end)) (λ k less. c.loop-node.invariant.placed k (omega (arith, less, end)))
+    ArePlacedRows-from c.args.a.now c.args.rows.now c.loop-node.ways.items c.loop-node.found.items c.requires.rows c.loop-node.invariant.remembered.fits (omega (arith, size, end)) (λ k less. c.loop-node.invariant.placed k (omega (arith, less, end)))
