@@ -4,7 +4,7 @@ use Rattle.std.proofs.lemmas.Bool.{cases_lt, cases_eq}
 use Rattle.std.proofs.lemmas.List.{length-set, get_or_default, get_or-map, get_or-set_same, get_or-set_other, length-replicate}
 use Rattle.std.proofs.lemmas.List.Elements.{All-get_or, All-push, All-append, All-from_get_or, Contains-get_or, Contains-push, Contains-push_cases, Contains-append_left, Contains-append_right}
 use Rattle.auto_reduce.specs.Quotient.{AreMembers}
-use Rattle.auto_reduce.specs.Partition.{IsPartition, IsListing, AreListed, AreCandidates}
+use Rattle.auto_reduce.specs.Partition.{IsPartition, IsListing, AreListed, ArePruned, AreCandidates}
 use Rattle.auto_reduce.proofs.Splits.{none, empty}
 
 -- ---- states that are put into lists
@@ -82,6 +82,33 @@ IsListing-first classes count representatives states lists members size each l =
       let is = each state within in
       let there = l.added state (omega (arith, within, size)) in
       subst (λ s. Contains (get_or lists (get_or classes state 0) []) s) is there;
+}
+
+-- ---- lists that are pruned
+pub ArePruned-set : (classes : List ℕ) (lists : List (List ℕ)) (class : ℕ) (was kept : List ℕ) → class < length lists → get_or lists class [] ≡ was → ((state : ℕ) → Contains kept state → Contains was state)
+    → ((state : ℕ) → Contains was state → get_or classes state 0 ≡ class → Contains kept state) → ArePruned classes lists (set lists class kept)
+ArePruned-set classes lists class was kept inside was_is fewer stays = record {
+  size = length-set lists class kept;
+  fewer = λ c state there. elim (cases_eq c class) [
+    | inl e ↦
+        let in_kept = subst (λ list. Contains list state) (ap (λ k. get_or (set lists class kept) k []) e ∙ get_or-set_same lists class kept [] inside) there in
+        subst (λ list. Contains list state) (sym was_is ∙ ap (λ k. get_or lists k []) (sym e)) (fewer state in_kept)
+    | inr other ↦ subst (λ list. Contains list state) (get_or-set_other lists class c kept [] other) there
+  ];
+  kept = λ c state there has. elim (cases_eq c class) [
+    | inl e ↦
+        let in_was = subst (λ list. Contains list state) (ap (λ k. get_or lists k []) e ∙ was_is) there in
+        subst (λ list. Contains list state) (sym (get_or-set_same lists class kept [] inside) ∙ ap (λ k. get_or (set lists class kept) k []) (sym e)) (stays state in_was (has ∙ e))
+    | inr other ↦ subst (λ list. Contains list state) (sym (get_or-set_other lists class c kept [] other)) there
+  ];
+}
+
+pub IsListing-pruned : (classes : List ℕ) (count : ℕ) (representatives : List ℕ) (lists pruned : List (List ℕ)) → IsListing classes count representatives lists → ArePruned classes lists pruned → IsListing classes count representatives pruned
+IsListing-pruned classes count representatives lists pruned l p = record {
+  members = l.members;
+  size = p.size ∙ l.size;
+  within = λ class state there. l.within class state (p.fewer class state there);
+  listed = λ state within. p.kept (get_or classes state 0) state (l.listed state within) refl;
 }
 
 -- ---- what is looked at

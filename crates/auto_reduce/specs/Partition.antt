@@ -36,6 +36,12 @@ pub record AreListed (old : List (List ℕ)) (states classes : List ℕ) (new : 
   pub added : (turn : ℕ) → turn < length states → Contains (slice_index_or new (slice_index classes turn) []) (slice_index states turn)
   pub only : (class state : ℕ) → Contains (slice_index_or new class []) state → Contains (slice_index_or old class []) state ⊎ Contains states state
 
+-- lists without some states that have other classes
+pub record ArePruned (classes : List ℕ) (old new : List (List ℕ)) : Type 0 where
+  pub size : length new ≡ length old
+  pub fewer : (class state : ℕ) → Contains (slice_index_or new class []) state → Contains (slice_index_or old class []) state
+  pub kept : (class state : ℕ) → Contains (slice_index_or old class []) state → slice_index classes state ≡ class → Contains (slice_index_or new class []) state
+
 -- the node of the state that stands for the class of a state
 abbrev pub chosen_node : List ℕ → List ℕ → List ℕ → ℕ → ℕ
 chosen_node classes representatives nodes state = slice_index nodes (slice_index representatives (slice_index classes state))

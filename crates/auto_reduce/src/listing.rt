@@ -1,11 +1,12 @@
 //! For each class a list in which all its states are, kept while states move to new classes.
-ghost use Rattle.std.specs.Prelude.{◌≡◌, ◌<◌, ◌^◌, ◌+◌, ◌++◌, [], ℕ, All, length, map, replicate, slice_index, IfOk, OnOk, vec_len};
-ghost use Rattle.auto_reduce.specs.Partition.{IsPartition, IsListing, IsPutInto, AreListed};
+ghost use Rattle.std.specs.Prelude.{◌≡◌, ◌<◌, ◌^◌, ◌+◌, ◌++◌, [], ℕ, All, Contains, length, map, replicate, slice_index, slice_index_or, IfOk, OnOk, vec_len};
+ghost use Rattle.auto_reduce.specs.Partition.{IsPartition, IsListing, IsPutInto, AreListed, ArePruned};
 
 use crate::classes::{Partition, members};
 use std::alloc::{AllocError, Global};
 
-/// For each class a state that stands for it, and states among which are all of the class: also some that have left it.
+/// For each class a state that stands for it, and states among which are all of the class: also some that have left it since the
+/// list was last pruned.
 #[derive(Drop)]
 pub struct Listing {
     pub representatives: Vec<u32>,
@@ -76,4 +77,41 @@ pub fn list_states(alloc: Global, partition: &Partition) -> Result<Listing, Allo
         representatives,
         lists,
     })
+}
+
+/// The states among some that have a class.
+fn still_in(
+    alloc: Global,
+    partition: &Partition,
+    class: u32,
+    states: &[u32],
+) -> Result<Vec<u32>, AllocError>
+    requires { All (λ state. state < length partition.now.classes.items) states.now }
+    ensures fewer { IfOk result (λ kept. (state : ℕ) → Contains kept.items state → Contains states.now state) }
+    ensures kept { IfOk result (λ kept. (state : ℕ) → Contains states.now state → slice_index partition.now.classes.items state ≡ class → Contains kept.items state) }
+{
+    let mut kept = Vec::new(alloc);
+    for state in states {
+        if partition.classes[*state as usize] == class {
+            kept.push(*state)?;
+        }
+    }
+    Ok(kept)
+}
+
+/// Drops from the list of a class the states that have left it.
+pub fn prune(
+    alloc: Global,
+    partition: &Partition,
+    class: u32,
+    lists: &mut Vec<Vec<u32>>,
+) -> Result<(), AllocError>
+    requires class { class < vec_len lists.old }
+    requires within { (listed state : ℕ) → Contains (slice_index_or (map (λ list. list.items) lists.old.items) listed []) state → state < length partition.now.classes.items }
+    ensures pruned { OnOk result (ArePruned partition.now.classes.items (map (λ list. list.items) lists.old.items) (map (λ list. list.items) lists.new.items)) }
+    ensures size { OnOk result (vec_len lists.new ≡ vec_len lists.old) }
+{
+    let kept = still_in(alloc, partition, class, lists[class as usize].as_slice())?;
+    lists[class as usize] = kept;
+    Ok(())
 }

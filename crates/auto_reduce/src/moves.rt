@@ -3,7 +3,7 @@ ghost use Rattle.std.specs.Prelude.{◌≡◌, ◌≢◌, ◌<◌, ◌^◌, ◌+
 ghost use Rattle.auto_reduce.specs.Partition.{IsPartition, IsListing, IsPut, AreCandidates, AreMoves, chosen_node};
 
 use crate::classes::Partition;
-use crate::listing::{Listing, add_lists, list_each};
+use crate::listing::{Listing, prune};
 use crate::signatures::Signatures;
 use letter_diagram::Node;
 use std::alloc::{AllocError, Global};
@@ -18,22 +18,26 @@ pub struct Moves {
 }
 
 /// The states that are to be looked at where some states have new nodes: these, and all of a class for which one of these stands.
+/// The lists in which these are found are pruned.
 pub fn candidates(
     alloc: Global,
     partition: &Partition,
-    listing: &Listing,
+    representatives: &[u32],
+    lists: &mut Vec<Vec<u32>>,
     stale: &[u32],
 ) -> Result<Vec<u32>, AllocError>
     requires partition { IsPartition (length partition.now.classes.items) partition.now.classes.items partition.now.count }
-    requires listing { IsListing partition.now.classes.items partition.now.count listing.now.representatives.items (map (λ list. list.items) listing.now.lists.items) }
+    requires listing { IsListing partition.now.classes.items partition.now.count representatives.now (map (λ list. list.items) lists.old.items) }
     requires stale { All (λ state. state < length partition.now.classes.items) stale.now }
-    ensures { IfOk result (λ found. AreCandidates partition.now.classes.items listing.now.representatives.items stale.now found.items) }
+    ensures candidates { IfOk result (λ found. AreCandidates partition.now.classes.items representatives.now stale.now found.items) }
+    ensures listing { OnOk result (IsListing partition.now.classes.items partition.now.count representatives.now (map (λ list. list.items) lists.new.items)) }
 {
     let mut found = Vec::new(alloc);
     for state in stale {
-        let class = partition.classes[*state as usize] as usize;
-        if listing.representatives[class] == *state {
-            found.extend_from_slice(listing.lists[class].as_slice())?;
+        let class = partition.classes[*state as usize];
+        if representatives[class as usize] == *state {
+            prune(alloc, partition, class, lists)?;
+            found.extend_from_slice(lists[class as usize].as_slice())?;
         } else {
             found.push(*state)?;
         }

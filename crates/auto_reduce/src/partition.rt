@@ -69,7 +69,13 @@ fn split(
     ensures within { IfOk result (λ moved. All (λ state. state < length nodes.now) moved.items) }
     ensures moved { IfOk result (λ moved. KeepsOthers partition.old.classes.items partition.new.classes.items moved.items) }
 {
-    let found = candidates(alloc, partition, listing, stale)?;
+    let found = candidates(
+        alloc,
+        partition,
+        listing.representatives.as_slice(),
+        &mut listing.lists,
+        stale,
+    )?;
     let moves = find_moves(alloc, partition, listing, nodes, found.as_slice())?;
     move_states(alloc, &moves, partition, listing)?;
     Ok(moves.states)

@@ -23,7 +23,7 @@ returns-clause-split c =
     let current = c.args.partition.now.classes.items in
     let own = c.args.listing.now.representatives.items in
     let moves = c.in_ok-moves.moves in
-    let all = all_moved current own c.args.nodes.now c.args.stale.now c.in_ok-found.found.items moves.states.items c.requires.settled c.in_ok-found.ensures (rw c.as_slice.ensures.value at c.in_ok-moves.ensures.moved) in
+    let all = all_moved current own c.args.nodes.now c.args.stale.now c.in_ok-found.found.items moves.states.items c.requires.settled (rw c.as_slice.ensures.value at c.in_ok-found.ensures.candidates) (rw c.as_slice-2.ensures.value at c.in_ok-moves.ensures.moved) in
     let total : c.move_states.new.partition.count ≡ c.args.partition.now.count + length moves.signatures = c.in_ok-move_states.ensures.count ∙ ap (λ n. c.args.partition.now.count + n) m.firsts_size in
     subst (IsSplit current c.args.nodes.now c.move_states.new.partition.classes.items) (sym total)
     (IsSplit-moved _ current c.args.nodes.now own c.args.partition.now.count moves.signatures moves.states.items moves.numbers.items moves.firsts.items _ c.requires.partition c.requires.listing.members m c.in_ok-move_states.ensures.classes all)
@@ -34,7 +34,7 @@ returns-clause-kept c =
     let current = c.args.partition.now.classes.items in
     let own = c.args.listing.now.representatives.items in
     let moves = c.in_ok-moves.moves in
-    let all = all_moved current own c.args.nodes.now c.args.stale.now c.in_ok-found.found.items moves.states.items c.requires.settled c.in_ok-found.ensures (rw c.as_slice.ensures.value at c.in_ok-moves.ensures.moved) in
+    let all = all_moved current own c.args.nodes.now c.args.stale.now c.in_ok-found.found.items moves.states.items c.requires.settled (rw c.as_slice.ensures.value at c.in_ok-found.ensures.candidates) (rw c.as_slice-2.ensures.value at c.in_ok-moves.ensures.moved) in
     KeepsNumbers-moved _ current c.args.nodes.now own c.args.partition.now.count moves.signatures moves.states.items moves.numbers.items moves.firsts.items _ c.requires.partition c.requires.listing.members m c.in_ok-move_states.ensures.classes all
 
 pub returns-clause-listing : goal.returns-clause-listing
@@ -44,10 +44,10 @@ returns-clause-listing c =
     let current = c.args.partition.now.classes.items in
     let own = c.args.listing.now.representatives.items in
     let moves = c.in_ok-moves.moves in
-    let all = all_moved current own c.args.nodes.now c.args.stale.now c.in_ok-found.found.items moves.states.items c.requires.settled c.in_ok-found.ensures (rw c.as_slice.ensures.value at c.in_ok-moves.ensures.moved) in
+    let all = all_moved current own c.args.nodes.now c.args.stale.now c.in_ok-found.found.items moves.states.items c.requires.settled (rw c.as_slice.ensures.value at c.in_ok-found.ensures.candidates) (rw c.as_slice-2.ensures.value at c.in_ok-moves.ensures.moved) in
     let total : c.move_states.new.partition.count ≡ c.args.partition.now.count + length moves.signatures = c.in_ok-move_states.ensures.count ∙ ap (λ n. c.args.partition.now.count + n) m.firsts_size in
     let listing = IsListing-moved _ current c.args.nodes.now own c.args.partition.now.count moves.signatures moves.states.items moves.numbers.items moves.firsts.items _ c.requires.partition c.requires.listing.members m c.in_ok-move_states.ensures.classes all
-    (map f c.args.listing.now.lists.items) (map f c.move_states.new.listing.lists.items) c.requires.listing c.in_ok-move_states.ensures.lists in
+    (map f c.candidates.new.lists.items) (map f c.move_states.new.listing.lists.items) (rw c.as_slice.ensures.value at c.in_ok-found.ensures.listing) c.in_ok-move_states.ensures.lists in
     subst (λ n. IsListing c.move_states.new.partition.classes.items n c.move_states.new.listing.representatives.items (map f c.move_states.new.listing.lists.items)) (sym total)
     (subst (λ r. IsListing c.move_states.new.partition.classes.items (c.args.partition.now.count + length moves.signatures) r (map f c.move_states.new.listing.lists.items)) (sym c.in_ok-move_states.ensures.representatives) listing)
 
@@ -57,7 +57,7 @@ returns-clause-settled c =
     let current = c.args.partition.now.classes.items in
     let own = c.args.listing.now.representatives.items in
     let moves = c.in_ok-moves.moves in
-    let all = all_moved current own c.args.nodes.now c.args.stale.now c.in_ok-found.found.items moves.states.items c.requires.settled c.in_ok-found.ensures (rw c.as_slice.ensures.value at c.in_ok-moves.ensures.moved) in
+    let all = all_moved current own c.args.nodes.now c.args.stale.now c.in_ok-found.found.items moves.states.items c.requires.settled (rw c.as_slice.ensures.value at c.in_ok-found.ensures.candidates) (rw c.as_slice-2.ensures.value at c.in_ok-moves.ensures.moved) in
     rw c.in_ok-move_states.ensures.representatives (AreSettled-moved _ current c.args.nodes.now own c.args.partition.now.count moves.signatures moves.states.items moves.numbers.items moves.firsts.items _ c.requires.partition c.requires.listing.members m c.in_ok-move_states.ensures.classes all)
 
 pub returns-clause-within : goal.returns-clause-within
