@@ -173,8 +173,8 @@ or_cases false true on = inr refl
 or_cases false false on = cc
 
 -- what climbed up to the end is marked wherever it leads to the states
-AreMarks-climbed : (a : Automaton) (w : Ways) (states : List ℕ) (marks : List Bool) (found : List ℕ) → AreRowWays a w → AreStarted states w.leaves.items marks
-    → ((place : ℕ) → get_or marks place false ≡ true → IsClimbed w.above.items w.owners.items marks found place) → AreMarks w.ways.items (is_member nat_eq states) marks
+AreMarks-climbed : (a : Automaton) (w : Ways) (states : List ℕ) (marks : List Bool) (found : List ℕ) (r : AreRowWays a w) → AreStarted states w.leaves.items marks
+    → ((place : ℕ) → get_or marks place false ≡ true → IsClimbed w.above.items w.owners.items marks found place) → AreMarks r.ways (is_member nat_eq states) marks
 AreMarks-climbed a w states marks found r started done = record { up = λ place way there on. by place way (r.up.linked place way there) on }
   where
     by : (place : ℕ) (way : Way) → IsLinked w.above.items w.leaves.items place way → mark_of_way (is_member nat_eq states) marks way ≡ true → get_or marks place false ≡ true
@@ -187,7 +187,7 @@ AreMarks-climbed a w states marks found r started done = record { up = λ place 
 pub found_above : (a : Automaton) (w : Ways) (states : List ℕ) (marks : List Bool) (found : List ℕ) → AreRowWays a w → AreStarted states w.leaves.items marks → AreClimbed w.above.items w.owners.items marks [] found
     → (state letter : ℕ) → state < length a.accept → letter < width a → Contains states (next_state a state letter) → Contains found state
 found_above a w states marks found r started c state letter known below there =
-    let place = get_or w.rows.items state 0 in
+    let place = get_or r.rows state 0 in
     let size = r.placed.size in
     let owned = r.owners.owned state (omega (arith, known, size)) in
     by (get_or marks place false) refl owned
@@ -198,8 +198,8 @@ found_above a w states marks found r started c state letter known below there =
       | inr is ↦ is
     ]
 
-    by : (b : Bool) → get_or marks (get_or w.rows.items state 0) false ≡ b → IsListed w.owners.items (get_or w.rows.items state 0) state → Contains found state
-    by true on owned = (done (get_or w.rows.items state 0) on).rows state owned
+    by : (b : Bool) → get_or marks (get_or r.rows state 0) false ≡ b → IsListed w.owners.items (get_or r.rows state 0) state → Contains found state
+    by true on owned = (done (get_or r.rows state 0) on).rows state owned
     by false off owned =
         let none = r.placed.none (is_member nat_eq states) marks (AreMarks-climbed a w states marks found r started done) state letter known below off in
         let is = (is_member-Decides Decides-eqb states (next_state a state letter)).1 there in

@@ -167,3 +167,11 @@ AreCandidates-to classes representatives stale found t = record {
   each = λ state there. subst (Contains found) (get_or_default stale there.0 0 state there.1 ∙ there.2) (t.each there.0 there.1);
   led = λ state within there. t.led there.0 there.1 state within (get_or_default stale there.0 0 (get_or representatives (get_or classes state 0) 0) there.1 ∙ there.2);
 }
+
+-- the same states, some of them less often
+pub AreCandidates-once : (classes representatives stale found once : List ℕ) → AreCandidates classes representatives stale found → All (λ state. state < length classes) once → ((state : ℕ) → Contains found state → Contains once state) → AreCandidates classes representatives stale once
+AreCandidates-once classes representatives stale found once c within all = record {
+  within = within;
+  each = λ state there. all state (c.each state there);
+  led = λ state known there. all state (c.led state known there);
+}

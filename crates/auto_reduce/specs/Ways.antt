@@ -1,4 +1,4 @@
--- Nodes by places, each behind the places that it leads to.
+-- Nodes by places, each behind the places that it leads to, and the ways upwards.
 use Rattle.std.specs.Prelude.{◌≡◌, ℕ, ◌<◌, ◌≤◌, ◌+◌, ◌*◌, ◌⊎◌, ◌||◌, Bool, true, false, List, [], ◌∷◌, length, All, Contains, slice_get, slice_index, slice_index_or, Option, Some, None}
 use Rattle.smallvec.specs.SmallVec.{SmallVec}
 use Rattle.letter_diagram.specs.declared.diagrams.Shape.{Shape}
@@ -81,14 +81,16 @@ pub record AreOwners (rows : List ℕ) (owners : List (SmallVec ℕ)) : Type 0 w
   pub below : AreListedBelow owners (length rows)
   pub owned : (state : ℕ) → state < length rows → IsListed owners (slice_index rows state) state
 
--- the rows of an automaton by places, and the ways upwards
+-- the ways upwards through the rows of an automaton, for some ways of its rows
 pub record AreRowWays (a : Automaton) (w : Ways) : Type 0 where
-  pub placed : ArePlacedRows a w.ways.items w.rows.items
-  pub above_size : length w.above.items ≡ length w.ways.items
+  pub ways : List Way
+  pub rows : List ℕ
+  pub placed : ArePlacedRows a ways rows
+  pub above_size : length w.above.items ≡ length ways
   pub leaves_size : length w.leaves.items ≡ length a.accept
-  pub owners_size : length w.owners.items ≡ length w.ways.items
-  pub up : AreWaysUp w.ways.items w.above.items w.leaves.items
-  pub owners : AreOwners w.rows.items w.owners.items
+  pub owners_size : length w.owners.items ≡ length ways
+  pub up : AreWaysUp ways w.above.items w.leaves.items
+  pub owners : AreOwners rows w.owners.items
 
 -- how many places have no mark
 abbrev pub unmarked : List Bool → ℕ

@@ -17,9 +17,25 @@ pub struct Moves {
     pub firsts: Vec<u32>,
 }
 
-/// The states that are to be looked at where some states have new nodes: these, and all of a class for which one of these stands.
-/// The lists in which these are found are pruned.
-pub fn candidates(
+/// The states among some, each once.
+fn each_once(alloc: Global, count: usize, states: &[u32]) -> Result<Vec<u32>, AllocError>
+    requires { All (λ state. state < count) states.now }
+    ensures within { IfOk result (λ once. All (λ state. state < count) once.items) }
+    ensures all { IfOk result (λ once. (state : ℕ) → Contains states.now state → Contains once.items state) }
+{
+    let mut seen = vec![in alloc; false; count]?;
+    let mut once = Vec::new(alloc);
+    for state in states {
+        if !seen[*state as usize] {
+            once.push(*state)?;
+            seen[*state as usize] = true;
+        }
+    }
+    Ok(once)
+}
+
+/// The same as `candidates`, where a state may stand more than once.
+fn with_repeats(
     alloc: Global,
     partition: &Partition,
     representatives: &[u32],
@@ -43,6 +59,26 @@ pub fn candidates(
         }
     }
     Ok(found)
+}
+
+/// The states that are to be looked at where some states have new nodes: these, and all of a class for which one of these stands.
+/// The lists in which these are found are pruned. Costs these, and a mark for each state.
+pub fn candidates(
+    alloc: Global,
+    partition: &Partition,
+    representatives: &[u32],
+    lists: &mut Vec<Vec<u32>>,
+    stale: &[u32],
+) -> Result<Vec<u32>, AllocError>
+    requires partition { IsPartition (length partition.now.classes.items) partition.now.classes.items partition.now.count }
+    requires listing { IsListing partition.now.classes.items partition.now.count representatives.now (map (λ list. list.items) lists.old.items) }
+    requires stale { All (λ state. state < length partition.now.classes.items) stale.now }
+    ensures candidates { IfOk result (λ found. AreCandidates partition.now.classes.items representatives.now stale.now found.items) }
+    ensures listing { OnOk result (IsListing partition.now.classes.items partition.now.count representatives.now (map (λ list. list.items) lists.new.items)) }
+{
+    let found = with_repeats(alloc, partition, representatives, lists, stale)?;
+    let once = each_once(alloc, partition.classes.len(), found.as_slice())?;
+    Ok(once)
 }
 
 /// Gives a state a new class where its node isn't that of the state that stands for its class.

@@ -1,5 +1,5 @@
-//! The nodes of rows by places, each behind the places that it leads to.
-ghost use Rattle.std.specs.Prelude.{◌≡◌, ◌≤◌, ◌<◌, ◌++◌, ◌∷◌, [], ℕ, true, false, length, All, Contains, slice_index, slice_index_or, slice_set, Some, IfOk, OnOk};
+//! The nodes of rows by places, each behind the places that it leads to, and the ways upwards from states to the rows that lead to them.
+ghost use Rattle.std.specs.Prelude.{◌≡◌, ◌<◌, ◌++◌, ◌∷◌, [], ℕ, true, false, length, All, Contains, slice_index_or, slice_set, Some, IfOk, OnOk};
 ghost use Rattle.letter_diagram.specs.Diagram.{map_at};
 ghost use Rattle.auto_reduce.specs.Partition.{AreRowNodes};
 ghost use Rattle.auto_core.specs.Automaton.{width, next_state};
@@ -18,19 +18,16 @@ type States = SmallVec<u32, 2>;
 
 /// What a place leads to.
 #[derive(Debug, Clone, Copy)]
-pub enum Way {
+enum Way {
     /// One state.
     State(u32),
     /// What two earlier places lead to.
     Both(usize, usize),
 }
 
-/// The nodes of the rows by places, and the ways upwards from the states to the rows that lead to them.
+/// The ways upwards from the states to the rows that lead to them, by the places of the rows' nodes.
 #[derive(Drop)]
 pub struct Ways {
-    pub ways: Vec<Way>,
-    /// The place of each row, in the order of the states.
-    pub rows: Vec<usize>,
     /// For each place those that lead to it directly.
     pub above: Vec<Places>,
     /// For each place the states whose row it is.
@@ -172,7 +169,7 @@ fn own_all(rows: &[usize], states: u32, owners: &mut [States]) -> Result<(), All
     Ok(())
 }
 
-/// The nodes of an automaton's rows by places, and the ways upwards.
+/// The ways upwards through an automaton's rows. Costs the nodes of the rows, and room for each node of the automaton.
 pub fn row_ways(alloc: Global, a: &Auto, rows: &[Node]) -> Result<Ways, AllocError>
     requires { AreRowNodes a.now rows.now }
     ensures { IfOk result (AreRowWays a.now) }
@@ -185,8 +182,6 @@ pub fn row_ways(alloc: Global, a: &Auto, rows: &[Node]) -> Result<Ways, AllocErr
     let mut owners = no_lists(alloc, ways.len())?;
     own_all(rows.as_slice(), a.states(), owners.as_mut_slice())?;
     Ok(Ways {
-        ways,
-        rows,
         above,
         owners,
         leaves,
@@ -291,7 +286,7 @@ fn climb_from(
     Ok(found)
 }
 
-/// The states whose rows lead to one of some states. Costs the places between these, and a mark for each place.
+/// The states whose rows lead to one of some states. Costs the places that lead to these, and room for a mark of each place.
 pub fn leading_to(
     alloc: Global,
     a: &Auto,

@@ -1,7 +1,7 @@
 use Rattle.std.proofs.Common.{◌≡◌, map, vec_len}
 use Rattle.auto_reduce.specs.Partition.{IsListing}
 use Rattle.auto_reduce.proofs.Listings.{AreCandidatesTo}
-use Rattle.auto_reduce.proofs.moves.candidates.Given as goal
+use Rattle.auto_reduce.proofs.moves.with_repeats.Given as goal
 
 abbrev pub invariant-loop-state : goal.invariant-loop-state
 invariant-loop-state l = record {
