@@ -1,6 +1,8 @@
 //! Nodes that lead the rows to the classes of a partition, kept while no state to which a row leads moves to another class.
-ghost use Rattle.std.specs.Prelude.{◌≡◌, ◌<◌, All, length, map, IfOk, OnOk};
-ghost use Rattle.letter_diagram.specs.Diagram.{Grows};
+ghost use Rattle.std.specs.Prelude.{◌≡◌, ◌<◌, ℕ, All, length, map, IfOk, OnOk};
+ghost use Rattle.letter_diagram.specs.Diagram.{map_at, Grows};
+ghost use Rattle.letter_diagram.specs.Listed.{EachAnswers};
+ghost use Rattle.auto_reduce.specs.Leading.{IsLedFrom};
 ghost use Rattle.auto_reduce.specs.Ways.{AreRowWays};
 ghost use Rattle.auto_reduce.specs.Partition.{IsPartition, IsListing, AreRowNodes, AreLedRows, AreStale, IsPut, AreLedAgain};
 
@@ -50,6 +52,24 @@ fn put(nodes: &mut [Node], places: &[u32], values: &[Node])
     }
 }
 
+/// The nodes of some rows, led through a table. Where they are a good part of all rows, a memo with room for each node is cheaper.
+fn lead_some(
+    a: &Auto,
+    nodes: &[Node],
+    table: &[u32],
+    to: &mut Diagrams,
+) -> Result<Vec<Node>, AllocError>
+    requires known { All (λ node. node < length a.now.shapes) nodes.now }
+    requires leaves { All (λ node. (letter : ℕ) → map_at a.now.shapes node letter < length table.now) nodes.now }
+    ensures led { IfOk result (λ answers. EachAnswers (IsLedFrom a.now.shapes to.new table.now) nodes.now answers.items) }
+    ensures grows { Grows to.old to.new }
+{
+    if nodes.len() > a.states() as usize / 8 {
+        return lead_nodes(a.diagrams(), nodes, table, to);
+    }
+    lead_few(a.diagrams(), nodes, table, to)
+}
+
 /// Leads the rows of some states to classes. The other states keep their nodes.
 pub fn lead_again(
     diagrams: &mut Diagrams,
@@ -67,7 +87,7 @@ pub fn lead_again(
     ensures grows { Grows diagrams.old diagrams.new }
 {
     let picked = picked(diagrams.alloc(), rows, states)?;
-    let nodes = lead_few(a.diagrams(), picked.as_slice(), classes, diagrams)?;
+    let nodes = lead_some(a, picked.as_slice(), classes, diagrams)?;
     put(led, states, nodes.as_slice());
     Ok(())
 }

@@ -1,4 +1,4 @@
-use Rattle.std.proofs.Common.{◌≡◌, ◌<◌, ℕ, length, vec_len, get_or}
+use Rattle.std.proofs.Common.{◌≡◌, ◌<◌, ◌≤◌, ℕ, length, vec_len, get_or}
 use Rattle.std.specs.List.{All}
 use Rattle.auto_reduce.proofs.classes.members.Given as goal
 
@@ -6,5 +6,5 @@ abbrev pub invariant-loop-state : goal.invariant-loop-state
 invariant-loop-state l = record {
   size : vec_len l.members ≡ l.partition.count;
   within : All (λ state. state < length l.partition.classes.items) l.members.items;
-  has : (k : ℕ) → k < l.state → get_or l.partition.classes.items (get_or l.members.items (get_or l.partition.classes.items k 0) 0) 0 ≡ get_or l.partition.classes.items k 0;
+  has : (k : ℕ) → l.state ≤ k → k < length l.partition.classes.items → get_or l.partition.classes.items (get_or l.members.items (get_or l.partition.classes.items k 0) 0) 0 ≡ get_or l.partition.classes.items k 0;
 }
