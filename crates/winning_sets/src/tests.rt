@@ -33,7 +33,7 @@ fn two_kings() -> Result<Position, Fail>
     ])
 }
 
-/// Two rooks and a king against a king. The second rook is on row 7.
+/// Two rooks and a king against a king. The second rook has y = 7.
 fn two_rooks(rook: i64, king: i64) -> Result<Position, Fail>
     ensures sound { IfOk result (λ p. Sound p) }
     ensures men { IfOk result (λ p. length p.men ≤ 8) }

@@ -275,7 +275,7 @@ fn moves_at_the_edges_of_the_numbers(rt: HostRuntime) -> Result<(), Fail> {
         white(Kind::Bishop, LEAST, GREATEST),
     ];
     let rows = [
-        // along the whole row 0, in which no man stands
+        // along the whole rank of the rook, on which no other man stands
         (3, LEAST, 0, None),
         // up to the own king, and the square before him
         (3, GREATEST, GREATEST, Some(Illegal::OwnMan)),
@@ -319,7 +319,7 @@ fn moves_at_the_edges_of_the_numbers(rt: HostRuntime) -> Result<(), Fail> {
         black(Kind::Rook, GREATEST, 0),
     ];
     let rows = [
-        // the white rook stands between his king and the black rook, in row 0
+        // the white rook stands between his king and the black rook, all on one rank
         (3, 0, 1, left),
         (3, 0, LEAST, left),
         (3, GREATEST, 0, None),
