@@ -9,7 +9,7 @@ use std::marker::Model;
 
 /// A diagram inside a `Diagrams`.
 #[derive(Debug, Clone, Copy, PartialEq, Eq, PartialOrd, Ord, Hash)]
-pub struct Node(usize);
+pub struct Node(u32);
 
 impl Model for Node {
     ghost use Rattle.std.specs.Prelude.{ℕ};
@@ -26,7 +26,7 @@ impl Node {
     pub fn number(self) -> usize
         ensures { result ≡ self }
     {
-        self.0
+        self.0 as usize
     }
 }
 
@@ -39,7 +39,7 @@ pub enum Shape {
     Test { track: u8, low: Node, high: Node },
 }
 
-/// Diagrams that share their nodes.
+/// Diagrams that share their nodes. There are no more than 2^32 of them: one more is refused as want of memory.
 #[derive(Drop)]
 pub struct Diagrams {
     shapes: IndexSet<Shape>,
@@ -64,6 +64,15 @@ impl Diagrams {
         Diagrams {
             shapes: IndexSet::new(alloc),
         }
+    }
+
+    /// No node, with room for so many.
+    pub fn with_capacity(alloc: Global, nodes: usize) -> Result<Self, AllocError>
+        ensures { IfOk result (λ diagrams. diagrams ≡ []) }
+    {
+        Ok(Diagrams {
+            shapes: IndexSet::with_capacity(alloc, nodes)?,
+        })
     }
 
     /// The allocator that the nodes are kept in.
@@ -91,7 +100,7 @@ impl Diagrams {
     pub fn is_node(&self, node: Node) -> bool
         ensures { IsTrue result ↔ (node < length self.now) }
     {
-        node.0 < self.shapes.len()
+        node.number() < self.shapes.len()
     }
 
     /// The same nodes, with the same maps.
@@ -139,7 +148,7 @@ impl Diagrams {
         ensures children { HasChildren self.now node result }
         ensures diagram { IsDiagram self.now }
     {
-        self.shapes.as_slice()[node.0]
+        self.shapes.as_slice()[node.number()]
     }
 
     /// The value of a node's map at a letter.
@@ -210,6 +219,9 @@ impl Diagrams {
         ensures grows { Grows self.old self.new }
     {
         let (index, _) = self.shapes.insert_full(shape)?;
-        Ok(Node(index))
+        if index > u32::MAX as usize {
+            return Err(AllocError);
+        }
+        Ok(Node(index as u32))
     }
 }

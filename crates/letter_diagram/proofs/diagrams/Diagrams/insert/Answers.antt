@@ -12,3 +12,9 @@ returns-clause-at c =
 
 pub returns-clause-grows : goal.returns-clause-grows
 returns-clause-grows c = rw (← c.self.view_is) (Grows-insert _ _ c.args.shape c.in_ok-index.ensures.keys)
+
+pub invariant_of-self-then-index : goal.invariant_of-self-then-index
+invariant_of-self-then-index c = IsDiagram-insert _ _ c.args.shape c.self.invariant (rw c.self.view_is c.requires) c.in_ok-index.ensures.keys c.in_ok-index.ensures.unique
+
+pub returns-then-index-clause-grows : goal.returns-then-index-clause-grows
+returns-then-index-clause-grows c = rw (← c.self.view_is) (Grows-insert _ _ c.args.shape c.in_ok-index.ensures.keys)
