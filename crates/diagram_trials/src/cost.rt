@@ -88,7 +88,7 @@ fn products_with_one_memo_meet_each_pair_of_nodes_once(rt: HostRuntime) -> Resul
     let firsts = residues(&rt, &mut diagrams, 53)?;
     let seconds = residues(&rt, &mut diagrams, 47)?;
     assert!(rt; diagrams.len() > 1900);
-    let mut product = Product::new(diagrams, Pairs::new(rt.alloc()));
+    let mut product = Product::new(diagrams, Pairs::new(rt.alloc()))?;
     multiply_all(&rt, &mut product, firsts.as_slice(), seconds.as_slice())?;
     let a = node_at(&rt, product.diagrams(), firsts.as_slice(), 0);
     let b = node_at(&rt, product.diagrams(), seconds.as_slice(), 0);

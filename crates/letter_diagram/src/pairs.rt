@@ -47,6 +47,15 @@ impl Pairs {
         }
     }
 
+    /// No pair, with room for so many.
+    pub fn with_capacity(alloc: Global, pairs: usize) -> Result<Self, AllocError>
+        ensures { IfOk result (λ numbered. numbered ≡ []) }
+    {
+        Ok(Pairs {
+            seen: IndexSet::with_capacity(alloc, pairs)?,
+        })
+    }
+
     /// How many pairs are numbered.
     pub fn len(&self) -> usize
         ensures len { result ≡ length self.now }

@@ -30,17 +30,17 @@ impl Model for Product {
 }
 
 impl Product {
-    /// Over nodes and pairs that are there already.
-    pub fn new(diagrams: Diagrams, pairs: Pairs) -> Self
-        ensures shapes { result.shapes ≡ diagrams }
-        ensures pairs { result.pairs ≡ pairs }
+    /// Over nodes and pairs that are there already. The memo has room for as many pairs of nodes as there are nodes.
+    pub fn new(diagrams: Diagrams, pairs: Pairs) -> Result<Self, AllocError>
+        ensures shapes { IfOk result (λ product. product.shapes ≡ diagrams) }
+        ensures pairs { IfOk result (λ product. product.pairs ≡ pairs) }
     {
-        let memo = HashMap::new(diagrams.alloc());
-        Product {
+        let memo = HashMap::with_capacity(diagrams.alloc(), diagrams.len())?;
+        Ok(Product {
             diagrams,
             pairs,
             memo,
-        }
+        })
     }
 
     /// The nodes.
