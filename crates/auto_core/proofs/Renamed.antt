@@ -1,14 +1,16 @@
 -- Automata that read the letters of others by some of their bits.
 use Rattle.std.proofs.Common.{◌≡◌, ◌≢◌, ◌↔◌, ℕ, zero, suc, ◌+◌, ◌*◌, ◌^◌, ◌<◌, ◌≤◌, Bool, false, List, [], ◌∷◌, length, map, All, slice_index, slice_index_or, IsTrue, arith, refl, sym, ap, ◌∙◌, subst}
 use Rattle.std.specs.Int.{bit_at}
+use Rattle.std.specs.List.{remove}
 use Rattle.std.proofs.lemmas.List.{get_or_default}
 use Rattle.std.proofs.lemmas.Nat.Bits.{bit_at-lt}
 use Rattle.track_word.specs.declared.tracks.Var.{Var}
 use Rattle.track_word.specs.Word.{IsWord, repeat_first}
 use Rattle.track_word.specs.Tracks.{IsAscending, place, restrict, part_of}
 use Rattle.letter_diagram.specs.declared.diagrams.Shape.{Shape}
-use Rattle.letter_diagram.specs.Diagram.{map_at, Grows, LooksBelow}
-use Rattle.letter_diagram.specs.Relabelled.{relabelled, IsRelabelled}
+use Rattle.letter_diagram.specs.Diagram.{map_at, LooksBelow}
+use Rattle.letter_diagram.specs.Relabelled.{relabelled}
+use Rattle.letter_diagram.specs.BroughtRelabelled.{IsBroughtRelabelled}
 use Rattle.letter_diagram.specs.Listed.{EachAnswers}
 use Rattle.auto_core.specs.Automaton.{Automaton, width, first_state, next_state, run, state_of, is_final, Accepts}
 use Rattle.auto_core.specs.Integers.{DecidesIntegers}
@@ -50,20 +52,18 @@ pub record AreRenamed (a : Automaton) (shapes : List Shape) (places : List ℕ) 
   pub rows_known : (i : ℕ) → i < length a.row_nodes → slice_index rows i < length shapes
   pub rows_are : (i letter : ℕ) → i < length a.row_nodes → map_at shapes (slice_index rows i) letter ≡ map_at a.shapes (slice_index a.row_nodes i) (relabelled places letter)
 
--- what the code has made of a copy of the automaton's nodes
-pub AreRenamed-made : (a : Automaton) (copy middle new shapes : List Shape) (places nodes rows answers : List ℕ) (node answer first : ℕ) → IsOverNodes a → copy ≡ a.shapes → nodes ≡ a.row_nodes → node ≡ a.first_node → shapes ≡ new → first ≡ answer → rows ≡ answers
-    → Grows copy middle → Grows middle new → EachAnswers (IsRelabelled middle places) nodes answers → answer < length new → ((letter : ℕ) → map_at new answer letter ≡ map_at middle node (relabelled places letter)) → AreRenamed a shapes places first rows
-AreRenamed-made a copy middle new shapes places nodes rows answers node answer first over same_shapes same_nodes same_node s f r grows more each known is =
-    let g = subst (λ old. Grows old middle) same_shapes grows in
-    let e = subst (λ l. EachAnswers (IsRelabelled middle places) l answers) same_nodes each in
-    subst (λ x. AreRenamed a x places first rows) (sym s) (subst (λ x. AreRenamed a new places x rows) (sym f) (subst (λ x. AreRenamed a new places answer x) (sym r) (record {
-      first_known = known;
-      first_is = λ letter. is letter ∙ ap (λ n. map_at middle n (relabelled places letter)) same_node ∙ g.map a.first_node (relabelled places letter) over.nodes.first_known;
-      count = e.size;
-      rows_known = λ i h. let k = (e.each i h).known in let longer = more.longer in omega (arith, k, longer);
-      rows_are = λ i letter h.
-          more.map (slice_index answers i) letter (e.each i h).known ∙ (e.each i h).map letter ∙ g.map (slice_index a.row_nodes i) (relabelled places letter) (over.nodes.rows_known i 0 h);
-    })))
+-- the nodes that were brought for an automaton's rows, that of the first row apart
+pub AreRenamed-brought : (a : Automaton) (shapes : List Shape) (places answers : List ℕ) (first : ℕ) (rows : List ℕ) → EachAnswers (IsBroughtRelabelled a.shapes shapes places) (a.first_node ∷ a.row_nodes) answers → first ≡ slice_index_or answers 0 first → rows ≡ remove answers 0
+    → AreRenamed a shapes places first rows
+AreRenamed-brought a shapes places [] first rows brought is rest = let size = brought.size in absurd (omega (arith, size))
+AreRenamed-brought a shapes places (answer ∷ answers) first rows brought is rest =
+    subst (λ node. AreRenamed a shapes places node rows) (sym is) (subst (AreRenamed a shapes places answer) (sym rest) (record {
+      first_known = (brought.each 0 (omega arith)).known;
+      first_is = (brought.each 0 (omega arith)).map;
+      count = let size = brought.size in omega (arith, size);
+      rows_known = λ i h. (brought.each (suc i) (omega (arith, h))).known;
+      rows_are = λ i letter h. (brought.each (suc i) (omega (arith, h))).map letter;
+    }))
 
 narrow : (a : Automaton) (shapes : List Shape) (places : List ℕ) (bound node source : ℕ) → All (λ p. p < bound) places → ((letter : ℕ) → map_at shapes node letter ≡ map_at a.shapes source (relabelled places letter)) → LooksBelow shapes node bound
 narrow a shapes places bound node source below is = record {

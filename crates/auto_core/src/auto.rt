@@ -1,11 +1,11 @@
 //! The automaton, and its rows as nodes.
-ghost use Rattle.std.specs.Prelude.{◌≡◌, ◌<◌, ◌^◌, ℕ, length, slice_get, Some, IfOk};
+ghost use Rattle.std.specs.Prelude.{◌≡◌, ◌<◌, ◌^◌, ◌∷◌, ℕ, length, slice_get, Some, IfOk};
 ghost use Rattle.auto_core.specs.Automaton.{first_state, next_state, IsAutomaton};
 ghost use Rattle.auto_core.specs.Rows.{AreRows, IsOverNodes, row_of, rows_of};
 ghost use Rattle.letter_diagram.specs.Diagram.{map_at, LooksBelow, IsDiagram};
 
 use letter_diagram::{Diagrams, Node};
-use std::alloc::AllocError;
+use std::alloc::{AllocError, Global};
 use std::marker::Model;
 use track_word::Var;
 
@@ -94,6 +94,16 @@ impl Auto {
         ensures { result.now ≡ self.now.row_nodes }
     {
         self.rows.as_slice()
+    }
+
+    /// The node of the first row, then the nodes of the states' rows.
+    pub fn all_nodes(&self, alloc: Global) -> Result<Vec<Node>, AllocError>
+        ensures nodes { IfOk result (λ nodes. nodes.items ≡ self.now.first_node ∷ self.now.row_nodes) }
+        ensures over { IsOverNodes self.now }
+    {
+        let mut nodes = vec![in alloc; self.first]?;
+        nodes.extend_from_slice(self.rows.as_slice())?;
+        Ok(nodes)
     }
 
     /// The tracks, ascending.

@@ -9,6 +9,7 @@ ghost use Rattle.auto_core.specs.Integers.{DecidesIntegers};
 ghost use Rattle.auto_core.specs.Reduced.{IsReduced};
 
 use crate::auto::Auto;
+use letter_diagram::Diagrams;
 use std::alloc::{AllocError, Global};
 use track_word::Var;
 
@@ -51,9 +52,10 @@ impl Auto {
         ensures valid { IfOk result (λ r. IsAutomaton r) }
     {
         let _ = self.tracks();
-        let mut diagrams = self.diagrams().copy()?;
-        let rows = diagrams.relabel_all(self.row_nodes(), places)?;
-        let first = diagrams.relabel(self.first_node(), places)?;
+        let nodes = self.all_nodes(alloc)?;
+        let mut diagrams = Diagrams::with_capacity(alloc, self.diagrams().len())?;
+        let mut rows = diagrams.bring_relabelled(self.diagrams(), nodes.as_slice(), places)?;
+        let first = rows.remove(0);
         let accept = self.flags().to_vec(alloc)?;
         let renamed = Auto::from_diagrams(tracks, diagrams, first, rows, accept);
         let _ = renamed.diagrams();

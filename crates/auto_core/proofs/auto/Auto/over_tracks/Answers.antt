@@ -1,28 +1,25 @@
-use Rattle.std.proofs.Common.{rules, ◌≡◌, ◌<◌, ◌^◌, ◌∙◌, All, length, refl, sym, subst}
+use Rattle.std.proofs.Common.{rules, ◌≡◌, ◌<◌, ◌^◌, All, length, sym, subst}
 use Rattle.track_word.specs.Word.{IsWord}
-use Rattle.auto_core.proofs.Renamed.{AreRenamed, AreRenamed-made, AreRows-renamed, words-renamed, DecidesIntegers-renamed, IsReduced-renamed}
+use Rattle.auto_core.proofs.Renamed.{AreRenamed, AreRenamed-brought, AreRows-renamed, words-renamed, DecidesIntegers-renamed, IsReduced-renamed}
 use Rattle.auto_core.proofs.Inverses.{covered}
 use Rattle.auto_core.proofs.auto.Auto.over_tracks.Goals as goal
-
-made : (c : goal.In_ok-accept) → AreRenamed c.args.self.now c.relabel.new.self c.args.places.now c.in_ok-first.first c.in_ok-rows.rows.items
-made c = AreRenamed-made _ _ _ _ _ _ _ _ _ _ _ _ c.diagrams.ensures.nodes (c.in_ok-diagrams.ensures ∙ c.diagrams.ensures.shapes) c.row_nodes.ensures c.first_node.ensures.is refl refl refl
-    c.in_ok-rows.ensures.grows c.in_ok-first.ensures.grows c.in_ok-rows.ensures.relabelled c.in_ok-first.ensures.known c.in_ok-first.ensures.map
 
 accept-is : (c : goal.In_ok-accept) → c.in_ok-accept.accept.items ≡ c.args.self.now.accept
 accept-is c = search rules
 
 pub from_diagrams-renamed-requires : goal.from_diagrams-renamed-requires
 from_diagrams-renamed-requires c =
-    AreRows-renamed _ _ _ _ _ _ _ c.diagrams.ensures.nodes c.requires.ascending c.requires.few (accept-is c) c.requires.places (made c)
+    AreRows-renamed _ _ _ _ _ _ _ c.diagrams.ensures.nodes c.requires.ascending c.requires.few (accept-is c) c.requires.places
+    (AreRenamed-brought _ _ _ _ _ _ (rw (c.diagrams-2.ensures.shapes, c.as_slice.ensures.value, c.in_ok-nodes.ensures.nodes) at c.in_ok-rows.ensures.brought) c.remove-first.ensures.value c.remove-first.ensures.items)
 
-accept-end : (c : goal.After-diagrams-4) → c.from_diagrams-renamed.result.accept ≡ c.args.self.now.accept
+accept-end : (c : goal.After-drop-nodes-2) → c.from_diagrams-renamed.result.accept ≡ c.args.self.now.accept
 accept-end c = search rules
 
-made-end : (c : goal.After-diagrams-4) → AreRenamed c.args.self.now c.from_diagrams-renamed.result.shapes c.args.places.now c.from_diagrams-renamed.result.first_node c.from_diagrams-renamed.result.row_nodes
+made-end : (c : goal.After-drop-nodes-2) → AreRenamed c.args.self.now c.from_diagrams-renamed.result.shapes c.args.places.now c.from_diagrams-renamed.result.first_node c.from_diagrams-renamed.result.row_nodes
 made-end c =
     let e = c.from_diagrams-renamed.ensures in
-    AreRenamed-made _ _ _ _ _ _ _ _ _ _ _ _ c.diagrams.ensures.nodes (c.in_ok-diagrams.ensures ∙ c.diagrams.ensures.shapes) c.row_nodes.ensures c.first_node.ensures.is e.shapes e.first_node e.row_nodes
-    c.in_ok-rows.ensures.grows c.in_ok-first.ensures.grows c.in_ok-rows.ensures.relabelled c.in_ok-first.ensures.known c.in_ok-first.ensures.map
+    let brought = rw (c.diagrams-2.ensures.shapes, c.as_slice.ensures.value, c.in_ok-nodes.ensures.nodes) at c.in_ok-rows.ensures.brought in
+    rw (e.shapes, e.first_node, e.row_nodes) (AreRenamed-brought _ _ _ _ _ _ brought c.remove-first.ensures.value c.remove-first.ensures.items)
 
 pub returns-clause-words : goal.returns-clause-words
 returns-clause-words c = λ word is.
