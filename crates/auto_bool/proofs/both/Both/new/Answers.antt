@@ -15,6 +15,6 @@ invariant_of-result c =
     let right = rw c.as_slice-2.ensures.value at c.in_ok-right_nodes.ensures.side in
     record {
       are_tracks = rw (tracks, c.tracks-left_tracks.ensures.tracks, c.tracks-right_tracks.ensures.tracks) (record { ascending = ascending-with_vars c.args.left.now.tracks c.args.right.now.tracks c.tracks-right_tracks.ensures.valid.ascending; few = c.requires });
-      left_side = rw c.new-product.ensures.shapes (IsSide-kept _ _ _ _ _ c.in_ok-right_nodes.ensures.grows left);
-      right_side = rw c.new-product.ensures.shapes right;
+      left_side = rw c.in_ok-product.ensures.shapes (IsSide-kept _ _ _ _ _ c.in_ok-right_nodes.ensures.grows left);
+      right_side = rw c.in_ok-product.ensures.shapes right;
     }
