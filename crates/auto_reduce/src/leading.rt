@@ -49,24 +49,8 @@ impl Memo for HashMap<Node, Node> {
     }
 }
 
-/// The node in `to` that gives the entry of `table` at each value of a node of `from`.
-pub fn lead_node(
-    from: &Diagrams,
-    node: Node,
-    table: &[u32],
-    to: &mut Diagrams,
-) -> Result<Node, AllocError>
-    requires known { node < length from.now }
-    requires leaves { (letter : ℕ) → map_at from.now node letter < length table.now }
-    ensures led { IfOk result (IsLedFrom from.now to.new table.now node) }
-    ensures grows { Grows to.old to.new }
-{
-    let mut memo = NodeMemo::new(to.alloc(), from.len())?;
-    let made = led(from, node, table, to, &mut memo)?;
-    Ok(made)
-}
-
-/// The same of several nodes, in their order. What they share is done once.
+/// For each of several nodes of `from`, in their order, the node in `to` that gives the entry of `table` at each of its values.
+/// What they share is done once.
 /// Costs the nodes that are led, and a memo with room for each node of `from`.
 pub fn lead_nodes(
     from: &Diagrams,
@@ -114,7 +98,7 @@ fn each_led<M: Memo>(
     ensures led { IfOk result (λ answers. EachAnswers (IsLedFrom from.now to.new table.now) nodes.now answers.items) }
     ensures grows { Grows to.old to.new }
 {
-    let mut answers = Vec::new(to.alloc());
+    let mut answers = Vec::with_capacity(to.alloc(), nodes.len())?;
     for node in nodes {
         let answer = led(from, *node, table, to, memo)?;
         answers.push(answer)?;

@@ -98,7 +98,7 @@ fn place_rows(
     ensures { IfOk result (λ found. ArePlacedRows a.now ways.new.items found.items) }
 {
     let mut places = vec![in alloc; None; a.diagrams().len()]?;
-    let mut found = Vec::new(alloc);
+    let mut found = Vec::with_capacity(alloc, rows.len())?;
     for node in rows {
         let place = place_of(a.diagrams(), *node, a.states(), ways, places.as_mut_slice())?;
         found.push(place)?;
