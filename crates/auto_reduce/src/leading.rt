@@ -1,5 +1,5 @@
 //! Nodes of one `Diagrams` with the maps of nodes of another, led through a table.
-ghost use Rattle.std.specs.Prelude.{◌≡◌, ◌<◌, ℕ, All, length, nat_eq, Option, None, IfOk, OnOk};
+ghost use Rattle.std.specs.Prelude.{◌≡◌, ◌<◌, ℕ, All, length, nat_eq, Option, None, IfOk, OnOk, ⊤};
 ghost use Rattle.std.specs.HashMap.{get};
 ghost use Rattle.letter_diagram.specs.Diagram.{map_at, Grows};
 ghost use Rattle.letter_diagram.specs.Listed.{EachAnswers};
@@ -14,16 +14,21 @@ use std::collections::HashMap;
 trait Memo {
     ghost answer: { Self → ℕ → Option ℕ };
 
+    /// Whether an answer for a node can be kept.
+    ghost has_room: { Self → ℕ → Type 0 };
+
     fn known(&self, node: Node) -> Option<Node>
         ensures { result ≡ answer self.now node };
 
     fn keep(&mut self, node: Node, made: Node) -> Result<(), AllocError>
-        ensures { OnOk result (AddsAnswer (answer self.old) (answer self.new) node made) };
+        ensures { OnOk result (AddsAnswer (answer self.old) (answer self.new) (has_room self.old node) node made) };
 }
 
 /// With room for each node, so that nothing is hashed.
 impl Memo for NodeMemo {
     ghost answer = { answer_of };
+
+    ghost has_room = { λ memo node. node < length memo };
 
     fn known(&self, node: Node) -> Option<Node> {
         self.get(node)
@@ -38,6 +43,8 @@ impl Memo for NodeMemo {
 /// With room for the nodes that are met.
 impl Memo for HashMap<Node, Node> {
     ghost answer = { get nat_eq };
+
+    ghost has_room = { λ memo node. ⊤ };
 
     fn known(&self, node: Node) -> Option<Node> {
         self.get(&node).copied()
