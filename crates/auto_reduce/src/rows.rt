@@ -26,7 +26,7 @@ pub fn picked(alloc: Global, rows: &[Node], order: &[u32]) -> Result<Vec<Node>, 
     requires { All (λ state. state < length rows.now) order.now }
     ensures { IfOk result (λ picked. ArePicked rows.now order.now picked.items) }
 {
-    let mut picked = Vec::new(alloc);
+    let mut picked = Vec::with_capacity(alloc, order.len())?;
     for state in order {
         picked.push(rows[*state as usize])?;
     }
