@@ -1,21 +1,15 @@
 -- Rows that are led again, and those whose nodes still lead to the right classes.
 use Rattle.std.proofs.Common.{◌≡◌, ◌≢◌, ◌⊎◌, ℕ, ◌<◌, ◌+◌, List, [], ◌∷◌, ◌++◌, length, get_or, set, Some, All, Contains, arith, sym, ap, ◌∙◌, subst, inl, inr}
 use Rattle.std.proofs.lemmas.Bool.{cases_eq, cases_lt}
-use Rattle.std.proofs.lemmas.Bool.Decides.{Decides-eqb}
 use Rattle.std.proofs.lemmas.List.{get_or_read, get_or_default, get_or-set_same, get_or-set_other}
 use Rattle.std.proofs.lemmas.List.Elements.{All-get_or, All-from_get_or, Contains-append_left, Contains-get_or, Contains-push}
 use Rattle.std.proofs.lemmas.Option.{slice_get-get_or, get_or_from_slice_get}
-use Rattle.std.proofs.lemmas.Map.Made.{is_member-Decides}
 use Rattle.letter_diagram.specs.declared.diagrams.Shape.{Shape}
-use Rattle.letter_diagram.specs.Diagram.{Grows}
 use Rattle.letter_diagram.specs.Listed.{EachAnswers}
-use Rattle.letter_diagram.proofs.Narrow.{LooksBelow-grows}
-use Rattle.auto_core.specs.Automaton.{Automaton, IsAutomaton, width, next_state}
-use Rattle.auto_reduce.proofs.States.{next_within}
+use Rattle.auto_core.specs.Automaton.{Automaton, next_state}
 use Rattle.auto_reduce.specs.Leading.{IsLedFrom}
 use Rattle.auto_reduce.specs.Quotient.{ArePicked, AreMembers}
-use Rattle.auto_reduce.specs.Partition.{IsLed, IsShared, IsFiner, IsListing, AreSettled, KeepsOthers, AreRowNodes, AreLedRows, AreStale, IsPut, AreLedAgain}
-use Rattle.auto_reduce.proofs.Counting.{decided}
+use Rattle.auto_reduce.specs.Partition.{IsLed, IsShared, IsListing, AreSettled, AreRowNodes, AreLedRows, IsPut, AreLedAgain}
 use Rattle.auto_reduce.proofs.Rounds.{IsLed-from}
 
 -- ---- states whose rows are to be led again

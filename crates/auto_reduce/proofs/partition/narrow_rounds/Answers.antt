@@ -1,4 +1,4 @@
-use Rattle.std.proofs.Common.{rules, ◌≡◌, ◌<◌, length, subst, sym}
+use Rattle.std.proofs.Common.{rules, ◌<◌, length, subst, sym}
 use Rattle.std.specs.List.{Contains}
 use Rattle.auto_reduce.specs.Refining.{IsRefined}
 use Rattle.auto_reduce.proofs.Rounds.{count_le-size}

@@ -1,4 +1,4 @@
-use Rattle.std.proofs.Common.{◌<◌, ◌≡◌, rules, arith, length, subst}
+use Rattle.std.proofs.Common.{◌≡◌, rules, arith, length, subst}
 use Rattle.std.specs.List.{Contains}
 use Rattle.std.proofs.lemmas.List.Elements.{Contains-get_or}
 use Rattle.auto_reduce.proofs.stale.sharing_states.Goals as goal
