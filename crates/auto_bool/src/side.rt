@@ -1,7 +1,6 @@
 //! One side of a product: the rows of an automaton, read over the tracks of both.
-ghost use Rattle.std.specs.Prelude.{◌≡◌, ◌<◌, ◌≤◌, ◌∷◌, length, All, IfOk};
-ghost use Rattle.letter_diagram.specs.Diagram.{Grows, LooksBelow};
-ghost use Rattle.auto_core.specs.Rows.{IsOverNodes};
+ghost use Rattle.std.specs.Prelude.{◌≤◌, length, IfOk};
+ghost use Rattle.letter_diagram.specs.Diagram.{Grows};
 ghost use Rattle.auto_bool.specs.Sides.{IsSide, AreAmong};
 
 use crate::tracks::places_of;
@@ -9,19 +8,6 @@ use auto_core::Auto;
 use letter_diagram::{Diagrams, Node};
 use std::alloc::{AllocError, Global};
 use track_word::Var;
-
-/// The node of the first row, then the nodes of the states' rows.
-fn all_nodes(alloc: Global, a: &Auto) -> Result<Vec<Node>, AllocError>
-    ensures nodes { IfOk result (λ nodes. nodes.items ≡ a.now.first_node ∷ a.now.row_nodes) }
-    ensures over { IsOverNodes a.now }
-{
-    let _ = a.diagrams();
-    let mut nodes = vec![in alloc; a.first_node()]?;
-    for state in 0..a.states() {
-        nodes.push(a.row_node(state))?;
-    }
-    Ok(nodes)
-}
 
 /// Nodes in `diagrams` that give the rows of an automaton over more tracks: that of the first row, then those of the states.
 pub fn side(
@@ -36,7 +22,7 @@ pub fn side(
     ensures grows { Grows diagrams.old diagrams.new }
 {
     let places = places_of(alloc, all, a.tracks())?;
-    let nodes = all_nodes(alloc, a)?;
+    let nodes = a.all_nodes(alloc)?;
     let nodes = diagrams.bring_relabelled(a.diagrams(), nodes.as_slice(), places.as_slice())?;
     Ok(nodes)
 }

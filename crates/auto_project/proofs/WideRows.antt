@@ -10,9 +10,9 @@ use Rattle.std.proofs.lemmas.Option.{slice_get-get_or, slice_get_within, get_or_
 use Rattle.track_word.specs.declared.tracks.Var.{Var}
 use Rattle.track_word.specs.Tracks.{without_var, place, restrict}
 use Rattle.letter_diagram.specs.declared.diagrams.Shape.{Shape}
-use Rattle.letter_diagram.specs.Diagram.{map_at, Grows, LooksBelow}
+use Rattle.letter_diagram.specs.Diagram.{map_at, Grows}
 use Rattle.letter_diagram.specs.Sets.{set_at, SetsKept}
-use Rattle.letter_diagram.specs.Relabelled.{relabelled, IsRelabelled}
+use Rattle.letter_diagram.specs.Relabelled.{relabelled}
 use Rattle.letter_diagram.specs.Listed.{EachAnswers}
 use Rattle.letter_diagram.specs.Restricted.{IsWithBit}
 use Rattle.letter_diagram.specs.Merged.{HasSets, IsMerged}
@@ -20,6 +20,7 @@ use Rattle.letter_diagram.proofs.Canonical.{flip, bit_at-flip_same, bit_at-flip_
 use Rattle.auto_core.specs.Automaton.{Automaton, IsAutomaton, width, first_state, next_state}
 use Rattle.auto_core.specs.Rows.{IsOverNodes}
 use Rattle.auto_core.proofs.RowLemmas.{get_or-row_of, get_or-rows_of}
+use Rattle.auto_core.proofs.Renamed.{AreRenamed}
 use Rattle.auto_bool.proofs.TrackLemmas.{relabelled-places, restrict-below}
 use Rattle.auto_project.specs.Lifted.{ReadsAs, Begins, Follows}
 use Rattle.auto_project.specs.Subsets.{lengthened}
@@ -45,32 +46,21 @@ module _ (a : Automaton) (valid : IsAutomaton a) (over : IsOverNodes a) (some : 
         reads = λ letter. reads letter ∙ says (restrict some a.tracks letter) (restrict-below some a.tracks letter);
       }
 
-  pub HasWideRows-made : (copy mid shapes : List Shape) (places nodes rows : List ℕ) (node first : ℕ) → copy ≡ a.shapes → places ≡ map (place some) a.tracks → nodes ≡ a.row_nodes → node ≡ a.first_node → Grows copy mid → Grows mid shapes
-      → EachAnswers (IsRelabelled mid places) nodes rows → first < length shapes → ((letter : ℕ) → map_at shapes first letter ≡ map_at mid node (relabelled places letter)) → HasWideRows shapes a some first rows
-  HasWideRows-made copy mid shapes places nodes rows node first same_shapes same_places same_nodes same_node grows more each known maps =
-      let g = subst (λ old. Grows old mid) same_shapes grows in
-      let e = subst (λ p. EachAnswers (IsRelabelled mid p) a.row_nodes rows) same_places (subst (λ l. EachAnswers (IsRelabelled mid places) l rows) same_nodes each) in
-      record {
-        valid = valid;
-        first_row = IsWideRow-made shapes a.first_node first (first_state a) known over.nodes.first_within first-map (λ letter.
-            maps letter ∙ ap (λ n. map_at mid n (relabelled places letter)) same_node ∙ g.map a.first_node (relabelled places letter) over.nodes.first_known
-            ∙ ap (λ p. map_at a.shapes a.first_node (relabelled p letter)) same_places);
-        state_rows = record {
-          size = e.size ∙ over.nodes.rows_size;
-          each = λ state r at.
-              let h = slice_get_within rows state r at in
-              let size = e.size in
-              let known_row : state < length a.row_nodes = omega (arith, h, size) in
-              let here = get_or_from_slice_get rows state r 0 at in
-              let is = e.each state known_row in
-              IsWideRow-made shapes (get_or a.row_nodes state 0) r (next_state a state) (let k = is.known in let l = more.longer in let k' = subst (λ n. n < length mid) here k in omega (arith, k', l)) (over.nodes.rows_within state 0 known_row) (λ letter below. row-map state letter known_row below)
-              (λ letter. ap (λ n. map_at shapes n letter) (sym here) ∙ more.map (get_or rows state 0) letter is.known ∙ is.map letter ∙ g.map (get_or a.row_nodes state 0) (relabelled (map (place some) a.tracks) letter) (over.nodes.rows_known state 0 known_row));
-        };
-      }
-
-pub all-narrow : (shapes copy : List Shape) (nodes listed : List ℕ) (bound bound' : ℕ) → copy ≡ shapes → listed ≡ nodes → bound' ≡ bound → All (λ node. LooksBelow shapes node bound) nodes → All (λ node. LooksBelow copy node bound') listed
-all-narrow shapes copy nodes listed bound bound' same same_nodes same_bound all =
-    subst (λ n. All (λ node. LooksBelow copy node n) listed) (sym same_bound) (subst (λ s. All (λ node. LooksBelow s node bound) listed) (sym same) (subst (All (λ node. LooksBelow shapes node bound)) (sym same_nodes) all))
+  pub HasWideRows-renamed : (shapes : List Shape) (first : ℕ) (rows : List ℕ) → AreRenamed a shapes (map (place some) a.tracks) first rows → HasWideRows shapes a some first rows
+  HasWideRows-renamed shapes first rows are = record {
+    valid = valid;
+    first_row = IsWideRow-made shapes a.first_node first (first_state a) are.first_known over.nodes.first_within first-map are.first_is;
+    state_rows = record {
+      size = are.count ∙ over.nodes.rows_size;
+      each = λ state node at.
+          let within = slice_get_within rows state node at in
+          let count = are.count in
+          let known : state < length a.row_nodes = omega (arith, within, count) in
+          let here = get_or_from_slice_get rows state node 0 at in
+          IsWideRow-made shapes (get_or a.row_nodes state 0) node (next_state a state) (subst (λ n. n < length shapes) here (are.rows_known state known)) (over.nodes.rows_within state 0 known) (λ letter below. row-map state letter known below)
+          (λ letter. ap (λ n. map_at shapes n letter) (sym here) ∙ are.rows_are state letter known);
+    };
+  }
 
 module _ (a : Automaton) (x : Var) (valid : IsAutomaton a) where
   only-single : (m n : ℕ) → Contains (m ∷ []) n → m ≡ n
@@ -267,9 +257,3 @@ module _ (a : Automaton) (x : Var) (valid : IsAutomaton a) where
 
   pub wide-rows-sets : (shapes : List Shape) (sets : List (List ℕ)) (rows : List ℕ) → AreSingletons sets (length a.accept) → AreWideRows shapes a (without_var x a.tracks) rows → All (HasSets shapes sets) rows
   wide-rows-sets shapes sets rows singles wide = All-from_get_or (HasSets shapes sets) rows 0 (λ i h. wide-sets shapes sets (get_or rows i 0) (next_state a i) singles (wide.each i (get_or rows i 0) (slice_get-get_or rows i 0 h)))
-
--- the first node, as more nodes are known
-pub one-narrow : (shapes copy mid : List Shape) (own node bound bound' : ℕ) → copy ≡ shapes → Grows copy mid → node ≡ own → bound' ≡ bound → own < length shapes → LooksBelow shapes own bound → LooksBelow mid node bound'
-one-narrow shapes copy mid own node bound bound' same grows same_node same_bound known narrow =
-    let g = subst (λ old. Grows old mid) same grows in
-    subst (LooksBelow mid node) (sym same_bound) (subst (λ n. LooksBelow mid n bound) (sym same_node) (record { same = λ x y agree. g.map own x known ∙ narrow.same x y agree ∙ sym (g.map own y known) }))

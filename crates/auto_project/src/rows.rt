@@ -38,9 +38,10 @@ fn wide_rows(alloc: Global, a: &Auto, tracks: &[Var]) -> Result<StateRows, Alloc
     ensures rows { IfOk result (λ wide. HasWideRows wide.diagrams a.now tracks.now wide.first wide.rows.items) }
 {
     let places = places_of(alloc, tracks, a.tracks())?;
-    let mut diagrams = a.diagrams().copy()?;
-    let rows = diagrams.relabel_all(a.row_nodes(), places.as_slice())?;
-    let first = diagrams.relabel(a.first_node(), places.as_slice())?;
+    let nodes = a.all_nodes(alloc)?;
+    let mut diagrams = Diagrams::with_capacity(alloc, a.diagrams().len())?;
+    let mut rows = diagrams.bring_relabelled(a.diagrams(), nodes.as_slice(), places.as_slice())?;
+    let first = rows.remove(0);
     Ok(StateRows {
         diagrams,
         first,

@@ -1,5 +1,6 @@
 -- Maps of other nodes, led through a table, as nodes are added.
 use Rattle.std.proofs.Common.{◌≡◌, ℕ, ◌<◌, ◌≤◌, Bool, true, false, List, length, get_or, nat_eq, Option, Some, arith, refl, sym, ap, ◌∙◌, subst, inl, inr, if◌then◌else◌}
+use Rattle.std.specs.Bool.{⊤}
 use Rattle.std.specs.Int.{bit_at}
 use Rattle.std.specs.HashMap.{HashMap, get, Updates}
 use Rattle.std.proofs.lemmas.Grind.{common_steps}
@@ -25,8 +26,8 @@ IsLedFrom-grows from old new table a r grows is =
 pub RemembersLed-grows : (from old new : List Shape) (table : List ℕ) (answer : ℕ → Option ℕ) → Grows old new → RemembersLed from old table answer → RemembersLed from new table answer
 RemembersLed-grows from old new table answer grows all = record { led = λ a r at. IsLedFrom-grows from old new table a r grows (all.led a r at) }
 
-pub RemembersLed-adds : (from shapes : List Shape) (table : List ℕ) (answer new : ℕ → Option ℕ) (a r : ℕ) → RemembersLed from shapes table answer → AddsAnswer answer new a r → IsLedFrom from shapes table a r → RemembersLed from shapes table new
-RemembersLed-adds from shapes table answer new a r all adds is = record {
+pub RemembersLed-adds : (from shapes : List Shape) (table : List ℕ) (answer new : ℕ → Option ℕ) (has_room : Type 0) (a r : ℕ) → RemembersLed from shapes table answer → AddsAnswer answer new has_room a r → IsLedFrom from shapes table a r → RemembersLed from shapes table new
+RemembersLed-adds from shapes table answer new has_room a r all adds is = record {
   led = λ b s at. elim (adds.only b s at) [
     | inl before ↦ all.led b s before
     | inr here ↦ rw (here.0, here.1) is
@@ -34,12 +35,14 @@ RemembersLed-adds from shapes table answer new a r all adds is = record {
 }
 
 -- an answer that a hashed memo keeps
-pub AddsAnswer-updates : {S : Type 0} (memo new : HashMap ℕ ℕ S) (a r : ℕ) → Updates nat_eq memo new a (Some r) → AddsAnswer (get nat_eq memo) (get nat_eq new) a r
+pub AddsAnswer-updates : {S : Type 0} (memo new : HashMap ℕ ℕ S) (a r : ℕ) → Updates nat_eq memo new a (Some r) → AddsAnswer (get nat_eq memo) (get nat_eq new) ⊤ a r
 AddsAnswer-updates memo new a r updates = record {
   only = λ b s at. elim (cases_eq a b) [
     | inl e ↦ inr (sym e, grind (arith, common_steps, updates.1, at, e))
     | inr ne ↦ inl (grind (arith, common_steps, updates.0 b, at, ne))
   ];
+  here = λ room. grind (arith, common_steps, updates.1);
+  others = λ other apart. grind (arith, common_steps, updates.0 other, apart);
 }
 
 -- a table's entry at one of two values

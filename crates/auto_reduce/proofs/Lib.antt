@@ -5,6 +5,7 @@ pub mod Splits
 pub mod Placed
 pub mod Climbs
 pub mod Stales
+pub mod Refinings
 pub mod Counting
 pub mod Rounds
 pub mod RowNodes

@@ -1,10 +1,10 @@
 -- The automaton over the places of an order of canonical states, and what it accepts.
-use Rattle.std.proofs.Common.{◌≡◌, ◌≢◌, ◌↔◌, ℕ, zero, suc, ◌<◌, ◌%◌, ◌^◌, Bool, List, [], ◌∷◌, length, get_or, Contains, AllPairs, All, arith, refl, sym, ap, ◌∙◌, subst, inl, inr}
+use Rattle.std.proofs.Common.{◌≡◌, ◌≢◌, ◌↔◌, ℕ, zero, suc, ◌<◌, ◌%◌, ◌^◌, Bool, List, [], ◌∷◌, length, get_or, drop, Contains, AllPairs, All, arith, refl, sym, ap, ◌∙◌, subst, inl, inr}
 use Rattle.std.proofs.lemmas.Bool.{cases_order}
-use Rattle.std.proofs.lemmas.List.Elements.{All-head, All-tail, All-get_or, All-from_get_or}
+use Rattle.std.proofs.lemmas.List.Elements.{All-cons, All-head, All-tail, All-get_or, All-from_get_or}
 use Rattle.track_word.specs.Word.{IsWord}
 use Rattle.letter_diagram.specs.declared.diagrams.Shape.{Shape}
-use Rattle.letter_diagram.specs.Diagram.{map_at, LooksBelow, Grows}
+use Rattle.letter_diagram.specs.Diagram.{map_at, LooksBelow}
 use Rattle.letter_diagram.specs.Listed.{EachAnswers}
 use Rattle.auto_core.specs.Automaton.{Automaton, width, first_state, next_state, run, state_of, is_final, Accepts}
 use Rattle.auto_core.specs.Reduced.{IsReduced, ToldApart}
@@ -15,7 +15,6 @@ use Rattle.auto_reduce.specs.Quotient.{IsCanonical, IsMet, IsOrder, AreNumbers, 
 use Rattle.auto_reduce.specs.Numbering.{IsQuotient}
 use Rattle.auto_reduce.proofs.States.{first_within, next_within, state_within, run_within}
 use Rattle.auto_reduce.proofs.Orders.{place_in}
-use Rattle.auto_reduce.proofs.Leadings.{IsLedFrom-grows}
 use Rattle.auto_reduce.proofs.Leads.{LeadsTo, leads_low, leads-first, leads-row, canon_within, order_within, order_few, order_some}
 use Rattle.auto_reduce.proofs.Stales.{All-picked}
 
@@ -107,7 +106,14 @@ module _ (a : Automaton) (canon : List ℕ) (shapes : List Shape) (order numbers
         same_default (x ∷ xs) (suc k) h = same_default xs k (omega (arith, h))
         same_default [] k h = absurd (omega (arith, h))
 
--- the rows of the states of an order, led to the numbers of their canonical states
+each-first : (R : ℕ → ℕ → Type 0) (node : ℕ) (nodes answers : List ℕ) → EachAnswers R (node ∷ nodes) answers → R node (get_or answers 0 0)
+each-first R node nodes answers all = all.each 0 (omega arith)
+
+each-rest : (R : ℕ → ℕ → Type 0) (node : ℕ) (nodes answers : List ℕ) → EachAnswers R (node ∷ nodes) answers → EachAnswers R nodes (drop 1 answers)
+each-rest R node nodes [] all = let size = all.size in absurd (omega (arith, size))
+each-rest R node nodes (answer ∷ answers) all = let size = all.size in record { size = omega (arith, size); each = λ i within. all.each (suc i) (omega (arith, within)) }
+
+-- the first row and the rows of the states of an order, led to the numbers of their canonical states
 module _ (a : Automaton) (canon order numbers table picked : List ℕ) (over : IsOverNodes a) (c : IsCanonical a canon) (o : IsOrder a canon order) (n : AreNumbers order (length a.accept) numbers)
     (t : AreClassNumbers canon numbers table) (is_picked : ArePicked a.row_nodes order picked) where
   states_within : All (λ state. state < length a.row_nodes) order
@@ -116,11 +122,12 @@ module _ (a : Automaton) (canon order numbers table picked : List ℕ) (over : I
   pub table_size : length table ≡ length a.accept
   table_size = t.size ∙ c.size
 
-  pub picked_known : All (λ node. node < length a.shapes) picked
-  picked_known = All-picked (λ node. node < length a.shapes) a.row_nodes order picked is_picked states_within over.nodes.rows_known
+  pub all_known : All (λ node. node < length a.shapes) (a.first_node ∷ picked)
+  all_known = All-cons (λ node. node < length a.shapes) a.first_node picked over.nodes.first_known (All-picked (λ node. node < length a.shapes) a.row_nodes order picked is_picked states_within over.nodes.rows_known)
 
-  pub picked_in_table : All (λ node. (letter : ℕ) → map_at a.shapes node letter < length table) picked
-  picked_in_table = rw table_size (All-picked (λ node. (letter : ℕ) → map_at a.shapes node letter < length a.accept) a.row_nodes order picked is_picked states_within over.nodes.rows_within)
+  pub all_in_table : All (λ node. (letter : ℕ) → map_at a.shapes node letter < length table) (a.first_node ∷ picked)
+  all_in_table = rw table_size (All-cons (λ node. (letter : ℕ) → map_at a.shapes node letter < length a.accept) a.first_node picked over.nodes.first_within
+      (All-picked (λ node. (letter : ℕ) → map_at a.shapes node letter < length a.accept) a.row_nodes order picked is_picked states_within over.nodes.rows_within))
 
   numbered : (shapes : List Shape) (node made : ℕ) → ((letter : ℕ) → map_at a.shapes node letter < length a.accept) → IsLedFrom a.shapes shapes table node made → IsNumbered shapes (entry_at canon a.shapes node) numbers made
   numbered shapes node made within l = record {
@@ -128,27 +135,29 @@ module _ (a : Automaton) (canon order numbers table picked : List ℕ) (over : I
     map = λ letter. l.map letter ∙ t.at (map_at a.shapes node letter) (let w = within letter in let s = c.size in omega (arith, w, s));
   }
 
-  module _ (mid shapes : List Shape) (g : Grows mid shapes) (first' : ℕ) (rows' : List ℕ) (f : IsLedFrom a.shapes mid table a.first_node first') (each : EachAnswers (IsLedFrom a.shapes shapes table) picked rows')
-      (flags : List Bool) (are_flags : AreFlags a order flags) where
-    numbered_first : IsNumbered shapes (entry_at canon a.shapes a.first_node) numbers first'
-    numbered_first = numbered shapes a.first_node first' over.nodes.first_within (IsLedFrom-grows a.shapes mid shapes table a.first_node first' g f)
+  module _ (shapes : List Shape) (answers : List ℕ) (led : EachAnswers (IsLedFrom a.shapes shapes table) (a.first_node ∷ picked) answers) (flags : List Bool) (are_flags : AreFlags a order flags) where
+    each : EachAnswers (IsLedFrom a.shapes shapes table) picked (drop 1 answers)
+    each = each-rest (IsLedFrom a.shapes shapes table) a.first_node picked answers led
 
-    numbered_row : (k : ℕ) → k < length order → IsNumbered shapes (entry_at canon a.shapes (get_or a.row_nodes (get_or order k 0) 0)) numbers (get_or rows' k 0)
+    numbered_first : IsNumbered shapes (entry_at canon a.shapes a.first_node) numbers (get_or answers 0 0)
+    numbered_first = numbered shapes a.first_node (get_or answers 0 0) over.nodes.first_within (each-first (IsLedFrom a.shapes shapes table) a.first_node picked answers led)
+
+    numbered_row : (k : ℕ) → k < length order → IsNumbered shapes (entry_at canon a.shapes (get_or a.row_nodes (get_or order k 0) 0)) numbers (get_or (drop 1 answers) k 0)
     numbered_row k h =
         let node = get_or a.row_nodes (get_or order k 0) 0 in
         let state : get_or order k 0 < length a.row_nodes = All-get_or (λ s. s < length a.row_nodes) order k 0 h states_within in
         let within = All-get_or (λ n. (letter : ℕ) → map_at a.shapes n letter < length a.accept) a.row_nodes (get_or order k 0) 0 state over.nodes.rows_within in
-        numbered shapes node (get_or rows' k 0) within
-        (subst (λ n. IsLedFrom a.shapes shapes table n (get_or rows' k 0)) (is_picked.at k h) (each.each k (let s = is_picked.size in omega (arith, h, s))))
+        numbered shapes node (get_or (drop 1 answers) k 0) within
+        (subst (λ n. IsLedFrom a.shapes shapes table n (get_or (drop 1 answers) k 0)) (is_picked.at k h) (each.each k (let s = is_picked.size in omega (arith, h, s))))
 
-    row_count : length rows' ≡ length order
+    row_count : length (drop 1 answers) ≡ length order
     row_count = each.size ∙ is_picked.size
 
-    pub AreRows-made : AreRows a.tracks shapes first' rows' flags
-    AreRows-made = AreRows-quotient a canon shapes order numbers c o n over first' rows' flags numbered_first row_count numbered_row are_flags
+    pub AreRows-made : AreRows a.tracks shapes (get_or answers 0 0) (drop 1 answers) flags
+    AreRows-made = AreRows-quotient a canon shapes order numbers c o n over (get_or answers 0 0) (drop 1 answers) flags numbered_first row_count numbered_row are_flags
 
-    pub IsQuotientBy-made : IsQuotientBy a canon order (dense a.tracks shapes first' rows' flags)
-    IsQuotientBy-made = IsQuotientBy-dense a canon shapes order numbers c o n over first' rows' flags numbered_first row_count numbered_row are_flags
+    pub IsQuotientBy-made : IsQuotientBy a canon order (dense a.tracks shapes (get_or answers 0 0) (drop 1 answers) flags)
+    IsQuotientBy-made = IsQuotientBy-dense a canon shapes order numbers c o n over (get_or answers 0 0) (drop 1 answers) flags numbered_first row_count numbered_row are_flags
 
 module _ (a : Automaton) (canon order : List ℕ) (m : Automaton) (q : IsQuotientBy a canon order m) where
   -- letters lead from the place of a canonical state to the place of a canonical state

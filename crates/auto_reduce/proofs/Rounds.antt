@@ -14,8 +14,8 @@ use Rattle.auto_core.proofs.RowLemmas.{map_at-narrow}
 use Rattle.auto_core.specs.Automaton.{Automaton, IsAutomaton, width, next_state, is_final}
 use Rattle.auto_reduce.proofs.States.{next_within}
 use Rattle.auto_reduce.specs.Leading.{IsLedFrom}
-use Rattle.auto_reduce.specs.Partition.{IsLed, IsPartition, IsSplit, AreRowNodes, AreLedRows, IsFiner, IsRound, IsFlag, IsSound, IsCoarsest}
-use Rattle.auto_reduce.proofs.Counting.{length_le-below, count_grows, count_grows_by_split}
+use Rattle.auto_reduce.specs.Partition.{IsLed, IsPartition, IsSplit, AreRowNodes, AreLedRows, IsFiner, IsRound, IsFlag, IsSound}
+use Rattle.auto_reduce.proofs.Counting.{length_le-below}
 
 -- ---- a round
 -- a row that is led to classes leads letters to the classes of the next states
@@ -188,24 +188,3 @@ module _ (a : Automaton) (is : IsAutomaton a) (old new : List ℕ) (count count'
 
   pub IsFiner-round : IsFiner old new
   IsFiner-round = record { same = λ j k jw kw e. let states = r.partition.states in finer j k (omega (arith, jw, states)) (omega (arith, kw, states)) e }
-
-  pub count_le-round : count ≤ count'
-  count_le-round = count_grows (length a.accept) old new count count' s.partition r.partition finer
-
-  -- where no class is split, states of one class lead to one class
-  unsplit : count' ≡ count → (j k letter : ℕ) → j < length a.accept → k < length a.accept → letter < width a → get_or old j 0 ≡ get_or old k 0 → get_or old (next_state a j letter) 0 ≡ get_or old (next_state a k letter) 0
-  unsplit full j k letter jw kw below same =
-      elim (cases_eq (get_or new j 0) (get_or new k 0)) [
-        | inl e ↦ ((r.same j k jw kw).0 e).1 letter below
-        | inr other ↦ let more = count_grows_by_split (length a.accept) old new count count' s.partition r.partition finer j k jw kw same other in absurd (omega (arith, more, full))
-      ]
-
-  pub IsCoarsest-round : count' ≡ count → IsCoarsest a new count'
-  IsCoarsest-round full = record {
-    sound = IsSound-round;
-    steps = λ j k letter jw kw below same.
-        let j_next = next_within a is j letter in
-        let k_next = next_within a is k letter in
-        let next = unsplit full j k letter jw kw below (finer j k jw kw same) in
-        (r.same (next_state a j letter) (next_state a k letter) j_next k_next).1 (next, λ other less. unsplit full (next_state a j letter) (next_state a k letter) other j_next k_next less next);
-  }

@@ -8,7 +8,7 @@ use Rattle.std.proofs.lemmas.Bool.Decides.{Decides-eqb}
 use Rattle.std.proofs.lemmas.Map.Made.{is_member-Decides}
 use Rattle.letter_diagram.specs.Numbering.{Numbers, PairsKept}
 use Rattle.auto_reduce.specs.Quotient.{AreMembers}
-use Rattle.auto_reduce.specs.Partition.{KeepsNumbers, KeepsOthers, IsSplit, IsAttained, IsPartition, IsListing, AreListed, AreSettled, AreCandidates, IsMove, AreMoves, IsPut, chosen_node}
+use Rattle.auto_reduce.specs.Partition.{KeepsOthers, IsSplit, IsAttained, IsPartition, IsListing, AreListed, AreSettled, AreCandidates, IsMove, AreMoves, IsPut, chosen_node}
 use Rattle.auto_reduce.proofs.Counting.{decided, length_le-below}
 
 -- the last of a list
@@ -58,6 +58,13 @@ signatures_few classes representatives nodes count signatures states numbers fir
         let alike : get_or firsts i 0 ≡ get_or firsts j 0 = get_or_default firsts i 0 e (omega (arith, less, within)) ∙ same ∙ get_or_default firsts j e 0 within in
         let place = one_place signatures m.unrepeated _ _ _ one.is (two.is ∙ ap (λ s. Some (get_or classes s 0, get_or nodes s 0)) (sym alike)) in
         omega (arith, place, less)
+
+-- a state that moves has a signature
+pub signatures_some : (classes representatives nodes : List ℕ) (count : ℕ) (signatures : List (ℕ × ℕ)) (states numbers firsts : List ℕ) → AreMoves classes representatives nodes count signatures states numbers firsts
+    → 0 < length states → 0 < length signatures
+signatures_some classes representatives nodes count signatures states numbers firsts m some =
+    let inside = slice_get_within signatures _ _ (m.each 0 some).is in
+    omega (arith, inside)
 
 module _ (classes representatives nodes : List ℕ) (count : ℕ) (old new : List (ℕ × ℕ)) (states numbers firsts : List ℕ) (m : AreMoves classes representatives nodes count old states numbers firsts)
     (kept : PairsKept old new) (unrepeated : AllPairs (λ p q. p ≢ q) new) (state place class node own : ℕ) (within : state < length classes)
@@ -269,14 +276,6 @@ module _ (size : ℕ) (current nodes own : List ℕ) (count : ℕ) (signatures :
       attained = attained;
     };
     same = same_part;
-  }
-
-  pub KeepsNumbers-moved : KeepsNumbers current count classes
-  KeepsNumbers-moved = record {
-    kept = λ j within less. elim (cases_eq (get_or nodes j 0) (chosen_node current own nodes j)) [
-      | inl is ↦ stays j within is
-      | inr not ↦ let least = (moves j within not).least in absurd (omega (arith, least, less))
-    ];
   }
 
   pub KeepsOthers-moved : KeepsOthers current classes states

@@ -1,21 +1,15 @@
 -- Rows that are led again, and those whose nodes still lead to the right classes.
 use Rattle.std.proofs.Common.{◌≡◌, ◌≢◌, ◌⊎◌, ℕ, ◌<◌, ◌+◌, List, [], ◌∷◌, ◌++◌, length, get_or, set, Some, All, Contains, arith, sym, ap, ◌∙◌, subst, inl, inr}
 use Rattle.std.proofs.lemmas.Bool.{cases_eq, cases_lt}
-use Rattle.std.proofs.lemmas.Bool.Decides.{Decides-eqb}
 use Rattle.std.proofs.lemmas.List.{get_or_read, get_or_default, get_or-set_same, get_or-set_other}
 use Rattle.std.proofs.lemmas.List.Elements.{All-get_or, All-from_get_or, Contains-append_left, Contains-get_or, Contains-push}
 use Rattle.std.proofs.lemmas.Option.{slice_get-get_or, get_or_from_slice_get}
-use Rattle.std.proofs.lemmas.Map.Made.{is_member-Decides}
 use Rattle.letter_diagram.specs.declared.diagrams.Shape.{Shape}
-use Rattle.letter_diagram.specs.Diagram.{Grows}
 use Rattle.letter_diagram.specs.Listed.{EachAnswers}
-use Rattle.letter_diagram.proofs.Narrow.{LooksBelow-grows}
-use Rattle.auto_core.specs.Automaton.{Automaton, IsAutomaton, width, next_state}
-use Rattle.auto_reduce.proofs.States.{next_within}
+use Rattle.auto_core.specs.Automaton.{Automaton, next_state}
 use Rattle.auto_reduce.specs.Leading.{IsLedFrom}
 use Rattle.auto_reduce.specs.Quotient.{ArePicked, AreMembers}
-use Rattle.auto_reduce.specs.Partition.{IsLed, IsShared, IsFiner, IsListing, AreSettled, KeepsOthers, AreRowNodes, AreLedRows, AreStale, IsPut, AreLedAgain}
-use Rattle.auto_reduce.proofs.Counting.{decided}
+use Rattle.auto_reduce.specs.Partition.{IsLed, IsShared, IsListing, AreSettled, AreRowNodes, AreLedRows, IsPut, AreLedAgain}
 use Rattle.auto_reduce.proofs.Rounds.{IsLed-from}
 
 -- ---- states whose rows are to be led again
@@ -51,16 +45,12 @@ IsSorted-skip lists classes stale found turn state is alone before k less more =
       absurd (alone (subst (λ s. 1 < length (get_or lists (get_or classes s 0) [])) (ap (λ n. get_or found n 0) same ∙ sym is) more))
 ]
 
-pub AreStale-from : (a : Automaton) (classes moved found stale : List ℕ) (count : ℕ) (representatives : List ℕ) (lists : List (List ℕ)) → length classes ≡ length a.accept → IsListing classes count representatives lists
-    → ((state letter : ℕ) → state < length a.accept → letter < width a → Contains moved (next_state a state letter) → Contains found state)
-    → All (λ state. state < length a.accept) stale → ((turn : ℕ) → turn < length found → IsSorted lists classes stale (get_or found turn 0)) → AreStale a classes moved stale
-AreStale-from a classes moved found stale count representatives lists size l leads within sorted = record {
-  within = within;
-  rest = λ state letter known alike below there.
-      let f = leads state letter known below there in
-      let is : get_or found f.0 0 ≡ state = get_or_default found f.0 0 state f.1 ∙ f.2 in
-      subst (Contains stale) is (sorted f.0 f.1 (subst (λ s. 1 < length (get_or lists (get_or classes s 0) [])) (sym is) (shared_listed classes count representatives lists state l (omega (arith, known, size)) alike)));
-}
+pub sorted_all : (found stale classes : List ℕ) (count : ℕ) (representatives : List ℕ) (lists : List (List ℕ)) → IsListing classes count representatives lists → All (λ state. state < length classes) found
+    → ((turn : ℕ) → turn < length found → IsSorted lists classes stale (get_or found turn 0)) → (state : ℕ) → Contains found state → IsShared classes state → Contains stale state
+sorted_all found stale classes count representatives lists l within sorted state there alike =
+    let is : get_or found there.0 0 ≡ state = get_or_default found there.0 0 state there.1 ∙ there.2 in
+    let known : state < length classes = subst (λ s. s < length classes) is (All-get_or (λ s. s < length classes) found there.0 0 there.1 within) in
+    subst (Contains stale) is (sorted there.0 there.1 (subst (λ s. 1 < length (get_or lists (get_or classes s 0) [])) (sym is) (shared_listed classes count representatives lists state l known alike)))
 
 -- ---- values at their places
 -- a place has its value, or what it had if its turn has not come
@@ -125,29 +115,6 @@ AreLedRows-first a shapes rows classes led r size m = record {
   classes_size = size;
   size = m.size ∙ r.size;
   at = λ state within shared. IsLed-from a shapes rows classes state (get_or led state 0) r within (m.each state (let s = r.size in omega (arith, s, within)));
-}
-
--- what leads to classes leads to those of a finer partition where no state moved
-pub AreLedRows-follow : (a : Automaton) → IsAutomaton a → (shapes more : List Shape) (old new moved stale led next : List ℕ) → AreLedRows a shapes old led → Grows shapes more → length new ≡ length a.accept → IsFiner old new
-    → KeepsOthers old new moved → AreStale a new moved stale → AreLedAgain a more stale new led next → AreLedRows a more new next
-AreLedRows-follow a is shapes more old new moved stale led next l grows size finer others s again = record {
-  classes_size = size;
-  size = again.size ∙ l.size;
-  at = λ state within shared. elim (decided _ (is_member-Decides Decides-eqb stale state)) [
-    | inl there ↦ again.led state within there
-    | inr absent ↦
-        let in_new : state < length new = omega (arith, within, size) in
-        let other_in : shared.other < length old = let w = shared.within in let c = l.classes_size in omega (arith, w, c, size) in
-        let before = l.at state within (record { other = shared.other; within = other_in; differ = shared.differ; same = finer.same state shared.other in_new shared.within shared.same }) in
-        subst (λ node. IsLed a new more node (next_state a state)) (sym (again.kept state within absent)) (record {
-          known = let k = before.known in let g = grows.longer in omega (arith, k, g);
-          narrow = LooksBelow-grows shapes more _ (length a.tracks) before.known grows before.narrow;
-          leads = λ letter below.
-              let next = next_within a is state letter in
-              let stays = others.kept (next_state a state letter) (let c = l.classes_size in omega (arith, next, c)) (λ there. absent (s.rest state letter within shared below there)) in
-              grows.map (get_or led state 0) letter before.known ∙ before.leads letter below ∙ sym stays;
-        })
-  ];
 }
 
 -- states whose nodes were kept are as settled as they were

@@ -5,6 +5,7 @@ pub use Rattle.auto_core.specs.Reduced
 pub use Rattle.auto_core.specs.Integers
 pub mod Leading
 pub mod Partition
+pub mod Refining
 pub mod Quotient
 pub mod Unmet
 pub mod Numbering

@@ -76,10 +76,6 @@ pub record AreMoves (classes representatives nodes : List ℕ) (count : ℕ) (si
 pub record KeepsOthers (old new moved : List ℕ) : Type 0 where
   pub kept : (state : ℕ) → state < length old → ¬ Contains moved state → slice_index new state ≡ slice_index old state
 
--- a state whose new class is an old number has its old class
-pub record KeepsNumbers (old : List ℕ) (count : ℕ) (new : List ℕ) : Type 0 where
-  pub kept : (state : ℕ) → state < length old → slice_index new state < count → slice_index new state ≡ slice_index old state
-
 -- states of one class were in one class
 pub record IsFiner (old new : List ℕ) : Type 0 where
   pub same : (j k : ℕ) → j < length new → k < length new → slice_index new j ≡ slice_index new k → slice_index old j ≡ slice_index old k

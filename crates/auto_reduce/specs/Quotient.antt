@@ -1,5 +1,5 @@
 -- One state for all states that nothing tells apart, and the automaton over these in the order in which they are met.
-use Rattle.std.specs.Prelude.{◌≡◌, ◌≢◌, ℕ, ◌<◌, ◌≤◌, Bool, false, List, length, All, AllPairs, Contains, slice_index, slice_index_or}
+use Rattle.std.specs.Prelude.{◌≡◌, ◌≢◌, ℕ, ◌<◌, ◌≤◌, Bool, false, List, ◌∷◌, length, All, AllPairs, Contains, slice_index, slice_index_or}
 use Rattle.track_word.specs.Word.{IsWord}
 use Rattle.auto_core.specs.Automaton.{Automaton, IsAutomaton, width, first_state, next_state, state_of, is_final}
 use Rattle.auto_core.specs.Reduced.{ToldApart}
@@ -79,6 +79,12 @@ pub record IsQuotientBy (a : Automaton) (canon order : List ℕ) (m : Automaton)
 pub record ArePicked (rows order picked : List ℕ) : Type 0 where
   pub size : length picked ≡ length order
   pub at : (place : ℕ) → place < length order → slice_index picked place ≡ slice_index rows (slice_index order place)
+
+-- the node of the first row, then those of the rows of the states of an order
+pub record AreFirstAndPicked (a : Automaton) (order nodes : List ℕ) : Type 0 where
+  pub picked : List ℕ
+  pub are_picked : ArePicked a.row_nodes order picked
+  pub is : nodes ≡ a.first_node ∷ picked
 
 -- the flags of the states of an order
 pub record AreFlags (a : Automaton) (order : List ℕ) (flags : List Bool) : Type 0 where

@@ -15,7 +15,7 @@ pub fn canonical(alloc: Global, a: &Auto) -> Result<Vec<u32>, AllocError>
 {
     let partition = coarsest(alloc, a)?;
     let members = members(alloc, &partition)?;
-    let mut canon = Vec::new(alloc);
+    let mut canon = Vec::with_capacity(alloc, partition.classes.len())?;
     for class in partition.classes.as_slice() {
         canon.push(members[*class as usize])?;
     }

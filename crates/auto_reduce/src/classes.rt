@@ -1,5 +1,5 @@
 //! Partitions of the states into numbered classes.
-ghost use Rattle.std.specs.Prelude.{◌≡◌, ◌<◌, ◌^◌, length, IfOk};
+ghost use Rattle.std.specs.Prelude.{◌≡◌, ◌<◌, ◌≤◌, ◌^◌, ℕ, length, slice_index, IfOk};
 ghost use Rattle.auto_reduce.specs.Quotient.{AreMembers};
 ghost use Rattle.auto_reduce.specs.Partition.{IsPartition};
 
@@ -16,7 +16,8 @@ pub struct Partition {
 pub fn members(alloc: Global, partition: &Partition) -> Result<Vec<u32>, AllocError>
     requires partition { IsPartition (length partition.now.classes.items) partition.now.classes.items partition.now.count }
     requires few { length partition.now.classes.items < 2 ^ 31 }
-    ensures { IfOk result (λ members. AreMembers partition.now.classes.items partition.now.count members.items) }
+    ensures members { IfOk result (λ members. AreMembers partition.now.classes.items partition.now.count members.items) }
+    ensures first { IfOk result (λ members. (state : ℕ) → state < length partition.now.classes.items → slice_index members.items (slice_index partition.now.classes.items state) ≤ state) }
 {
     let mut members = vec![in alloc; 0u32; partition.count]?;
     for state in (0..partition.classes.len()).rev() {

@@ -1,5 +1,5 @@
 //! Nodes of one `Diagrams` with the maps of nodes of another, led through a table.
-ghost use Rattle.std.specs.Prelude.{◌≡◌, ◌<◌, ℕ, All, length, nat_eq, Option, None, IfOk, OnOk};
+ghost use Rattle.std.specs.Prelude.{◌≡◌, ◌<◌, ℕ, All, length, nat_eq, Option, None, IfOk, OnOk, ⊤};
 ghost use Rattle.std.specs.HashMap.{get};
 ghost use Rattle.letter_diagram.specs.Diagram.{map_at, Grows};
 ghost use Rattle.letter_diagram.specs.Listed.{EachAnswers};
@@ -14,16 +14,21 @@ use std::collections::HashMap;
 trait Memo {
     ghost answer: { Self → ℕ → Option ℕ };
 
+    /// Whether an answer for a node can be kept.
+    ghost has_room: { Self → ℕ → Type 0 };
+
     fn known(&self, node: Node) -> Option<Node>
         ensures { result ≡ answer self.now node };
 
     fn keep(&mut self, node: Node, made: Node) -> Result<(), AllocError>
-        ensures { OnOk result (AddsAnswer (answer self.old) (answer self.new) node made) };
+        ensures { OnOk result (AddsAnswer (answer self.old) (answer self.new) (has_room self.old node) node made) };
 }
 
 /// With room for each node, so that nothing is hashed.
 impl Memo for NodeMemo {
     ghost answer = { answer_of };
+
+    ghost has_room = { λ memo node. node < length memo };
 
     fn known(&self, node: Node) -> Option<Node> {
         self.get(node)
@@ -39,6 +44,8 @@ impl Memo for NodeMemo {
 impl Memo for HashMap<Node, Node> {
     ghost answer = { get nat_eq };
 
+    ghost has_room = { λ memo node. ⊤ };
+
     fn known(&self, node: Node) -> Option<Node> {
         self.get(&node).copied()
     }
@@ -49,24 +56,8 @@ impl Memo for HashMap<Node, Node> {
     }
 }
 
-/// The node in `to` that gives the entry of `table` at each value of a node of `from`.
-pub fn lead_node(
-    from: &Diagrams,
-    node: Node,
-    table: &[u32],
-    to: &mut Diagrams,
-) -> Result<Node, AllocError>
-    requires known { node < length from.now }
-    requires leaves { (letter : ℕ) → map_at from.now node letter < length table.now }
-    ensures led { IfOk result (IsLedFrom from.now to.new table.now node) }
-    ensures grows { Grows to.old to.new }
-{
-    let mut memo = NodeMemo::new(to.alloc(), from.len())?;
-    let made = led(from, node, table, to, &mut memo)?;
-    Ok(made)
-}
-
-/// The same of several nodes, in their order. What they share is done once.
+/// For each of several nodes of `from`, in their order, the node in `to` that gives the entry of `table` at each of its values.
+/// What they share is done once.
 /// Costs the nodes that are led, and a memo with room for each node of `from`.
 pub fn lead_nodes(
     from: &Diagrams,
@@ -114,7 +105,7 @@ fn each_led<M: Memo>(
     ensures led { IfOk result (λ answers. EachAnswers (IsLedFrom from.now to.new table.now) nodes.now answers.items) }
     ensures grows { Grows to.old to.new }
 {
-    let mut answers = Vec::new(to.alloc());
+    let mut answers = Vec::with_capacity(to.alloc(), nodes.len())?;
     for node in nodes {
         let answer = led(from, *node, table, to, memo)?;
         answers.push(answer)?;

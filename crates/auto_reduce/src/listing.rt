@@ -70,7 +70,7 @@ pub fn list_states(alloc: Global, partition: &Partition) -> Result<Listing, Allo
 {
     let representatives = members(alloc, partition)?;
     let states = all_states(alloc, partition.classes.len())?;
-    let mut lists = Vec::new(alloc);
+    let mut lists = Vec::with_capacity(alloc, partition.count)?;
     add_lists(alloc, &mut lists, partition.count)?;
     list_each(&mut lists, states.as_slice(), partition.classes.as_slice())?;
     Ok(Listing {
@@ -87,6 +87,7 @@ fn still_in(
     states: &[u32],
 ) -> Result<Vec<u32>, AllocError>
     requires { All (λ state. state < length partition.now.classes.items) states.now }
+    ensures only { IfOk result (λ kept. All (λ state. slice_index partition.now.classes.items state ≡ class) kept.items) }
     ensures fewer { IfOk result (λ kept. (state : ℕ) → Contains kept.items state → Contains states.now state) }
     ensures kept { IfOk result (λ kept. (state : ℕ) → Contains states.now state → slice_index partition.now.classes.items state ≡ class → Contains kept.items state) }
 {
@@ -108,6 +109,7 @@ pub fn prune(
 ) -> Result<(), AllocError>
     requires class { class < vec_len lists.old }
     requires within { (listed state : ℕ) → Contains (slice_index_or (map (λ list. list.items) lists.old.items) listed []) state → state < length partition.now.classes.items }
+    ensures only { OnOk result ((state : ℕ) → Contains (slice_index_or (map (λ list. list.items) lists.new.items) class []) state → slice_index partition.now.classes.items state ≡ class) }
     ensures pruned { OnOk result (ArePruned partition.now.classes.items (map (λ list. list.items) lists.old.items) (map (λ list. list.items) lists.new.items)) }
     ensures size { OnOk result (vec_len lists.new ≡ vec_len lists.old) }
 {

@@ -1,5 +1,5 @@
 //! States that move to new classes, as their nodes differ from those of the states that stand for their classes.
-ghost use Rattle.std.specs.Prelude.{◌≡◌, ◌≢◌, ◌<◌, ◌^◌, ◌+◌, ◌++◌, [], ℕ, All, Contains, length, map, slice_index, IfOk, OnOk};
+ghost use Rattle.std.specs.Prelude.{◌≡◌, ◌≢◌, ◌<◌, ◌^◌, ◌+◌, ◌++◌, [], ℕ, All, AllPairs, Contains, length, map, slice_index, IfOk, OnOk};
 ghost use Rattle.auto_reduce.specs.Partition.{IsPartition, IsListing, IsPut, AreCandidates, AreMoves, chosen_node};
 
 use crate::classes::Partition;
@@ -21,6 +21,7 @@ pub struct Moves {
 fn each_once(alloc: Global, count: usize, states: &[u32]) -> Result<Vec<u32>, AllocError>
     requires { All (λ state. state < count) states.now }
     ensures within { IfOk result (λ once. All (λ state. state < count) once.items) }
+    ensures different { IfOk result (λ once. AllPairs (λ j k. j ≢ k) once.items) }
     ensures all { IfOk result (λ once. (state : ℕ) → Contains states.now state → Contains once.items state) }
 {
     let mut seen = vec![in alloc; false; count]?;
@@ -48,7 +49,7 @@ fn with_repeats(
     ensures candidates { IfOk result (λ found. AreCandidates partition.now.classes.items representatives.now stale.now found.items) }
     ensures listing { OnOk result (IsListing partition.now.classes.items partition.now.count representatives.now (map (λ list. list.items) lists.new.items)) }
 {
-    let mut found = Vec::new(alloc);
+    let mut found = Vec::with_capacity(alloc, stale.len())?;
     for state in stale {
         let class = partition.classes[*state as usize];
         if representatives[class as usize] == *state {

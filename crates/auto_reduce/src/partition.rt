@@ -1,13 +1,14 @@
 //! The coarsest partition of the states that keeps flags and next states apart.
-ghost use Rattle.std.specs.Prelude.{◌≡◌, ◌<◌, ◌^◌, ◌+◌, ◌++◌, [], All, length, map, replicate, IfOk, OnOk};
+ghost use Rattle.std.specs.Prelude.{◌≡◌, ◌<◌, ◌≤◌, ◌^◌, ◌+◌, ◌++◌, [], All, Contains, length, map, replicate, IfOk, OnOk};
 ghost use Rattle.auto_core.specs.Automaton.{IsAutomaton};
-ghost use Rattle.auto_reduce.specs.Partition.{IsSplit, IsPartition, IsListing, AreListed, AreSettled, IsPut, KeepsOthers, IsRound, IsFlag, IsSound, IsCoarsest, AreLedRows, KeepsNumbers};
+ghost use Rattle.auto_reduce.specs.Refining.{IsLedTo, LeadsInto, IsRefined};
+ghost use Rattle.auto_reduce.specs.Partition.{IsSplit, IsPartition, IsListing, AreListed, AreSettled, IsPut, KeepsOthers, IsFlag, IsSound, IsCoarsest};
 
 use crate::classes::Partition;
 use crate::listing::{Listing, add_lists, all_states, list_each, list_states};
 use crate::moves::{Moves, candidates, find_moves, put_numbers};
 use crate::rows::row_nodes;
-use crate::stale::{lead, lead_again, stale_states};
+use crate::stale::{lead, lead_again, sharing_states, stale_states};
 use crate::ways::row_ways;
 use auto_core::Auto;
 use letter_diagram::{Diagrams, Node};
@@ -63,7 +64,8 @@ fn split(
     requires settled { AreSettled partition.old.classes.items listing.old.representatives.items nodes.now stale.now }
     requires few { length nodes.now < 2 ^ 31 }
     ensures split { OnOk result (IsSplit partition.old.classes.items nodes.now partition.new.classes.items partition.new.count) }
-    ensures kept { OnOk result (KeepsNumbers partition.old.classes.items partition.old.count partition.new.classes.items) }
+    ensures grown { IfOk result (λ moved. 0 < length moved.items → partition.old.count < partition.new.count) }
+    ensures kept { OnOk result (partition.old.count ≤ partition.new.count) }
     ensures listing { OnOk result (IsListing partition.new.classes.items partition.new.count listing.new.representatives.items (map (λ list. list.items) listing.new.lists.items)) }
     ensures settled { OnOk result (AreSettled partition.new.classes.items listing.new.representatives.items nodes.now []) }
     ensures within { IfOk result (λ moved. All (λ state. state < length nodes.now) moved.items) }
@@ -79,33 +81,6 @@ fn split(
     let moves = find_moves(alloc, partition, listing, nodes, found.as_slice())?;
     move_states(alloc, &moves, partition, listing)?;
     Ok(moves.states)
-}
-
-/// Splits the classes by the classes of the next states. Equal nodes are equal maps, so the rows, led to classes, are compared as
-/// nodes. Gives the states that got a new class.
-fn round(
-    diagrams: &Diagrams,
-    a: &Auto,
-    led: &[Node],
-    stale: &[u32],
-    partition: &mut Partition,
-    listing: &mut Listing,
-) -> Result<Vec<u32>, AllocError>
-    requires led { AreLedRows a.now diagrams.now partition.old.classes.items led.now }
-    requires partition { IsPartition (length a.now.accept) partition.old.classes.items partition.old.count }
-    requires listing { IsListing partition.old.classes.items partition.old.count listing.old.representatives.items (map (λ list. list.items) listing.old.lists.items) }
-    requires stale { All (λ state. state < length a.now.accept) stale.now }
-    requires settled { AreSettled partition.old.classes.items listing.old.representatives.items led.now stale.now }
-    ensures round { OnOk result (IsRound a.now partition.old.classes.items partition.new.classes.items partition.new.count) }
-    ensures kept { OnOk result (KeepsNumbers partition.old.classes.items partition.old.count partition.new.classes.items) }
-    ensures listing { OnOk result (IsListing partition.new.classes.items partition.new.count listing.new.representatives.items (map (λ list. list.items) listing.new.lists.items)) }
-    ensures settled { OnOk result (AreSettled partition.new.classes.items listing.new.representatives.items led.now []) }
-    ensures within { IfOk result (λ moved. All (λ state. state < length a.now.accept) moved.items) }
-    ensures moved { IfOk result (λ moved. KeepsOthers partition.old.classes.items partition.new.classes.items moved.items) }
-{
-    let _ = a.states();
-    let moved = split(diagrams.alloc(), led, stale, partition, listing)?;
-    Ok(moved)
 }
 
 /// The flag of each state as a class, that of the first state as class 0.
@@ -135,42 +110,132 @@ fn by_flags(alloc: Global, a: &Auto) -> Result<Partition, AllocError>
     })
 }
 
+/// All that a round of refinement changes.
+#[derive(Drop)]
+struct Refining {
+    diagrams: Diagrams,
+    partition: Partition,
+    listing: Listing,
+    /// For each state its row, led to classes.
+    led: Vec<Node>,
+}
+
+/// The partition by flags, to whose classes the rows are led.
+fn start(alloc: Global, a: &Auto) -> Result<Refining, AllocError>
+    ensures led { IfOk result (λ refining. IsLedTo a.now refining) }
+    ensures valid { IsAutomaton a.now }
+{
+    let partition = by_flags(alloc, a)?;
+    let mut diagrams = Diagrams::with_capacity(alloc, a.diagrams().len())?;
+    let listing = list_states(alloc, &partition)?;
+    let led = lead(&mut diagrams, a, row_nodes(a), &partition)?;
+    Ok(Refining {
+        diagrams,
+        partition,
+        listing,
+        led,
+    })
+}
+
+/// Splits the classes by the classes of the next states. Equal nodes are equal maps, so the rows, led to classes, are compared as
+/// nodes. Gives the states that got a new class.
+fn round(a: &Auto, refining: &mut Refining, stale: &[u32]) -> Result<Vec<u32>, AllocError>
+    requires led { IsLedTo a.now refining.old }
+    requires stale { All (λ state. state < length a.now.accept) stale.now }
+    requires settled { AreSettled refining.old.partition.classes.items refining.old.listing.representatives.items refining.old.led.items stale.now }
+    ensures refined { IfOk result (λ moved. IsRefined a.now refining.new (LeadsInto a.now moved.items)) }
+    ensures within { IfOk result (λ moved. All (λ state. state < length a.now.accept) moved.items) }
+    ensures grown { IfOk result (λ moved. 0 < length moved.items → refining.old.partition.count < refining.new.partition.count) }
+    ensures kept { OnOk result (refining.old.partition.count ≤ refining.new.partition.count) }
+{
+    let _ = a.states();
+    let moved = split(
+        refining.diagrams.alloc(),
+        refining.led.as_slice(),
+        stale,
+        &mut refining.partition,
+        &mut refining.listing,
+    )?;
+    Ok(moved)
+}
+
+/// Leads the rows of some states again, and splits the classes. Gives the states that got a new class.
+fn next_round(a: &Auto, refining: &mut Refining, stale: &[u32]) -> Result<Vec<u32>, AllocError>
+    requires refined { IsRefined a.now refining.old (Contains stale.now) }
+    requires stale { All (λ state. state < length a.now.accept) stale.now }
+    ensures refined { IfOk result (λ moved. IsRefined a.now refining.new (LeadsInto a.now moved.items)) }
+    ensures within { IfOk result (λ moved. All (λ state. state < length a.now.accept) moved.items) }
+    ensures grown { IfOk result (λ moved. 0 < length moved.items → refining.old.partition.count < refining.new.partition.count) }
+    ensures kept { OnOk result (refining.old.partition.count ≤ refining.new.partition.count) }
+{
+    lead_again(
+        &mut refining.diagrams,
+        a,
+        row_nodes(a),
+        stale,
+        refining.partition.classes.as_slice(),
+        refining.led.as_mut_slice(),
+    )?;
+    let moved = round(a, refining, stale)?;
+    Ok(moved)
+}
+
+/// The first rounds, while many states move: these look at all states that share their class. Gives the states that moved last.
+fn wide_rounds(alloc: Global, a: &Auto, refining: &mut Refining) -> Result<Vec<u32>, AllocError>
+    requires { IsLedTo a.now refining.old }
+    ensures refined { IfOk result (λ moved. IsRefined a.now refining.new (LeadsInto a.now moved.items)) }
+    ensures within { IfOk result (λ moved. All (λ state. state < length a.now.accept) moved.items) }
+{
+    let many = a.states() as usize / 8;
+    let stale = all_states(alloc, refining.led.len())?;
+    let mut moved = round(a, refining, stale.as_slice())?;
+    while moved.len() > many {
+        let stale = sharing_states(alloc, &refining.partition, &refining.listing)?;
+        moved = next_round(a, refining, stale.as_slice())?;
+    }
+    Ok(moved)
+}
+
+/// The rounds from then on, until no state moves: these look at the states that lead to one that moved in the round before.
+fn narrow_rounds(
+    alloc: Global,
+    a: &Auto,
+    refining: &mut Refining,
+    mut moved: Vec<u32>,
+) -> Result<(), AllocError>
+    requires refined { IsRefined a.now refining.old (LeadsInto a.now moved.items) }
+    requires within { All (λ state. state < length a.now.accept) moved.items }
+    ensures { OnOk result (IsRefined a.now refining.new (LeadsInto a.now [])) }
+{
+    if moved.is_empty() {
+        return Ok(());
+    }
+    let ways = row_ways(alloc, a, row_nodes(a))?;
+    while !moved.is_empty() {
+        let stale = stale_states(
+            alloc,
+            a,
+            &ways,
+            &refining.partition,
+            &refining.listing,
+            moved.as_slice(),
+        )?;
+        moved = next_round(a, refining, stale.as_slice())?;
+    }
+    Ok(())
+}
+
 /// The partition whose classes are the states that nothing tells apart: it starts with the flags, and splits classes
 /// by the classes of the next states until no class is split (Moore 1956). The first round leads all rows and looks at all states. A
-/// later one leads the rows of the states that share their class and lead to a state that got a new class in the round before, and
-/// looks at these states, and at all of a class if one of these stands for it. Only states that get a new class are hashed.
+/// later one leads the rows of states that share their class, and looks at these states, and at all of a class if one of these stands
+/// for it: at all that share their class while many states move, then only at those that lead to a state that got a new class in the
+/// round before. Only states that get a new class are hashed.
 pub fn coarsest(alloc: Global, a: &Auto) -> Result<Partition, AllocError>
     ensures coarsest { IfOk result (λ p. IsCoarsest a.now p.classes.items p.count) }
     ensures valid { IsAutomaton a.now }
 {
-    let rows = row_nodes(alloc, a)?;
-    let ways = row_ways(alloc, a, rows.as_slice())?;
-    let mut diagrams = Diagrams::new(alloc);
-    let mut partition = by_flags(alloc, a)?;
-    let mut listing = list_states(alloc, &partition)?;
-    let mut led = lead(&mut diagrams, a, rows.as_slice(), &partition)?;
-    let mut stale = all_states(alloc, led.len())?;
-    loop {
-        let count = partition.count;
-        let moved = round(
-            &diagrams,
-            a,
-            led.as_slice(),
-            stale.as_slice(),
-            &mut partition,
-            &mut listing,
-        )?;
-        if partition.count == count {
-            return Ok(partition);
-        }
-        stale = stale_states(alloc, a, &ways, &partition, &listing, moved.as_slice())?;
-        lead_again(
-            &mut diagrams,
-            a,
-            rows.as_slice(),
-            stale.as_slice(),
-            partition.classes.as_slice(),
-            led.as_mut_slice(),
-        )?;
-    }
+    let mut refining = start(alloc, a)?;
+    let moved = wide_rounds(alloc, a, &mut refining)?;
+    narrow_rounds(alloc, a, &mut refining, moved)?;
+    Ok(refining.partition)
 }

@@ -4,15 +4,15 @@ ghost use Rattle.track_word.specs.Word.{IsWord};
 ghost use Rattle.auto_core.specs.Automaton.{Accepts, IsAutomaton};
 ghost use Rattle.auto_core.specs.Reduced.{IsReduced};
 ghost use Rattle.auto_reduce.specs.Numbering.{IsNumberedTo, IsNumberedBreadthFirst, IsQuotient};
-ghost use Rattle.auto_reduce.specs.Quotient.{IsCanonical, IsOrder, AreNumbers, AreClassNumbers, AreFlags, IsQuotientBy};
+ghost use Rattle.auto_reduce.specs.Quotient.{IsCanonical, IsOrder, AreNumbers, AreClassNumbers, AreFirstAndPicked, AreFlags, IsQuotientBy};
 
 use crate::canonical::canonical;
-use crate::leading::{lead_node, lead_nodes};
+use crate::leading::lead_nodes;
 use crate::order::Order;
 use crate::rows::picked;
 use crate::unmet::{Done, add_row, first_met};
 use auto_core::Auto;
-use letter_diagram::Diagrams;
+use letter_diagram::{Diagrams, Node};
 use std::alloc::{AllocError, Global};
 
 /// The canonical states that words lead to, in the order in which a breadth-first walk in ascending letters meets them.
@@ -23,10 +23,19 @@ fn breadth_first(alloc: Global, a: &Auto, canon: &[u32]) -> Result<Order, AllocE
 {
     let mut order = first_met(alloc, a.diagrams(), a.first_node(), canon)?;
     let mut done = Done::new(alloc, a.diagrams().len())?;
+    let mut passed = Vec::new(alloc);
     let mut place = 0;
     while place < order.as_slice().len() {
         let row = a.row_node(order.as_slice()[place]);
-        add_row(alloc, a.diagrams(), row, canon, &mut order, &mut done)?;
+        add_row(
+            alloc,
+            a.diagrams(),
+            row,
+            canon,
+            &mut order,
+            &mut done,
+            &mut passed,
+        )?;
         place += 1;
     }
     Ok(order)
@@ -42,21 +51,33 @@ fn over_places(alloc: Global, a: &Auto, canon: &[u32], order: &[u32]) -> Result<
     let table = class_numbers(alloc, canon, numbers.as_slice())?;
     let accept = flags(alloc, a, order)?;
     let tracks = a.tracks().to_vec(alloc)?;
-    let mut diagrams = Diagrams::new(alloc);
-    let first = lead_node(
-        a.diagrams(),
-        a.first_node(),
-        table.as_slice(),
-        &mut diagrams,
-    )?;
-    let picked = picked(alloc, a.row_nodes(), order)?;
-    let rows = lead_nodes(
-        a.diagrams(),
-        picked.as_slice(),
-        table.as_slice(),
-        &mut diagrams,
-    )?;
+    let from = a.diagrams();
+    let room = nodes_left(from.len(), a.states(), order.len());
+    let mut diagrams = Diagrams::with_capacity(alloc, room)?;
+    let nodes = first_and_picked(alloc, a, order)?;
+    let mut rows = lead_nodes(from, nodes.as_slice(), table.as_slice(), &mut diagrams)?;
+    let first = rows.remove(0);
     Ok(Auto::from_diagrams(tracks, diagrams, first, rows, accept))
+}
+
+/// About how many nodes stay where so many of the states stay: the same share of them, and never more than there are.
+fn nodes_left(nodes: usize, states: u32, states_left: usize) -> usize
+    requires { 0 < states }
+    ensures { result ≤ nodes }
+{
+    let share = nodes.saturating_mul(states_left) / states as usize;
+    share.min(nodes)
+}
+
+/// The node of the first row, and behind it those of the rows of some states, in their order.
+fn first_and_picked(alloc: Global, a: &Auto, order: &[u32]) -> Result<Vec<Node>, AllocError>
+    requires { All (λ state. state < length a.now.row_nodes) order.now }
+    ensures { IfOk result (λ nodes. AreFirstAndPicked a.now order.now nodes.items) }
+{
+    let picked = picked(alloc, a.row_nodes(), order)?;
+    let mut nodes = vec![in alloc; a.first_node()]?;
+    nodes.extend_from_slice(picked.as_slice())?;
+    Ok(nodes)
 }
 
 /// For each state its place in an order, and 0 where it has none.
@@ -79,7 +100,7 @@ fn class_numbers(alloc: Global, canon: &[u32], numbers: &[u32]) -> Result<Vec<u3
     requires { All (λ state. state < length numbers.now) canon.now }
     ensures { IfOk result (λ table. AreClassNumbers canon.now numbers.now table.items) }
 {
-    let mut table = Vec::new(alloc);
+    let mut table = Vec::with_capacity(alloc, canon.len())?;
     for state in canon {
         table.push(numbers[*state as usize])?;
     }
@@ -91,7 +112,7 @@ fn flags(alloc: Global, a: &Auto, order: &[u32]) -> Result<Vec<bool>, AllocError
     requires { All (λ state. state < length a.now.accept) order.now }
     ensures { IfOk result (λ flags. AreFlags a.now order.now flags.items) }
 {
-    let mut flags = Vec::new(alloc);
+    let mut flags = Vec::with_capacity(alloc, order.len())?;
     for state in order {
         flags.push(a.accept_of(*state))?;
     }

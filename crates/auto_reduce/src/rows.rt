@@ -9,16 +9,11 @@ use letter_diagram::Node;
 use std::alloc::{AllocError, Global};
 
 /// The nodes of the rows, in the order of the states.
-pub fn row_nodes(alloc: Global, a: &Auto) -> Result<Vec<Node>, AllocError>
-    ensures rows { IfOk result (λ rows. AreRowNodes a.now rows.items) }
-    ensures valid { IsAutomaton a.now }
+pub fn row_nodes(a: &Auto) -> &[Node]
+    ensures { AreRowNodes a.now result.now }
 {
     let _ = a.diagrams();
-    let mut rows = Vec::new(alloc);
-    for state in 0..a.states() {
-        rows.push(a.row_node(state))?;
-    }
-    Ok(rows)
+    a.row_nodes()
 }
 
 /// The nodes of some states, in their order.
@@ -26,7 +21,7 @@ pub fn picked(alloc: Global, rows: &[Node], order: &[u32]) -> Result<Vec<Node>, 
     requires { All (λ state. state < length rows.now) order.now }
     ensures { IfOk result (λ picked. ArePicked rows.now order.now picked.items) }
 {
-    let mut picked = Vec::new(alloc);
+    let mut picked = Vec::with_capacity(alloc, order.len())?;
     for state in order {
         picked.push(rows[*state as usize])?;
     }

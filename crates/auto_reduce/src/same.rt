@@ -1,7 +1,6 @@
 //! Whether two automata accept the same words.
-ghost use Rattle.std.specs.Prelude.{◌≡◌, ◌↔◌, ◌<◌, ◌∷◌, length, All, IfOk, IsTrue};
+ghost use Rattle.std.specs.Prelude.{◌≡◌, ◌↔◌, ◌<◌, length, All, IfOk, IsTrue};
 ghost use Rattle.auto_core.specs.Automaton.{IsAutomaton};
-ghost use Rattle.auto_core.specs.Rows.{IsOverNodes};
 ghost use Rattle.auto_reduce.specs.Tables.{AcceptSameWords, HaveEqualTables, HaveEqualMaps};
 
 use crate::quotient::reduce;
@@ -32,21 +31,10 @@ fn have_equal_tables(alloc: Global, a: &Auto, b: &Auto) -> Result<bool, AllocErr
         return Ok(false);
     }
     let mut diagrams = a.diagrams().copy()?;
-    let nodes = all_nodes(alloc, a)?;
-    let others = all_nodes(alloc, b)?;
+    let nodes = a.all_nodes(alloc)?;
+    let others = b.all_nodes(alloc)?;
     let brought = diagrams.bring(b.diagrams(), others.as_slice())?;
     Ok(have_equal_maps(&diagrams, nodes.as_slice(), brought.as_slice()))
-}
-
-/// The node of the first row, then the nodes of the states' rows.
-fn all_nodes(alloc: Global, a: &Auto) -> Result<Vec<Node>, AllocError>
-    ensures nodes { IfOk result (λ nodes. nodes.items ≡ a.now.first_node ∷ a.now.row_nodes) }
-    ensures over { IsOverNodes a.now }
-{
-    let _ = a.diagrams();
-    let mut nodes = vec![in alloc; a.first_node()]?;
-    nodes.extend_from_slice(a.row_nodes())?;
-    Ok(nodes)
 }
 
 fn have_equal_maps(diagrams: &Diagrams, nodes: &[Node], others: &[Node]) -> bool

@@ -1,19 +1,59 @@
 //! Nodes that lead the rows to the classes of a partition, kept while no state to which a row leads moves to another class.
-ghost use Rattle.std.specs.Prelude.{◌≡◌, ◌<◌, ℕ, All, length, map, IfOk, OnOk};
+ghost use Rattle.std.specs.Prelude.{◌≡◌, ◌<◌, ◌^◌, ℕ, All, Contains, length, map, IfOk, OnOk};
 ghost use Rattle.letter_diagram.specs.Diagram.{map_at, Grows};
 ghost use Rattle.letter_diagram.specs.Listed.{EachAnswers};
 ghost use Rattle.auto_reduce.specs.Leading.{IsLedFrom};
 ghost use Rattle.auto_reduce.specs.Ways.{AreRowWays};
-ghost use Rattle.auto_reduce.specs.Partition.{IsPartition, IsListing, AreRowNodes, AreLedRows, AreStale, IsPut, AreLedAgain};
+ghost use Rattle.auto_reduce.specs.Partition.{IsPartition, IsListing, AreRowNodes, AreLedRows, IsShared, AreStale, IsPut, AreLedAgain};
 
 use crate::classes::Partition;
 use crate::leading::{lead_few, lead_nodes};
-use crate::listing::Listing;
+use crate::listing::{Listing, all_states};
 use crate::rows::picked;
 use crate::ways::{Ways, leading_to};
 use auto_core::Auto;
 use letter_diagram::{Diagrams, Node};
 use std::alloc::{AllocError, Global};
+
+/// The states among some in whose class's list there are others.
+fn sharing(
+    alloc: Global,
+    partition: &Partition,
+    listing: &Listing,
+    states: &[u32],
+) -> Result<Vec<u32>, AllocError>
+    requires partition { IsPartition (length partition.now.classes.items) partition.now.classes.items partition.now.count }
+    requires listing { IsListing partition.now.classes.items partition.now.count listing.now.representatives.items (map (λ list. list.items) listing.now.lists.items) }
+    requires within { All (λ state. state < length partition.now.classes.items) states.now }
+    ensures within { IfOk result (λ sharing. All (λ state. state < length partition.now.classes.items) sharing.items) }
+    ensures all { IfOk result (λ sharing. (state : ℕ) → Contains states.now state → IsShared partition.now.classes.items state → Contains sharing.items state) }
+{
+    let mut sharing = Vec::new(alloc);
+    for state in states {
+        let class = partition.classes[*state as usize] as usize;
+        if listing.lists[class].len() > 1 {
+            sharing.push(*state)?;
+        }
+    }
+    Ok(sharing)
+}
+
+/// The states that share their class.
+pub fn sharing_states(
+    alloc: Global,
+    partition: &Partition,
+    listing: &Listing,
+) -> Result<Vec<u32>, AllocError>
+    requires partition { IsPartition (length partition.now.classes.items) partition.now.classes.items partition.now.count }
+    requires few { length partition.now.classes.items < 2 ^ 31 }
+    requires listing { IsListing partition.now.classes.items partition.now.count listing.now.representatives.items (map (λ list. list.items) listing.now.lists.items) }
+    ensures within { IfOk result (λ sharing. All (λ state. state < length partition.now.classes.items) sharing.items) }
+    ensures all { IfOk result (λ sharing. (state : ℕ) → state < length partition.now.classes.items → IsShared partition.now.classes.items state → Contains sharing.items state) }
+{
+    let states = all_states(alloc, partition.classes.len())?;
+    let sharing = sharing(alloc, partition, listing, states.as_slice())?;
+    Ok(sharing)
+}
 
 /// The states that share their class and lead to one of some states.
 pub fn stale_states(
@@ -31,13 +71,7 @@ pub fn stale_states(
     ensures { IfOk result (λ stale. AreStale a.now partition.now.classes.items moved.now stale.items) }
 {
     let found = leading_to(alloc, a, ways, moved)?;
-    let mut stale = Vec::new(alloc);
-    for state in found.as_slice() {
-        let class = partition.classes[*state as usize] as usize;
-        if listing.lists[class].len() > 1 {
-            stale.push(*state)?;
-        }
-    }
+    let stale = sharing(alloc, partition, listing, found.as_slice())?;
     Ok(stale)
 }
 

@@ -4,7 +4,7 @@ ghost use Rattle.letter_diagram.specs.Diagram.{map_at, top_track, Grows};
 ghost use Rattle.auto_reduce.specs.Leading.{entry_at};
 ghost use Rattle.auto_reduce.specs.Unmet.{AddsRow, IsMetLeaf, IsPruned, RemembersPruned, AreDone, Notes, Forgets, AreDoneWith, AreDoneBut, Finds};
 
-use crate::leading::lead_node;
+use crate::leading::lead_few;
 use crate::order::Order;
 use letter_diagram::{Diagrams, Node, Shape};
 use std::alloc::{AllocError, Global};
@@ -187,7 +187,7 @@ fn pruned(
     Ok(made)
 }
 
-/// The same as `add_row`, by a diagram in which the states of the order stand for one another.
+/// The same as `add_row`, by a diagram in which the states of the order stand for one another, with room for so many nodes.
 fn add_several(
     alloc: Global,
     from: &Diagrams,
@@ -195,6 +195,7 @@ fn add_several(
     canon: &[u32],
     order: &mut Order,
     done: &mut Done,
+    room: usize,
 ) -> Result<(), AllocError>
     requires known { row < length from.now }
     requires leaves { (letter : ℕ) → map_at from.now row letter < length canon.now }
@@ -204,9 +205,9 @@ fn add_several(
     ensures different { OnOk result (AllPairs (λ j k. j ≢ k) order.new) }
     ensures done { OnOk result (AreDone from.now canon.now order.new done.new) }
 {
-    let mut to = Diagrams::new(alloc);
+    let mut to = Diagrams::with_capacity(alloc, room)?;
     let met = to.leaf(order.as_slice()[0])?;
-    let mut memo = HashMap::new(alloc);
+    let mut memo = HashMap::with_capacity(alloc, room)?;
     let unmet = pruned(from, row, canon, order, met, &mut to, &mut memo, done)?;
     let leaves = to.leaves(unmet)?;
     order.add_all(leaves.as_slice())?;
@@ -214,7 +215,8 @@ fn add_several(
 }
 
 /// Puts the canonical states to which a row leads and that are not in the order at its end, by the least letters that lead to them.
-/// Makes a diagram only where there are several. Costs the nodes of the row that are not done.
+/// Makes a diagram only where there are several. Costs the nodes of the row that are not done. What is in `passed` before doesn't matter:
+/// it lends its room to one row after another.
 pub fn add_row(
     alloc: Global,
     from: &Diagrams,
@@ -222,6 +224,7 @@ pub fn add_row(
     canon: &[u32],
     order: &mut Order,
     done: &mut Done,
+    passed: &mut Vec<Node>,
 ) -> Result<(), AllocError>
     requires known { row < length from.now }
     requires leaves { (letter : ℕ) → map_at from.now row letter < length canon.now }
@@ -232,8 +235,8 @@ pub fn add_row(
     ensures done { OnOk result (AreDone from.now canon.now order.new done.new) }
 {
     let _ = order.as_slice();
-    let mut passed = Vec::new(alloc);
-    let unmet = unmet_states(from, row, canon, order, Unmet::Nothing, done, &mut passed)?;
+    passed.clear();
+    let unmet = unmet_states(from, row, canon, order, Unmet::Nothing, done, passed)?;
     match unmet {
         Unmet::Nothing => Ok(()),
         Unmet::One(state) => {
@@ -242,7 +245,7 @@ pub fn add_row(
         }
         Unmet::Several => {
             done.remove_all(passed.as_slice());
-            add_several(alloc, from, row, canon, order, done)?;
+            add_several(alloc, from, row, canon, order, done, passed.len())?;
             Ok(())
         }
     }
@@ -262,8 +265,8 @@ pub fn first_met(
 {
     let mut order = Order::new(alloc);
     let mut to = Diagrams::new(alloc);
-    let led = lead_node(from, row, canon, &mut to)?;
-    let leaves = to.leaves(led)?;
+    let led = lead_few(from, &[row], canon, &mut to)?;
+    let leaves = to.leaves(led[0])?;
     order.add_all(leaves.as_slice())?;
     Ok(order)
 }

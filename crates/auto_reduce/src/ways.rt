@@ -36,12 +36,12 @@ pub struct Ways {
     pub leaves: Vec<Places>,
 }
 
-/// Gives a node the next place.
+/// Gives a node the next place. A place past 2^32 is refused as want of memory.
 fn place_next(
     node: Node,
     way: Way,
     ways: &mut Vec<Way>,
-    places: &mut [Option<usize>],
+    places: &mut [Option<u32>],
 ) -> Result<usize, AllocError>
     requires { node < length places.old }
     ensures place { IfOk result (λ place. place ≡ length ways.old.items) }
@@ -49,8 +49,11 @@ fn place_next(
     ensures places { OnOk result (places.new ≡ slice_set places.old node (Some (length ways.old.items))) }
 {
     let place = ways.len();
+    if place > u32::MAX as usize {
+        return Err(AllocError);
+    }
     ways.push(way)?;
-    places[node.number()] = Some(place);
+    places[node.number()] = Some(place as u32);
     Ok(place)
 }
 
@@ -60,7 +63,7 @@ fn place_of(
     node: Node,
     states: u32,
     ways: &mut Vec<Way>,
-    places: &mut [Option<usize>],
+    places: &mut [Option<u32>],
 ) -> Result<usize, AllocError>
     requires known { node < length diagrams.now }
     requires leaves { (letter : ℕ) → map_at diagrams.now node letter < states }
@@ -70,7 +73,7 @@ fn place_of(
     ensures kept { OnOk result (KeepsWays ways.old.items ways.new.items) }
 {
     if let Some(place) = places[node.number()] {
-        return Ok(place);
+        return Ok(place as usize);
     }
     match diagrams.shape(node) {
         Shape::Leaf(state) => {
@@ -98,7 +101,7 @@ fn place_rows(
     ensures { IfOk result (λ found. ArePlacedRows a.now ways.new.items found.items) }
 {
     let mut places = vec![in alloc; None; a.diagrams().len()]?;
-    let mut found = Vec::new(alloc);
+    let mut found = Vec::with_capacity(alloc, rows.len())?;
     for node in rows {
         let place = place_of(a.diagrams(), *node, a.states(), ways, places.as_mut_slice())?;
         found.push(place)?;

@@ -44,4 +44,4 @@ returns-clause-remembered g t c =
       | in-Leaf+in_ok-made-in-Leaf w ↦ rw (w.to-is, w.memo-is) (RemembersLed-grows _ _ _ _ _ w.in_ok-made-in-Leaf.ensures.grows c.requires.remembered)
       | in-Test+in_ok-low-in-Test+in_ok-high-in-Test+in_ok-made-in-Test w ↦ rw (w.to-is, w.memo-is) (RemembersLed-grows _ _ _ _ _ w.in_ok-made-in-Test.ensures.grows w.in_ok-high-in-Test.ensures.remembered)
     ] in
-    RemembersLed-adds _ _ _ _ _ _ _ before c.in_ok-keep.ensures (made g t c)
+    RemembersLed-adds _ _ _ _ _ _ _ _ before c.in_ok-keep.ensures (made g t c)

@@ -1,7 +1,7 @@
-use Rattle.std.proofs.Common.{rules, arith, ◌<◌, ◌∙◌, ℕ, [], List, Vec, Global, length, map, get_or, sym, subst}
+use Rattle.std.proofs.Common.{rules, arith, ◌≡◌, ◌<◌, ◌∙◌, ℕ, [], List, Vec, Global, length, map, get_or, sym, ap, subst}
 use Rattle.std.specs.List.{Contains}
-use Rattle.std.proofs.lemmas.List.{length-map, map-set}
-use Rattle.std.proofs.lemmas.List.Elements.{All-from_get_or, Contains-get_or}
+use Rattle.std.proofs.lemmas.List.{length-map, map-set, get_or-set_same}
+use Rattle.std.proofs.lemmas.List.Elements.{All-contains, All-from_get_or, Contains-get_or}
 use Rattle.auto_reduce.specs.Partition.{ArePruned}
 use Rattle.auto_reduce.proofs.Listings.{list_read, ArePruned-set}
 use Rattle.auto_reduce.proofs.listing.prune.Goals as goal
@@ -27,3 +27,14 @@ returns-clause-pruned c =
     let mapped = length-map lists f in
     let kept = c.in_ok-kept.ensures in
     subst (ArePruned classes (map f lists)) (sym (map-set f lists class c.in_ok-kept.kept)) (ArePruned-set classes (map f lists) class c.as_slice.result.now c.in_ok-kept.kept.items (omega (arith, inside, mapped)) list_is kept.fewer kept.kept)
+
+pub returns-clause-only : goal.returns-clause-only
+returns-clause-only c = λ state there.
+    let f : Vec ℕ Global → List ℕ = (λ list. list.items) in
+    let lists = c.args.lists.now.items in
+    let class = c.args.class in
+    let kept = c.in_ok-kept.kept in
+    let inside : class < length lists = search rules in
+    let mapped = length-map lists f in
+    let is = ap (λ all. get_or all class []) (map-set f lists class kept) ∙ get_or-set_same (map f lists) class kept.items [] (omega (arith, inside, mapped)) in
+    All-contains (λ s. get_or c.args.partition.now.classes.items s 0 ≡ class) kept.items state c.in_ok-kept.ensures.only (subst (λ list. Contains list state) is there)

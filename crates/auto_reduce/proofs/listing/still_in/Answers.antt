@@ -1,8 +1,8 @@
-use Rattle.std.proofs.Common.{arith, ◌≡◌, ◌<◌, ◌∷◌, ◌++◌, [], ◌∙◌, length, get_or, ap, subst, inl, inr}
+use Rattle.std.proofs.Common.{arith, ◌≡◌, ◌<◌, ◌∷◌, ◌++◌, [], ◌∙◌, length, get_or, ap, sym, subst, inl, inr}
 use Rattle.std.specs.List.{Contains}
 use Rattle.std.proofs.lemmas.Bool.{cases_lt}
 use Rattle.std.proofs.lemmas.List.{get_or_default, get_or_read}
-use Rattle.std.proofs.lemmas.List.Elements.{Contains-get_or, Contains-push, Contains-push_cases, Contains-append_left}
+use Rattle.std.proofs.lemmas.List.Elements.{All-push, Contains-get_or, Contains-push, Contains-push_cases, Contains-append_left}
 use Rattle.auto_reduce.proofs.listing.still_in.Goals as goal
 use Rattle.auto_reduce.proofs.listing.still_in.Goals.{then-index-class+in_ok-push, else-index-class}
 
@@ -18,6 +18,7 @@ loop-state-preserved c =
     let class = get_or_read classes state c.index.result.now known c.index.ensures 0 in
     elim c.if-index-class.branch [
       | then-index-class+in_ok-push w ↦ rw (w.kept-is, w.in_ok-push.ensures.items) (record {
+        only = All-push (λ s. get_or classes s 0 ≡ c.args.class) kept state before.only (sym class ∙ w.if-index-class.true);
         fewer = λ s there. elim (Contains-push_cases kept state s there) [
           | inl old ↦ before.fewer s old
           | inr same ↦ subst (Contains states) same (Contains-get_or states turn 0 c.loop-state-test.true)
@@ -28,6 +29,7 @@ loop-state-preserved c =
         ];
       })
       | else-index-class w ↦ rw w.kept-is (record {
+        only = before.only;
         fewer = before.fewer;
         stays = λ k less has. elim (cases_lt k turn) [
           | inl low ↦ before.stays k low has

@@ -1,8 +1,9 @@
-use Rattle.std.proofs.Common.{rules, arith, ◌≡◌, ◌<◌, ◌∷◌, ◌++◌, [], ◌∙◌, true, false, length, get_or, sym, subst, inl, inr}
+use Rattle.std.proofs.Common.{rules, arith, ◌≡◌, ◌≢◌, ◌<◌, ◌∷◌, ◌++◌, [], ◌∙◌, true, false, true≢false, length, get_or, set, ℕ, sym, ap, subst, inl, inr}
 use Rattle.std.specs.List.{Contains}
 use Rattle.std.proofs.lemmas.Bool.{cases_lt, cases_eq}
-use Rattle.std.proofs.lemmas.List.{get_or_default, get_or_read, get_or-set_other}
-use Rattle.std.proofs.lemmas.List.Elements.{All-push, Contains-push, Contains-append_left}
+use Rattle.std.proofs.lemmas.List.{get_or_default, get_or_read, get_or-set_same, get_or-set_other}
+use Rattle.std.proofs.lemmas.List.Elements.{All-get_or, All-push, All-weaker, Contains-push, Contains-append_left}
+use Rattle.std.proofs.lemmas.List.Quantifiers.{all_pairs_push}
 use Rattle.auto_reduce.proofs.moves.each_once.Goals as goal
 use Rattle.auto_reduce.proofs.moves.each_once.Goals.{then-not-index+in_ok-push, else-not-index}
 
@@ -17,10 +18,19 @@ loop-state-preserved c =
     let known : state < c.args.count = c.requires turn 0 c.loop-state-test.true in
     let inside : state < length seen = omega (arith, known, before.size) in
     let mark = get_or_read seen state c.index.result.now inside c.index.ensures false in
+    let still = λ (s : ℕ) (on : get_or seen s false ≡ true). elim (cases_eq s state) as (λ _. get_or (set seen state true) s false ≡ true) [
+      | inl e ↦ ap (λ k. get_or (set seen state true) k false) e ∙ get_or-set_same seen state true false inside
+      | inr ne ↦ get_or-set_other seen state s true false ne ∙ on
+    ] in
     elim c.if-not-index.branch [
       | then-not-index+in_ok-push w ↦ rw (w.seen-is, w.once-is, w.in_ok-push.ensures.items) (record {
         size = search rules;
         within = All-push (λ s. s < c.args.count) once state before.within known;
+        different = all_pairs_push (λ j k. j ≢ k) once state before.different
+            (λ k d less same. true≢false (sym (All-get_or (λ s. get_or seen s false ≡ true) once k d less before.marked) ∙ ap (λ s. get_or seen s false) same ∙ sym mark ∙ w.if-not-index.true));
+        marked = All-push (λ s. get_or (set seen state true) s false ≡ true) once state
+            (All-weaker (λ s. get_or seen s false ≡ true) (λ s. get_or (set seen state true) s false ≡ true) still once before.marked)
+            (get_or-set_same seen state true false inside);
         noted = λ s on. elim (cases_eq state s) [
           | inl e ↦ subst (Contains (once ++ state ∷ [])) e (Contains-push once state)
           | inr ne ↦ Contains-append_left once (state ∷ []) s (before.noted s (sym (get_or-set_other seen state s true false (λ same. ne (sym same))) ∙ on))
@@ -33,6 +43,8 @@ loop-state-preserved c =
       | else-not-index w ↦ rw (w.seen-is, w.once-is) (record {
         size = before.size;
         within = before.within;
+        different = before.different;
+        marked = before.marked;
         noted = before.noted;
         all = λ k less. elim (cases_lt k turn) [
           | inl low ↦ before.all k low

@@ -2,7 +2,7 @@ use Rattle.std.proofs.Common.{arith, ◌≡◌, ◌<◌, ◌+◌, ℕ, List, Vec
 use Rattle.std.specs.List.{All}
 use Rattle.auto_reduce.specs.Partition.{IsSplit, IsListing}
 use Rattle.auto_reduce.proofs.Rounds.{count_le-size}
-use Rattle.auto_reduce.proofs.Splits.{signatures_few, moved_within, numbers_within, all_moved, IsSplit-moved, IsListing-moved, KeepsNumbers-moved, AreSettled-moved}
+use Rattle.auto_reduce.proofs.Splits.{signatures_few, signatures_some, moved_within, numbers_within, all_moved, IsSplit-moved, IsListing-moved, AreSettled-moved}
 use Rattle.auto_reduce.proofs.partition.split.Goals as goal
 
 pub move_states-requires-clause-numbers : goal.move_states-requires-clause-numbers
@@ -28,14 +28,12 @@ returns-clause-split c =
     subst (IsSplit current c.args.nodes.now c.move_states.new.partition.classes.items) (sym total)
     (IsSplit-moved _ current c.args.nodes.now own c.args.partition.now.count moves.signatures moves.states.items moves.numbers.items moves.firsts.items _ c.requires.partition c.requires.listing.members m c.in_ok-move_states.ensures.classes all)
 
-pub returns-clause-kept : goal.returns-clause-kept
-returns-clause-kept c =
+pub returns-clause-grown : goal.returns-clause-grown
+returns-clause-grown c = λ some.
     let m = c.in_ok-moves.ensures.moves in
-    let current = c.args.partition.now.classes.items in
-    let own = c.args.listing.now.representatives.items in
-    let moves = c.in_ok-moves.moves in
-    let all = all_moved current own c.args.nodes.now c.args.stale.now c.in_ok-found.found.items moves.states.items c.requires.settled (rw c.as_slice.ensures.value at c.in_ok-found.ensures.candidates) (rw c.as_slice-2.ensures.value at c.in_ok-moves.ensures.moved) in
-    KeepsNumbers-moved _ current c.args.nodes.now own c.args.partition.now.count moves.signatures moves.states.items moves.numbers.items moves.firsts.items _ c.requires.partition c.requires.listing.members m c.in_ok-move_states.ensures.classes all
+    let more = signatures_some _ _ _ _ _ _ _ _ m some in
+    let size = m.firsts_size in
+    omega (arith, more, size, c.in_ok-move_states.ensures.count)
 
 pub returns-clause-listing : goal.returns-clause-listing
 returns-clause-listing c =

@@ -1,10 +1,9 @@
-use Rattle.std.proofs.Common.{rules, ◌≡◌, ◌∙◌, length}
-use Rattle.letter_diagram.specs.Listed.{EachAnswers}
+use Rattle.std.proofs.Common.{rules, arith, ◌≡◌, ◌∙◌, ap, length, vec_len}
+use Rattle.std.proofs.lemmas.List.{get_or_read}
 use Rattle.auto_walk.proofs.WalkWords.{is_dense}
-use Rattle.auto_reduce.specs.Leading.{IsLedFrom}
-use Rattle.auto_reduce.specs.Quotient.{AreNumbers, AreClassNumbers, ArePicked}
+use Rattle.auto_reduce.specs.Quotient.{AreNumbers, AreClassNumbers}
 use Rattle.auto_reduce.proofs.Leads.{order_within, order_few, order_some}
-use Rattle.auto_reduce.proofs.Quotients.{picked_known, picked_in_table, AreRows-made, IsQuotientBy-made}
+use Rattle.auto_reduce.proofs.Quotients.{all_known, all_in_table, AreRows-made, IsQuotientBy-made}
 use Rattle.auto_reduce.proofs.quotient.over_places.Goals as goal
 
 pub numbers-requires-clause-some : goal.numbers-requires-clause-some
@@ -21,14 +20,9 @@ class_numbers-requires c =
 pub flags-requires : goal.flags-requires
 flags-requires c = order_within c.args.a.now c.args.canon.now c.requires.canonical _ _ c.requires.order
 
-pub picked-requires : goal.picked-requires
-picked-requires c =
-    rw (c.row_nodes.ensures, c.diagrams.ensures.nodes.nodes.rows_size) (order_within c.args.a.now c.args.canon.now c.requires.canonical _ _ c.requires.order)
-
-pub lead_node-requires-clause-leaves : goal.lead_node-requires-clause-leaves
-lead_node-requires-clause-leaves c =
-    let size = c.in_ok-table.ensures.size ∙ c.requires.canonical.size in
-    rw (c.diagrams.ensures.shapes, c.as_slice-2.ensures.value, size) c.first_node.ensures.within
+pub first_and_picked-requires : goal.first_and_picked-requires
+first_and_picked-requires c =
+    rw c.diagrams-from.ensures.nodes.nodes.rows_size (order_within c.args.a.now c.args.canon.now c.requires.canonical _ _ c.requires.order)
 
 pub lead_nodes-requires-clause-known : goal.lead_nodes-requires-clause-known
 lead_nodes-requires-clause-known c =
@@ -37,11 +31,10 @@ lead_nodes-requires-clause-known c =
     let order = c.args.order.now in
     let numbers = c.in_ok-numbers.numbers.items in
     let table = c.in_ok-table.table.items in
-    let picked = c.in_ok-picked.picked.items in
+    let nodes = c.in_ok-nodes.ensures in
     let n : AreNumbers order (length a.accept) numbers = rw c.states.ensures.states at c.in_ok-numbers.ensures in
     let t : AreClassNumbers canon numbers table = rw c.as_slice.ensures.value at c.in_ok-table.ensures in
-    let p : ArePicked a.row_nodes order picked = rw c.row_nodes.ensures at c.in_ok-picked.ensures in
-    rw (c.diagrams-3.ensures.shapes, c.as_slice-3.ensures.value) (picked_known a canon order numbers table picked c.diagrams-3.ensures.nodes c.requires.canonical c.requires.order n t p)
+    rw (c.diagrams-from.ensures.shapes, c.as_slice-2.ensures.value, nodes.is) (all_known a canon order numbers table nodes.picked c.diagrams-from.ensures.nodes c.requires.canonical c.requires.order n t nodes.are_picked)
 
 pub lead_nodes-requires-clause-leaves : goal.lead_nodes-requires-clause-leaves
 lead_nodes-requires-clause-leaves c =
@@ -50,11 +43,18 @@ lead_nodes-requires-clause-leaves c =
     let order = c.args.order.now in
     let numbers = c.in_ok-numbers.numbers.items in
     let table = c.in_ok-table.table.items in
-    let picked = c.in_ok-picked.picked.items in
+    let nodes = c.in_ok-nodes.ensures in
     let n : AreNumbers order (length a.accept) numbers = rw c.states.ensures.states at c.in_ok-numbers.ensures in
     let t : AreClassNumbers canon numbers table = rw c.as_slice.ensures.value at c.in_ok-table.ensures in
-    let p : ArePicked a.row_nodes order picked = rw c.row_nodes.ensures at c.in_ok-picked.ensures in
-    rw (c.diagrams-3.ensures.shapes, c.as_slice-3.ensures.value, c.as_slice-4.ensures.value) (picked_in_table a canon order numbers table picked c.diagrams-3.ensures.nodes c.requires.canonical c.requires.order n t p)
+    rw (c.diagrams-from.ensures.shapes, c.as_slice-2.ensures.value, c.as_slice-3.ensures.value, nodes.is) (all_in_table a canon order numbers table nodes.picked c.diagrams-from.ensures.nodes c.requires.canonical c.requires.order n t nodes.are_picked)
+
+pub remove-first-requires : goal.remove-first-requires
+remove-first-requires c =
+    let nodes = c.in_ok-nodes.ensures in
+    let size = c.in_ok-rows.ensures.led.size in
+    let value = ap length (c.as_slice-2.ensures.value ∙ nodes.is) in
+    let len : vec_len c.in_ok-rows.rows ≡ length c.in_ok-rows.rows.items = search rules in
+    omega (arith, size, value, len)
 
 pub from_diagrams-requires : goal.from_diagrams-requires
 from_diagrams-requires c =
@@ -63,14 +63,14 @@ from_diagrams-requires c =
     let order = c.args.order.now in
     let numbers = c.in_ok-numbers.numbers.items in
     let table = c.in_ok-table.table.items in
-    let picked = c.in_ok-picked.picked.items in
+    let nodes = c.in_ok-nodes.ensures in
     let n : AreNumbers order (length a.accept) numbers = rw c.states.ensures.states at c.in_ok-numbers.ensures in
     let t : AreClassNumbers canon numbers table = rw c.as_slice.ensures.value at c.in_ok-table.ensures in
-    let p : ArePicked a.row_nodes order picked = rw c.row_nodes.ensures at c.in_ok-picked.ensures in
-    let first : IsLedFrom a.shapes c.lead_node.new.to table a.first_node c.in_ok-first.first = rw (c.diagrams.ensures.shapes, c.as_slice-2.ensures.value, c.first_node.ensures.is) at c.in_ok-first.ensures.led in
-    let rows : EachAnswers (IsLedFrom a.shapes c.lead_nodes.new.to table) picked c.in_ok-rows.rows.items = rw (c.diagrams-3.ensures.shapes, c.as_slice-3.ensures.value, c.as_slice-4.ensures.value) at c.in_ok-rows.ensures.led in
+    let led = rw (c.diagrams-from.ensures.shapes, c.as_slice-2.ensures.value, c.as_slice-3.ensures.value, nodes.is) at c.in_ok-rows.ensures.led in
+    let some = c.remove-first.ensures.len in
+    let first = get_or_read c.in_ok-rows.rows.items 0 c.remove-first.result (omega (arith, some)) c.remove-first.ensures.value 0 in
     let copied : c.in_ok-tracks.tracks.items ≡ c.tracks.result.now = search rules in
-    rw (copied, c.tracks.ensures.tracks) (AreRows-made a canon order numbers table picked c.diagrams-3.ensures.nodes c.requires.canonical c.requires.order n t p c.lead_node.new.to c.lead_nodes.new.to c.lead_nodes.ensures.grows c.in_ok-first.first c.in_ok-rows.rows.items first rows c.in_ok-accept.accept.items c.in_ok-accept.ensures)
+    rw (copied, c.tracks.ensures.tracks, first, c.remove-first.ensures.items) (AreRows-made a canon order numbers table nodes.picked c.diagrams-from.ensures.nodes c.requires.canonical c.requires.order n t nodes.are_picked c.lead_nodes.new.to c.in_ok-rows.rows.items led c.in_ok-accept.accept.items c.in_ok-accept.ensures)
 
 pub returns : goal.returns
 returns c =
@@ -79,13 +79,13 @@ returns c =
     let order = c.args.order.now in
     let numbers = c.in_ok-numbers.numbers.items in
     let table = c.in_ok-table.table.items in
-    let picked = c.in_ok-picked.picked.items in
+    let nodes = c.in_ok-nodes.ensures in
     let n : AreNumbers order (length a.accept) numbers = rw c.states.ensures.states at c.in_ok-numbers.ensures in
     let t : AreClassNumbers canon numbers table = rw c.as_slice.ensures.value at c.in_ok-table.ensures in
-    let p : ArePicked a.row_nodes order picked = rw c.row_nodes.ensures at c.in_ok-picked.ensures in
-    let first : IsLedFrom a.shapes c.lead_node.new.to table a.first_node c.in_ok-first.first = rw (c.diagrams.ensures.shapes, c.as_slice-2.ensures.value, c.first_node.ensures.is) at c.in_ok-first.ensures.led in
-    let rows : EachAnswers (IsLedFrom a.shapes c.lead_nodes.new.to table) picked c.in_ok-rows.rows.items = rw (c.diagrams-3.ensures.shapes, c.as_slice-3.ensures.value, c.as_slice-4.ensures.value) at c.in_ok-rows.ensures.led in
+    let led = rw (c.diagrams-from.ensures.shapes, c.as_slice-2.ensures.value, c.as_slice-3.ensures.value, nodes.is) at c.in_ok-rows.ensures.led in
+    let some = c.remove-first.ensures.len in
+    let first = get_or_read c.in_ok-rows.rows.items 0 c.remove-first.result (omega (arith, some)) c.remove-first.ensures.value 0 in
     let copied : c.in_ok-tracks.tracks.items ≡ c.tracks.result.now = search rules in
     let made = c.from_diagrams.ensures in
     let is = is_dense _ _ _ _ _ _ made.tracks made.first made.next made.accept made.shapes made.first_node made.row_nodes in
-    rw (is, copied, c.tracks.ensures.tracks) (IsQuotientBy-made a canon order numbers table picked c.diagrams-3.ensures.nodes c.requires.canonical c.requires.order n t p c.lead_node.new.to c.lead_nodes.new.to c.lead_nodes.ensures.grows c.in_ok-first.first c.in_ok-rows.rows.items first rows c.in_ok-accept.accept.items c.in_ok-accept.ensures)
+    rw (is, copied, c.tracks.ensures.tracks, first, c.remove-first.ensures.items) (IsQuotientBy-made a canon order numbers table nodes.picked c.diagrams-from.ensures.nodes c.requires.canonical c.requires.order n t nodes.are_picked c.lead_nodes.new.to c.in_ok-rows.rows.items led c.in_ok-accept.accept.items c.in_ok-accept.ensures)

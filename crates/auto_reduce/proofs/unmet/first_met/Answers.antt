@@ -1,8 +1,18 @@
-use Rattle.auto_reduce.specs.Leading.{entry_at}
+use Rattle.std.proofs.Common.{arith, subst, get_or}
+use Rattle.std.proofs.lemmas.List.{get_or_read}
+use Rattle.letter_diagram.specs.Leaves.{AreLeaves}
+use Rattle.auto_reduce.specs.Leading.{entry_at, IsLedFrom}
 use Rattle.auto_reduce.proofs.Unmets.{AddsRow-first}
 use Rattle.auto_reduce.proofs.unmet.first_met.Goals as goal
 
 pub returns-clause-adds : goal.returns-clause-adds
 returns-clause-adds c =
+    let shapes = c.lead_few.new.to in
+    let nodes = c.in_ok-led.led.items in
+    let leaves = c.in_ok-leaves.leaves.items in
     let added = rw (c.new-order.ensures, c.as_slice.ensures.value) at c.in_ok-add_all.ensures.adds in
-    AddsRow-first c.lead_node.new.to (entry_at c.args.canon.now c.args.from.now c.args.row) c.in_ok-led.led c.add_all.new.self c.in_ok-leaves.leaves.items c.in_ok-led.ensures.led.map c.in_ok-leaves.ensures added c.add_all.ensures.different
+    let led : IsLedFrom c.args.from.now shapes c.args.canon.now c.args.row (get_or nodes 0 0) = c.in_ok-led.ensures.led.each 0 (omega arith) in
+    let size = c.in_ok-led.ensures.led.size in
+    let node = get_or_read nodes 0 c.index.result.now (omega (arith, size)) c.index.ensures 0 in
+    let are_leaves = subst (λ n. AreLeaves shapes n leaves) node c.in_ok-leaves.ensures in
+    AddsRow-first shapes (entry_at c.args.canon.now c.args.from.now c.args.row) (get_or nodes 0 0) c.add_all.new.self leaves led.map are_leaves added c.add_all.ensures.different
