@@ -117,6 +117,7 @@ impl Memo {
         }
     }
 
+    /// The complement of a part's automaton.
     fn not(&self, alloc: Global, part: &Part) -> Result<Auto, CompileError>
         requires { (a : Automaton) × IsPart self.now part.now a × IsReduced a }
         ensures ok { IfOk result (IsTurned self.now part.now) }
@@ -125,6 +126,7 @@ impl Memo {
         complement(alloc, self.automaton(part))
     }
 
+    /// The projection of a part's automaton along a variable.
     fn some(&self, alloc: Global, var: Var, part: &Part, step: u32) -> Result<Auto, CompileError>
         requires { (a : Automaton) × IsPart self.now part.now a × IsReduced a }
         ensures ok { IfOk result (IsProjected self.now part.now var) }
@@ -133,6 +135,7 @@ impl Memo {
         projection(alloc, var, self.automaton(part), self.budget(), step)
     }
 
+    /// The conjunction of the automata of two parts.
     fn both(
         &self,
         alloc: Global,
@@ -154,6 +157,7 @@ impl Memo {
         )
     }
 
+    /// The disjunction of the automata of two parts.
     fn either(
         &self,
         alloc: Global,

@@ -255,12 +255,12 @@ pub compiled-requires-in_default-clause-room : goal.compiled-requires-in_default
 compiled-requires-in_default-clause-room t c = c.requires.room
 
 pub compiled-requires-in_default-clause-budget : goal.compiled-requires-in_default-clause-budget
-compiled-requires-in_default-clause-budget t c = (c.budget-in_default.ensures.low, c.budget-in_default.ensures.high)
+compiled-requires-in_default-clause-budget t c = (c.budget.ensures.low, c.budget.ensures.high)
 
 pub returns-in_ok-made-in_default-clause-ok : goal.returns-in_ok-made-in_default-clause-ok
 returns-in_ok-made-in_default-clause-ok t c =
     let none = no_steps c.args.f.now c.in_default.not-Not c.in_default.not-And c.in_default.not-Or c.in_default.not-Ex in
-    part-fresh _ _ _ _ _ _ _ (remembered_leaf (tables c.args.sets.now) c.args.before (tree_of c.args.f.now) c.args.self.now c.budget-in_default.result c.budget-in_default.ensures.is c.in_ok-made-in_default.made.auto c.in_ok-made-in_default.made.done none c.in_ok-made-in_default.ensures.done c.in_ok-made-in_default.ensures.ok)
+    part-fresh _ _ _ _ _ _ _ (remembered_leaf (tables c.args.sets.now) c.args.before (tree_of c.args.f.now) c.args.self.now c.budget.result c.budget.ensures.is c.in_ok-made-in_default.made.auto c.in_ok-made-in_default.made.done none c.in_ok-made-in_default.ensures.done c.in_ok-made-in_default.ensures.ok)
 
 pub returns-in_err-made-in_default-clause-ok : goal.returns-in_err-made-in_default-clause-ok
 returns-in_err-made-in_default-clause-ok t c =
@@ -271,4 +271,4 @@ pub returns-in_err-made-in_default-clause-err : goal.returns-in_err-made-in_defa
 returns-in_err-made-in_default-clause-err t c =
     let p = err_from_is_err_and c.from_residual-in_err-made-in_default.result c.from_residual-in_err-made-in_default.ensures.1 in
     let none = no_steps c.args.f.now c.in_default.not-Not c.in_default.not-And c.in_default.not-Or c.in_default.not-Ex in
-    rw (p.1, p.2) (interrupted_leaf (tables c.args.sets.now) c.args.before (tree_of c.args.f.now) c.args.self.now c.budget-in_default.result c.budget-in_default.ensures.is c.in_err-made-in_default.field-0.0 none c.in_err-made-in_default.ensures.err)
+    rw (p.1, p.2) (interrupted_leaf (tables c.args.sets.now) c.args.before (tree_of c.args.f.now) c.args.self.now c.budget.result c.budget.ensures.is c.in_err-made-in_default.field-0.0 none c.in_err-made-in_default.ensures.err)
