@@ -164,15 +164,6 @@ module _ (budget found : ℕ) (items fields : List Entry) (m : MemoState) (same_
   place_there : (k : ℕ) (en : Entry) → k < length items → en ≡ get_or items k en → slice_get (map entry_of items) k ≡ Some (entry_of en)
   place_there k en within is = slice_get-map entry_of items k ∙ ap (option_map entry_of) (slice_get_read items (length items) k en refl within is)
 
-  pub entry_there : (k : ℕ) (en : Entry) → k < length items → en ≡ get_or items k en → (f : Formula) × (slice_get m.entries k ≡ Some (f, en.auto))
-  entry_there k en within is = (en.formula, subst (λ n. slice_get n.entries k ≡ Some (entry_of en)) view (place_there k en within is))
-
-  pub place_within : (k : ℕ) (entry : Formula × Automaton) → slice_get m.entries k ≡ Some entry → k < length items
-  place_within k entry there =
-      let size : length (map entry_of items) ≡ length items = length-map items entry_of in
-      let within : k < length (map entry_of items) = slice_get_within (map entry_of items) k entry (subst (λ n. slice_get n.entries k ≡ Some entry) (sym view) there) in
-      omega (arith, size, within)
-
   pub none_found : (f : Tree) (index : ℕ) → length items ≤ index → All (λ en. tree_of en.formula ≢ f) (take index items) → Contains (known m) f → ⊥
   none_found f index past none there =
       not_known items f (subst (All (λ (en : Entry). tree_of en.formula ≢ f)) (take_all index items past) none) (subst (λ n. Contains (known n) f) (sym view) there)
