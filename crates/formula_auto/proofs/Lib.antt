@@ -15,4 +15,5 @@ pub mod NoSets
 pub mod PlainLemmas
 pub mod MemoLemmas
 pub mod WithMemo
+pub mod PartLemmas
 pub mod Leaves

@@ -1,6 +1,9 @@
 -- What compiling does to a memo.
-use Rattle.std.proofs.Common.{◌≡◌, ◌≢◌, ℕ, ◌+◌, ◌-◌, ◌≤◌, ◌<◌, ◌^◌, Bool, true, false, ◌&&◌, nat_eq, nat_lt, if◌then◌else◌, List, [], ◌∷◌, ◌++◌, map, take, get_or, length, refl, sym, ap, ◌∙◌, subst, inl, inr, arith, length-append, append-nil}
-use Rattle.std.specs.List.{Contains, All}
+use Rattle.std.proofs.Common.{◌≡◌, ◌≢◌, ℕ, ◌+◌, ◌-◌, ◌≤◌, ◌<◌, ◌^◌, Bool, true, false, ◌&&◌, nat_eq, nat_lt, if◌then◌else◌, List, [], ◌∷◌, ◌++◌, map, take, get_or, length, Some, refl, sym, ap, ◌∙◌, subst, inl, inr, arith, length-append, append-nil}
+use Rattle.std.specs.List.{Contains, All, slice_get}
+use Rattle.std.specs.Option.{option_map}
+use Rattle.std.proofs.lemmas.Option.{slice_get-map, slice_get_read, slice_get_within, slice_get-get_or, get_or_from_slice_get}
+use Rattle.std.proofs.Math.Seq.{get_or-append_seam}
 use Rattle.std.proofs.lemmas.List.Elements.{All-append, All-cons, All-map, All-contains}
 use Rattle.lin_formula.specs.TreeOf.{tree_of}
 use Rattle.formula_auto.specs.declared.memo.Entry.{Entry}
@@ -13,7 +16,7 @@ use Rattle.lin_formula.specs.declared.formula.Formula.{Formula}
 use Rattle.lin_formula.specs.SetOf.{SetOf, members}
 use Rattle.formula_auto.specs.Compiled.{IsCompiled, IsCompileError}
 use Rattle.formula_auto.specs.PlainParts.{is_plain, plain_within, plain_parts}
-use Rattle.formula_auto.specs.MemoState.{MemoState, IsEntry, IsMemo, known, counted, with_entry, IsMemoAfter}
+use Rattle.formula_auto.specs.MemoState.{MemoState, IsEntry, IsMemo, IsEntryAt, known, counted, with_entry, IsMemoAfter}
 use Rattle.formula_auto.specs.Remembered.{IsStopped}
 use Rattle.formula_auto.specs.declared.errors.CompileError.{CompileError}
 use Rattle.formula_auto.specs.declared.errors.CompileError.TheVariants.{Over, Memory}
@@ -136,6 +139,20 @@ not_known items f none there =
     All-map (λ t. t ≢ f) tree_in (map entry_of items) (All-map (λ (en : Formula × Automaton). tree_in en ≢ f) entry_of items none) in
     All-contains (λ t. t ≢ f) (map tree_in (map entry_of items)) f trees there refl
 
+get-last : {X : Type 0} (xs : List X) (x : X) (place : ℕ) → length xs ≡ place → slice_get (xs ++ x ∷ []) place ≡ Some x
+get-last {X = X} xs x place size =
+    slice_get-get_or (xs ++ x ∷ []) place x (let longer = length-append xs (x ∷ []) in omega (arith, size, longer))
+    ∙ ap (λ (y : X). Some y) (subst (λ k. get_or (xs ++ x ∷ []) k x ≡ x) size (get_or-append_seam xs x [] x))
+
+-- a formula is known where it has an entry
+pub known-at : (m : MemoState) (f : Tree) (place : ℕ) → IsEntryAt m f place → Contains (known m) f
+known-at m f place at =
+    let entry : Formula × Automaton = (at.formula, at.auto) in
+    let within : place < length m.entries = slice_get_within m.entries place entry at.there in
+    let size : length (known m) ≡ length m.entries = length-map m.entries tree_in in
+    let tree : get_or (known m) place (tree_in entry) ≡ tree_in entry = get_or-map tree_in m.entries place entry ∙ ap tree_in (get_or_from_slice_get m.entries place entry entry at.there) in
+    subst (Contains (known m)) at.same (place, omega (arith, size, within), tree)
+
 -- the fields of a memo as contracts see them
 abbrev pub state_of : ℕ → List Entry → ℕ → MemoState
 state_of budget items found = record { budget = budget; entries = map entry_of items; found = found }
@@ -144,24 +161,30 @@ module _ (budget found : ℕ) (items fields : List Entry) (m : MemoState) (same_
   view : state_of budget items found ≡ m
   view = subst (λ l. state_of budget l found ≡ m) (sym same_items) view_is
 
+  place_there : (k : ℕ) (en : Entry) → k < length items → en ≡ get_or items k en → slice_get (map entry_of items) k ≡ Some (entry_of en)
+  place_there k en within is = slice_get-map entry_of items k ∙ ap (option_map entry_of) (slice_get_read items (length items) k en refl within is)
+
   pub none_found : (f : Tree) (index : ℕ) → length items ≤ index → All (λ en. tree_of en.formula ≢ f) (take index items) → Contains (known m) f → ⊥
   none_found f index past none there =
       not_known items f (subst (All (λ (en : Entry). tree_of en.formula ≢ f)) (take_all index items past) none) (subst (λ n. Contains (known n) f) (sym view) there)
 
-  pub one_found : (f : Tree) (k : ℕ) (en : Entry) → IsMemo (state_of budget fields found) → k < length items → en ≡ get_or items k en → tree_of en.formula ≡ f → Contains (known m) f × IsEntry m.budget f en.auto
+  pub one_found : (f : Tree) (k : ℕ) (en : Entry) → IsMemo (state_of budget fields found) → k < length items → en ≡ get_or items k en → tree_of en.formula ≡ f → IsEntryAt m f k
   one_found f k en memo_fields within is same =
       let memo : IsMemo (state_of budget items found) = subst (λ l. IsMemo (state_of budget l found)) (sym same_items) memo_fields in
       let P : Formula × Automaton → Type 0 = λ entry. IsEntry budget (tree_of entry.0) entry.1 in
       let size : length (map entry_of items) ≡ length items = length-map items entry_of in
-      let more : length (map tree_in (map entry_of items)) ≡ length (map entry_of items) = length-map (map entry_of items) tree_in in
       let at : get_or (map entry_of items) k (entry_of en) ≡ entry_of en = get_or-map entry_of items k en ∙ ap entry_of (sym is) in
-      let tree : get_or (map tree_in (map entry_of items)) k (tree_of en.formula) ≡ tree_of en.formula = get_or-map tree_in (map entry_of items) k (entry_of en) ∙ ap tree_in at in
-      let there : Contains (map tree_in (map entry_of items)) (tree_of en.formula) = (k, (omega (arith, size, more, within)), tree) in
-      let good : IsEntry budget (tree_of en.formula) en.auto = subst P at (memo.entries k (entry_of en) (omega (arith, size, within))) in
-      subst (λ t. Contains (known m) t × IsEntry m.budget t en.auto) same (subst (λ n. Contains (known n) (tree_of en.formula) × IsEntry n.budget (tree_of en.formula) en.auto) view (there, good))
+      let here : IsEntryAt (state_of budget items found) (tree_of en.formula) k = record {
+        formula = en.formula;
+        auto = en.auto;
+        there = place_there k en within is;
+        same = refl;
+        entry = subst P at (memo.entries k (entry_of en) (omega (arith, size, within)));
+      } in
+      subst (λ t. IsEntryAt m t k) same (subst (λ n. IsEntryAt n (tree_of en.formula) k) view here)
 
-module _ (budget found : ℕ) (items longer : List Entry) (m : MemoState) (en : Entry) (f : Tree) (a : Automaton) (view : state_of budget items found ≡ m) (pushed : longer ≡ items ++ en ∷ [])
-    (some_room : length m.entries < 2 ^ 32 - 1) (tree : tree_of en.formula ≡ f) (auto : en.auto ≡ a) where
+module _ (budget found : ℕ) (items longer : List Entry) (m : MemoState) (en : Entry) (f : Tree) (view : state_of budget items found ≡ m) (pushed : longer ≡ items ++ en ∷ [])
+    (some_room : length m.entries < 2 ^ 32 - 1) (tree : tree_of en.formula ≡ f) where
   entries_is : map entry_of longer ≡ map entry_of items ++ entry_of en ∷ []
   entries_is = ap (map entry_of) pushed ∙ map-append entry_of items (en ∷ [])
 
@@ -169,11 +192,11 @@ module _ (budget found : ℕ) (items longer : List Entry) (m : MemoState) (en : 
   room = subst (λ n. length n.entries < 2 ^ 32 - 1) (sym view) some_room
 
   -- with one more entry it is a memo still
-  pub memo-entered : IsMemo (state_of budget items found) → IsEntry m.budget f a → IsMemo (state_of budget longer found)
+  pub memo-entered : IsMemo (state_of budget items found) → IsEntry m.budget f en.auto → IsMemo (state_of budget longer found)
   memo-entered memo entry =
       let P : Formula × Automaton → Type 0 = λ e. IsEntry budget (tree_of e.0) e.1 in
-      let here : IsEntry budget f a = subst (λ n. IsEntry n.budget f a) (sym view) entry in
-      let there : P (entry_of en) = subst (λ t. IsEntry budget t en.auto) (sym tree) (subst (IsEntry budget f) (sym auto) here) in
+      let here : IsEntry budget f en.auto = subst (λ n. IsEntry n.budget f en.auto) (sym view) entry in
+      let there : P (entry_of en) = subst (λ t. IsEntry budget t en.auto) (sym tree) here in
       let size : length (map entry_of longer) ≡ length (map entry_of items) + 1 = ap length entries_is ∙ length-append (map entry_of items) (entry_of en ∷ []) in
       record {
         least = memo.least;
@@ -181,6 +204,12 @@ module _ (budget found : ℕ) (items longer : List Entry) (m : MemoState) (en : 
         few = omega (arith, size, room);
         entries = subst (All P) (sym entries_is) (All-append P (map entry_of items) (entry_of en ∷ []) memo.entries (All-cons P (entry_of en) [] there (λ k d within. absurd (omega arith))));
       }
+
+  -- at its end is the new entry
+  pub last-entered : (place : ℕ) → place ≡ length m.entries → (f : Formula) × (slice_get (map entry_of longer) place ≡ Some (f, en.auto))
+  last-entered place here =
+      let size : length (map entry_of items) ≡ place = ap (λ n. length n.entries) view ∙ sym here in
+      (en.formula, subst (λ es. slice_get es place ≡ Some (entry_of en)) (sym entries_is) (get-last (map entry_of items) (entry_of en) place size))
 
   -- and the formula has passed
   pub after-entered : (Contains (known m) f → ⊥) → IsMemoAfter m (state_of budget longer found) (f ∷ [])

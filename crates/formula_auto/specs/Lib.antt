@@ -19,5 +19,6 @@ pub mod StepError
 pub mod PlainParts
 pub mod MemoState
 pub mod Remembered
+pub mod PartOf
 pub mod MemoEntries
 pub mod Codes

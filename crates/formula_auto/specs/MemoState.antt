@@ -1,5 +1,5 @@
 -- What a memo keeps, and how that changes.
-use Rattle.std.specs.Prelude.{◌≡◌, ◌⊎◌, ℕ, ◌+◌, ◌-◌, ◌≤◌, ◌<◌, ◌^◌, min, nat_lt, if◌then◌else◌, IsTrue, List, [], ◌∷◌, ◌++◌, map, length, All, Contains, None}
+use Rattle.std.specs.Prelude.{◌≡◌, ◌⊎◌, ℕ, ◌+◌, ◌-◌, ◌≤◌, ◌<◌, ◌^◌, min, nat_lt, if◌then◌else◌, IsTrue, List, [], ◌∷◌, ◌++◌, map, length, All, Contains, Some, None, slice_get}
 use Rattle.auto_core.specs.Automaton.{Automaton}
 use Rattle.auto_core.specs.Reduced.{IsReduced}
 use Rattle.lin_formula.specs.Tree.{Tree, steps}
@@ -30,6 +30,14 @@ pub record IsMemo (m : MemoState) : Type 0 where
   pub most : m.budget ≤ 200000
   pub few : length m.entries < 2 ^ 32
   pub entries : All (λ entry. IsEntry m.budget (tree_of entry.0) entry.1) m.entries
+
+-- at this place stands the entry of a formula
+pub record IsEntryAt (m : MemoState) (f : Tree) (place : ℕ) : Type 0 where
+  pub formula : Formula
+  pub auto : Automaton
+  pub there : slice_get m.entries place ≡ Some (formula, auto)
+  pub same : tree_of formula ≡ f
+  pub entry : IsEntry m.budget f auto
 
 -- the formulas of the entries
 abbrev pub known : MemoState → List Tree

@@ -6,6 +6,7 @@
 mod compiling;
 mod errors;
 mod memo;
+mod part;
 mod plain;
 mod remembering;
 mod steps;

@@ -1,8 +1,11 @@
 //! Automata of plain formulas, kept from one compilation to the next.
-ghost use Rattle.std.specs.Prelude.{◌≡◌, ◌≤◌, [], ◌∷◌, length, Contains, MatchOption, OnOk, OnErr};
+ghost use Rattle.std.specs.Prelude.{◌≡◌, ◌≤◌, [], ◌∷◌, length, Contains, MatchOption, IfOk, OnOk, OnErr};
+ghost use Rattle.auto_core.specs.Automaton.{Automaton};
 ghost use Rattle.lin_formula.specs.TreeOf.{tree_of};
-ghost use Rattle.formula_auto.specs.MemoState.{IsMemo, IsMemoAfter, IsEntry, known, counted};
+ghost use Rattle.formula_auto.specs.MemoState.{IsMemo, IsMemoAfter, IsEntry, IsEntryAt, known, counted};
+ghost use Rattle.formula_auto.specs.PartOf.{IsPart};
 
+use crate::part::Part;
 use auto_core::Auto;
 use lin_formula::{Formula, copy, same};
 use std::alloc::{AllocError, Global};
@@ -80,40 +83,69 @@ impl Memo {
         self.budget
     }
 
-    /// The automaton of a formula that is in the table.
-    pub fn find(&self, f: &Formula) -> Option<&Auto>
-        ensures { MatchOption result (¬ Contains (known self.now) (tree_of f.now)) (λ a. Contains (known self.now) (tree_of f.now) × IsEntry self.now.budget (tree_of f.now) a.now) }
+    /// The place of the entry of a formula.
+    pub(crate) fn find(&self, f: &Formula) -> Option<usize>
+        ensures { MatchOption result (¬ Contains (known self.now) (tree_of f.now)) (IsEntryAt self.now (tree_of f.now)) }
     {
-        for entry in &self.entries {
+        for (place, entry) in self.entries.iter().enumerate() {
             if same(&entry.formula, f) {
-                return Some(&entry.auto);
+                return Some(place);
             }
         }
         None
     }
 
+    /// The automaton of a part, lent.
+    pub(crate) fn automaton<'a>(&'a self, part: &'a Part) -> &'a Auto
+        requires { (a : Automaton) × IsPart self.now part.now a }
+        ensures { IsPart self.now part.now result.now }
+    {
+        match part {
+            Part::Fresh(auto) => auto,
+            Part::Kept(place) => &self.entries[*place].auto,
+        }
+    }
+
+    /// The automaton of a part, to keep.
+    pub(crate) fn taken(&self, part: Part) -> Result<Auto, AllocError>
+        requires { (a : Automaton) × IsPart self.now part a }
+        ensures { IfOk result (IsPart self.now part) }
+    {
+        match part {
+            Part::Fresh(auto) => Ok(auto),
+            Part::Kept(place) => self.entries[place].auto.copy(),
+        }
+    }
+
     /// Counts an automaton that was taken.
-    pub fn count(&mut self)
+    pub(crate) fn count(&mut self)
         ensures { self.new ≡ record self.old { found = counted self.old.found } }
     {
         self.found = self.found.saturating_add(1);
     }
 
     /// Puts a formula and its automaton at the end, unless there are 2^32 - 1 entries.
-    pub fn enter(&mut self, alloc: Global, f: &Formula, a: &Auto) -> Result<(), AllocError>
-        requires entry { IsEntry self.old.budget (tree_of f.now) a.now }
+    pub(crate) fn enter(
+        &mut self,
+        alloc: Global,
+        f: &Formula,
+        auto: Auto,
+    ) -> Result<Part, AllocError>
+        requires entry { IsEntry self.old.budget (tree_of f.now) auto }
         requires unknown { ¬ Contains (known self.old) (tree_of f.now) }
         ensures ok { OnOk result (IsMemoAfter self.old self.new (tree_of f.now ∷ [])) }
+        ensures part { IfOk result (λ part. IsPart self.new part auto) }
         ensures err { OnErr result (self.new ≡ self.old) }
     {
-        if self.kept() == u32::MAX {
-            return Ok(());
+        let kept = self.kept();
+        if kept == u32::MAX {
+            return Ok(Part::Fresh(auto));
         }
         let entry = Entry {
             formula: copy(alloc, f)?,
-            auto: a.copy()?,
+            auto,
         };
         self.entries.push(entry)?;
-        Ok(())
+        Ok(Part::Kept(kept as usize))
     }
 }

@@ -3,5 +3,5 @@ use Rattle.std.specs.Prelude.{All}
 use Rattle.lin_formula.specs.TreeOf.{tree_of}
 use Rattle.formula_auto.proofs.memo.Memo.find.Given as goal
 
-abbrev pub invariant-loop-entry : goal.invariant-loop-entry
-invariant-loop-entry l = All (λ entry. tree_of entry.formula ≢ tree_of l.f) (take l.entry-index l.entry-items)
+abbrev pub invariant-loop-place : goal.invariant-loop-place
+invariant-loop-place l = All (λ entry. tree_of entry.formula ≢ tree_of l.f) (take l.place l.entry-items)

@@ -34,16 +34,19 @@ enter-requires-clause-entry c =
 pub enter-requires-clause-unknown : goal.enter-requires-clause-unknown
 enter-requires-clause-unknown c = c.requires.unknown
 
-pub returns-in_err-enter-clause-ok : goal.returns-in_err-enter-clause-ok
-returns-in_err-enter-clause-ok c =
-    let p = err_from_is_err_and c.from_residual-in_err-enter.result c.from_residual-in_err-enter.ensures.1 in
+pub returns-in_err-part-clause-ok : goal.returns-in_err-part-clause-ok
+returns-in_err-part-clause-ok c =
+    let p = err_from_is_err_and c.from_residual-in_err-part.result c.from_residual-in_err-part.ensures.1 in
     rw p.1 tt
 
-pub returns-in_err-enter-clause-err : goal.returns-in_err-enter-clause-err
-returns-in_err-enter-clause-err c =
-    let p = err_from_is_err_and c.from_residual-in_err-enter.result c.from_residual-in_err-enter.ensures.1 in
-    rw (p.1, c.in_err-enter.ensures.err) (interrupted_memory (tables c.args.sets.now) c.args.before (tree_of c.args.f.now) c.args.self.now p.0 p.2)
+pub returns-in_err-part-clause-err : goal.returns-in_err-part-clause-err
+returns-in_err-part-clause-err c =
+    let p = err_from_is_err_and c.from_residual-in_err-part.result c.from_residual-in_err-part.ensures.1 in
+    rw (p.1, c.in_err-part.ensures.err) (interrupted_memory (tables c.args.sets.now) c.args.before (tree_of c.args.f.now) c.args.self.now p.0 p.2)
 
 pub returns-clause-ok : goal.returns-clause-ok
-returns-clause-ok c =
-    remembered_made (tables c.args.sets.now) c.args.before (tree_of c.args.f.now) c.args.self.now c.budget.result c.budget.ensures.is c.in_ok-made.made.auto c.in_ok-made.made.done c.enter.new.self c.requires.plain c.in_ok-made.ensures.done c.in_ok-made.ensures.ok c.in_ok-enter.ensures.ok
+returns-clause-ok c = record {
+  auto = c.in_ok-made.made.auto;
+  has = c.in_ok-part.ensures.part;
+  remembered = remembered_made (tables c.args.sets.now) c.args.before (tree_of c.args.f.now) c.args.self.now c.budget.result c.budget.ensures.is c.in_ok-made.made.auto c.in_ok-made.made.done c.enter.new.self c.requires.plain c.in_ok-made.ensures.done c.in_ok-made.ensures.ok c.in_ok-part.ensures.ok;
+}

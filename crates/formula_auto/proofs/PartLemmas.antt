@@ -1,0 +1,63 @@
+-- What a part of a formula has, also when the memo has grown since.
+use Rattle.std.proofs.Common.{◌≡◌, ℕ, ◌+◌, List, [], ◌∷◌, ◌++◌, length, Some, refl, sym, ap, ◌∙◌, subst, zero, suc}
+use Rattle.std.specs.List.{slice_get}
+use Rattle.std.proofs.lemmas.Option.{none-some, same_Some}
+use Rattle.auto_core.specs.Automaton.{Automaton}
+use Rattle.lin_formula.specs.Tree.{Tree, steps}
+use Rattle.lin_formula.specs.declared.formula.Formula.{Formula}
+use Rattle.lin_formula.specs.SetOf.{SetOf}
+use Rattle.formula_auto.specs.MemoState.{MemoState, IsEntryAt, IsMemoAfter, counted}
+use Rattle.formula_auto.specs.Remembered.{IsRemembered}
+use Rattle.formula_auto.specs.PartOf.{IsPart, IsRememberedPart}
+use Rattle.formula_auto.specs.PlainParts.{plain_parts}
+use Rattle.formula_auto.specs.declared.part.Remembered.{Remembered}
+use Rattle.formula_auto.specs.declared.part.Part.{Part}
+use Rattle.formula_auto.specs.declared.part.Part.TheVariants.{Fresh, Kept}
+use Rattle.formula_auto.proofs.MemoLemmas.{known-at}
+use Rattle.formula_auto.proofs.WithMemo.{remembered_found}
+
+get-append : {X : Type 0} (xs ys : List X) (k : ℕ) (x : X) → slice_get xs k ≡ Some x → slice_get (xs ++ ys) k ≡ Some x
+get-append [] ys k x there = absurd (none-some x there)
+get-append (y ∷ xs) ys zero x there = there
+get-append (y ∷ xs) ys (suc k) x there = get-append xs ys k x there
+
+-- a part has one automaton
+one_automaton : (m : MemoState) (part : Part) (a b : Automaton) → IsPart m part a → IsPart m part b → a ≡ b
+one_automaton m (Fresh c) a b left right = sym left ∙ right
+one_automaton m (Kept place) a b left right =
+    ap (λ (entry : Formula × Automaton). entry.1) (same_Some (left.0, a) (right.0, b) (sym left.1 ∙ right.1))
+
+-- entries are only added
+pub part-after : (old new : MemoState) (fs : List Tree) (part : Part) (a : Automaton) → IsMemoAfter old new fs → IsPart old part a → IsPart new part a
+part-after old new fs (Fresh c) a after has = has
+part-after old new fs (Kept place) a after has = (
+  has.0,
+  subst (λ entries. slice_get entries place ≡ Some (has.0, a)) (sym after.entries) (get-append old.entries after.added place (has.0, a) has.1),
+)
+
+module _ (f : Tree) (e : ℕ → SetOf) (before : ℕ) where
+  pub part-fresh : (old new : MemoState) (a : Automaton) (last : ℕ) → IsRemembered f e before old new a last → IsRememberedPart f e before old new (Fresh a) last
+  part-fresh old new a last remembered = record { auto = a; has = refl; remembered = remembered }
+
+  pub part-found : (m : MemoState) (place last : ℕ) → last ≡ before + length (steps f) → IsEntryAt m f place → IsRememberedPart f e before m (record m { found = counted m.found }) (Kept place) last
+  part-found m place last counts at = record {
+    auto = at.auto;
+    has = (at.formula, at.there);
+    remembered = remembered_found e before f m at.auto last counts (known-at m f place at) at.entry;
+  }
+
+  module _ (old new : MemoState) (part : Part) (last : ℕ) (made : IsRememberedPart f e before old new part last) (a : Automaton) where
+    pub lent : IsPart new part a → IsRemembered f e before old new a last
+    lent has = subst (λ b. IsRemembered f e before old new b last) (one_automaton new part made.auto a made.has has) made.remembered
+
+    pub lent-later : (later : MemoState) (fs : List Tree) → IsMemoAfter new later fs → IsPart later part a → IsRemembered f e before old new a last
+    lent-later later fs after has =
+        subst (λ b. IsRemembered f e before old new b last) (one_automaton later part made.auto a (part-after new later fs part made.auto after made.has) has) made.remembered
+
+-- the left part keeps its automaton while the right one is compiled
+pub both_lent : (f g : Tree) (e : ℕ → SetOf) (before : ℕ) (m0 m1 m2 : MemoState) (left right : Remembered) → IsRememberedPart f e before m0 m1 left.part left.done → IsRememberedPart g e left.done m1 m2 right.part right.done
+    → (a b : Automaton) → IsPart m2 left.part a → IsPart m2 right.part b → IsRemembered f e before m0 m1 a left.done × IsRemembered g e left.done m1 m2 b right.done
+both_lent f g e before m0 m1 m2 left right made_left made_right a b has_a has_b = (
+  lent-later f e before m0 m1 left.part left.done made_left a m2 (plain_parts g) made_right.remembered.after has_a,
+  lent g e left.done m1 m2 right.part right.done made_right b has_b,
+)
