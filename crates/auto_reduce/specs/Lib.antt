@@ -4,6 +4,7 @@ pub use Rattle.auto_core.specs.Automaton
 pub use Rattle.auto_core.specs.Reduced
 pub use Rattle.auto_core.specs.Integers
 pub mod Leading
+pub mod RoundMemo
 pub mod Partition
 pub mod Refining
 pub mod Quotient

@@ -6,6 +6,7 @@ ghost use Rattle.letter_diagram.specs.Listed.{EachAnswers};
 ghost use Rattle.letter_diagram.specs.NodeMemo.{answer_of};
 ghost use Rattle.auto_reduce.specs.Leading.{IsLedFrom, RemembersLed, AddsAnswer};
 
+use crate::round_memo::RoundMemo;
 use letter_diagram::{Diagrams, Node, NodeMemo, Shape};
 use std::alloc::AllocError;
 use std::collections::HashMap;
@@ -37,6 +38,21 @@ impl Memo for NodeMemo {
     fn keep(&mut self, node: Node, made: Node) -> Result<(), AllocError> {
         self.insert(node, made);
         Ok(())
+    }
+}
+
+/// With room for each node, to be used again.
+impl Memo for RoundMemo {
+    ghost answer = { answer_of };
+
+    ghost has_room = { λ memo node. node < length memo };
+
+    fn known(&self, node: Node) -> Option<Node> {
+        self.get(node)
+    }
+
+    fn keep(&mut self, node: Node, made: Node) -> Result<(), AllocError> {
+        self.insert(node, made)
     }
 }
 
@@ -72,6 +88,24 @@ pub fn lead_nodes(
 {
     let mut memo = NodeMemo::new(to.alloc(), from.len())?;
     let answers = each_led(from, nodes, table, to, &mut memo)?;
+    Ok(answers)
+}
+
+/// The same with a memo that serves one call after another. Costs the nodes that are led, and those that were led before.
+pub fn lead_over(
+    from: &Diagrams,
+    nodes: &[Node],
+    table: &[u32],
+    to: &mut Diagrams,
+    memo: &mut RoundMemo,
+) -> Result<Vec<Node>, AllocError>
+    requires known { All (λ node. node < length from.now) nodes.now }
+    requires leaves { All (λ node. (letter : ℕ) → map_at from.now node letter < length table.now) nodes.now }
+    ensures led { IfOk result (λ answers. EachAnswers (IsLedFrom from.now to.new table.now) nodes.now answers.items) }
+    ensures grows { Grows to.old to.new }
+{
+    memo.clear();
+    let answers = each_led(from, nodes, table, to, memo)?;
     Ok(answers)
 }
 

@@ -13,6 +13,7 @@ mod moves;
 mod order;
 mod partition;
 mod quotient;
+mod round_memo;
 mod rows;
 mod same;
 mod signatures;

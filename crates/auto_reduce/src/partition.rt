@@ -7,6 +7,7 @@ ghost use Rattle.auto_reduce.specs.Partition.{IsSplit, IsPartition, IsListing, A
 use crate::classes::Partition;
 use crate::listing::{Listing, add_lists, all_states, list_each, list_states};
 use crate::moves::{Moves, candidates, find_moves, put_numbers};
+use crate::round_memo::RoundMemo;
 use crate::rows::row_nodes;
 use crate::stale::{lead, lead_again, sharing_states, stale_states};
 use crate::ways::row_ways;
@@ -118,6 +119,8 @@ struct Refining {
     listing: Listing,
     /// For each state its row, led to classes.
     led: Vec<Node>,
+    /// For the rows that a round leads.
+    memo: RoundMemo,
 }
 
 /// The partition by flags, to whose classes the rows are led.
@@ -128,12 +131,14 @@ fn start(alloc: Global, a: &Auto) -> Result<Refining, AllocError>
     let partition = by_flags(alloc, a)?;
     let mut diagrams = Diagrams::with_capacity(alloc, a.diagrams().len())?;
     let listing = list_states(alloc, &partition)?;
-    let led = lead(&mut diagrams, a, row_nodes(a), &partition)?;
+    let mut memo = RoundMemo::new(alloc, a.diagrams().len())?;
+    let led = lead(&mut diagrams, a, row_nodes(a), &partition, &mut memo)?;
     Ok(Refining {
         diagrams,
         partition,
         listing,
         led,
+        memo,
     })
 }
 
@@ -175,6 +180,7 @@ fn next_round(a: &Auto, refining: &mut Refining, stale: &[u32]) -> Result<Vec<u3
         stale,
         refining.partition.classes.as_slice(),
         refining.led.as_mut_slice(),
+        &mut refining.memo,
     )?;
     let moved = round(a, refining, stale)?;
     Ok(moved)

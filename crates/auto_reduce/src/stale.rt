@@ -1,15 +1,14 @@
 //! Nodes that lead the rows to the classes of a partition, kept while no state to which a row leads moves to another class.
 ghost use Rattle.std.specs.Prelude.{◌≡◌, ◌<◌, ◌^◌, ℕ, All, Contains, length, map, IfOk, OnOk};
-ghost use Rattle.letter_diagram.specs.Diagram.{map_at, Grows};
-ghost use Rattle.letter_diagram.specs.Listed.{EachAnswers};
-ghost use Rattle.auto_reduce.specs.Leading.{IsLedFrom};
+ghost use Rattle.letter_diagram.specs.Diagram.{Grows};
 ghost use Rattle.auto_reduce.specs.Ways.{AreRowWays};
 ghost use Rattle.auto_reduce.specs.Partition.{IsPartition, IsListing, AreRowNodes, AreLedRows, IsShared, AreStale, IsPut, AreLedAgain};
 
 use crate::classes::Partition;
-use crate::leading::{lead_few, lead_nodes};
+use crate::leading::lead_over;
 use crate::listing::{Listing, all_states};
 use crate::rows::picked;
+use crate::round_memo::RoundMemo;
 use crate::ways::{Ways, leading_to};
 use auto_core::Auto;
 use letter_diagram::{Diagrams, Node};
@@ -86,24 +85,6 @@ fn put(nodes: &mut [Node], places: &[u32], values: &[Node])
     }
 }
 
-/// The nodes of some rows, led through a table. Where they are a good part of all rows, a memo with room for each node is cheaper.
-fn lead_some(
-    a: &Auto,
-    nodes: &[Node],
-    table: &[u32],
-    to: &mut Diagrams,
-) -> Result<Vec<Node>, AllocError>
-    requires known { All (λ node. node < length a.now.shapes) nodes.now }
-    requires leaves { All (λ node. (letter : ℕ) → map_at a.now.shapes node letter < length table.now) nodes.now }
-    ensures led { IfOk result (λ answers. EachAnswers (IsLedFrom a.now.shapes to.new table.now) nodes.now answers.items) }
-    ensures grows { Grows to.old to.new }
-{
-    if nodes.len() > a.states() as usize / 8 {
-        return lead_nodes(a.diagrams(), nodes, table, to);
-    }
-    lead_few(a.diagrams(), nodes, table, to)
-}
-
 /// Leads the rows of some states to classes. The other states keep their nodes.
 pub fn lead_again(
     diagrams: &mut Diagrams,
@@ -112,6 +93,7 @@ pub fn lead_again(
     states: &[u32],
     classes: &[u32],
     led: &mut [Node],
+    memo: &mut RoundMemo,
 ) -> Result<(), AllocError>
     requires rows { AreRowNodes a.now rows.now }
     requires states { All (λ state. state < length a.now.accept) states.now }
@@ -121,7 +103,7 @@ pub fn lead_again(
     ensures grows { Grows diagrams.old diagrams.new }
 {
     let picked = picked(diagrams.alloc(), rows, states)?;
-    let nodes = lead_some(a, picked.as_slice(), classes, diagrams)?;
+    let nodes = lead_over(a.diagrams(), picked.as_slice(), classes, diagrams, memo)?;
     put(led, states, nodes.as_slice());
     Ok(())
 }
@@ -132,12 +114,19 @@ pub fn lead(
     a: &Auto,
     rows: &[Node],
     partition: &Partition,
+    memo: &mut RoundMemo,
 ) -> Result<Vec<Node>, AllocError>
     requires rows { AreRowNodes a.now rows.now }
     requires partition { IsPartition (length a.now.accept) partition.now.classes.items partition.now.count }
     ensures led { IfOk result (λ led. AreLedRows a.now diagrams.new partition.now.classes.items led.items) }
     ensures grows { Grows diagrams.old diagrams.new }
 {
-    let led = lead_nodes(a.diagrams(), rows, partition.classes.as_slice(), diagrams)?;
+    let led = lead_over(
+        a.diagrams(),
+        rows,
+        partition.classes.as_slice(),
+        diagrams,
+        memo,
+    )?;
     Ok(led)
 }

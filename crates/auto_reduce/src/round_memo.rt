@@ -1,0 +1,85 @@
+//! Answers for nodes that serve one round of a refinement after another.
+ghost use Rattle.std.specs.Prelude.{◌≡◌, ℕ, None, length, IfOk, OnOk};
+ghost use Rattle.letter_diagram.specs.NodeMemo.{answer_of, Remembers};
+ghost use Rattle.auto_reduce.specs.RoundMemo.{AreForgotten, IsForgotten};
+
+use letter_diagram::Node;
+use std::alloc::{AllocError, Global};
+use std::marker::Model;
+
+/// Answers for the nodes of one `Diagrams`, by the nodes' numbers. The nodes that got one are listed, so that to forget them all costs
+/// no more than to answer them.
+#[derive(Drop)]
+pub struct RoundMemo {
+    answers: Vec<Option<Node>>,
+    answered: Vec<Node>,
+}
+
+impl Model for RoundMemo {
+    ghost use Rattle.std.specs.Prelude.{List, Option, ℕ};
+    ghost use Rattle.auto_reduce.specs.RoundMemo.{AreAnswered};
+
+    ghost Value = { List (Option ℕ) };
+
+    ghost view = { λ m. m.answers.items };
+
+    ghost invariant = { λ m. AreAnswered m.answers.items m.answered.items };
+}
+
+/// Forgets the answer for a node.
+fn forget_one(answers: &mut Vec<Option<Node>>, node: Node)
+    ensures { IsForgotten answers.old.items answers.new.items node }
+{
+    if node.number() < answers.len() {
+        answers[node.number()] = None;
+    }
+}
+
+/// Forgets the answers for some nodes.
+fn forget(answers: &mut Vec<Option<Node>>, nodes: &[Node])
+    ensures { AreForgotten answers.old.items answers.new.items nodes.now }
+{
+    for node in nodes {
+        forget_one(answers, *node);
+    }
+}
+
+impl RoundMemo {
+    /// No node has an answer, and there is room for those below `nodes`.
+    pub fn new(alloc: Global, nodes: usize) -> Result<Self, AllocError>
+        ensures none { IfOk result (λ memo. (node : ℕ) → answer_of memo node ≡ None) }
+        ensures len { IfOk result (λ memo. length memo ≡ nodes) }
+    {
+        Ok(RoundMemo {
+            answers: vec![in alloc; None; nodes]?,
+            answered: Vec::new(alloc),
+        })
+    }
+
+    /// The answer for a node.
+    pub fn get(&self, node: Node) -> Option<Node>
+        ensures { result ≡ answer_of self.now node }
+    {
+        self.answers.get(node.number()).copied().flatten()
+    }
+
+    /// A node past those that the memo has room for is not remembered.
+    pub fn insert(&mut self, node: Node, answer: Node) -> Result<(), AllocError>
+        ensures { OnOk result (Remembers self.old self.new node answer) }
+    {
+        self.answered.push(node)?;
+        if let Some(place) = self.answers.get_mut(node.number()) {
+            *place = Some(answer);
+        }
+        Ok(())
+    }
+
+    /// Forgets all answers.
+    pub fn clear(&mut self)
+        ensures none { (node : ℕ) → answer_of self.new node ≡ None }
+        ensures len { length self.new ≡ length self.old }
+    {
+        forget(&mut self.answers, self.answered.as_slice());
+        self.answered.clear();
+    }
+}
