@@ -7,8 +7,8 @@ ghost use Rattle.auto_reduce.specs.Partition.{IsPartition, IsListing, AreRowNode
 use crate::classes::Partition;
 use crate::leading::lead_over;
 use crate::listing::{Listing, all_states};
-use crate::rows::picked;
 use crate::round_memo::RoundMemo;
+use crate::rows::picked;
 use crate::ways::{Ways, leading_to};
 use auto_core::Auto;
 use letter_diagram::{Diagrams, Node};
