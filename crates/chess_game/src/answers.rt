@@ -10,7 +10,7 @@ ghost use Rattle.chess_game.specs.Near.{IsNarrowPosition, IsNear};
 ghost use Rattle.chess_game.specs.Check.{IsClose, IsCloseCheck, IsCheckerOn, IsHeld, IsKingOn};
 
 use crate::attack::attacks;
-use crate::board::{Board, other_side};
+use crate::board::Board;
 use crate::geometry::{Offset, offset_between, steps_of};
 use crate::moves::can_go;
 use crate::piece::Piece;
@@ -227,7 +227,7 @@ fn checker_square(board: &Board, king: Square) -> Option<Square>
     ensures { MatchOption result (Attacked board.now (other board.now.turn) king → ⊥) (λ a. Any (IsCheckerOn board.now king a) board.now.men) }
 {
     for man in board.men() {
-        if attacks(board, man, other_side(board.turn()), king) {
+        if attacks(board, man, board.turn().other(), king) {
             return man.square();
         }
     }

@@ -4,7 +4,7 @@ ghost use Rattle.std.specs.Prelude.{◌≡◌, ◌↔◌, IsTrue};
 ghost use Rattle.game_rules.specs.Game.{Attacked, Bears, InCheck, other, IsBetween, IsLiveAnd, IsOpen};
 ghost use Rattle.chess_game.specs.Near.{IsNear};
 
-use crate::board::{Board, other_side};
+use crate::board::Board;
 use crate::geometry::{is_between, is_slider, offset_between, reaches};
 use crate::piece::Piece;
 use game_rules::{Kind, Side, Square};
@@ -67,7 +67,7 @@ fn is_king_attacked(board: &Board, man: &Piece, side: Side) -> bool
     }
     match man.square() {
         None => false,
-        Some(square) => is_attacked(board, other_side(side), square),
+        Some(square) => is_attacked(board, side.other(), square),
     }
 }
 

@@ -2,7 +2,7 @@
 
 ghost use Rattle.std.specs.Int.{bit_at};
 ghost use Rattle.std.specs.Prelude.{◌≡◌, ◌≢◌, ◌↔◌, ◌+◌, ◌^◌, ◌<◌, ◌≤◌, ℕ, length, slice_get, slice_index_or, Some};
-ghost use Rattle.game_rules.specs.Game.{IsAfter, IsLeftBy, IsMaskOf, man_at, other};
+ghost use Rattle.game_rules.specs.Game.{IsAfter, IsLeftBy, IsMaskOf, man_at};
 ghost use Rattle.game_rules.specs.declared.men.Man.{Man};
 ghost use Rattle.chess_game.specs.Mask.{IsMaskBelow};
 ghost use Rattle.chess_game.specs.Near.{IsNarrowMan, IsNarrowPosition, IsNear};
@@ -11,16 +11,6 @@ ghost use Rattle.std.specs.List.{All};
 use crate::piece::Piece;
 use game_rules::{Kind, Man, Place, Side, Square};
 use std::marker::Model;
-
-/// The side that is not this one.
-pub(crate) fn other_side(side: Side) -> Side
-    ensures { result ≡ other side }
-{
-    match side {
-        Side::White => Side::Black,
-        Side::Black => Side::White,
-    }
-}
 
 /// Two to eight men, and the side to move.
 #[derive(Clone, Copy)]
@@ -119,7 +109,7 @@ impl Board {
         Board {
             men,
             count: self.count,
-            turn: other_side(self.turn),
+            turn: self.turn.other(),
         }
     }
 }

@@ -6,7 +6,7 @@ ghost use Rattle.game_rules.specs.declared.men.Square.{Square};
 ghost use Rattle.chess_game.specs.Fault.{AreTwins, HasFault, IsFirstFault, IsFirstPair, IsGoneAt, IsKingAt, StandsAt};
 
 use crate::attack::in_check;
-use crate::board::{Board, other_side};
+use crate::board::Board;
 use game_rules::{Kind, Side, Square};
 
 /// Why a position is not sound, in the order in which reasons are told, White's before Black's.
@@ -192,7 +192,7 @@ pub(crate) fn check_board(board: &Board) -> Result<(), Unsound>
     check_live(board, Side::White, white)?;
     check_live(board, Side::Black, black)?;
     check_apart(board)?;
-    if in_check(board, other_side(board.turn())) {
+    if in_check(board, board.turn().other()) {
         return Err(Unsound::OtherInCheck);
     }
     Ok(())

@@ -7,7 +7,7 @@ ghost use Rattle.chess_game.specs.Near.{IsNear};
 ghost use Rattle.chess_game.specs.Refusal.{IsRefusal};
 
 use crate::attack::{bears, in_check};
-use crate::board::{Board, other_side};
+use crate::board::Board;
 use crate::piece::Piece;
 use game_rules::{Kind, Side, Square};
 
@@ -83,7 +83,7 @@ fn goes(board: &Board, man: &Piece, to: Square) -> bool
 {
     match man.kind() {
         Kind::Pawn => {
-            (bears(board, man, to) && holds(board, other_side(man.side()), to))
+            (bears(board, man, to) && holds(board, man.side().other(), to))
                 || (stands_on(man, square_behind(man.side(), to)) && is_empty(board, to))
         }
         _ => bears(board, man, to),

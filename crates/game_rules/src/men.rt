@@ -1,10 +1,24 @@
 //! Men, places and squares.
+ghost use Rattle.std.specs.Prelude.{◌≡◌};
+ghost use Rattle.game_rules.specs.Game.{other};
 
 /// One of the two players.
 #[derive(Clone, Copy, Debug, PartialEq, Eq)]
 pub enum Side {
     White,
     Black,
+}
+
+impl Side {
+    /// The side that is not this one.
+    pub fn other(self) -> Side
+        ensures { result ≡ other self }
+    {
+        match self {
+            Side::White => Side::Black,
+            Side::Black => Side::White,
+        }
+    }
 }
 
 /// What a man is (FIDE Laws, Article 2.2).

@@ -14,7 +14,7 @@ use crate::level::LevelNames;
 use crate::names::PartName;
 use crate::narrowing::narrow;
 use crate::stage::Stage;
-use crate::unions::{image_set, other};
+use crate::unions::image_set;
 use auto_core::Auto;
 use chess_game::Position;
 use formula_auto::Memo;
@@ -45,7 +45,7 @@ fn reach_set(
     ensures budget { memo.new.budget ≡ memo.old.budget }
 {
     let moved = image_set(alloc, memo, sets, p, masks, stage, level)?;
-    let attacks = bearings(alloc, p, stage.mask, other(stage.side))?;
+    let attacks = bearings(alloc, p, stage.mask, stage.side.other())?;
     narrow(alloc, memo, sets, p, stage, attacks.as_slice(), moved)
 }
 

@@ -108,16 +108,6 @@ pub(crate) fn check_set(
     ensures set { IfOk result (λ set. IfSome set (IsSetOn (tracks_at p.now stage.mask))) }
     ensures budget { memo.new.budget ≡ memo.old.budget }
 {
-    let formulas = bear_formulas(alloc, p, other(stage.side), stage.mask, source)?;
+    let formulas = bear_formulas(alloc, p, stage.side.other(), stage.mask, source)?;
     united(alloc, memo, sets, p, stage.part(Part::Check), &formulas)
-}
-
-/// The other side.
-pub(crate) fn other(side: Side) -> Side
-    ensures { result ≡ other_side side }
-{
-    match side {
-        Side::White => Side::Black,
-        Side::Black => Side::White,
-    }
 }

@@ -2,7 +2,7 @@
 
 ghost use Rattle.std.specs.Prelude.{◌≡◌, ◌↔◌, ◌≤◌, ◌++◌, Contains, IfOk, OnOk, Some, length};
 ghost use Rattle.game_rules.specs.declared.men.Side.{Side};
-ghost use Rattle.game_rules.specs.Game.{HasOneKing, other as other_of};
+ghost use Rattle.game_rules.specs.Game.{HasOneKing};
 ghost use Rattle.rule_formula.specs.declared.opt.Bearing.{Bearing};
 ghost use Rattle.rule_formula.specs.Bearings.{IsBearingOf, along_rays, bearings_of, is_king_man, king_number as number_of_king, king_to, man_bearings};
 ghost use Rattle.rule_formula.specs.Fits.{IsGameMask};
@@ -17,16 +17,6 @@ use std::alloc::{AllocError, Global};
 
 /// The ways in which men may bear. Most lists are short.
 type Bearings = SmallVec<Bearing, 16>;
-
-/// The other side.
-fn other(side: Side) -> Side
-    ensures { result ≡ other_of side }
-{
-    match side {
-        Side::White => Side::Black,
-        Side::Black => Side::White,
-    }
-}
 
 /// Whether the man is the king of the side.
 fn is_king_of(man: Man, side: Side) -> bool
@@ -96,7 +86,7 @@ fn push_man(
 fn list(alloc: Global, stock: &Position, mask: u8, side: Side) -> Result<Bearings, AllocError>
     ensures { IfOk result (λ all. all.items ≡ bearings_of stock.now.men mask side) }
 {
-    let king = king_number(stock, other(side));
+    let king = king_number(stock, side.other());
     let mut bearings = SmallVec::new(alloc);
     for n in 0..stock.count() {
         let number = n + 1;

@@ -71,13 +71,6 @@ fn changed<F: Fn(u8, Man) -> Man>(
     Position::new(men.as_slice(), turn).ok_or(TrialError::Position)
 }
 
-fn other(side: Side) -> Side {
-    match side {
-        Side::White => Side::Black,
-        Side::Black => Side::White,
-    }
-}
-
 fn is_in(mask: u8, number: u8) -> bool {
     mask.wrapping_shr(u32::from(number).wrapping_sub(1)) & 1 == 1
 }
@@ -104,7 +97,7 @@ pub fn against_all(alloc: Global, p: &Position, number: u8) -> Result<Position, 
             man
         } else {
             Man {
-                side: other(side),
+                side: side.other(),
                 ..man
             }
         }
@@ -119,7 +112,7 @@ pub fn moved(
     x: i64,
     y: i64,
 ) -> Result<Position, TrialError> {
-    changed(alloc, p, other(p.turn()), |number, man| {
+    changed(alloc, p, p.turn().other(), |number, man| {
         if number == option.man {
             Man {
                 place: Place::At { x, y },

@@ -1,26 +1,15 @@
 //! Plies and turns.
 ghost use Rattle.std.specs.Prelude.{◌≡◌, ◌≤◌};
-ghost use Rattle.game_rules.specs.Game.{other as other_of};
 ghost use Rattle.mate_plan.specs.Plan.{turn_at};
 ghost use Rattle.mate_plan.specs.PlanOf.{last_ply as last_of};
 
 use chess_game::Side;
 
-/// The other side.
-fn other(side: Side) -> Side
-    ensures { result ≡ other_of side }
-{
-    match side {
-        Side::White => Side::Black,
-        Side::Black => Side::White,
-    }
-}
-
 /// Whose turn it is after so many moves.
 pub(crate) fn side_at(first: Side, ply: u8) -> Side
     ensures { result ≡ turn_at first ply }
 {
-    if ply % 2 == 0 { first } else { other(first) }
+    if ply % 2 == 0 { first } else { first.other() }
 }
 
 /// The last ply of so many moves of the winner. He is to move there, and has no move left.

@@ -20,7 +20,7 @@ returns-then-in_check-clause-fault c =
     (clear_apart c.args.board.now
     (clear_kings c.args.board.now c.in_ok-white.white c.in_ok-black.black c.in_ok-white.ensures.king c.in_ok-black.ensures.king c.in_ok-white.ensures.first c.in_ok-black.ensures.first c.in_ok-check_only.ensures.only c.in_ok-check_only-2.ensures.only c.in_ok-check_live.ensures.live c.in_ok-check_live-2.ensures.live)
     c.in_ok-check_apart.ensures.apart)
-    (subst (InCheck c.args.board.now) (c.other_side.ensures ∙ ap other c.turn.ensures) (c.in_check.ensures.0 c.if-in_check.true))
+    (subst (InCheck c.args.board.now) (c.other.ensures ∙ ap other c.turn.ensures) (c.in_check.ensures.0 c.if-in_check.true))
 
 pub returns-clause-ok : goal.returns-clause-ok
 returns-clause-ok c =
@@ -31,6 +31,6 @@ returns-clause-ok c =
       apart = apart_from c.args.board.now c.in_ok-check_apart.ensures.apart;
       other_safe = λ h.
           let yes : c.in_check.result ≡ true =
-          c.in_check.ensures.1 (subst (InCheck c.args.board.now) (sym (c.other_side.ensures ∙ ap other c.turn.ensures)) h) in
+          c.in_check.ensures.1 (subst (InCheck c.args.board.now) (sym (c.other.ensures ∙ ap other c.turn.ensures)) h) in
           cc;
     }
