@@ -11,3 +11,9 @@ pub record Remembers (old new : List (Option ℕ)) (node answer : ℕ) : Type 0 
   pub here : node < length old → answer_of new node ≡ Some answer
   pub others : (other : ℕ) → other ≢ node → answer_of new other ≡ answer_of old other
   pub room : length new ≡ length old
+
+-- a node has no answer any more, and nothing else changes
+pub record Forgets (old new : List (Option ℕ)) (node : ℕ) : Type 0 where
+  pub none : answer_of new node ≡ None
+  pub others : (other : ℕ) → other ≢ node → answer_of new other ≡ answer_of old other
+  pub room : length new ≡ length old

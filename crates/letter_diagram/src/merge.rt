@@ -77,7 +77,7 @@ impl Diagrams {
 
     /// The map of the unions of the sets that two maps number.
     #[cycle(united)]
-    fn united(
+    pub(crate) fn united(
         &mut self,
         a: Node,
         b: Node,

@@ -1,9 +1,9 @@
-//! Merged maps over one table of nodes, with memos that are kept from call to call.
+//! Merged and united maps over one table of nodes, with memos that are kept from call to call.
 ghost use Rattle.std.specs.Prelude.{◌≡◌, ◌<◌, ◌≤◌, ◌+◌, ◌^◌, ℕ, length, IfOk, OnOk};
 ghost use Rattle.letter_diagram.specs.Diagram.{map_at, top_track, Grows};
 ghost use Rattle.letter_diagram.specs.Sets.{SetsKept, IsUnion};
 ghost use Rattle.letter_diagram.specs.Restricted.{IsWithBit};
-ghost use Rattle.letter_diagram.specs.Merged.{IgnoresTrack, AreMerged};
+ghost use Rattle.letter_diagram.specs.Merged.{HasSets, IsUnited, AreUnions, IgnoresTrack, AreMerged};
 
 use crate::diagrams::{Diagrams, Node};
 use crate::sets::Sets;
@@ -11,8 +11,8 @@ use std::alloc::AllocError;
 use std::collections::HashMap;
 use std::marker::Model;
 
-/// Diagrams and the sets that their values number, for many calls of `apply` at one track. What two calls have in common is
-/// done once.
+/// Diagrams and the sets that their values number, for many calls of `apply` at one track and of `unite`. What two calls have
+/// in common is done once (the operation with a table of results of Bryant 1986).
 #[derive(Drop)]
 pub struct Merger {
     diagrams: Diagrams,
@@ -105,6 +105,29 @@ impl Merger {
             &mut self.merged,
             &mut self.united,
         ) {
+            Ok(node) => Ok(node),
+            Err(refused) => {
+                self.merged.clear();
+                self.united.clear();
+                Err(refused)
+            }
+        }
+    }
+
+    /// The map from a letter to the number of the union of the two sets that `a` and `b` number there. Pairs of nodes that earlier
+    /// calls met are not visited again. Want of memory empties the memos.
+    pub fn unite(&mut self, a: Node, b: Node) -> Result<Node, AllocError>
+        requires a_sets { HasSets self.old.shapes self.old.sets a }
+        requires b_sets { HasSets self.old.shapes self.old.sets b }
+        requires room { length self.old.sets < 2 ^ 31 }
+        ensures united { IfOk result (λ node. IsUnited self.new.shapes self.new.sets a b node) }
+        ensures answers { OnOk result (AreUnions self.old.shapes (length self.old.sets) self.new.sets a b) }
+        ensures few { OnOk result (length self.new.sets ≤ length self.old.sets + 2 ^ 20) }
+        ensures sets { SetsKept self.old.sets self.new.sets }
+        ensures grows { Grows self.old.shapes self.new.shapes }
+        ensures track { self.new.track ≡ self.old.track }
+    {
+        match self.diagrams.united(a, b, &mut self.sets, &mut self.united) {
             Ok(node) => Ok(node),
             Err(refused) => {
                 self.merged.clear();

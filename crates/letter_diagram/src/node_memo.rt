@@ -1,6 +1,6 @@
 //! Answers for nodes, by the nodes' numbers.
 ghost use Rattle.std.specs.Prelude.{◌≡◌, ℕ, length, IfOk};
-ghost use Rattle.letter_diagram.specs.NodeMemo.{answer_of, Remembers};
+ghost use Rattle.letter_diagram.specs.NodeMemo.{answer_of, Forgets, Remembers};
 
 use crate::diagrams::Node;
 use std::alloc::{AllocError, Global};
@@ -44,6 +44,15 @@ impl NodeMemo {
     {
         if let Some(place) = self.answers.get_mut(node.number()) {
             *place = Some(answer);
+        }
+    }
+
+    /// Forgets the answer for a node.
+    pub fn remove(&mut self, node: Node)
+        ensures { Forgets self.old self.new node }
+    {
+        if let Some(place) = self.answers.get_mut(node.number()) {
+            *place = None;
         }
     }
 }

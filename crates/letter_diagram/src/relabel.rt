@@ -3,7 +3,6 @@ ghost use Rattle.std.specs.Prelude.{◌≡◌, ◌<◌, ◌≤◌, ℕ, length, 
 ghost use Rattle.letter_diagram.specs.Diagram.{map_at, top_track, chosen, Grows, LooksBelow};
 ghost use Rattle.std.specs.Int.{bit_at};
 ghost use Rattle.letter_diagram.specs.Relabelled.{relabelled, pick_of, IsRelabelled, RemembersRelabelled};
-ghost use Rattle.letter_diagram.specs.Listed.{EachAnswers};
 
 use crate::diagrams::{Diagrams, Node, Shape};
 use crate::node_memo::NodeMemo;
@@ -37,23 +36,6 @@ impl Diagrams {
     {
         let mut memo = NodeMemo::new(self.alloc(), self.len())?;
         self.relabelled(a, tracks, &mut memo)
-    }
-
-    /// `relabel` of several nodes by one table, in their order. What they share is done once.
-    pub fn relabel_all(&mut self, nodes: &[Node], tracks: &[u8]) -> Result<Vec<Node>, AllocError>
-        requires known { All (λ node. node < length self.old) nodes.now }
-        requires narrow { All (λ node. LooksBelow self.old node (length tracks.now)) nodes.now }
-        requires tracks { All (λ track. track < 20) tracks.now }
-        ensures relabelled { IfOk result (λ answers. EachAnswers (IsRelabelled self.new tracks.now) nodes.now answers.items) }
-        ensures grows { Grows self.old self.new }
-    {
-        let mut memo = NodeMemo::new(self.alloc(), self.len())?;
-        let mut answers = Vec::new(self.alloc());
-        for node in nodes {
-            let answer = self.relabelled(*node, tracks, &mut memo)?;
-            answers.push(answer)?;
-        }
-        Ok(answers)
     }
 
     fn relabelled(
