@@ -1,9 +1,9 @@
-//! Merged tracks agree with unions of the values of lists.
+//! Merged tracks and united maps agree with unions of the values of lists.
 ghost use Rattle.std.specs.Prelude.{◌≡◌, ◌<◌, length, IfOk};
 
 use crate::lists::{at, scattered, with_bit};
 use crate::maps::{built, paired};
-use letter_diagram::{Diagrams, Node, Pairs, PairsError, Sets};
+use letter_diagram::{Diagrams, Merger, Node, Pairs, PairsError, Sets};
 use std::alloc::Global;
 use std::process::Abort;
 use std::test::Fail;
@@ -69,6 +69,39 @@ fn merged_tracks_agree_with_unions_of_lists(rt: HostRuntime) -> Result<(), Fail>
     let list = scattered(rt.alloc(), 4)?;
     for track in 0u8..6 {
         merged_track_agrees(&rt, list.as_slice(), track, rt.alloc())?;
+    }
+    Ok(())
+}
+
+/// A merger unites the maps at both bits of a track to the map that merges the track.
+fn united_sides_agree(
+    rt: &impl Abort,
+    list: &[u32],
+    track: u8,
+    alloc: Global,
+) -> Result<(), PairsError>
+    requires { track < 20 }
+{
+    let mut diagrams = Diagrams::new(alloc);
+    let node = built(rt, &mut diagrams, list)?;
+    let mut pairs = Pairs::new(alloc);
+    let both = paired(&mut diagrams, node, node, &mut pairs)?;
+    let sets = sets_of(rt, alloc, &pairs)?;
+    let off = diagrams.restrict(both, track, 0)?;
+    let on = diagrams.restrict(both, track, 1)?;
+    let mut merger = Merger::new(diagrams, sets, track);
+    let united = merger.unite(off, on)?;
+    assert!(rt; has_unions(merger.diagrams(), united, merger.sets(), list, track));
+    let merged = merger.apply(both)?;
+    assert_eq!(rt; united, merged);
+    Ok(())
+}
+
+#[test]
+fn united_maps_agree_with_unions_of_lists(rt: HostRuntime) -> Result<(), Fail> {
+    let list = scattered(rt.alloc(), 7)?;
+    for track in 0u8..6 {
+        united_sides_agree(&rt, list.as_slice(), track, rt.alloc())?;
     }
     Ok(())
 }
