@@ -6,6 +6,7 @@ pub mod Memos
 pub mod Mapped
 pub mod PairNumbers
 pub mod Pairings
+pub mod Choices
 pub mod Restrictions
 pub mod Bringing
 pub mod Narrow

@@ -1,15 +1,13 @@
 -- Which tracks a map looks at.
-use Rattle.std.proofs.Common.{◌≡◌, ◌≢◌, ℕ, ◌<◌, ◌≤◌, ◌+◌, ◌*◌, ◌%◌, ◌/◌, zero, suc, AllPairs, List, Option, [], ◌∷◌, length, get_or, map, slice_index, slice_get, nat_eq, Some, arith, refl, sym, ap, ◌∙◌, inl, inr, if◌then◌else◌}
+use Rattle.std.proofs.Common.{◌≡◌, ◌≢◌, ℕ, ◌<◌, ◌≤◌, ◌+◌, ◌*◌, ◌%◌, ◌/◌, zero, suc, AllPairs, List, Option, [], ◌∷◌, length, get_or, map, slice_get, nat_eq, Some, arith, refl, sym, ap, ◌∙◌, inl, inr, if◌then◌else◌}
 use Rattle.std.specs.Int.{bit_at}
 use Rattle.std.proofs.lemmas.Bool.{cases_eq, cases_lt}
-use Rattle.std.proofs.lemmas.List.{get_or-map, length-map}
 use Rattle.std.proofs.lemmas.Option.{get_or_from_slice_get, slice_get_within}
 use Rattle.std.proofs.lemmas.Nat.Bits.{bit_at-lt, bit_at-suc, bit_at_lowest}
 use Rattle.letter_diagram.specs.declared.diagrams.Shape.{Shape}
 use Rattle.letter_diagram.specs.declared.diagrams.Shape.TheVariants.{Leaf, Test}
 use Rattle.letter_diagram.specs.Diagram.{map_at, chosen, IsDiagram, IsTest, IsAt, Grows, LooksBelow}
-use Rattle.letter_diagram.specs.Paired.{AreAnswers}
-use Rattle.letter_diagram.specs.Relabelled.{relabelled, pick_of, IsRelabelled, RemembersRelabelled}
+use Rattle.letter_diagram.specs.Relabelled.{relabelled, IsRelabelled, RemembersRelabelled}
 use Rattle.letter_diagram.specs.NodeMemo.{Remembers}
 use Rattle.letter_diagram.proofs.Canonical.{flip, bit_at-flip_same, bit_at-flip_other, bit_cases, flipped, low_is, high_is, node-from_map, map_at-agree}
 use Rattle.letter_diagram.proofs.Memos.{node_answers-insert}
@@ -136,29 +134,6 @@ chosen-bit shapes track low high letter l h = (λ i. if nat_eq (bit_at letter tr
   | inl z ↦ ap (λ n. if nat_eq n 0 then 0 else 1) z ∙ sym z
   | inr o ↦ ap (λ n. if nat_eq n 0 then 0 else 1) o ∙ sym o
 ]
-
--- what a table of picks gives at a letter
-pub pick_of-chosen : (shapes : List Shape) (picks pairs : List (ℕ × ℕ)) (track low high picked both letter : ℕ) → slice_get picks picked ≡ Some (bit_at letter track, both)
-    → slice_get pairs both ≡ Some (map_at shapes low letter, map_at shapes high letter) → slice_index (map (pick_of pairs) picks) picked ≡ chosen shapes track low high letter
-pick_of-chosen shapes picks pairs track low high picked both letter p q =
-    get_or-map (pick_of pairs) picks picked (0, 0) 0 (slice_get_within picks picked (bit_at letter track, both) p)
-    ∙ ap (pick_of pairs) (get_or_from_slice_get picks picked (bit_at letter track, both) (0, 0) p)
-    ∙ (let e = get_or_from_slice_get pairs both (map_at shapes low letter, map_at shapes high letter) (0, 0) q in λ i. if nat_eq (bit_at letter track) 0 then (e i).0 else (e i).1)
-
--- each pick is of a pair that is there
-pub picks-within : (shapes : List Shape) (picks pairs : List (ℕ × ℕ)) (bit both start : ℕ) (values : ℕ → ℕ × ℕ) → AreAnswers shapes start picks bit both → start ≡ 0
-    → ((letter : ℕ) → slice_get pairs (map_at shapes both letter) ≡ Some (values letter)) → (i : ℕ) (pick : ℕ × ℕ) → slice_get picks i ≡ Some pick → pick.1 < length pairs
-picks-within shapes picks pairs bit both start values answers zero_start at i pick here =
-    let answer = answers.answer i (omega arith) (slice_get_within picks i pick here) in
-    let within = slice_get_within pairs (map_at shapes both answer.0) (values answer.0) (at answer.0) in
-    let same : pick ≡ (map_at shapes bit answer.0, map_at shapes both answer.0) = some_inj (sym here ∙ answer.1) in
-    rw (ap (λ (p : ℕ × ℕ). p.1) same) within
-  where
-    some_inj : {x y : ℕ × ℕ} → Some x ≡ Some y → x ≡ y
-    some_inj e = cc
-
-pub table-within : (picks : List (ℕ × ℕ)) (table : List ℕ) (f : ℕ × ℕ → ℕ) (n : ℕ) (p : ℕ × ℕ) → table ≡ map f picks → slice_get picks n ≡ Some p → n < length table
-table-within picks table f n p e at = let l = ap length e ∙ length-map picks f in let w = slice_get_within picks n p at in omega (arith, l, w)
 
 -- no map looks at a track past the twentieth
 pub LooksBelow-all : (shapes : List Shape) → IsDiagram shapes → (node bound : ℕ) → node < length shapes → 20 ≤ bound → LooksBelow shapes node bound

@@ -1,6 +1,7 @@
 pub mod Diagram
 pub mod Numbering
 pub mod Paired
+pub mod Chosen
 pub mod Restricted
 pub mod Brought
 pub mod Relabelled

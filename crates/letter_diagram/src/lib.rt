@@ -4,6 +4,7 @@
 mod apply2;
 mod bring;
 mod bring_relabelled;
+mod choose;
 mod diagrams;
 pub mod laws;
 mod leaves;

@@ -1,0 +1,81 @@
+-- Maps that are one of two maps, as nodes are added.
+use Rattle.std.proofs.Common.{◌≡◌, ℕ, ◌<◌, ◌≤◌, Bool, true, false, List, length, nat_eq, Some, arith, refl, sym, ◌∙◌, if◌then◌else◌}
+use Rattle.std.specs.Int.{bit_at}
+use Rattle.std.specs.HashMap.{HashMap, Updates}
+use Rattle.letter_diagram.specs.declared.diagrams.Shape.{Shape}
+use Rattle.letter_diagram.specs.Diagram.{map_at, top_track, chosen, Grows}
+use Rattle.letter_diagram.specs.Paired.{IsSplit, top_of_both, pair_eq}
+use Rattle.letter_diagram.specs.Chosen.{IsChosen, RemembersChosen}
+use Rattle.letter_diagram.proofs.Pairings.{top_of_both-grows, chosen-grows}
+use Rattle.letter_diagram.proofs.Memos.{pair_answers-insert}
+
+pub IsChosen-grows : (old new : List Shape) (track low high r : ℕ) → Grows old new → IsChosen old track low high r → IsChosen new track low high r
+IsChosen-grows old new track low high r grows is =
+    let longer = grows.longer in
+    let known = is.known in
+    let low_known = is.low_known in
+    let high_known = is.high_known in
+    let top = is.top in
+    let tops = top_of_both-grows old new low high grows is.low_known is.high_known in
+    let top_r = grows.top r is.known in
+    record {
+      known = omega arith;
+      low_known = omega arith;
+      high_known = omega arith;
+      map = λ letter. grows.map r letter is.known ∙ is.map letter ∙ sym (chosen-grows old new track low high letter is.low_known is.high_known grows);
+      top = omega arith;
+    }
+
+pub RemembersChosen-grows : {S : Type 0} (old new : List Shape) (track : ℕ) (memo : HashMap (ℕ × ℕ) ℕ S) → Grows old new → RemembersChosen old track memo → RemembersChosen new track memo
+RemembersChosen-grows old new track memo grows all = record { chosen = λ low high r at. IsChosen-grows old new track low high r grows (all.chosen low high r at) }
+
+pub RemembersChosen-insert : {S : Type 0} (shapes : List Shape) (track : ℕ) (memo new : HashMap (ℕ × ℕ) ℕ S) (low high r : ℕ) → RemembersChosen shapes track memo → Updates pair_eq memo new (low, high) (Some r) → IsChosen shapes track low high r → RemembersChosen shapes track new
+RemembersChosen-insert shapes track memo new low high r all updates is = record { chosen = pair_answers-insert (IsChosen shapes track) memo new low high r all.chosen updates is }
+
+-- both sides of a test of one map
+pub IsChosen-same : (shapes : List Shape) (track a : ℕ) → a < length shapes → top_track shapes a < track → IsChosen shapes track a a a
+IsChosen-same shapes track a known before = record {
+  known = known;
+  low_known = known;
+  high_known = known;
+  map = λ letter. same (nat_eq (bit_at letter track) 0) (map_at shapes a letter);
+  top = omega arith;
+}
+  where
+    same : (bit : Bool) (x : ℕ) → x ≡ (if bit then x else x)
+    same true x = refl
+    same false x = refl
+
+-- at the track, a side of each map
+pub IsChosen-at : (shapes : List Shape) (track low high r low_off low_on high_off high_on : ℕ) → low < length shapes → high < length shapes → r < length shapes
+    → IsSplit shapes low track low_off low_on → IsSplit shapes high track high_off high_on → ((letter : ℕ) → map_at shapes r letter ≡ chosen shapes track low_off high_on letter)
+    → track ≤ top_track shapes r → IsChosen shapes track low high r
+IsChosen-at shapes track low high r low_off low_on high_off high_on kl kh kr sl sh map top = record {
+  known = kr;
+  low_known = kl;
+  high_known = kh;
+  map = λ letter. map letter ∙ sides (nat_eq (bit_at letter track) 0) _ _ _ _ _ _ (sl.map letter) (sh.map letter);
+  top = omega arith;
+}
+  where
+    sides : (bit : Bool) (l h lf ln hf hn : ℕ) → l ≡ (if bit then lf else ln) → h ≡ (if bit then hf else hn) → (if bit then lf else hn) ≡ (if bit then l else h)
+    sides true l h lf ln hf hn p q = sym p
+    sides false l h lf ln hf hn p q = sym q
+
+-- before the track, the choices between the sides of both maps
+pub IsChosen-sides : (shapes : List Shape) (track own low high r low_off low_on high_off high_on off on : ℕ) → low < length shapes → high < length shapes → r < length shapes → own < track → own ≡ top_of_both shapes low high
+    → IsSplit shapes low own low_off low_on → IsSplit shapes high own high_off high_on → IsChosen shapes track low_off high_off off → IsChosen shapes track low_on high_on on
+    → ((letter : ℕ) → map_at shapes r letter ≡ chosen shapes own off on letter) → own ≤ top_track shapes r → IsChosen shapes track low high r
+IsChosen-sides shapes track own low high r low_off low_on high_off high_on off on kl kh kr before is_own sl sh is_off is_on map top = record {
+  known = kr;
+  low_known = kl;
+  high_known = kh;
+  map = λ letter. map letter ∙ cross (nat_eq (bit_at letter own) 0) (nat_eq (bit_at letter track) 0) _ _ _ _ _ _ _ _ (is_off.map letter) (is_on.map letter) (sl.map letter) (sh.map letter);
+  top = omega arith;
+}
+  where
+    cross : (first bit : Bool) (f n l h lf ln hf hn : ℕ) → f ≡ (if bit then lf else hf) → n ≡ (if bit then ln else hn) → l ≡ (if first then lf else ln) → h ≡ (if first then hf else hn) → (if first then f else n) ≡ (if bit then l else h)
+    cross true true f n l h lf ln hf hn p q s t = p ∙ sym s
+    cross true false f n l h lf ln hf hn p q s t = p ∙ sym t
+    cross false true f n l h lf ln hf hn p q s t = q ∙ sym s
+    cross false false f n l h lf ln hf hn p q s t = q ∙ sym t

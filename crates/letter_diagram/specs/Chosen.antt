@@ -1,0 +1,18 @@
+-- Maps that are one of two maps, by the bit of a track.
+use Rattle.std.specs.Prelude.{◌≡◌, ℕ, ◌<◌, ◌≤◌, min, List, length, Some}
+use Rattle.std.specs.HashMap.{HashMap, get}
+use Rattle.letter_diagram.specs.declared.diagrams.Shape.{Shape}
+use Rattle.letter_diagram.specs.Diagram.{map_at, top_track, chosen}
+use Rattle.letter_diagram.specs.Paired.{top_of_both, pair_eq}
+
+-- the map of r is that of low where the track's bit is 0, else that of high
+pub record IsChosen (shapes : List Shape) (track low high r : ℕ) : Type 0 where
+  pub known : r < length shapes
+  pub low_known : low < length shapes
+  pub high_known : high < length shapes
+  pub map : (letter : ℕ) → map_at shapes r letter ≡ chosen shapes track low high letter
+  pub top : min track (top_of_both shapes low high) ≤ top_track shapes r
+
+-- it is chosen between the pairs of nodes in a memo
+pub record RemembersChosen {S : Type 0} (shapes : List Shape) (track : ℕ) (memo : HashMap (ℕ × ℕ) ℕ S) : Type 0 where
+  pub chosen : (low high r : ℕ) → get pair_eq memo (low, high) ≡ Some r → IsChosen shapes track low high r

@@ -1,0 +1,63 @@
+//! The choice between two maps by the bit of a track.
+ghost use Rattle.std.specs.Prelude.{◌≡◌, ◌<◌, ℕ, length, IfOk, OnOk};
+ghost use Rattle.letter_diagram.specs.Diagram.{map_at, chosen, Grows};
+ghost use Rattle.letter_diagram.specs.Chosen.{IsChosen, RemembersChosen};
+
+use crate::diagrams::{Diagrams, Node};
+use std::alloc::AllocError;
+use std::collections::HashMap;
+
+impl Diagrams {
+    /// The map that is `low` where the bit of `track` is 0, else `high`, whatever tracks they look at: the operation if-then-else
+    /// of Brace, Rudell and Bryant (1990), by a track. Costs the pairs of nodes that are met before the track.
+    pub fn choose(&mut self, track: u8, low: Node, high: Node) -> Result<Node, AllocError>
+        requires track_low { track < 20 }
+        requires low_known { low < length self.old }
+        requires high_known { high < length self.old }
+        ensures known { IfOk result (λ node. node < length self.new) }
+        ensures map { IfOk result (λ node. (letter : ℕ) → map_at self.new node letter ≡ chosen self.old track low high letter) }
+        ensures grows { Grows self.old self.new }
+    {
+        let mut memo = HashMap::new(self.alloc());
+        self.chosen(track, low, high, &mut memo)
+    }
+
+    /// Before the track both maps are split by the tracks that they look at; at the track the one's side at its bit 0 and the
+    /// other's at its bit 1 are put under a test.
+    fn chosen(
+        &mut self,
+        track: u8,
+        low: Node,
+        high: Node,
+        memo: &mut HashMap<(Node, Node), Node>,
+    ) -> Result<Node, AllocError>
+        requires track_low { track < 20 }
+        requires low_known { low < length self.old }
+        requires high_known { high < length self.old }
+        requires remembered { RemembersChosen self.old track memo.old }
+        ensures chosen { IfOk result (λ node. IsChosen self.new track low high node) }
+        ensures remembered { OnOk result (RemembersChosen self.new track memo.new) }
+        ensures grows { Grows self.old self.new }
+    {
+        let own = self.top(low).min(self.top(high));
+        if track <= own {
+            let (low, _) = self.split(low, track);
+            let (_, high) = self.split(high, track);
+            let node = self.node(track, low, high)?;
+            return Ok(node);
+        }
+        if low == high {
+            return Ok(low);
+        }
+        if let Some(node) = memo.get(&(low, high)) {
+            return Ok(*node);
+        }
+        let (low_off, low_on) = self.split(low, own);
+        let (high_off, high_on) = self.split(high, own);
+        let off = self.chosen(track, low_off, high_off, memo)?;
+        let on = self.chosen(track, low_on, high_on, memo)?;
+        let node = self.node(own, off, on)?;
+        memo.insert((low, high), node)?;
+        Ok(node)
+    }
+}
