@@ -1,5 +1,5 @@
 //! Answers for nodes, by the nodes' numbers.
-ghost use Rattle.std.specs.Prelude.{◌≡◌, ℕ, length, IfOk};
+ghost use Rattle.std.specs.Prelude.{◌≡◌, ◌≤◌, ℕ, length, IfOk, OnOk};
 ghost use Rattle.letter_diagram.specs.NodeMemo.{answer_of, Forgets, Remembers};
 
 use crate::diagrams::Node;
@@ -29,6 +29,18 @@ impl NodeMemo {
         Ok(NodeMemo {
             answers: vec![in alloc; None; nodes]?,
         })
+    }
+
+    /// Makes room for the nodes below `nodes`.
+    pub fn make_room(&mut self, nodes: usize) -> Result<(), AllocError>
+        ensures same { (node : ℕ) → answer_of self.new node ≡ answer_of self.old node }
+        ensures room { OnOk result (nodes ≤ length self.new) }
+        ensures kept { length self.old ≤ length self.new }
+    {
+        if nodes > self.answers.len() {
+            self.answers.resize(nodes, None)?;
+        }
+        Ok(())
     }
 
     /// The answer for a node.
