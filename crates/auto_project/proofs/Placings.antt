@@ -85,10 +85,6 @@ IsPlaced-test shapes sets mid rows places node row track low high low' high' at 
   top = subst (λ t. t ≤ top_track rows row) (sym at.top) top;
 }
 
--- nothing new
-pub AddsSetsOf-none : (shapes : List Shape) (sets places : List (List ℕ)) (node : ℕ) → AddsSetsOf shapes sets places places node
-AddsSetsOf-none shapes sets places node = record { led = λ place from within. absurd (omega arith) }
-
 pub AddsSetsOf-leaf : (shapes : List Shape) (sets before places : List (List ℕ)) (node number : ℕ) → IsAt shapes node (Leaf number) → ((place : ℕ) → length before ≤ place → place < length places → slice_get places place ≡ Some (set_at sets number)) → AddsSetsOf shapes sets before places node
 AddsSetsOf-leaf shapes sets before places node number at added = record { led = λ place from within. (0, added place from within ∙ ap (λ n. Some (set_at sets n)) (sym (at.map 0))) }
 

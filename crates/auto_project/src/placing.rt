@@ -61,6 +61,7 @@ impl Places {
         }
     }
 
+    /// `row`, where there is room for what is remembered.
     fn led(&mut self, merger: &Merger, node: Node) -> Result<Node, AllocError>
         requires node { HasSets merger.now.shapes merger.now.sets node }
         requires remembered { RemembersPlaced merger.now.shapes merger.now.sets self.old.rows self.old.sets self.old.placed }
@@ -85,7 +86,8 @@ impl Places {
         Ok(row)
     }
 
-    /// The node that leads each letter to the place of the set to which `node` leads it. New places are numbered.
+    /// The node that leads each letter to the place of the set to which `node` leads it. New places are numbered. Nodes that were led
+    /// before are not visited again.
     pub fn row(&mut self, merger: &Merger, node: Node) -> Result<Node, AllocError>
         requires node { HasSets merger.now.shapes merger.now.sets node }
         requires remembered { RemembersPlaced merger.now.shapes merger.now.sets self.old.rows self.old.sets self.old.placed }

@@ -1,4 +1,4 @@
-use Rattle.std.proofs.Common.{ℕ, arith, sym, ◌∙◌}
+use Rattle.std.proofs.Common.{ℕ, arith, sym}
 use Rattle.letter_diagram.proofs.SetNumbers.{SetsKept-refl}
 use Rattle.auto_project.specs.Placed.{IsPlaced, RemembersPlaced}
 use Rattle.auto_project.proofs.Placings.{IsPlaced-grows, IsPlaced-leaf, IsPlaced-test, RemembersPlaced-grows, RemembersPlaced-insert, HasSets-side, AddsSetsOf-leaf, AddsSetsOf-test}
