@@ -34,7 +34,7 @@ IsGuarded-none shapes sets rows from node guarded nothing none = record {
 }
 
 -- what joining a state's row gives
-pub IsGuarded-joined : (shapes : List Shape) (sets : List (List ℕ)) (rows : List ℕ) (from row node guarded : ℕ) → slice_get rows from ≡ Some row → IsJoined shapes sets (Some from) node row guarded → IsGuarded shapes sets rows from node guarded
+pub IsGuarded-joined : (shapes : List Shape) (sets : List (List ℕ)) (rows : List ℕ) (from row node guarded : ℕ) → slice_get rows from ≡ Some row → IsJoined shapes sets from node row guarded → IsGuarded shapes sets rows from node guarded
 IsGuarded-joined shapes sets rows from row node guarded at joined = record {
   is = record { known = joined.known; numbered = λ letter. (joined.joins letter).known };
   has = λ other letter state at' there c.

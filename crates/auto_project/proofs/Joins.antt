@@ -1,20 +1,20 @@
 -- Tables of joined sets, and unions of rows.
-use Rattle.std.proofs.Common.{◌≡◌, ◌≢◌, ℕ, ◌<◌, ◌≤◌, ◌+◌, List, [], ◌∷◌, ◌++◌, length, map, get_or, slice_get, slice_index, Option, None, Some, Contains, arith, sym, ap, ◌∙◌, subst, inl, inr}
+use Rattle.std.proofs.Common.{◌≡◌, ◌≢◌, ℕ, ◌<◌, ◌+◌, List, [], ◌∷◌, ◌++◌, length, map, get_or, slice_get, slice_index, Some, Contains, arith, refl, sym, ap, ◌∙◌, subst, inl, inr}
 use Rattle.std.specs.List.{All}
 use Rattle.std.proofs.Math.ListN.{set}
-use Rattle.std.proofs.lemmas.Bool.{cases_eq, cases_lt}
+use Rattle.std.proofs.lemmas.Bool.{cases_lt}
 use Rattle.std.proofs.lemmas.Option.{slice_get-get_or, slice_get_within, get_or_from_slice_get, same_Some}
-use Rattle.std.proofs.lemmas.List.{length_push, get_or_push, get_or_append_left, get_or_default, get_or-set_same, get_or-set_other}
+use Rattle.std.proofs.lemmas.List.{length_push, get_or_push, get_or_append_left}
 use Rattle.std.proofs.lemmas.List.Elements.{All-from_get_or, All-contains, Contains-get_or, Contains-append_left, Contains-append_right, Contains-append_cases}
 use Rattle.letter_diagram.specs.declared.diagrams.Shape.{Shape}
 use Rattle.letter_diagram.specs.Diagram.{map_at, Grows}
 use Rattle.letter_diagram.specs.Paired.{AreAnswers}
 use Rattle.letter_diagram.specs.Sets.{set_at, SetsKept, NumbersSet}
 use Rattle.letter_diagram.specs.Leaves.{AreLeaves}
-use Rattle.letter_diagram.specs.Merged.{HasSets}
+use Rattle.letter_diagram.specs.Merged.{HasSets, IsUnited}
 use Rattle.letter_diagram.proofs.SetNumbers.{SetsKept-trans, SetsKept-numbers, slice_get-last}
 use Rattle.letter_diagram.proofs.Mergings.{HasSets-grows}
-use Rattle.auto_project.specs.SetMaps.{set_of, AreSingletons, IsJoinedSet, AreJoinedSets, IsJoined, IsNothing, IsUnionOf, IsUnionRow, HasNumber, HasNumbers, IsNumbered}
+use Rattle.auto_project.specs.SetMaps.{set_of, AreSingletons, IsJoinedSet, AreJoinedSets, IsJoined, IsNothing, IsUnionOf, IsUnionRow}
 use Rattle.letter_diagram.proofs.Maps.{Grows-trans}
 use Rattle.auto_project.proofs.Lists.{Contains-head, Contains-cases, Contains-cons}
 use Rattle.auto_project.proofs.SetMapLemmas.{has-kept, had, IsJoinedSet-kept}
@@ -54,11 +54,11 @@ pub AreSingletonsSoFar-none : (sets : List (List ℕ)) → sets ≡ [] → AreSi
 AreSingletonsSoFar-none sets e = record { size = ap length e; single = λ number h. absurd (omega arith) }
 
 -- the joined sets of the first pairs
-pub record AreJoinedSoFar (sets : List (List ℕ)) (only : Option ℕ) (pairs : List (ℕ × ℕ)) (table : List ℕ) (count : ℕ) : Type 0 where
+pub record AreJoinedSoFar (sets : List (List ℕ)) (only : ℕ) (pairs : List (ℕ × ℕ)) (table : List ℕ) (count : ℕ) : Type 0 where
   pub size : length table ≡ count
   pub each : (i a b : ℕ) → i < count → slice_get pairs i ≡ Some (a, b) → IsJoinedSet sets only a b (slice_index table i)
 
-pub AreJoinedSoFar-push : (sets sets' : List (List ℕ)) (only : Option ℕ) (pairs : List (ℕ × ℕ)) (table : List ℕ) (count number : ℕ) (pair : ℕ × ℕ) → SetsKept sets sets' → slice_get pairs count ≡ Some pair → AreJoinedSoFar sets only pairs table count
+pub AreJoinedSoFar-push : (sets sets' : List (List ℕ)) (only : ℕ) (pairs : List (ℕ × ℕ)) (table : List ℕ) (count number : ℕ) (pair : ℕ × ℕ) → SetsKept sets sets' → slice_get pairs count ≡ Some pair → AreJoinedSoFar sets only pairs table count
     → IsJoinedSet sets' only pair.0 pair.1 number → AreJoinedSoFar sets' only pairs (table ++ number ∷ []) (count + 1)
 AreJoinedSoFar-push sets sets' only pairs table count number pair kept at so_far here = record {
   size = let l = length_push table number in let s = so_far.size in omega (arith, l, s);
@@ -76,7 +76,7 @@ AreJoinedSoFar-push sets sets' only pairs table count number pair kept at so_far
       ];
 }
 
-pub AreJoinedSets-all : (sets : List (List ℕ)) (only : Option ℕ) (pairs : List (ℕ × ℕ)) (table : List ℕ) (count : ℕ) → count ≡ length pairs → AreJoinedSoFar sets only pairs table count → AreJoinedSets sets only pairs table
+pub AreJoinedSets-all : (sets : List (List ℕ)) (only : ℕ) (pairs : List (ℕ × ℕ)) (table : List ℕ) (count : ℕ) → count ≡ length pairs → AreJoinedSoFar sets only pairs table count → AreJoinedSets sets only pairs table
 AreJoinedSets-all sets only pairs table count all so_far = record {
   size = so_far.size ∙ all;
   each = λ i a b at. so_far.each i a b (let h = slice_get_within pairs i (a, b) at in omega (arith, h, all)) at;
@@ -90,7 +90,7 @@ pairs-known shapes sets pairs a b from none a_sets b_sets answers = All-from_get
     subst (λ (pair : ℕ × ℕ). (pair.0 < length sets) × (pair.1 < length sets)) e (a_sets.numbered one.0, b_sets.numbered one.0))
 
 -- a node over pairs, led through their joined sets
-pub IsJoined-made : (old mid shapes : List Shape) (sets : List (List ℕ)) (only : Option ℕ) (pairs : List (ℕ × ℕ)) (table : List ℕ) (a b both node : ℕ) → a < length old → b < length old → Grows old shapes
+pub IsJoined-made : (old mid shapes : List Shape) (sets : List (List ℕ)) (only : ℕ) (pairs : List (ℕ × ℕ)) (table : List ℕ) (a b both node : ℕ) → a < length old → b < length old → Grows old shapes
     → ((letter : ℕ) → slice_get pairs (map_at mid both letter) ≡ Some (map_at old a letter, map_at old b letter)) → AreJoinedSets sets only pairs table → node < length shapes
     → ((letter : ℕ) → map_at shapes node letter ≡ slice_index table (map_at mid both letter)) → IsJoined shapes sets only a b node
 IsJoined-made old mid shapes sets only pairs table a b both node a_known b_known grows paired joined known led = record {
@@ -118,19 +118,12 @@ IsNothing-made shapes sets empty node at known constant =
           absurd (omega arith);
     }
 
--- unions of no node
-pub IsUnionOf-none : (shapes : List Shape) (sets : List (List ℕ)) (nodes : List ℕ) (node : ℕ) → length nodes ≡ 0 → IsNothing shapes sets node → IsUnionOf shapes sets nodes node
-IsUnionOf-none shapes sets nodes node none nothing = record {
-  is = nothing.is;
-  members = λ letter state. (λ c. absurd (nothing.none letter state c), λ o. let there = o.1 in let h = there.1 in absurd (omega (arith, h, none)));
-}
-
 -- the union of two unions
 pub IsUnionOf-both : (s1 s2 s3 : List Shape) (t1 t2 t3 : List (List ℕ)) (s0 : List Shape) (t0 : List (List ℕ)) (nodes front back : List ℕ) (a b node : ℕ) → nodes ≡ front ++ back → All (HasSets s0 t0) front → All (HasSets s0 t0) back
-    → Grows s0 s1 → SetsKept t0 t1 → Grows s1 s2 → SetsKept t1 t2 → Grows s2 s3 → SetsKept t2 t3 → IsUnionOf s1 t1 front a → IsUnionOf s2 t2 back b → IsJoined s3 t3 None a b node → IsUnionOf s3 t3 nodes node
-IsUnionOf-both s1 s2 s3 t1 t2 t3 s0 t0 nodes front back a b node same front_sets back_sets g1 k1 g2 k2 g3 k3 of_front of_back joined =
+    → Grows s0 s1 → SetsKept t0 t1 → Grows s1 s2 → SetsKept t1 t2 → Grows s2 s3 → SetsKept t2 t3 → IsUnionOf s1 t1 front a → IsUnionOf s2 t2 back b → IsUnited s3 t3 a b node → IsUnionOf s3 t3 nodes node
+IsUnionOf-both s1 s2 s3 t1 t2 t3 s0 t0 nodes front back a b node same front_sets back_sets g1 k1 g2 k2 g3 k3 of_front of_back both =
     subst (λ l. IsUnionOf s3 t3 l node) (sym same) (record {
-      is = record { known = joined.known; numbered = λ letter. (joined.joins letter).known };
+      is = record { known = both.known; numbered = λ letter. (both.map letter).known };
       members = λ letter state. (to letter state, from letter state);
     })
   where
@@ -147,7 +140,7 @@ IsUnionOf-both s1 s2 s3 t1 t2 t3 s0 t0 nodes front back a b node same front_sets
     far_kept = SetsKept-trans t1 t2 t3 k2 k3
 
     to : (letter state : ℕ) → Contains (set_of s3 t3 node letter) state → (one : ℕ) × Contains (front ++ back) one × Contains (set_of s3 t3 one letter) state
-    to letter state c = elim (((joined.joins letter).members state).0 c) [
+    to letter state c = elim (((both.map letter).members state).0 c) [
       | inl l ↦
           let o = (of_front.members letter state).0 (had s1 s3 t1 t3 far far_kept a letter state of_front.is l) in
           (o.0, Contains-append_left front back o.0 o.1, has-kept s1 s3 t1 t3 far far_kept o.0 letter state (front_at o.0 o.1) o.2)
@@ -159,8 +152,8 @@ IsUnionOf-both s1 s2 s3 t1 t2 t3 s0 t0 nodes front back a b node same front_sets
     from : (letter state : ℕ) → ((one : ℕ) × Contains (front ++ back) one × Contains (set_of s3 t3 one letter) state) → Contains (set_of s3 t3 node letter) state
     from letter state (one, c, d) = elim (Contains-append_cases front back one c) [
       | inl l ↦
-          ((joined.joins letter).members state).1 (inl (has-kept s1 s3 t1 t3 far far_kept a letter state of_front.is ((of_front.members letter state).1 (one, l, had s1 s3 t1 t3 far far_kept one letter state (front_at one l) d))))
-      | inr r ↦ ((joined.joins letter).members state).1 (inr (has-kept s2 s3 t2 t3 g3 k3 b letter state of_back.is ((of_back.members letter state).1 (one, r, had s2 s3 t2 t3 g3 k3 one letter state (back_at one r) d))))
+          ((both.map letter).members state).1 (inl (has-kept s1 s3 t1 t3 far far_kept a letter state of_front.is ((of_front.members letter state).1 (one, l, had s1 s3 t1 t3 far far_kept one letter state (front_at one l) d))))
+      | inr r ↦ ((both.map letter).members state).1 (inr (has-kept s2 s3 t2 t3 g3 k3 b letter state of_back.is ((of_back.members letter state).1 (one, r, had s2 s3 t2 t3 g3 k3 one letter state (back_at one r) d))))
     ]
 
 -- a part of nodes with sets
@@ -199,73 +192,16 @@ IsUnionRow-from shapes sets rows set nodes node same union = record {
   );
 }
 
+pub picked-some : (rows set nodes : List ℕ) → nodes ≡ map (slice_index rows) set → set ≢ [] → nodes ≢ []
+picked-some rows [] nodes same some none = some refl
+picked-some rows (state ∷ set) nodes same some none = let e = ap length (sym same ∙ none) in omega (arith, e)
+
 pub picked-sets : (shapes : List Shape) (sets : List (List ℕ)) (rows set nodes : List ℕ) → nodes ≡ map (slice_index rows) set → All (λ state. state < length rows) set → All (HasSets shapes sets) rows → All (HasSets shapes sets) nodes
 picked-sets shapes sets rows set nodes same within all =
     All-from_get_or (HasSets shapes sets) nodes 0 (λ i h.
     let p = Contains-map (slice_index rows) set (get_or nodes i 0) (subst (λ l. Contains l (get_or nodes i 0)) same (Contains-get_or nodes i 0 h)) in
     subst (HasSets shapes sets) p.2 (all p.0 0 (All-contains (λ state. state < length rows) set p.0 within p.1)))
 
--- the places of the first leaves
-pub record HasNumbersSoFar (sets : List (List ℕ)) (numbers : List ℕ) (before places : List (List ℕ)) (leaves : List ℕ) (count : ℕ) : Type 0 where
-  pub kept : SetsKept before places
-  pub each : (k : ℕ) → k < count → slice_get places (slice_index numbers (slice_index leaves k)) ≡ Some (set_at sets (slice_index leaves k))
-  pub added : (number : ℕ) → length before ≤ number → number < length places → (leaf : ℕ) × Contains leaves leaf × (slice_get places number ≡ Some (set_at sets leaf))
-
-pub HasNumbersSoFar-step : (sets : List (List ℕ)) (numbers more : List ℕ) (before places after : List (List ℕ)) (leaves : List ℕ) (count : ℕ) → count < length leaves → SetsKept places after → HasNumbersSoFar sets numbers before places leaves count
-    → HasNumber sets numbers more places after (slice_index leaves count) → HasNumbersSoFar sets more before after leaves (count + 1)
-HasNumbersSoFar-step sets numbers more before places after leaves count inside kept so_far number = record {
-  kept = SetsKept-trans before places after so_far.kept kept;
-  each = λ k h. elim (cases_eq (slice_index leaves k) (slice_index leaves count)) [
-    | inl e ↦ subst (λ leaf. slice_get after (slice_index more leaf) ≡ Some (set_at sets leaf)) (sym e) number.here
-    | inr ne ↦
-        let less : k < count = earlier k h ne in
-        ap (slice_get after) (number.others (slice_index leaves k) ne) ∙ kept.at (slice_index numbers (slice_index leaves k)) (set_at sets (slice_index leaves k)) (so_far.each k less)
-  ];
-  added = λ n from within. elim (cases_lt n (length places)) [
-    | inl old ↦
-        let one = so_far.added n from old in
-        (one.0, one.1, kept.at n (set_at sets one.0) one.2)
-    | inr new ↦ (slice_index leaves count, Contains-get_or leaves count 0 inside, number.added n new within)
-  ];
-}
-  where
-    earlier : (k : ℕ) → k < count + 1 → slice_index leaves k ≢ slice_index leaves count → k < count
-    earlier k h ne = elim (cases_lt k count) [ inl less ↦ less | inr more ↦ absurd (ne (ap (slice_index leaves) (let e : k ≡ count = omega arith in e))) ]
-
-pub HasNumbers-all : (sets : List (List ℕ)) (numbers : List ℕ) (before places : List (List ℕ)) (leaves : List ℕ) (count : ℕ) → count ≡ length leaves → HasNumbersSoFar sets numbers before places leaves count → HasNumbers sets numbers before places leaves
-HasNumbers-all sets numbers before places leaves count all so_far = record {
-  each = λ leaf there.
-      let h = there.1 in
-      let e : slice_index leaves there.0 ≡ leaf = get_or_default leaves there.0 0 leaf there.1 ∙ there.2 in
-      subst (λ l. slice_get places (slice_index numbers l) ≡ Some (set_at sets l)) e (so_far.each there.0 (omega (arith, h, all)));
-  added = so_far.added;
-}
-
--- the row that leads each letter to the place of its set
-pub IsNumbered-made : (shapes more : List Shape) (sets before places : List (List ℕ)) (numbers leaves : List ℕ) (node row : ℕ) → HasSets shapes sets node → Grows shapes more → AreLeaves shapes node leaves → HasNumbers sets numbers before places leaves → row < length more
-    → ((letter : ℕ) → map_at more row letter ≡ slice_index numbers (map_at shapes node letter)) → IsNumbered more sets before places node row
-IsNumbered-made shapes more sets before places numbers leaves node row is grows are has known led = record {
-  known = known;
-  leads = λ letter. ap (slice_get places) (led letter) ∙ has.each (map_at shapes node letter) (are.all letter) ∙ ap (λ n. Some (set_at sets n)) (sym (grows.map node letter is.known));
-  led = λ number from within.
-      let one = has.added number from within in
-      let there = one.1 in
-      let letter = are.given there.0 there.1 in
-      let e : slice_index leaves there.0 ≡ one.0 = get_or_default leaves there.0 0 one.0 there.1 ∙ there.2 in
-      (letter.0, one.2 ∙ ap (λ n. Some (set_at sets n)) (sym (grows.map node letter.0 is.known ∙ letter.1 ∙ e)));
-}
-
 -- each leaf is the number of a set
 pub leaves-known : (shapes : List Shape) (sets : List (List ℕ)) (node : ℕ) (leaves : List ℕ) → HasSets shapes sets node → AreLeaves shapes node leaves → All (λ leaf. leaf < length sets) leaves
 leaves-known shapes sets node leaves is are = All-from_get_or (λ leaf. leaf < length sets) leaves 0 (λ i h. let one = are.given i h in subst (λ n. n < length sets) one.1 (is.numbered one.0))
-
--- the number of a leaf is written
-pub HasNumber-made : (sets : List (List ℕ)) (old : List ℕ) (before places : List (List ℕ)) (leaf number : ℕ) (elements : List ℕ) → leaf < length old → slice_get sets leaf ≡ Some elements → slice_get places number ≡ Some elements → NumbersSet before places elements
-    → HasNumber sets old (set old leaf number) before places leaf
-HasNumber-made sets old before places leaf number elements inside is at numbers =
-    let e : set_at sets leaf ≡ elements = get_or_from_slice_get sets leaf elements [] is in
-    record {
-      here = ap (slice_get places) (get_or-set_same old leaf number 0 inside) ∙ at ∙ ap Some (sym e);
-      others = λ other ne. get_or-set_other old leaf other number 0 ne;
-      added = λ n from within. slice_get-last before places elements n numbers from within ∙ ap Some (sym e);
-    }

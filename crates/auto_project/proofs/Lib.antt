@@ -5,5 +5,6 @@ pub mod Walks
 pub mod SetMapLemmas
 pub mod Closures
 pub mod Joins
+pub mod Placings
 pub mod Places
 pub mod WideRows

@@ -7,6 +7,7 @@ use Rattle.std.proofs.lemmas.Grind.{common_steps}
 use Rattle.std.proofs.lemmas.Option.{slice_get-get_or}
 use Rattle.std.proofs.lemmas.List.Elements.{All-get_or, All-head, All-from_get_or, Contains-get_or, All-contains}
 use Rattle.std.proofs.lemmas.List.Kept.{IsStrictlyIncreasing-filter}
+use Rattle.std.proofs.lemmas.Bool.Decides.{Decides-eqb}
 use Rattle.std.proofs.lemmas.Nat.{mod_below, pow_pos}
 use Rattle.std.proofs.lemmas.Nat.Bits.{bit_at_cat_low}
 use Rattle.track_word.specs.declared.tracks.Var.{Var}
@@ -17,28 +18,39 @@ use Rattle.letter_diagram.specs.Diagram.{map_at, Grows}
 use Rattle.letter_diagram.specs.Sets.{SetsKept}
 use Rattle.letter_diagram.specs.Merged.{HasSets}
 use Rattle.letter_diagram.proofs.Mergings.{HasSets-grows}
-use Rattle.letter_diagram.proofs.SetNumbers.{SetsKept-refl}
-use Rattle.auto_core.specs.Automaton.{Automaton, IsAutomaton, next_state}
+use Rattle.auto_core.specs.Automaton.{Automaton, IsAutomaton, first_state, next_state}
 use Rattle.auto_walk.specs.Walker.{Walker, place_of, IsReached, AreTracks}
 use Rattle.auto_walk.specs.Rows.{AreNumbered, IsRow}
 use Rattle.auto_walk.proofs.WalkLemmas.{All-at, one_place}
-use Rattle.auto_bool.proofs.States.{state_within}
-use Rattle.auto_project.specs.Lifted.{Follows, LiftLeads}
+use Rattle.auto_bool.proofs.States.{state_within, run_within}
+use Rattle.auto_project.specs.Lifted.{Begins, Follows, LiftLeads}
 use Rattle.auto_project.specs.Subsets.{lengthened, leads_to, next_set, set_walker}
-use Rattle.auto_project.specs.SetMaps.{set_of, IsSetRow, AreSetRows, HasSetRows, HasClosedRows, HasPlaceRows, IsUnionRow, IsNumbered}
-use Rattle.auto_project.proofs.Lists.{same_sets, Contains-head, Contains-cases, Contains-filter, Contains-from_filter, Contains-from_range, increasing-range}
-use Rattle.auto_project.proofs.Letters.{ascending-without, length-without}
-use Rattle.auto_project.proofs.Lifts.{any-from, any-to, steps-next, increasing-next}
+use Rattle.auto_project.specs.SetMaps.{set_of, IsSetRow, AreSetRows, HasSetRows, HasClosedRows, HasPlaceRows, IsUnionRow}
+use Rattle.auto_project.specs.Placed.{IsPlaced, AddsSetsOf}
+use Rattle.auto_project.proofs.Lists.{same_sets, Contains-head, Contains-cases, Contains-filter, Contains-from_filter, Contains-from_range, Contains-range, increasing-range}
+use Rattle.auto_project.proofs.Letters.{ascending-without, length-without, ReadsAs-lengthened}
+use Rattle.auto_project.proofs.Lifts.{any-from, any-to, or-left, steps-next, increasing-next, LiftLeads-begins}
 use Rattle.auto_project.proofs.SetMapLemmas.{stays, had, AreSetRows-kept}
 
 set-ascends : (shapes : List Shape) (sets : List (List ℕ)) (node letter : ℕ) → HasSets shapes sets node → All IsStrictlyIncreasing sets → IsStrictlyIncreasing (set_of shapes sets node letter)
 set-ascends shapes sets node letter is all = All-get_or IsStrictlyIncreasing sets (map_at shapes node letter) [] (is.numbered letter) all
+
+no-element : (set : List ℕ) (element : ℕ) → set ≡ [] → Contains set element → ⊥
+no-element set element none c = let there = subst (λ l. Contains l element) none c in let h = there.1 in omega arith
+
+some-element : (set : List ℕ) → set ≢ [] → (element : ℕ) × Contains set element
+some-element [] some = absurd (some refl)
+some-element (element ∷ set) some = (element, Contains-head element set)
 
 -- the rows of the walk are those that follow on the states
 pub HasPlaceRows-from : (shapes : List Shape) (sets : List (List ℕ)) (a : Automaton) (x : Var) (first : ℕ) (rows : List ℕ) → HasClosedRows shapes sets a (without_var x a.tracks) first rows → HasPlaceRows shapes sets a (without_var x a.tracks) first rows
 HasPlaceRows-from shapes sets a x first rows closed = record {
   valid = closed.valid;
   first_is = closed.first_row.is;
+  first_some = λ letter below none.
+      let longer = lengthened a.tracks (without_var x a.tracks) 0 letter in
+      let begins : Begins a (without_var x a.tracks) letter (first_state a longer) = record { longer = longer; is = ReadsAs-lengthened a.tracks x closed.valid.ascending letter 0 below; leads = refl } in
+      no-element (set_of shapes sets first letter) (first_state a longer) none ((closed.first_row.members letter (first_state a longer) below).1 (LiftLeads-begins a (without_var x a.tracks) letter (first_state a longer) begins));
   first_within = λ letter state below c. let l = (closed.first_row.members letter state below).0 c in subst (λ n. n < length a.accept) l.leads (state_within a closed.valid l.lift);
   first_narrow = λ m n agree. alike first closed.first_row.is (λ p q state same c. closed.first_row.narrow.same p q state same c) m n agree;
   size = closed.state_rows.size;
@@ -70,6 +82,7 @@ module _ (shapes more : List Shape) (sets sets' : List (List ℕ)) (a : Automato
   HasPlaceRows-kept r = record {
     valid = r.valid;
     first_is = HasSets-grows shapes more sets sets' first grows kept r.first_is;
+    first_some = λ letter below none. r.first_some letter below (sym (stays shapes more sets sets' grows kept first letter r.first_is) ∙ none);
     first_within = λ letter state below c. r.first_within letter state below (had shapes more sets sets' grows kept first letter state r.first_is c);
     first_narrow = λ x y agree. stays shapes more sets sets' grows kept first x r.first_is ∙ r.first_narrow x y agree ∙ sym (stays shapes more sets sets' grows kept first y r.first_is);
     size = r.size;
@@ -98,6 +111,34 @@ module _ (shapes : List Shape) (sets : List (List ℕ)) (a : Automaton) (some : 
   states-within places number set at numbered =
       let reached = All-at (IsReached (set_walker a some shapes sets first)) places number set at numbered.reached in
       All-from_get_or (λ state. state < length a.accept) set 0 (λ i h. place-within reached.word (get_or set i 0) reached.is_word (subst (λ l. Contains l (get_or set i 0)) (sym reached.leads) (Contains-get_or set i 0 h)))
+
+  -- some state follows on a set with some state
+  next-some : (set : List ℕ) (letter s : ℕ) → Contains set s → s < length a.accept → (t : ℕ) × Contains (next_set a some set letter) t
+  next-some set letter s c h =
+      let t = next_state a s (lengthened a.tracks some 0 letter) in
+      let within : t < length a.accept = run_within a r.valid (lengthened a.tracks some 0 letter ∷ []) s h in (
+        t,
+        Contains-filter (leads_to a some set letter) (range_with_len 0 (length a.accept)) t (Contains-range (length a.accept) t within)
+            (any-to (λ from. nat_eq (next_state a from (lengthened a.tracks some 0 letter)) t || nat_eq (next_state a from (lengthened a.tracks some 1 letter)) t) set s c (or-left _ _ ((Decides-eqb t t).1 refl))),
+      )
+
+  fold-some : (letters set : List ℕ) (s : ℕ) → Contains set s → s < length a.accept → (t : ℕ) × Contains (fold (next_set a some) set letters) t
+  fold-some [] set s c h = (s, c)
+  fold-some (letter ∷ letters) set s c h = let one = next-some set letter s c h in fold-some letters (next_set a some set letter) one.0 one.1 (next-within set letter one.0 one.1)
+
+  place-some : (word : List ℕ) → IsWord (length some) word → (t : ℕ) × Contains (place_of (set_walker a some shapes sets first) word) t
+  place-some [] is = absurd (is.nonempty refl)
+  place-some (sign ∷ letters) is =
+      let below = All-head (λ l. l < 2 ^ length some) sign letters is.letters in
+      let one = some-element (set_of shapes sets first sign) (r.first_some sign below) in
+      fold-some letters (set_of shapes sets first sign) one.0 one.1 (r.first_within sign one.0 below one.1)
+
+  -- a numbered place has some state
+  pub states-some : (places : List (List ℕ)) (number : ℕ) (set : List ℕ) → slice_get places number ≡ Some set → AreNumbered (set_walker a some shapes sets first) places → set ≢ []
+  states-some places number set at numbered none =
+      let reached = All-at (IsReached (set_walker a some shapes sets first)) places number set at numbered.reached in
+      let one = place-some reached.word reached.is_word in
+      no-element _ one.0 (reached.leads ∙ none) one.1
 
   module _ (set : List ℕ) (node : ℕ) (within : All (λ state. state < length rows) set) (union : IsUnionRow shapes sets rows set node) (ascend : All IsStrictlyIncreasing sets) where
     inside : (from : ℕ) → Contains set from → from < length rows
@@ -137,16 +178,16 @@ low_bits letter bound k below =
     ap (λ n. bit_at n k) whole ∙ bit_at_cat_low (letter / 2 ^ bound) bound (letter % 2 ^ bound) k below
 
 -- a row of places
-pub IsRow-numbered : (w : Walker) (more : List Shape) (sets before places : List (List ℕ)) (node row : ℕ) (lead : ℕ → List ℕ) → IsNumbered more sets before places node row
-    → ((x y : ℕ) → ((k : ℕ) → k < length w.tracks → bit_at x k ≡ bit_at y k) → set_of more sets node x ≡ set_of more sets node y)
-    → ((letter : ℕ) → letter < 2 ^ length w.tracks → set_of more sets node letter ≡ lead letter) → AllPairs (λ p q. p ≢ q) places → IsRow w more before places lead row
-IsRow-numbered w more sets before places node row lead n narrow value apart = record {
-  known = n.known;
-  narrow = record { same = λ x y agree. one_place places apart _ _ _ (n.leads x) (n.leads y ∙ ap Some (sym (narrow x y agree))) };
-  leads = λ letter below. n.leads letter ∙ ap Some (value letter below);
+pub IsRow-placed : (w : Walker) (shapes : List Shape) (sets : List (List ℕ)) (more : List Shape) (before places : List (List ℕ)) (node row : ℕ) (lead : ℕ → List ℕ) → IsPlaced shapes sets more places node row → AddsSetsOf shapes sets before places node
+    → ((x y : ℕ) → ((k : ℕ) → k < length w.tracks → bit_at x k ≡ bit_at y k) → set_of shapes sets node x ≡ set_of shapes sets node y)
+    → ((letter : ℕ) → letter < 2 ^ length w.tracks → set_of shapes sets node letter ≡ lead letter) → AllPairs (λ p q. p ≢ q) places → IsRow w more before places lead row
+IsRow-placed w shapes sets more before places node row lead is adds narrow value apart = record {
+  known = is.known;
+  narrow = record { same = λ x y agree. one_place places apart _ _ _ (is.leads x) (is.leads y ∙ ap Some (sym (narrow x y agree))) };
+  leads = λ letter below. is.leads letter ∙ ap Some (value letter below);
   different = apart;
   led = λ number from within.
-      let one = n.led number from within in
+      let one = adds.led number from within in
       let below : one.0 % 2 ^ length w.tracks < 2 ^ length w.tracks = mod_below one.0 (2 ^ length w.tracks) (pow_pos (length w.tracks)) in
       record {
         letter = one.0 % 2 ^ length w.tracks;
@@ -178,22 +219,18 @@ pub increasing-set : (a : Automaton) (some : List Var) (set : List ℕ) (letter 
 increasing-set a some set letter = IsStrictlyIncreasing-filter (leads_to a some set letter) (range_with_len 0 (length a.accept)) (increasing-range (length a.accept))
 
 -- the row of the first sets
-pub IsRow-first : (a : Automaton) (some : List Var) (shapes more : List Shape) (sets before places : List (List ℕ)) (first : ℕ) (rows : List ℕ) (row : ℕ) → HasPlaceRows shapes sets a some first rows → Grows shapes more → IsNumbered more sets before places first row → AllPairs (λ p q. p ≢ q) places
-    → IsRow (set_walker a some shapes sets first) more before places (set_of shapes sets first) row
-IsRow-first a some shapes more sets before places first rows row r grows numbered apart =
-    let now = HasPlaceRows-kept shapes more sets sets a some first rows grows (SetsKept-refl sets) r in
-    IsRow-numbered (set_walker a some shapes sets first) more sets before places first row (set_of shapes sets first) numbered now.first_narrow (λ letter below. stays shapes more sets sets grows (SetsKept-refl sets) first letter r.first_is) apart
+pub IsRow-first : (a : Automaton) (some : List Var) (shapes : List Shape) (sets : List (List ℕ)) (more : List Shape) (before places : List (List ℕ)) (first : ℕ) (rows : List ℕ) (row : ℕ) → HasPlaceRows shapes sets a some first rows → IsPlaced shapes sets more places first row
+    → AddsSetsOf shapes sets before places first → AllPairs (λ p q. p ≢ q) places → IsRow (set_walker a some shapes sets first) more before places (set_of shapes sets first) row
+IsRow-first a some shapes sets more before places first rows row r is adds apart = IsRow-placed (set_walker a some shapes sets first) shapes sets more before places first row (set_of shapes sets first) is adds r.first_narrow (λ letter below. refl) apart
 
 -- the row of the sets that follow on a set
-pub IsRow-union : (a : Automaton) (some : List Var) (shapes mid more : List Shape) (sets sets' before places : List (List ℕ)) (first : ℕ) (rows set : List ℕ) (union row : ℕ) → HasPlaceRows shapes sets a some first rows → Grows shapes mid → SetsKept sets sets'
-    → All (λ state. state < length rows) set → IsUnionRow mid sets' rows set union → All IsStrictlyIncreasing sets' → Grows mid more → IsNumbered more sets' before places union row → AllPairs (λ p q. p ≢ q) places
+pub IsRow-union : (a : Automaton) (some : List Var) (shapes mid : List Shape) (sets sets' : List (List ℕ)) (more : List Shape) (before places : List (List ℕ)) (first : ℕ) (rows set : List ℕ) (union row : ℕ) → HasPlaceRows shapes sets a some first rows → Grows shapes mid → SetsKept sets sets'
+    → All (λ state. state < length rows) set → IsUnionRow mid sets' rows set union → All IsStrictlyIncreasing sets' → IsPlaced mid sets' more places union row → AddsSetsOf mid sets' before places union → AllPairs (λ p q. p ≢ q) places
     → IsRow (set_walker a some shapes sets first) more before places (next_set a some set) row
-IsRow-union a some shapes mid more sets sets' before places first rows set union row r grows kept within is ascend further numbered apart =
+IsRow-union a some shapes mid sets sets' more before places first rows set union row r grows kept within is ascend placed adds apart =
     let now = HasPlaceRows-kept shapes mid sets sets' a some first rows grows kept r in
-    let still = λ (letter : ℕ). stays mid more sets' sets' further (SetsKept-refl sets') union letter is.is in
-    IsRow-numbered (set_walker a some shapes sets first) more sets' before places union row (next_set a some set) numbered
-    (λ x y agree. still x ∙ union-narrow mid sets' a some first rows now set union within is ascend x y agree ∙ sym (still y))
-    (λ letter below. still letter ∙ union-next mid sets' a some first rows now set union within is ascend letter below (increasing-set a some set letter)) apart
+    IsRow-placed (set_walker a some shapes sets first) mid sets' more before places union row (next_set a some set) placed adds (union-narrow mid sets' a some first rows now set union within is ascend)
+    (λ letter below. union-next mid sets' a some first rows now set union within is ascend letter below (increasing-set a some set letter)) apart
 
 -- the states of a numbered place have rows
 pub rows-within : (a : Automaton) (some : List Var) (shapes : List Shape) (sets places : List (List ℕ)) (first : ℕ) (rows set : List ℕ) (number : ℕ) → HasPlaceRows shapes sets a some first rows → slice_get places number ≡ Some set → AreNumbered (set_walker a some shapes sets first) places

@@ -1,19 +1,19 @@
 -- Maps to sets, as more nodes and sets are known, and joined ones.
-use Rattle.std.proofs.Common.{◌≡◌, ◌↔◌, ℕ, ◌<◌, List, [], length, get_or, slice_get, Option, None, Some, Contains, arith, sym, subst}
+use Rattle.std.proofs.Common.{◌≡◌, ◌↔◌, ℕ, ◌<◌, List, [], length, get_or, slice_get, Some, Contains, arith, sym, subst}
 use Rattle.std.specs.List.{All}
 use Rattle.std.proofs.lemmas.Option.{slice_get-get_or, slice_get_within, get_or_from_slice_get}
 use Rattle.std.proofs.lemmas.List.Elements.{All-from_get_or}
 use Rattle.track_word.specs.declared.tracks.Var.{Var}
 use Rattle.letter_diagram.specs.declared.diagrams.Shape.{Shape}
 use Rattle.letter_diagram.specs.Diagram.{Grows}
-use Rattle.letter_diagram.specs.Sets.{set_at, SetsKept, IsUnion}
+use Rattle.letter_diagram.specs.Sets.{set_at, SetsKept}
 use Rattle.letter_diagram.specs.Listed.{EachAnswers}
 use Rattle.letter_diagram.specs.Merged.{HasSets, IsMerged}
 use Rattle.letter_diagram.proofs.SetNumbers.{set_at-kept}
 use Rattle.letter_diagram.proofs.Mergings.{HasSets-grows, IsMerged-grows}
 use Rattle.auto_core.specs.Automaton.{Automaton}
 use Rattle.auto_project.specs.Lifted.{Follows}
-use Rattle.auto_project.specs.SetMaps.{set_of, IsNarrow, IsSetRow, AreSetRows, IsLedRow, Joins, IsJoinedSet}
+use Rattle.auto_project.specs.SetMaps.{set_of, IsNarrow, IsSetRow, AreSetRows, IsLedRow, IsJoinedSet}
 use Rattle.auto_project.proofs.Walks.{set_of-kept}
 
 module _ (shapes more : List Shape) (sets sets' : List (List ℕ)) (grows : Grows shapes more) (kept : SetsKept sets sets') where
@@ -51,7 +51,7 @@ pub rows-sets : (shapes : List Shape) (sets : List (List ℕ)) (a : Automaton) (
 rows-sets shapes sets a some rows are = All-from_get_or (HasSets shapes sets) rows 0 (λ i h. (are.each i (get_or rows i 0) (slice_get-get_or rows i 0 h)).is)
 
 -- joined sets of numbers, as more sets are known
-pub IsJoinedSet-kept : (sets sets' : List (List ℕ)) (only : Option ℕ) (a b number : ℕ) → SetsKept sets sets' → IsJoinedSet sets only a b number → IsJoinedSet sets' only a b number
+pub IsJoinedSet-kept : (sets sets' : List (List ℕ)) (only a b number : ℕ) → SetsKept sets sets' → IsJoinedSet sets only a b number → IsJoinedSet sets' only a b number
 IsJoinedSet-kept sets sets' only a b number kept is =
     let longer = kept.longer in
     let a_known = is.a_known in
@@ -65,18 +65,15 @@ IsJoinedSet-kept sets sets' only a b number kept is =
       b_known = omega arith;
       known = omega arith;
       members = λ state.
-          subst (λ set. Contains set state ↔ Joins only (set_at sets' a) (set_at sets' b) state) (sym en)
-          (subst (λ set. Contains (set_at sets number) state ↔ Joins only set (set_at sets' b) state) (sym ea) (subst (λ set. Contains (set_at sets number) state ↔ Joins only (set_at sets a) set state) (sym eb) (is.members state)));
+          subst (λ set. Contains set state ↔ (Contains (set_at sets' a) only × Contains (set_at sets' b) state)) (sym en)
+          (subst (λ set. Contains (set_at sets number) state ↔ (Contains set only × Contains (set_at sets' b) state)) (sym ea) (subst (λ set. Contains (set_at sets number) state ↔ (Contains (set_at sets a) only × Contains set state)) (sym eb) (is.members state)));
     }
 
-pub IsJoinedSet-union : (sets : List (List ℕ)) (a b number : ℕ) → a < length sets → b < length sets → IsUnion sets a b number → IsJoinedSet sets None a b number
-IsJoinedSet-union sets a b number a_known b_known is = record { a_known = a_known; b_known = b_known; known = is.known; members = is.members }
-
 -- the second set where the first has the state, else nothing
-pub IsJoinedSet-second : (sets : List (List ℕ)) (only a b : ℕ) → a < length sets → b < length sets → Contains (set_at sets a) only → IsJoinedSet sets (Some only) a b b
+pub IsJoinedSet-second : (sets : List (List ℕ)) (only a b : ℕ) → a < length sets → b < length sets → Contains (set_at sets a) only → IsJoinedSet sets only a b b
 IsJoinedSet-second sets only a b a_known b_known there = record { a_known = a_known; b_known = b_known; known = b_known; members = λ state. (λ c. (there, c), λ e. e.1) }
 
-pub IsJoinedSet-nothing : (sets sets' : List (List ℕ)) (only a b number : ℕ) → SetsKept sets sets' → a < length sets → b < length sets → (Contains (set_at sets a) only → ⊥) → slice_get sets' number ≡ Some [] → IsJoinedSet sets' (Some only) a b number
+pub IsJoinedSet-nothing : (sets sets' : List (List ℕ)) (only a b number : ℕ) → SetsKept sets sets' → a < length sets → b < length sets → (Contains (set_at sets a) only → ⊥) → slice_get sets' number ≡ Some [] → IsJoinedSet sets' only a b number
 IsJoinedSet-nothing sets sets' only a b number kept a_known b_known absent at =
     let longer = kept.longer in
     record {

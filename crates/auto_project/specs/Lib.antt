@@ -8,3 +8,4 @@ pub use Rattle.auto_walk.specs.Walker
 pub mod Lifted
 pub mod Subsets
 pub mod SetMaps
+pub mod Placed

@@ -1,5 +1,5 @@
 -- Nodes whose maps lead letters to the numbers of sets of states.
-use Rattle.std.specs.Prelude.{◌≡◌, ◌≢◌, ◌⊎◌, ◌↔◌, ℕ, ◌^◌, ◌<◌, ◌≤◌, List, [], ◌∷◌, Option, None, Some, length, slice_get, slice_index, All, Contains}
+use Rattle.std.specs.Prelude.{◌≡◌, ◌≢◌, ◌↔◌, ℕ, ◌^◌, ◌<◌, ◌≤◌, List, [], ◌∷◌, Some, length, slice_get, slice_index, All, Contains}
 use Rattle.std.specs.Int.{bit_at}
 use Rattle.std.specs.List.Sorted.{IsStrictlyIncreasing}
 use Rattle.track_word.specs.declared.tracks.Var.{Var}
@@ -21,25 +21,20 @@ pub record AreSingletons (sets : List (List ℕ)) (count : ℕ) : Type 0 where
 abbrev pub set_of : List Shape → List (List ℕ) → ℕ → ℕ → List ℕ
 set_of shapes sets node letter = set_at sets (map_at shapes node letter)
 
--- what two sets have together, or where a state is given what the second has if the first has the state
-abbrev pub Joins : Option ℕ → List ℕ → List ℕ → ℕ → Type 0
-Joins None a b state = Contains a state ⊎ Contains b state
-Joins (Some only) a b state = Contains a only × Contains b state
-
--- the number of what two numbered sets are joined to
-pub record IsJoinedSet (sets : List (List ℕ)) (only : Option ℕ) (a b number : ℕ) : Type 0 where
+-- the number of what the second of two numbered sets has if the first has a state, else of nothing
+pub record IsJoinedSet (sets : List (List ℕ)) (only a b number : ℕ) : Type 0 where
   pub a_known : a < length sets
   pub b_known : b < length sets
   pub known : number < length sets
-  pub members : (state : ℕ) → Contains (set_at sets number) state ↔ Joins only (set_at sets a) (set_at sets b) state
+  pub members : (state : ℕ) → Contains (set_at sets number) state ↔ (Contains (set_at sets a) only × Contains (set_at sets b) state)
 
 -- for each pair of numbers that of the joined set
-pub record AreJoinedSets (sets : List (List ℕ)) (only : Option ℕ) (pairs : List (ℕ × ℕ)) (table : List ℕ) : Type 0 where
+pub record AreJoinedSets (sets : List (List ℕ)) (only : ℕ) (pairs : List (ℕ × ℕ)) (table : List ℕ) : Type 0 where
   pub size : length table ≡ length pairs
   pub each : (i a b : ℕ) → slice_get pairs i ≡ Some (a, b) → IsJoinedSet sets only a b (slice_index table i)
 
 -- the node's sets are the joined sets of two nodes
-pub record IsJoined (shapes : List Shape) (sets : List (List ℕ)) (only : Option ℕ) (a b node : ℕ) : Type 0 where
+pub record IsJoined (shapes : List Shape) (sets : List (List ℕ)) (only a b node : ℕ) : Type 0 where
   pub known : node < length shapes
   pub joins : (letter : ℕ) → IsJoinedSet sets only (map_at shapes a letter) (map_at shapes b letter) (map_at shapes node letter)
 
@@ -75,6 +70,7 @@ pub record HasClosedRows (shapes : List Shape) (sets : List (List ℕ)) (a : Aut
 pub record HasPlaceRows (shapes : List Shape) (sets : List (List ℕ)) (a : Automaton) (some : List Var) (first : ℕ) (rows : List ℕ) : Type 0 where
   pub valid : IsAutomaton a
   pub first_is : HasSets shapes sets first
+  pub first_some : (letter : ℕ) → letter < 2 ^ length some → set_of shapes sets first letter ≢ []
   pub first_within : (letter state : ℕ) → letter < 2 ^ length some → Contains (set_of shapes sets first letter) state → state < length a.accept
   pub first_narrow : (x y : ℕ) → ((k : ℕ) → k < length some → bit_at x k ≡ bit_at y k) → set_of shapes sets first x ≡ set_of shapes sets first y
   pub size : length rows ≡ length a.accept
@@ -131,20 +127,3 @@ pub record IsSwept (shapes : List Shape) (sets : List (List ℕ)) (rows : List �
 pub record IsUnionRow (shapes : List Shape) (sets : List (List ℕ)) (rows set : List ℕ) (node : ℕ) : Type 0 where
   pub is : HasSets shapes sets node
   pub members : (letter state : ℕ) → Contains (set_of shapes sets node letter) state ↔ ((from : ℕ) × Contains set from × Contains (set_of shapes sets (slice_index rows from) letter) state)
-
--- after a set was numbered among the places: its own entry is its place, other entries stay, and what is new among the places is that set
-pub record HasNumber (sets : List (List ℕ)) (old new : List ℕ) (before places : List (List ℕ)) (leaf : ℕ) : Type 0 where
-  pub here : slice_get places (slice_index new leaf) ≡ Some (set_at sets leaf)
-  pub others : (other : ℕ) → other ≢ leaf → slice_index new other ≡ slice_index old other
-  pub added : (number : ℕ) → length before ≤ number → number < length places → slice_get places number ≡ Some (set_at sets leaf)
-
--- the entry of each of some sets is its place, and what is new among the places is one of the sets
-pub record HasNumbers (sets : List (List ℕ)) (numbers : List ℕ) (before places : List (List ℕ)) (leaves : List ℕ) : Type 0 where
-  pub each : (leaf : ℕ) → Contains leaves leaf → slice_get places (slice_index numbers leaf) ≡ Some (set_at sets leaf)
-  pub added : (number : ℕ) → length before ≤ number → number < length places → (leaf : ℕ) × Contains leaves leaf × (slice_get places number ≡ Some (set_at sets leaf))
-
--- the row's map leads each letter to the place of the set that the node gives it, and what is new among the places is such a set
-pub record IsNumbered (shapes : List Shape) (sets before places : List (List ℕ)) (node row : ℕ) : Type 0 where
-  pub known : row < length shapes
-  pub leads : (letter : ℕ) → slice_get places (map_at shapes row letter) ≡ Some (set_of shapes sets node letter)
-  pub led : (number : ℕ) → length before ≤ number → number < length places → (letter : ℕ) × (slice_get places number ≡ Some (set_of shapes sets node letter))

@@ -8,9 +8,9 @@ ghost use Rattle.auto_core.specs.Automaton.{IsAutomaton};
 ghost use Rattle.auto_project.specs.Lifted.{Begins, LiftLeads};
 ghost use Rattle.auto_project.specs.SetMaps.{set_of, IsSetRow, AreSetRows, IsLedRow, IsGuarded, IsSwept};
 
-use crate::join::{joined, nothing, united};
+use crate::join::{joined, nothing, united, uniter};
 use auto_core::Auto;
-use letter_diagram::{Diagrams, Node, Sets};
+use letter_diagram::{Diagrams, Merger, Node, Sets};
 use std::alloc::AllocError;
 use track_word::Var;
 
@@ -65,7 +65,7 @@ fn guarded_row(
         let row = nothing(diagrams, sets)?;
         return Ok(row);
     }
-    let row = joined(diagrams, sets, Some(state), node, rows[state as usize])?;
+    let row = joined(diagrams, sets, state, node, rows[state as usize])?;
     Ok(row)
 }
 
@@ -78,56 +78,56 @@ pub struct Rows<'a> {
 }
 
 impl<'a> Rows<'a> {
-    /// The node whose sets have besides what follows on one of their states by the same letter.
-    fn swept(
-        &self,
-        diagrams: &mut Diagrams,
-        sets: &mut Sets,
-        node: Node,
-    ) -> Result<Node, AllocError>
-        requires rows { AreSetRows diagrams.old sets.old self.now.automaton.now self.now.tracks.items self.now.nodes.items }
-        requires led { IsLedRow diagrams.old sets.old self.now.automaton.now self.now.tracks.items node }
-        ensures led { IfOk result (λ next. IsLedRow diagrams.new sets.new self.now.automaton.now self.now.tracks.items next) }
-        ensures swept { IfOk result (λ next. IsSwept diagrams.new sets.new self.now.nodes.items node next) }
-        ensures ascend { IfOk result (λ _. All IsStrictlyIncreasing sets.new) }
-        ensures grows { Grows diagrams.old diagrams.new }
-        ensures kept { SetsKept sets.old sets.new }
+    /// The node whose sets have besides what follows on one of their states by the same letter, in the merger that united them.
+    fn swept(&self, merger: Merger, node: Node) -> Result<(Merger, Node), AllocError>
+        requires rows { AreSetRows merger.shapes merger.sets self.now.automaton.now self.now.tracks.items self.now.nodes.items }
+        requires led { IsLedRow merger.shapes merger.sets self.now.automaton.now self.now.tracks.items node }
+        ensures led { IfOk result (λ made. IsLedRow made.0.shapes made.0.sets self.now.automaton.now self.now.tracks.items made.1) }
+        ensures swept { IfOk result (λ made. IsSwept made.0.shapes made.0.sets self.now.nodes.items node made.1) }
+        ensures ascend { IfOk result (λ made. All IsStrictlyIncreasing made.0.sets) }
+        ensures grows { IfOk result (λ made. Grows merger.shapes made.0.shapes) }
+        ensures kept { IfOk result (λ made. SetsKept merger.sets made.0.sets) }
     {
-        let states = states_in(diagrams, sets, node)?;
+        let states = states_in(merger.diagrams(), merger.sets(), node)?;
+        let (mut diagrams, mut sets) = merger.into_parts();
         let mut nodes = vec![in diagrams.alloc(); node]?;
         for state in states.as_slice() {
-            let row = guarded_row(diagrams, sets, self.nodes.as_slice(), *state, node)?;
+            let row = guarded_row(
+                &mut diagrams,
+                &mut sets,
+                self.nodes.as_slice(),
+                *state,
+                node,
+            )?;
             nodes.push(row)?;
         }
-        let next = united(diagrams, sets, nodes.as_slice())?;
-        let _ = sets.len();
-        Ok(next)
+        let mut merger = uniter(diagrams, sets);
+        let next = united(&mut merger, nodes.as_slice())?;
+        let _ = merger.sets().len();
+        Ok((merger, next))
     }
 
-    /// The first row closed over repeated first letters. Each round adds a state at least to each set that is not closed yet, so
-    /// there are at most as many rounds as states.
-    pub fn closed(
-        &self,
-        diagrams: &mut Diagrams,
-        sets: &mut Sets,
-        first: Node,
-    ) -> Result<Node, AllocError>
+    /// The first row closed over repeated first letters, in the merger that united the sets of the last round. Each round adds a state
+    /// at least to each set that is not closed yet, so there are at most as many rounds as states.
+    pub fn closed(&self, merger: Merger, first: Node) -> Result<(Merger, Node), AllocError>
         requires valid { IsAutomaton self.now.automaton.now }
-        requires first { IsSetRow diagrams.old sets.old (length self.now.tracks.items) first (Begins self.now.automaton.now self.now.tracks.items) }
-        requires rows { AreSetRows diagrams.old sets.old self.now.automaton.now self.now.tracks.items self.now.nodes.items }
-        ensures closed { IfOk result (λ node. IsSetRow diagrams.new sets.new (length self.now.tracks.items) node (λ letter state. LiftLeads self.now.automaton.now self.now.tracks.items (letter ∷ []) state)) }
-        ensures grows { Grows diagrams.old diagrams.new }
-        ensures kept { SetsKept sets.old sets.new }
+        requires first { IsSetRow merger.shapes merger.sets (length self.now.tracks.items) first (Begins self.now.automaton.now self.now.tracks.items) }
+        requires rows { AreSetRows merger.shapes merger.sets self.now.automaton.now self.now.tracks.items self.now.nodes.items }
+        ensures closed { IfOk result (λ made. IsSetRow made.0.shapes made.0.sets (length self.now.tracks.items) made.1 (λ letter state. LiftLeads self.now.automaton.now self.now.tracks.items (letter ∷ []) state)) }
+        ensures grows { IfOk result (λ made. Grows merger.shapes made.0.shapes) }
+        ensures kept { IfOk result (λ made. SetsKept merger.sets made.0.sets) }
     {
-        let _ = sets.len();
+        let _ = merger.sets().len();
+        let mut merger = merger;
         let mut node = first;
         for round in 0..self.nodes.len() {
-            let next = self.swept(diagrams, sets, node)?;
+            let (united, next) = self.swept(merger, node)?;
+            merger = united;
             if next == node {
-                return Ok(node);
+                return Ok((merger, node));
             }
             node = next;
         }
-        Ok(node)
+        Ok((merger, node))
     }
 }

@@ -7,6 +7,7 @@ ghost use Rattle.letter_diagram.specs.Listed.{EachAnswers};
 ghost use Rattle.letter_diagram.specs.Merged.{HasSets, IsMerged};
 ghost use Rattle.auto_project.specs.SetMaps.{AreSingletons, HasWideRows, HasSetRows};
 
+use crate::join::uniter;
 use crate::sets::singletons;
 use crate::tracks::{places_of, tracks_without};
 use auto_core::Auto;
@@ -25,8 +26,7 @@ pub struct StateRows {
 /// Nodes that lead letters to numbers of sets of states: the first row, and a row for each state.
 #[derive(Drop)]
 pub struct SetRows {
-    pub diagrams: Diagrams,
-    pub sets: Sets,
+    pub merger: Merger,
     pub first: Node,
     pub rows: Vec<Node>,
 }
@@ -89,10 +89,10 @@ fn without_track(
     requires track { track < 20 }
     requires first { HasSets wide.diagrams sets wide.first }
     requires rows { All (HasSets wide.diagrams sets) wide.rows.items }
-    ensures first { IfOk result (λ made. IsMerged made.diagrams made.sets track wide.first made.first) }
-    ensures rows { IfOk result (λ made. EachAnswers (IsMerged made.diagrams made.sets track) wide.rows.items made.rows.items) }
-    ensures grows { IfOk result (λ made. Grows wide.diagrams made.diagrams) }
-    ensures kept { IfOk result (λ made. SetsKept sets made.sets) }
+    ensures first { IfOk result (λ made. IsMerged made.merger.shapes made.merger.sets track wide.first made.first) }
+    ensures rows { IfOk result (λ made. EachAnswers (IsMerged made.merger.shapes made.merger.sets track) wide.rows.items made.rows.items) }
+    ensures grows { IfOk result (λ made. Grows wide.diagrams made.merger.shapes) }
+    ensures kept { IfOk result (λ made. SetsKept sets made.merger.sets) }
 {
     let StateRows {
         diagrams,
@@ -102,10 +102,8 @@ fn without_track(
     let mut merger = Merger::new(diagrams, sets, track);
     let rows = merged_rows(alloc, &mut merger, rows.as_slice())?;
     let first = merged_row(&mut merger, first)?;
-    let (diagrams, sets) = merger.into_parts();
     Ok(SetRows {
-        diagrams,
-        sets,
+        merger,
         first,
         rows,
     })
@@ -114,20 +112,19 @@ fn without_track(
 /// The rows over the tracks that are left, as maps to the sets of the states to which the letters lead that read alike.
 pub fn set_rows(alloc: Global, a: &Auto, var: Var, tracks: &[Var]) -> Result<SetRows, AllocError>
     requires { tracks.now ≡ without_var var a.now.tracks }
-    ensures { IfOk result (λ made. HasSetRows made.diagrams made.sets a.now tracks.now made.first made.rows.items) }
+    ensures { IfOk result (λ made. HasSetRows made.merger.shapes made.merger.sets a.now tracks.now made.first made.rows.items) }
 {
     let all = a.tracks();
     let wide = wide_rows(alloc, a, tracks)?;
     let sets = singletons(alloc, a.states())?;
     if tracks.len() == all.len() {
         return Ok(SetRows {
-            diagrams: wide.diagrams,
-            sets,
+            merger: uniter(wide.diagrams, sets),
             first: wide.first,
             rows: wide.rows,
         });
     }
     let made = without_track(alloc, wide, sets, tracks.len() as u8)?;
-    let _ = made.sets.len();
+    let _ = made.merger.sets().len();
     Ok(made)
 }

@@ -42,25 +42,11 @@ fn has_state(sets: &Sets, number: u32, state: u32) -> bool
     }
 }
 
-/// The number of what either set has.
-fn united(sets: &mut Sets, a: u32, b: u32) -> Result<u32, AllocError>
-    requires a_known { a < length sets.old }
-    requires b_known { b < length sets.old }
-    ensures joined { IfOk result (λ number. IsJoinedSet sets.new None a b number) }
-    ensures kept { SetsKept sets.old sets.new }
-{
-    if sets.len() >= u32::MAX as usize {
-        return Err(AllocError);
-    }
-    let number = sets.unite(a, b)?;
-    Ok(number)
-}
-
 /// The number of what set `b` has, or of nothing unless set `a` has a state.
-fn guarded(sets: &mut Sets, state: u32, a: u32, b: u32) -> Result<u32, AllocError>
+pub fn joined_set(sets: &mut Sets, state: u32, a: u32, b: u32) -> Result<u32, AllocError>
     requires a_known { a < length sets.old }
     requires b_known { b < length sets.old }
-    ensures joined { IfOk result (λ number. IsJoinedSet sets.new (Some state) a b number) }
+    ensures joined { IfOk result (λ number. IsJoinedSet sets.new state a b number) }
     ensures kept { SetsKept sets.old sets.new }
 {
     if has_state(sets, a, state) {
@@ -68,23 +54,4 @@ fn guarded(sets: &mut Sets, state: u32, a: u32, b: u32) -> Result<u32, AllocErro
     }
     let number = number_of(sets, &[])?;
     Ok(number)
-}
-
-/// The number of what two sets have together, or where a state is given of what set `b` has if set `a` has the state.
-pub fn joined_set(sets: &mut Sets, only: Option<u32>, a: u32, b: u32) -> Result<u32, AllocError>
-    requires a_known { a < length sets.old }
-    requires b_known { b < length sets.old }
-    ensures joined { IfOk result (λ number. IsJoinedSet sets.new only a b number) }
-    ensures kept { SetsKept sets.old sets.new }
-{
-    match only {
-        None => {
-            let number = united(sets, a, b)?;
-            Ok(number)
-        }
-        Some(state) => {
-            let number = guarded(sets, state, a, b)?;
-            Ok(number)
-        }
-    }
 }

@@ -3,21 +3,21 @@ ghost use Rattle.std.specs.Prelude.{◌≡◌, map, slice_index, ◌≢◌, AllP
 ghost use Rattle.std.specs.List.{list_any};
 ghost use Rattle.std.specs.List.Sorted.{IsStrictlyIncreasing};
 ghost use Rattle.track_word.specs.Tracks.{without_var};
-ghost use Rattle.letter_diagram.specs.Diagram.{Grows, map_at};
-ghost use Rattle.letter_diagram.specs.Sets.{SetsKept, set_at};
+ghost use Rattle.letter_diagram.specs.Diagram.{Grows};
+ghost use Rattle.letter_diagram.specs.Sets.{SetsKept};
 ghost use Rattle.letter_diagram.specs.Merged.{HasSets};
-ghost use Rattle.letter_diagram.specs.Leaves.{AreLeaves};
 ghost use Rattle.auto_walk.specs.Walker.{AreTracks};
-ghost use Rattle.auto_project.specs.SetMaps.{set_of, HasClosedRows, HasPlaceRows, IsUnionRow, IsNumbered, HasNumber, HasNumbers};
+ghost use Rattle.auto_project.specs.SetMaps.{HasClosedRows, HasPlaceRows, IsUnionRow};
+ghost use Rattle.auto_project.specs.Placed.{IsPlaced, AddsSetsOf, RemembersPlaced};
 
 use crate::closure::Rows;
 use crate::join::united;
+use crate::placing::Places;
 use crate::rows::{SetRows, set_rows};
-use crate::sets::number_of;
 use crate::tracks::tracks_without;
 use auto_core::Auto;
 use auto_walk::Walk;
-use letter_diagram::{Diagrams, Node, Sets};
+use letter_diagram::{Diagrams, Merger, Node, Sets};
 use std::alloc::{AllocError, Global};
 use track_word::Var;
 
@@ -34,81 +34,17 @@ fn rows_of(alloc: Global, rows: &[Node], set: &[u32]) -> Result<Vec<Node>, Alloc
 }
 
 /// The node that leads each letter to the states to which the states of a set lead.
-fn united_rows(
-    diagrams: &mut Diagrams,
-    sets: &mut Sets,
-    rows: &[Node],
-    set: &[u32],
-) -> Result<Node, AllocError>
-    requires rows { All (HasSets diagrams.old sets.old) rows.now }
+fn united_rows(merger: &mut Merger, rows: &[Node], set: &[u32]) -> Result<Node, AllocError>
+    requires some { set.now ≢ [] }
+    requires rows { All (HasSets merger.old.shapes merger.old.sets) rows.now }
     requires set { All (λ state. state < length rows.now) set.now }
-    ensures union { IfOk result (λ node. IsUnionRow diagrams.new sets.new rows.now set.now node) }
-    ensures grows { Grows diagrams.old diagrams.new }
-    ensures kept { SetsKept sets.old sets.new }
+    ensures union { IfOk result (λ node. IsUnionRow merger.new.shapes merger.new.sets rows.now set.now node) }
+    ensures grows { Grows merger.old.shapes merger.new.shapes }
+    ensures kept { SetsKept merger.old.sets merger.new.sets }
 {
-    let nodes = rows_of(diagrams.alloc(), rows, set)?;
-    let node = united(diagrams, sets, nodes.as_slice())?;
+    let nodes = rows_of(merger.diagrams().alloc(), rows, set)?;
+    let node = united(merger, nodes.as_slice())?;
     Ok(node)
-}
-
-/// Numbers the set of a number among the places.
-fn number_leaf(
-    sets: &Sets,
-    leaf: u32,
-    numbers: &mut Vec<u32>,
-    places: &mut Sets,
-) -> Result<(), AllocError>
-    requires known { leaf < length sets.now }
-    requires room { length numbers.old.items ≡ length sets.now }
-    ensures room { length numbers.new.items ≡ length numbers.old.items }
-    ensures numbered { OnOk result (HasNumber sets.now numbers.old.items numbers.new.items places.old places.new leaf) }
-    ensures kept { SetsKept places.old places.new }
-{
-    let _ = sets.len();
-    if let Some(set) = sets.get(leaf) {
-        numbers[leaf as usize] = number_of(places, set)?;
-    }
-    Ok(())
-}
-
-/// Numbers the sets of the leaves among the places.
-fn number_leaves(
-    sets: &Sets,
-    leaves: &[u32],
-    numbers: &mut Vec<u32>,
-    places: &mut Sets,
-) -> Result<(), AllocError>
-    requires known { All (λ leaf. leaf < length sets.now) leaves.now }
-    requires room { length numbers.old.items ≡ length sets.now }
-    ensures room { length numbers.new.items ≡ length numbers.old.items }
-    ensures numbered { OnOk result (HasNumbers sets.now numbers.new.items places.old places.new leaves.now) }
-    ensures kept { SetsKept places.old places.new }
-{
-    for leaf in leaves {
-        number_leaf(sets, *leaf, numbers, places)?;
-    }
-    Ok(())
-}
-
-/// The node that leads each letter to the place of the set to which `node` leads it. New places are numbered.
-/// `numbers` is room for the place of each numbered set.
-fn numbered_sets(
-    diagrams: &mut Diagrams,
-    sets: &Sets,
-    numbers: &mut Vec<u32>,
-    places: &mut Sets,
-    node: Node,
-) -> Result<Node, AllocError>
-    requires { HasSets diagrams.old sets.now node }
-    ensures numbered { IfOk result (λ row. IsNumbered diagrams.new sets.now places.old places.new node row) }
-    ensures grows { Grows diagrams.old diagrams.new }
-    ensures kept { SetsKept places.old places.new }
-{
-    numbers.resize(sets.len(), 0)?;
-    let leaves = diagrams.leaves(node)?;
-    number_leaves(sets, leaves.as_slice(), numbers, places)?;
-    let row = diagrams.map_leaves(node, numbers.as_slice())?;
-    Ok(row)
 }
 
 /// The set of a place.
@@ -122,30 +58,29 @@ fn copied_set(alloc: Global, places: &Sets, number: u32) -> Result<Vec<u32>, All
     }
 }
 
-/// The rows of an automaton over the tracks that are left, and the sets that are numbered as places.
+/// The rows of an automaton over the tracks that are left, and the sets that are numbered as places. One merger unites all rows, so
+/// that what two places have in common is united once.
 #[derive(Drop)]
 pub struct Subsets<'a> {
     rows: Rows<'a>,
     first: Node,
-    diagrams: Diagrams,
-    sets: Sets,
-    numbers: Vec<u32>,
-    places: Sets,
+    merger: Merger,
+    places: Places,
     ghost are_tracks: { AreTracks rows.tracks.items },
-    ghost are_rows: { HasPlaceRows diagrams sets rows.automaton.now rows.tracks.items first rows.nodes.items },
+    ghost are_rows: { HasPlaceRows merger.shapes merger.sets rows.automaton.now rows.tracks.items first rows.nodes.items },
+    ghost remembered: { RemembersPlaced merger.shapes merger.sets places.rows places.sets places.placed },
 }
 
 impl<'a> Subsets<'a> {
     pub fn new(alloc: Global, a: &'a Auto, var: Var) -> Result<Self, AllocError>
         ensures automaton { IfOk result (λ subsets. subsets.rows.automaton.now ≡ a.now) }
         ensures tracks { IfOk result (λ subsets. subsets.rows.tracks.items ≡ without_var var a.now.tracks) }
-        ensures fresh { IfOk result (λ subsets. subsets.places ≡ []) }
-        ensures rows { IfOk result (λ subsets. HasClosedRows subsets.diagrams subsets.sets a.now (without_var var a.now.tracks) subsets.first subsets.rows.nodes.items) }
+        ensures fresh { IfOk result (λ subsets. subsets.places.sets ≡ []) }
+        ensures rows { IfOk result (λ subsets. HasClosedRows subsets.merger.shapes subsets.merger.sets a.now (without_var var a.now.tracks) subsets.first subsets.rows.nodes.items) }
     {
         let tracks = tracks_without(alloc, a.tracks(), var)?;
         let SetRows {
-            mut diagrams,
-            mut sets,
+            merger,
             first,
             rows: nodes,
         } = set_rows(alloc, a, var, tracks.as_slice())?;
@@ -154,58 +89,46 @@ impl<'a> Subsets<'a> {
             tracks,
             nodes,
         };
-        let first = rows.closed(&mut diagrams, &mut sets, first)?;
-        let _ = sets.len();
+        let (merger, first) = rows.closed(merger, first)?;
+        let _ = merger.sets().len();
         Ok(Subsets {
             rows,
             first,
-            diagrams,
-            sets,
-            numbers: Vec::new(alloc),
-            places: Sets::new(alloc),
+            merger,
+            places: Places::new(alloc),
         })
     }
 
     /// The node that leads each letter to the set of the states to which the states of a set lead.
     fn union_row(&mut self, set: &[u32]) -> Result<Node, AllocError>
-        requires { All (λ state. state < length self.old.rows.nodes.items) set.now }
-        ensures union { IfOk result (λ node. IsUnionRow self.new.diagrams self.new.sets self.old.rows.nodes.items set.now node) }
-        ensures ascend { IfOk result (λ _. All IsStrictlyIncreasing self.new.sets) }
-        ensures grows { Grows self.old.diagrams self.new.diagrams }
-        ensures kept { SetsKept self.old.sets self.new.sets }
+        requires some { set.now ≢ [] }
+        requires within { All (λ state. state < length self.old.rows.nodes.items) set.now }
+        ensures union { IfOk result (λ node. IsUnionRow self.new.merger.shapes self.new.merger.sets self.old.rows.nodes.items set.now node) }
+        ensures ascend { IfOk result (λ _. All IsStrictlyIncreasing self.new.merger.sets) }
+        ensures grows { Grows self.old.merger.shapes self.new.merger.shapes }
+        ensures kept { SetsKept self.old.merger.sets self.new.merger.sets }
         ensures rows { self.new.rows ≡ self.old.rows }
         ensures first { self.new.first ≡ self.old.first }
         ensures places { self.new.places ≡ self.old.places }
     {
-        let node = united_rows(
-            &mut self.diagrams,
-            &mut self.sets,
-            self.rows.nodes.as_slice(),
-            set,
-        )?;
-        let _ = self.sets.len();
+        let node = united_rows(&mut self.merger, self.rows.nodes.as_slice(), set)?;
+        let _ = self.merger.sets().len();
         Ok(node)
     }
 
     /// The node that leads each letter to the place of the set to which `node` leads it. New places are numbered.
     fn numbered(&mut self, node: Node) -> Result<Node, AllocError>
-        requires { HasSets self.old.diagrams self.old.sets node }
-        ensures numbered { IfOk result (λ row. IsNumbered self.new.diagrams self.old.sets self.old.places self.new.places node row) }
-        ensures different { IfOk result (λ _. AllPairs (λ p q. p ≢ q) self.new.places) }
-        ensures grows { Grows self.old.diagrams self.new.diagrams }
-        ensures kept { SetsKept self.old.places self.new.places }
+        requires { HasSets self.old.merger.shapes self.old.merger.sets node }
+        ensures placed { IfOk result (λ row. IsPlaced self.old.merger.shapes self.old.merger.sets self.new.places.rows self.new.places.sets node row) }
+        ensures added { OnOk result (AddsSetsOf self.old.merger.shapes self.old.merger.sets self.old.places.sets self.new.places.sets node) }
+        ensures different { IfOk result (λ _. AllPairs (λ p q. p ≢ q) self.new.places.sets) }
+        ensures grows { Grows self.old.places.rows self.new.places.rows }
+        ensures kept { SetsKept self.old.places.sets self.new.places.sets }
         ensures rows { self.new.rows ≡ self.old.rows }
         ensures first { self.new.first ≡ self.old.first }
-        ensures sets { self.new.sets ≡ self.old.sets }
+        ensures merger { self.new.merger ≡ self.old.merger }
     {
-        let row = numbered_sets(
-            &mut self.diagrams,
-            &self.sets,
-            &mut self.numbers,
-            &mut self.places,
-            node,
-        )?;
-        let _ = self.places.len();
+        let row = self.places.row(&self.merger, node)?;
         Ok(row)
     }
 }
@@ -221,18 +144,18 @@ fn some_final(flags: &[bool], set: &[u32]) -> bool
 impl<'a> Walk for Subsets<'a> {
     ghost use Rattle.auto_project.specs.Subsets.{set_walker};
 
-    ghost walker = { λ s. set_walker s.rows.automaton.now s.rows.tracks.items s.diagrams s.sets s.first };
+    ghost walker = { λ s. set_walker s.rows.automaton.now s.rows.tracks.items s.merger.shapes s.merger.sets s.first };
 
-    ghost places = { λ s. s.places };
+    ghost places = { λ s. s.places.sets };
 
-    ghost shapes = { λ s. s.diagrams };
+    ghost shapes = { λ s. s.places.rows };
 
     fn tracks(&self) -> &[Var] {
         self.rows.tracks.as_slice()
     }
 
     fn count(&self) -> usize {
-        self.places.len()
+        self.places.sets.len()
     }
 
     fn first_row(&mut self) -> Result<Node, AllocError> {
@@ -241,20 +164,20 @@ impl<'a> Walk for Subsets<'a> {
     }
 
     fn next_row(&mut self, number: u32) -> Result<Node, AllocError> {
-        let set = copied_set(self.diagrams.alloc(), &self.places, number)?;
+        let set = copied_set(self.merger.diagrams().alloc(), &self.places.sets, number)?;
         let union = self.union_row(set.as_slice())?;
         let node = self.numbered(union)?;
         Ok(node)
     }
 
     fn is_final(&self, number: u32) -> bool {
-        match self.places.get(number) {
+        match self.places.sets.get(number) {
             Some(set) => some_final(self.rows.automaton.flags(), set),
             None => false,
         }
     }
 
     fn into_diagrams(self) -> Diagrams {
-        self.diagrams
+        self.places.into_rows()
     }
 }

@@ -14,6 +14,6 @@ map_leaves-requires-clause-leaves c = λ letter.
 pub returns-clause-joined : goal.returns-clause-joined
 returns-clause-joined c =
     let made = rw c.as_slice.ensures at c.in_ok-table.ensures.table in
-    IsJoined-made c.args.diagrams.now c.apply2.new.self c.map_leaves.new.self c.joined_sets.new.sets c.args.only c.apply2.new.pairs c.in_ok-table.table.items c.args.map c.args.row c.in_ok-both.both c.in_ok-node.node
+    IsJoined-made c.args.diagrams.now c.apply2.new.self c.map_leaves.new.self c.joined_sets.new.sets c.args.state c.apply2.new.pairs c.in_ok-table.table.items c.args.map c.args.row c.in_ok-both.both c.in_ok-node.node
     c.requires.map.known c.requires.row.known (Grows-trans _ _ _ c.in_ok-both.ensures.grows c.in_ok-node.ensures.grows) c.in_ok-both.ensures.map made c.in_ok-node.ensures.known
     (λ letter. c.in_ok-node.ensures.map letter ∙ ap (λ t. slice_index t (map_at c.apply2.new.self c.in_ok-both.both letter)) c.as_slice-2.ensures.value)

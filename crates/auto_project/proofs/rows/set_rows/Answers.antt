@@ -26,8 +26,9 @@ returns-then-tracks-all c =
     let same : length c.args.tracks.now ≡ length c.args.a.now.tracks = c.if-tracks-all.true ∙ ap length c.tracks-all.ensures.tracks in
     let states = subst (AreSingletons c.in_ok-sets.sets) c.states.ensures.states c.in_ok-sets.ensures in
     let wide = subst (λ t. HasWideRows c.in_ok-wide.wide.diagrams c.args.a.now t c.in_ok-wide.wide.first c.in_ok-wide.wide.rows.items) c.requires c.in_ok-wide.ensures.rows in
-    subst (λ t. HasSetRows c.in_ok-wide.wide.diagrams c.in_ok-sets.sets c.args.a.now t c.in_ok-wide.wide.first c.in_ok-wide.wide.rows.items) (sym c.requires)
-    (HasSetRows-wide c.args.a.now c.args.var c.tracks-all.ensures.valid _ _ _ _ states wide (sym (ap length c.requires) ∙ same))
+    rw (c.uniter.ensures.shapes, c.uniter.ensures.sets)
+    (subst (λ t. HasSetRows c.in_ok-wide.wide.diagrams c.in_ok-sets.sets c.args.a.now t c.in_ok-wide.wide.first c.in_ok-wide.wide.rows.items) (sym c.requires)
+    (HasSetRows-wide c.args.a.now c.args.var c.tracks-all.ensures.valid _ _ _ _ states wide (sym (ap length c.requires) ∙ same)))
 
 pub overflow_cast-tracks : goal.overflow_cast-tracks
 overflow_cast-tracks c =
@@ -61,7 +62,7 @@ returns c =
     let wide = subst (λ t. HasWideRows c.in_ok-wide.wide.diagrams c.args.a.now t c.in_ok-wide.wide.first c.in_ok-wide.wide.rows.items) c.requires c.in_ok-wide.ensures.rows in
     let made = c.in_ok-made.ensures in
     let size = ap length c.requires in
-    subst (λ t. HasSetRows c.in_ok-made.made.diagrams c.in_ok-made.made.sets c.args.a.now t c.in_ok-made.made.first c.in_ok-made.made.rows.items) (sym c.requires)
+    subst (λ t. HasSetRows c.in_ok-made.made.merger.shapes c.in_ok-made.made.merger.sets c.args.a.now t c.in_ok-made.made.first c.in_ok-made.made.rows.items) (sym c.requires)
     (HasSetRows-merged c.args.a.now c.args.var c.tracks-all.ensures.valid _ _ _ _ _ _ _ _ states wide made.grows made.kept
-    (subst (λ n. IsMerged c.in_ok-made.made.diagrams c.in_ok-made.made.sets n c.in_ok-wide.wide.first c.in_ok-made.made.first) size made.first)
-    (subst (λ n. EachAnswers (IsMerged c.in_ok-made.made.diagrams c.in_ok-made.made.sets n) c.in_ok-wide.wide.rows.items c.in_ok-made.made.rows.items) size made.rows))
+    (subst (λ n. IsMerged c.in_ok-made.made.merger.shapes c.in_ok-made.made.merger.sets n c.in_ok-wide.wide.first c.in_ok-made.made.first) size made.first)
+    (subst (λ n. EachAnswers (IsMerged c.in_ok-made.made.merger.shapes c.in_ok-made.made.merger.sets n) c.in_ok-wide.wide.rows.items c.in_ok-made.made.rows.items) size made.rows))

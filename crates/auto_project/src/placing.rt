@@ -1,0 +1,106 @@
+//! Sets that are numbered as places, and the rows that lead to them.
+ghost use Rattle.std.specs.Prelude.{◌≡◌, ◌≢◌, ◌<◌, ◌≤◌, [], ℕ, None, length, slice_get, Some, AllPairs, IfOk, OnOk};
+ghost use Rattle.letter_diagram.specs.Diagram.{Grows, map_at, top_track};
+ghost use Rattle.letter_diagram.specs.Sets.{SetsKept, set_at};
+ghost use Rattle.letter_diagram.specs.Merged.{HasSets};
+ghost use Rattle.letter_diagram.specs.NodeMemo.{answer_of};
+ghost use Rattle.auto_project.specs.Placed.{IsPlaced, AddsSetsOf, RemembersPlaced};
+
+use crate::row_memo::RowMemo;
+use crate::sets::number_of;
+use letter_diagram::{Diagrams, Merger, Node, Sets, Shape};
+use std::alloc::{AllocError, Global};
+
+/// The sets that are numbered as places, and nodes whose maps lead letters to places. Nodes of a merger are led to them, each once:
+/// what was led stays right while the merger and the places grow.
+#[derive(Drop)]
+pub struct Places {
+    pub sets: Sets,
+    pub rows: Diagrams,
+    pub placed: RowMemo,
+}
+
+impl Places {
+    pub fn new(alloc: Global) -> Self
+        ensures fresh { result.sets ≡ [] }
+        ensures none { (node : ℕ) → answer_of result.placed node ≡ None }
+    {
+        Places {
+            sets: Sets::new(alloc),
+            rows: Diagrams::new(alloc),
+            placed: RowMemo::new(alloc),
+        }
+    }
+
+    /// The diagrams that the rows are nodes of.
+    pub fn into_rows(self) -> Diagrams
+        ensures { result ≡ self.rows }
+    {
+        self.rows
+    }
+
+    /// The node that leads each letter to the place of the set of a number.
+    fn leaf(&mut self, sets: &Sets, number: u32) -> Result<Node, AllocError>
+        requires { number < length sets.now }
+        ensures known { IfOk result (λ row. row < length self.new.rows) }
+        ensures leads { IfOk result (λ row. (letter : ℕ) → slice_get self.new.sets (map_at self.new.rows row letter) ≡ Some (set_at sets.now number)) }
+        ensures top { IfOk result (λ row. top_track self.new.rows row ≡ 20) }
+        ensures added { OnOk result ((place : ℕ) → length self.old.sets ≤ place → place < length self.new.sets → slice_get self.new.sets place ≡ Some (set_at sets.now number)) }
+        ensures grows { Grows self.old.rows self.new.rows }
+        ensures kept { SetsKept self.old.sets self.new.sets }
+        ensures placed { self.new.placed ≡ self.old.placed }
+    {
+        let _ = sets.len();
+        match sets.get(number) {
+            Some(set) => {
+                let place = number_of(&mut self.sets, set)?;
+                let row = self.rows.leaf(place)?;
+                Ok(row)
+            }
+            None => Err(AllocError),
+        }
+    }
+
+    /// `row`, where there is room for what is remembered.
+    fn led(&mut self, merger: &Merger, node: Node) -> Result<Node, AllocError>
+        requires node { HasSets merger.now.shapes merger.now.sets node }
+        requires remembered { RemembersPlaced merger.now.shapes merger.now.sets self.old.rows self.old.sets self.old.placed }
+        ensures placed { IfOk result (λ row. IsPlaced merger.now.shapes merger.now.sets self.new.rows self.new.sets node row) }
+        ensures added { OnOk result (AddsSetsOf merger.now.shapes merger.now.sets self.old.sets self.new.sets node) }
+        ensures remembered { RemembersPlaced merger.now.shapes merger.now.sets self.new.rows self.new.sets self.new.placed }
+        ensures grows { Grows self.old.rows self.new.rows }
+        ensures kept { SetsKept self.old.sets self.new.sets }
+    {
+        if let Some(known) = self.placed.get(node) {
+            return Ok(known);
+        }
+        let row = match merger.diagrams().shape(node) {
+            Shape::Leaf(number) => self.leaf(merger.sets(), number)?,
+            Shape::Test { track, low, high } => {
+                let low = self.led(merger, low)?;
+                let high = self.led(merger, high)?;
+                self.rows.node(track, low, high)?
+            }
+        };
+        self.placed.insert(node, row);
+        Ok(row)
+    }
+
+    /// The node that leads each letter to the place of the set to which `node` leads it. New places are numbered. Nodes that were led
+    /// before are not visited again.
+    pub fn row(&mut self, merger: &Merger, node: Node) -> Result<Node, AllocError>
+        requires node { HasSets merger.now.shapes merger.now.sets node }
+        requires remembered { RemembersPlaced merger.now.shapes merger.now.sets self.old.rows self.old.sets self.old.placed }
+        ensures placed { IfOk result (λ row. IsPlaced merger.now.shapes merger.now.sets self.new.rows self.new.sets node row) }
+        ensures added { OnOk result (AddsSetsOf merger.now.shapes merger.now.sets self.old.sets self.new.sets node) }
+        ensures different { IfOk result (λ _. AllPairs (λ p q. p ≢ q) self.new.sets) }
+        ensures remembered { RemembersPlaced merger.now.shapes merger.now.sets self.new.rows self.new.sets self.new.placed }
+        ensures grows { Grows self.old.rows self.new.rows }
+        ensures kept { SetsKept self.old.sets self.new.sets }
+    {
+        self.placed.make_room(merger.diagrams().len())?;
+        let row = self.led(merger, node)?;
+        let _ = self.sets.len();
+        Ok(row)
+    }
+}
