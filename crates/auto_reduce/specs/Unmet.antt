@@ -1,5 +1,5 @@
 -- The states to which a row leads and that were not met before it.
-use Rattle.std.specs.Prelude.{◌≡◌, ◌≢◌, ◌⊎◌, ℕ, ◌<◌, ◌≤◌, Bool, true, false, List, length, slice_index, slice_index_or, Contains, Some, nat_eq}
+use Rattle.std.specs.Prelude.{◌≡◌, ◌⊎◌, ℕ, ◌<◌, ◌≤◌, Bool, true, false, List, length, slice_index, slice_index_or, Contains, Some, nat_eq}
 use Rattle.std.specs.HashMap.{HashMap, get}
 use Rattle.letter_diagram.specs.declared.diagrams.Shape.{Shape}
 use Rattle.letter_diagram.specs.Diagram.{map_at, top_track}
@@ -34,19 +34,6 @@ pub record RemembersPruned {S : Type 0} (from shapes : List Shape) (canon met : 
 -- the canonical states of the values of the nodes that are done are in a list
 pub record AreDone (shapes : List Shape) (canon met : List ℕ) (done : List Bool) : Type 0 where
   pub are_met : (node letter : ℕ) → slice_index_or done node false ≡ true → Contains met (entry_at canon shapes node letter)
-
--- one more node is done, if the list has a place for it
-pub record Notes (old new : List Bool) (node : ℕ) : Type 0 where
-  pub size : length new ≡ length old
-  pub noted : node < length old → slice_index_or new node false ≡ true
-  pub kept : (other : ℕ) → slice_index_or old other false ≡ true → slice_index_or new other false ≡ true
-  pub only : (other : ℕ) → slice_index_or new other false ≡ true → (slice_index_or old other false ≡ true) ⊎ (other ≡ node)
-
--- a node is no longer done
-pub record Forgets (old new : List Bool) (node : ℕ) : Type 0 where
-  pub size : length new ≡ length old
-  pub others : (other : ℕ) → other ≢ node → slice_index_or new other false ≡ slice_index_or old other false
-  pub only : (other : ℕ) → slice_index_or new other false ≡ true → (slice_index_or old other false ≡ true) × (other ≢ node)
 
 -- a value is in a list or was found beside it; where several were found, any may be
 abbrev pub IsFound : List ℕ → Unmet → ℕ → Type 0

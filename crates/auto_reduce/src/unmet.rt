@@ -1,8 +1,8 @@
 //! The canonical states to which a row leads and that were not met before it.
-ghost use Rattle.std.specs.Prelude.{[], ◌∷◌, ◌++◌, ◌≡◌, ◌≢◌, ◌<◌, ◌⊎◌, ℕ, true, false, length, slice_index_or, IfOk, OnOk, Contains, AllPairs};
+ghost use Rattle.std.specs.Prelude.{[], ◌∷◌, ◌++◌, ◌≡◌, ◌≢◌, ◌<◌, ◌⊎◌, ℕ, true, false, length, slice_index_or, slice_set, IfOk, OnOk, Contains, AllPairs};
 ghost use Rattle.letter_diagram.specs.Diagram.{map_at, top_track, Grows};
 ghost use Rattle.auto_reduce.specs.Leading.{entry_at};
-ghost use Rattle.auto_reduce.specs.Unmet.{AddsRow, IsMetLeaf, IsPruned, RemembersPruned, AreDone, Notes, Forgets, AreDoneWith, AreDoneBut, Finds};
+ghost use Rattle.auto_reduce.specs.Unmet.{AddsRow, IsMetLeaf, IsPruned, RemembersPruned, AreDone, AreDoneWith, AreDoneBut, Finds};
 
 use crate::leading::lead_few;
 use crate::order::Order;
@@ -44,7 +44,7 @@ impl Done {
 
     /// A node past those that this was made for is not noted.
     fn add(&mut self, node: Node)
-        ensures { Notes self.old self.new node }
+        ensures { self.new ≡ slice_set self.old node true }
     {
         if let Some(place) = self.nodes.get_mut(node.number()) {
             *place = true;
@@ -52,7 +52,7 @@ impl Done {
     }
 
     fn remove(&mut self, node: Node)
-        ensures { Forgets self.old self.new node }
+        ensures { self.new ≡ slice_set self.old node false }
     {
         if let Some(place) = self.nodes.get_mut(node.number()) {
             *place = false;
