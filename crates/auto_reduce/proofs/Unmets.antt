@@ -1,14 +1,14 @@
 -- Rows in which states that were met stand for one another, and what they add to an order.
-use Rattle.std.proofs.Common.{◌≡◌, ◌≢◌, ℕ, ◌<◌, ◌≤◌, Bool, true, false, nat_eq, List, [], ◌∷◌, ◌++◌, length, get_or, set, Some, Contains, AllPairs, arith, refl, true≢false, sym, ap, ◌∙◌, subst, inl, inr, ◌⊎◌, if◌then◌else◌}
+use Rattle.std.proofs.Common.{◌≡◌, ◌≢◌, ℕ, ◌<◌, ◌≤◌, Bool, true, false, nat_eq, List, [], ◌∷◌, ◌++◌, length, get_or, set, Option, Some, Contains, AllPairs, arith, refl, true≢false, sym, ap, ◌∙◌, subst, inl, inr, ◌⊎◌, if◌then◌else◌}
 use Rattle.std.specs.Int.{bit_at}
 use Rattle.std.proofs.lemmas.Bool.{cases_eq}
 use Rattle.std.proofs.lemmas.List.{get_or-set_other}
-use Rattle.std.specs.HashMap.{HashMap, Updates as MapUpdates}
 use Rattle.letter_diagram.specs.declared.diagrams.Shape.{Shape}
 use Rattle.letter_diagram.specs.declared.diagrams.Shape.TheVariants.{Leaf, Test}
 use Rattle.letter_diagram.specs.Diagram.{map_at, top_track, chosen, IsAt, Grows, HasChildren}
 use Rattle.letter_diagram.specs.Leaves.{AreLeaves}
-use Rattle.letter_diagram.proofs.Memos.{answers-insert}
+use Rattle.letter_diagram.specs.NodeMemo.{Remembers}
+use Rattle.letter_diagram.proofs.Memos.{node_answers-insert}
 use Rattle.auto_reduce.specs.Quotient.{AddsAll}
 use Rattle.auto_reduce.specs.Leading.{entry_at}
 use Rattle.auto_reduce.specs.Unmet.{AddsRow, IsMetLeaf, IsPruned, RemembersPruned, AreDone, IsFound, Finds, AreDoneWith, AreDoneBut}
@@ -45,11 +45,11 @@ IsPruned-grows from old new canon met a r grows is =
       top = omega arith;
     }
 
-pub RemembersPruned-grows : {S : Type 0} (from old new : List Shape) (canon met : List ℕ) (memo : HashMap ℕ ℕ S) → Grows old new → RemembersPruned from old canon met memo → RemembersPruned from new canon met memo
+pub RemembersPruned-grows : (from old new : List Shape) (canon met : List ℕ) (memo : List (Option ℕ)) → Grows old new → RemembersPruned from old canon met memo → RemembersPruned from new canon met memo
 RemembersPruned-grows from old new canon met memo grows all = record { pruned = λ a r at. IsPruned-grows from old new canon met a r grows (all.pruned a r at) }
 
-pub RemembersPruned-insert : {S : Type 0} (from shapes : List Shape) (canon met : List ℕ) (memo new : HashMap ℕ ℕ S) (a r : ℕ) → RemembersPruned from shapes canon met memo → MapUpdates nat_eq memo new a (Some r) → IsPruned from shapes canon met a r → RemembersPruned from shapes canon met new
-RemembersPruned-insert from shapes canon met memo new a r all updates is = record { pruned = answers-insert (IsPruned from shapes canon met) memo new a r all.pruned updates is }
+pub RemembersPruned-insert : (from shapes : List Shape) (canon met : List ℕ) (memo new : List (Option ℕ)) (a r : ℕ) → RemembersPruned from shapes canon met memo → Remembers memo new a r → IsPruned from shapes canon met a r → RemembersPruned from shapes canon met new
+RemembersPruned-insert from shapes canon met memo new a r all remembers is = record { pruned = node_answers-insert (IsPruned from shapes canon met) memo new a r all.pruned remembers is }
 
 pub IsPruned-leaf : (from shapes : List Shape) (canon met : List ℕ) (a r state value : ℕ) → IsAt from a (Leaf state) → value ≡ get_or canon state 0 → r < length shapes → top_track shapes r ≡ 20 → ((letter : ℕ) → StandsFor met (map_at shapes r letter) value) → IsPruned from shapes canon met a r
 IsPruned-leaf from shapes canon met a r state value at is known top map = record {

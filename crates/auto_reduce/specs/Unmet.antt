@@ -1,8 +1,8 @@
 -- The states to which a row leads and that were not met before it.
-use Rattle.std.specs.Prelude.{◌≡◌, ◌⊎◌, ℕ, ◌<◌, ◌≤◌, Bool, true, false, List, length, slice_index, slice_index_or, Contains, Some, nat_eq}
-use Rattle.std.specs.HashMap.{HashMap, get}
+use Rattle.std.specs.Prelude.{◌≡◌, ◌⊎◌, ℕ, ◌<◌, ◌≤◌, Bool, true, false, List, length, slice_index, slice_index_or, Contains, Option, Some}
 use Rattle.letter_diagram.specs.declared.diagrams.Shape.{Shape}
 use Rattle.letter_diagram.specs.Diagram.{map_at, top_track}
+use Rattle.letter_diagram.specs.NodeMemo.{answer_of}
 use Rattle.auto_reduce.specs.Leading.{entry_at}
 use Rattle.auto_reduce.specs.declared.unmet.Unmet.{Unmet}
 use Rattle.auto_reduce.specs.declared.unmet.Unmet.TheVariants.{Nothing, One, Several}
@@ -28,8 +28,8 @@ pub record IsPruned (from shapes : List Shape) (canon met : List ℕ) (a r : ℕ
   pub map : (letter : ℕ) → (map_at shapes r letter ≡ entry_at canon from a letter) ⊎ (Contains met (map_at shapes r letter) × Contains met (entry_at canon from a letter))
   pub top : top_track from a ≤ top_track shapes r
 
-pub record RemembersPruned {S : Type 0} (from shapes : List Shape) (canon met : List ℕ) (memo : HashMap ℕ ℕ S) : Type 0 where
-  pub pruned : (a r : ℕ) → get nat_eq memo a ≡ Some r → IsPruned from shapes canon met a r
+pub record RemembersPruned (from shapes : List Shape) (canon met : List ℕ) (memo : List (Option ℕ)) : Type 0 where
+  pub pruned : (a r : ℕ) → answer_of memo a ≡ Some r → IsPruned from shapes canon met a r
 
 -- the canonical states of the values of the nodes that are done are in a list
 pub record AreDone (shapes : List Shape) (canon met : List ℕ) (done : List Bool) : Type 0 where

@@ -17,7 +17,12 @@ use letter_diagram::{Diagrams, Node};
 use std::alloc::{AllocError, Global};
 
 /// The canonical states that words lead to, in the order in which a breadth-first walk in ascending letters meets them.
-fn breadth_first(alloc: Global, a: &Auto, canon: &[u32]) -> Result<Order, AllocError>
+fn breadth_first(
+    alloc: Global,
+    a: &Auto,
+    canon: &[u32],
+    memo: &mut RoundMemo,
+) -> Result<Order, AllocError>
     requires { IsCanonical a.now canon.now }
     ensures order { IfOk result (λ order. IsOrder a.now canon.now order) }
     ensures numbered { IfOk result (λ order. IsNumberedTo a.now canon.now order (length order + 1)) }
@@ -36,6 +41,7 @@ fn breadth_first(alloc: Global, a: &Auto, canon: &[u32]) -> Result<Order, AllocE
             &mut order,
             &mut done,
             &mut passed,
+            memo,
         )?;
         place += 1;
     }
@@ -43,7 +49,13 @@ fn breadth_first(alloc: Global, a: &Auto, canon: &[u32]) -> Result<Order, AllocE
 }
 
 /// The automaton whose states are the places in an order of canonical states.
-fn over_places(alloc: Global, a: &Auto, canon: &[u32], order: &[u32]) -> Result<Auto, AllocError>
+fn over_places(
+    alloc: Global,
+    a: &Auto,
+    canon: &[u32],
+    order: &[u32],
+    memo: &mut RoundMemo,
+) -> Result<Auto, AllocError>
     requires canonical { IsCanonical a.now canon.now }
     requires order { IsOrder a.now canon.now order.now }
     ensures { IfOk result (IsQuotientBy a.now canon.now order.now) }
@@ -56,13 +68,12 @@ fn over_places(alloc: Global, a: &Auto, canon: &[u32], order: &[u32]) -> Result<
     let room = nodes_left(from.len(), a.states(), order.len());
     let mut diagrams = Diagrams::with_capacity(alloc, room)?;
     let nodes = first_and_picked(alloc, a, order)?;
-    let mut memo = RoundMemo::new(alloc, from.len())?;
     let mut rows = lead_nodes(
         from,
         nodes.as_slice(),
         table.as_slice(),
         &mut diagrams,
-        &mut memo,
+        memo,
     )?;
     let first = rows.remove(0);
     Ok(Auto::from_diagrams(tracks, diagrams, first, rows, accept))
@@ -148,7 +159,8 @@ fn quotient(alloc: Global, a: &Auto) -> Result<Auto, AllocError>
     ensures { IfOk result (IsQuotient a.now) }
 {
     let canon = canonical(alloc, a)?;
-    let order = breadth_first(alloc, a, canon.as_slice())?;
-    let m = over_places(alloc, a, canon.as_slice(), order.as_slice())?;
+    let mut memo = RoundMemo::new(alloc, a.diagrams().len())?;
+    let order = breadth_first(alloc, a, canon.as_slice(), &mut memo)?;
+    let m = over_places(alloc, a, canon.as_slice(), order.as_slice(), &mut memo)?;
     Ok(m)
 }
