@@ -8,7 +8,7 @@ use Rattle.std.proofs.lemmas.Bool.Decides.{Decides-eqb}
 use Rattle.std.proofs.lemmas.Map.Made.{is_member-Decides}
 use Rattle.letter_diagram.specs.Numbering.{Numbers, PairsKept}
 use Rattle.auto_reduce.specs.Quotient.{AreMembers}
-use Rattle.auto_reduce.specs.Partition.{KeepsOthers, IsSplit, IsAttained, IsPartition, IsListing, AreListed, AreSettled, AreCandidates, IsMove, AreMoves, IsPut, chosen_node}
+use Rattle.auto_reduce.specs.Partition.{IsSplit, IsAttained, IsPartition, IsListing, AreListed, AreSettled, AreCandidates, IsMove, AreMoves, IsPut, chosen_node}
 use Rattle.auto_reduce.proofs.Counting.{decided, length_le-below}
 
 -- the last of a list
@@ -178,12 +178,12 @@ module _ (size : ℕ) (current nodes own : List ℕ) (count : ℕ) (signatures :
   turned : (j : ℕ) → j < length current → Contains states j → IsMove current own nodes count signatures j (get_or classes j 0)
   turned j within there =
       let w = put.put j within there in
-      subst (λ n. IsMove current own nodes count signatures j n) (sym w.value_is) (subst (λ s. IsMove current own nodes count signatures s (get_or numbers w.turn 0)) w.place_is (m.each w.turn w.within))
+      subst (λ n. IsMove current own nodes count signatures j n) (sym (w.value_is 0)) (subst (λ s. IsMove current own nodes count signatures s (get_or numbers w.turn 0)) w.place_is (m.each w.turn w.within))
 
   stays : (j : ℕ) → j < length current → IsOwn j → get_or classes j 0 ≡ get_or current j 0
   stays j within is = elim (decided _ (is_member-Decides Decides-eqb states j)) [
     | inl there ↦ absurd ((turned j within there).other is)
-    | inr absent ↦ put.kept j within absent
+    | inr absent ↦ put.kept j within absent 0
   ]
 
   moves : (j : ℕ) → j < length current → (IsOwn j → ⊥) → IsMove current own nodes count signatures j (get_or classes j 0)
@@ -278,9 +278,6 @@ module _ (size : ℕ) (current nodes own : List ℕ) (count : ℕ) (signatures :
     same = same_part;
   }
 
-  pub KeepsOthers-moved : KeepsOthers current classes states
-  KeepsOthers-moved = record { kept = put.kept }
-
   pub AreSettled-moved : AreSettled classes (own ++ firsts) nodes []
   AreSettled-moved = record {
     at = λ state within _ _.
@@ -317,9 +314,9 @@ module _ (size : ℕ) (current nodes own : List ℕ) (count : ℕ) (signatures :
               elim (decided _ (is_member-Decides Decides-eqb states state)) [
                 | inl there ↦
                     let w = put.put state within there in
-                    subst (λ class. Contains (get_or more class []) state) (sym w.value_is) (subst (λ s. Contains (get_or more (get_or numbers w.turn 0) []) s) w.place_is (added.added w.turn w.within))
+                    subst (λ class. Contains (get_or more class []) state) (sym (w.value_is 0)) (subst (λ s. Contains (get_or more (get_or numbers w.turn 0) []) s) w.place_is (added.added w.turn w.within))
                 | inr absent ↦
-                    let old = put.kept state within absent in
+                    let old = put.kept state within absent 0 in
                     let class : get_or current state 0 < length lists = let k = known state within in omega (arith, k, lists_size) in
                     let listed = subst (λ list. Contains list state) (sym (get_or_append_left lists (replicate (length firsts) []) [] (get_or current state 0) class)) (l.listed state within) in
                     subst (λ c. Contains (get_or more c []) state) (sym old) (added.kept (get_or current state 0) state listed)

@@ -54,30 +54,30 @@ sorted_all found stale classes count representatives lists l within sorted state
 
 -- ---- values at their places
 -- a place has its value, or what it had if its turn has not come
-abbrev pub IsPutTo : List ℕ → List ℕ → List ℕ → List ℕ → ℕ → ℕ → Type 0
-IsPutTo old places values new turns place =
-    ((turn : ℕ) × (turn < turns) × (get_or places turn 0 ≡ place) × (get_or new place 0 ≡ get_or values turn 0))
-    ⊎ (((turn : ℕ) → turn < turns → get_or places turn 0 ≢ place) × (get_or new place 0 ≡ get_or old place 0))
+abbrev pub IsPutTo : {A : Type 0} → List A → List ℕ → List A → List A → ℕ → ℕ → Type 0
+IsPutTo {A} old places values new turns place =
+    ((turn : ℕ) × (turn < turns) × (get_or places turn 0 ≡ place) × ((d : A) → get_or new place d ≡ get_or values turn d))
+    ⊎ (((turn : ℕ) → turn < turns → get_or places turn 0 ≢ place) × ((d : A) → get_or new place d ≡ get_or old place d))
 
-pub IsPutTo-set : (old places values nodes : List ℕ) (turns at value place : ℕ) → at < length nodes → at ≡ get_or places turns 0 → value ≡ get_or values turns 0
-    → IsPutTo old places values nodes turns place → IsPutTo old places values (set nodes at value) (turns + 1) place
-IsPutTo-set old places values nodes turns at value place within at_is value_is before = elim (cases_eq place at) [
-  | inl e ↦ inl (turns, omega arith, sym at_is ∙ sym e, ap (λ k. get_or (set nodes at value) k 0) e ∙ get_or-set_same nodes at value 0 within ∙ value_is)
+pub IsPutTo-set : {A : Type 0} (old : List A) (places : List ℕ) (values list : List A) (turns at : ℕ) (value : A) (place : ℕ) → at < length list → at ≡ get_or places turns 0 → ((d : A) → value ≡ get_or values turns d)
+    → IsPutTo old places values list turns place → IsPutTo old places values (set list at value) (turns + 1) place
+IsPutTo-set old places values list turns at value place within at_is value_is before = elim (cases_eq place at) [
+  | inl e ↦ inl (turns, omega arith, sym at_is ∙ sym e, λ d. ap (λ k. get_or (set list at value) k d) e ∙ get_or-set_same list at value d within ∙ value_is d)
   | inr other ↦
-      let same = get_or-set_other nodes at place value 0 other in
+      let same = get_or-set_other list at place value in
       elim before [
-        | inl h ↦ inl (h.0, (let less = h.1 in omega (arith, less)), h.2, same ∙ h.3)
+        | inl h ↦ inl (h.0, (let less = h.1 in omega (arith, less)), h.2, λ d. same d other ∙ h.3 d)
         | inr h ↦ inr (
           λ turn less is. elim (cases_eq turn turns) [
             | inl e ↦ other (sym is ∙ ap (λ t. get_or places t 0) e ∙ sym at_is)
             | inr earlier ↦ h.0 turn (omega (arith, less, earlier)) is
           ],
-          same ∙ h.1,
+          λ d. same d other ∙ h.1 d,
         )
       ]
 ]
 
-pub IsPut-from : (old places values new : List ℕ) → length new ≡ length old → ((place : ℕ) → place < length old → IsPutTo old places values new (length places) place) → IsPut old places values new
+pub IsPut-from : {A : Type 0} (old : List A) (places : List ℕ) (values new : List A) → length new ≡ length old → ((place : ℕ) → place < length old → IsPutTo old places values new (length places) place) → IsPut old places values new
 IsPut-from old places values new size to = record {
   size = size;
   put = λ place within there. elim (to place within) [
@@ -105,8 +105,8 @@ AreLedAgain-from a shapes rows picked nodes states classes old new r size p m pu
       let inside : h.turn < length picked = let w = h.within in let s = p.size in omega (arith, w, s) in
       let row : get_or picked h.turn 0 ≡ get_or rows state 0 = p.at h.turn h.within ∙ ap (λ s. get_or rows s 0) h.place_is in
       let mapped = subst (λ node. IsLedFrom a.shapes shapes classes node (get_or nodes h.turn 0)) row (m.each h.turn inside) in
-      subst (λ node. IsLed a classes shapes node (next_state a state)) (sym h.value_is) (IsLed-from a shapes rows classes state (get_or nodes h.turn 0) r known mapped);
-  kept = λ state known absent. put.kept state (omega (arith, known, size)) absent;
+      subst (λ node. IsLed a classes shapes node (next_state a state)) (sym (h.value_is 0)) (IsLed-from a shapes rows classes state (get_or nodes h.turn 0) r known mapped);
+  kept = λ state known absent. put.kept state (omega (arith, known, size)) absent 0;
 }
 
 -- nodes that lead to classes, for the first time

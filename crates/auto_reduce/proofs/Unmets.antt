@@ -1,15 +1,17 @@
 -- Rows in which states that were met stand for one another, and what they add to an order.
-use Rattle.std.proofs.Common.{◌≡◌, ◌≢◌, ℕ, ◌<◌, ◌≤◌, Bool, true, false, nat_eq, List, [], ◌∷◌, ◌++◌, length, get_or, Some, Contains, AllPairs, arith, refl, true≢false, sym, ap, ◌∙◌, subst, inl, inr, ◌⊎◌, if◌then◌else◌}
+use Rattle.std.proofs.Common.{◌≡◌, ◌≢◌, ℕ, ◌<◌, ◌≤◌, Bool, true, false, nat_eq, List, [], ◌∷◌, ◌++◌, length, get_or, set, Option, Some, Contains, AllPairs, arith, refl, true≢false, sym, ap, ◌∙◌, subst, inl, inr, ◌⊎◌, if◌then◌else◌}
 use Rattle.std.specs.Int.{bit_at}
-use Rattle.std.specs.HashMap.{HashMap, Updates as MapUpdates}
+use Rattle.std.proofs.lemmas.Bool.{cases_eq}
+use Rattle.std.proofs.lemmas.List.{get_or-set_other}
 use Rattle.letter_diagram.specs.declared.diagrams.Shape.{Shape}
 use Rattle.letter_diagram.specs.declared.diagrams.Shape.TheVariants.{Leaf, Test}
 use Rattle.letter_diagram.specs.Diagram.{map_at, top_track, chosen, IsAt, Grows, HasChildren}
 use Rattle.letter_diagram.specs.Leaves.{AreLeaves}
-use Rattle.letter_diagram.proofs.Memos.{answers-insert}
+use Rattle.letter_diagram.specs.NodeMemo.{Remembers}
+use Rattle.letter_diagram.proofs.Memos.{node_answers-insert}
 use Rattle.auto_reduce.specs.Quotient.{AddsAll}
 use Rattle.auto_reduce.specs.Leading.{entry_at}
-use Rattle.auto_reduce.specs.Unmet.{AddsRow, IsMetLeaf, IsPruned, RemembersPruned, AreDone, Notes, IsFound, Finds, AreDoneWith, AreDoneBut}
+use Rattle.auto_reduce.specs.Unmet.{AddsRow, IsMetLeaf, IsPruned, RemembersPruned, AreDone, IsFound, Finds, AreDoneWith, AreDoneBut}
 use Rattle.auto_reduce.specs.declared.unmet.Unmet.{Unmet}
 use Rattle.auto_reduce.specs.declared.unmet.Unmet.TheVariants.{Nothing, One, Several}
 use Rattle.auto_reduce.proofs.Leadings.{entry-either}
@@ -43,11 +45,11 @@ IsPruned-grows from old new canon met a r grows is =
       top = omega arith;
     }
 
-pub RemembersPruned-grows : {S : Type 0} (from old new : List Shape) (canon met : List ℕ) (memo : HashMap ℕ ℕ S) → Grows old new → RemembersPruned from old canon met memo → RemembersPruned from new canon met memo
+pub RemembersPruned-grows : (from old new : List Shape) (canon met : List ℕ) (memo : List (Option ℕ)) → Grows old new → RemembersPruned from old canon met memo → RemembersPruned from new canon met memo
 RemembersPruned-grows from old new canon met memo grows all = record { pruned = λ a r at. IsPruned-grows from old new canon met a r grows (all.pruned a r at) }
 
-pub RemembersPruned-insert : {S : Type 0} (from shapes : List Shape) (canon met : List ℕ) (memo new : HashMap ℕ ℕ S) (a r : ℕ) → RemembersPruned from shapes canon met memo → MapUpdates nat_eq memo new a (Some r) → IsPruned from shapes canon met a r → RemembersPruned from shapes canon met new
-RemembersPruned-insert from shapes canon met memo new a r all updates is = record { pruned = answers-insert (IsPruned from shapes canon met) memo new a r all.pruned updates is }
+pub RemembersPruned-insert : (from shapes : List Shape) (canon met : List ℕ) (memo new : List (Option ℕ)) (a r : ℕ) → RemembersPruned from shapes canon met memo → Remembers memo new a r → IsPruned from shapes canon met a r → RemembersPruned from shapes canon met new
+RemembersPruned-insert from shapes canon met memo new a r all remembers is = record { pruned = node_answers-insert (IsPruned from shapes canon met) memo new a r all.pruned remembers is }
 
 pub IsPruned-leaf : (from shapes : List Shape) (canon met : List ℕ) (a r state value : ℕ) → IsAt from a (Leaf state) → value ≡ get_or canon state 0 → r < length shapes → top_track shapes r ≡ 20 → ((letter : ℕ) → StandsFor met (map_at shapes r letter) value) → IsPruned from shapes canon met a r
 IsPruned-leaf from shapes canon met a r state value at is known top map = record {
@@ -72,10 +74,17 @@ IsPruned-test from mid shapes canon met a r track low high low' high' at l h kno
   top = subst (λ t. t ≤ top_track shapes r) (sym at.top) top;
 }
 
-pub AreDone-note : (from shapes : List Shape) (canon met : List ℕ) (done new : List Bool) (node r : ℕ) → AreDone from canon met done → Notes done new node
+-- where one more node is noted as done, any other was before
+done_before : (done new : List Bool) (node other : ℕ) → new ≡ set done node true → get_or new other false ≡ true → (get_or done other false ≡ true) ⊎ (other ≡ node)
+done_before done new node other noted there = elim (cases_eq other node) [
+  | inl e ↦ inr e
+  | inr apart ↦ inl (sym (ap (λ l. get_or l other false) noted ∙ get_or-set_other done node other true false apart) ∙ there)
+]
+
+pub AreDone-note : (from shapes : List Shape) (canon met : List ℕ) (done new : List Bool) (node r : ℕ) → AreDone from canon met done → new ≡ set done node true
     → IsPruned from shapes canon met node r → IsMetLeaf shapes met r → AreDone from canon met new
-AreDone-note from shapes canon met done new node r all notes is leaf = record {
-  are_met = λ other letter there. elim (notes.only other there) [
+AreDone-note from shapes canon met done new node r all noted is leaf = record {
+  are_met = λ other letter there. elim (done_before done new node other noted there) [
     | inl before ↦ all.are_met other letter before
     | inr e ↦ subst (λ n. Contains met (entry_at canon from n letter)) (sym e) (here letter)
   ];
@@ -182,17 +191,17 @@ Finds-test from canon met before mid after node track low high at children l h =
 pub AreDoneWith-kept : (from : List Shape) (canon met : List ℕ) (before after : Unmet) (row : ℕ → ℕ) (done : List Bool) → Finds met before row after → AreDoneWith from canon met before done → AreDoneWith from canon met after done
 AreDoneWith-kept from canon met before after row done f all = record { are_found = λ node letter there. f.kept (entry_at canon from node letter) (all.are_found node letter there) }
 
-pub AreDoneWith-note : (from : List Shape) (canon met : List ℕ) (before after : Unmet) (done new : List Bool) (node : ℕ) → AreDoneWith from canon met after done → Notes done new node → Finds met before (entry_at canon from node) after → AreDoneWith from canon met after new
-AreDoneWith-note from canon met before after done new node all notes f = record {
-  are_found = λ other letter there. elim (notes.only other there) [
+pub AreDoneWith-note : (from : List Shape) (canon met : List ℕ) (before after : Unmet) (done new : List Bool) (node : ℕ) → AreDoneWith from canon met after done → new ≡ set done node true → Finds met before (entry_at canon from node) after → AreDoneWith from canon met after new
+AreDoneWith-note from canon met before after done new node all noted f = record {
+  are_found = λ other letter there. elim (done_before done new node other noted there) [
     | inl was ↦ all.are_found other letter was
     | inr e ↦ subst (λ n. IsFound met after (entry_at canon from n letter)) (sym e) (f.leads letter)
   ];
 }
 
-pub AreDoneBut-note : (from : List Shape) (canon met nodes : List ℕ) (done new : List Bool) (node : ℕ) → AreDoneBut from canon met nodes done → Notes done new node → AreDoneBut from canon met (nodes ++ node ∷ []) new
-AreDoneBut-note from canon met nodes done new node all notes = record {
-  are_met = λ other there. elim (notes.only other there) [
+pub AreDoneBut-note : (from : List Shape) (canon met nodes : List ℕ) (done new : List Bool) (node : ℕ) → AreDoneBut from canon met nodes done → new ≡ set done node true → AreDoneBut from canon met (nodes ++ node ∷ []) new
+AreDoneBut-note from canon met nodes done new node all noted = record {
+  are_met = λ other there. elim (done_before done new node other noted there) [
     | inl was ↦ elim (all.are_met other was) [
       | inl passed ↦ inl (Contains-append_left nodes (node ∷ []) other passed)
       | inr met_all ↦ inr met_all

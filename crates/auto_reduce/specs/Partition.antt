@@ -119,17 +119,17 @@ pub record AreStale (a : Automaton) (classes moved stale : List ℕ) : Type 0 wh
   pub rest : (state letter : ℕ) → state < length a.accept → IsShared classes state → letter < width a → Contains moved (next_state a state letter) → Contains stale state
 
 -- a value stands at a place for which it is meant
-pub record WasPut (places values new : List ℕ) (place : ℕ) : Type 0 where
+pub record WasPut {A : Type 0} (places : List ℕ) (values new : List A) (place : ℕ) : Type 0 where
   pub turn : ℕ
   pub within : turn < length places
   pub place_is : slice_index places turn ≡ place
-  pub value_is : slice_index new place ≡ slice_index values turn
+  pub value_is : (default : A) → slice_index_or new place default ≡ slice_index_or values turn default
 
 -- values at their places, and elsewhere what was there
-pub record IsPut (old places values new : List ℕ) : Type 0 where
+pub record IsPut {A : Type 0} (old : List A) (places : List ℕ) (values new : List A) : Type 0 where
   pub size : length new ≡ length old
   pub put : (place : ℕ) → place < length old → Contains places place → WasPut places values new place
-  pub kept : (place : ℕ) → place < length old → ¬ Contains places place → slice_index new place ≡ slice_index old place
+  pub kept : (place : ℕ) → place < length old → ¬ Contains places place → (default : A) → slice_index_or new place default ≡ slice_index_or old place default
 
 -- the nodes of some states lead to classes, the others are as they were
 pub record AreLedAgain (a : Automaton) (shapes : List Shape) (states classes old new : List ℕ) : Type 0 where

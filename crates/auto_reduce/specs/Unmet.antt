@@ -1,8 +1,8 @@
 -- The states to which a row leads and that were not met before it.
-use Rattle.std.specs.Prelude.{◌≡◌, ◌≢◌, ◌⊎◌, ℕ, ◌<◌, ◌≤◌, Bool, true, false, List, length, slice_index, slice_index_or, Contains, Some, nat_eq}
-use Rattle.std.specs.HashMap.{HashMap, get}
+use Rattle.std.specs.Prelude.{◌≡◌, ◌⊎◌, ℕ, ◌<◌, ◌≤◌, Bool, true, false, List, length, slice_index, slice_index_or, Contains, Option, Some}
 use Rattle.letter_diagram.specs.declared.diagrams.Shape.{Shape}
 use Rattle.letter_diagram.specs.Diagram.{map_at, top_track}
+use Rattle.letter_diagram.specs.NodeMemo.{answer_of}
 use Rattle.auto_reduce.specs.Leading.{entry_at}
 use Rattle.auto_reduce.specs.declared.unmet.Unmet.{Unmet}
 use Rattle.auto_reduce.specs.declared.unmet.Unmet.TheVariants.{Nothing, One, Several}
@@ -28,25 +28,12 @@ pub record IsPruned (from shapes : List Shape) (canon met : List ℕ) (a r : ℕ
   pub map : (letter : ℕ) → (map_at shapes r letter ≡ entry_at canon from a letter) ⊎ (Contains met (map_at shapes r letter) × Contains met (entry_at canon from a letter))
   pub top : top_track from a ≤ top_track shapes r
 
-pub record RemembersPruned {S : Type 0} (from shapes : List Shape) (canon met : List ℕ) (memo : HashMap ℕ ℕ S) : Type 0 where
-  pub pruned : (a r : ℕ) → get nat_eq memo a ≡ Some r → IsPruned from shapes canon met a r
+pub record RemembersPruned (from shapes : List Shape) (canon met : List ℕ) (memo : List (Option ℕ)) : Type 0 where
+  pub pruned : (a r : ℕ) → answer_of memo a ≡ Some r → IsPruned from shapes canon met a r
 
 -- the canonical states of the values of the nodes that are done are in a list
 pub record AreDone (shapes : List Shape) (canon met : List ℕ) (done : List Bool) : Type 0 where
   pub are_met : (node letter : ℕ) → slice_index_or done node false ≡ true → Contains met (entry_at canon shapes node letter)
-
--- one more node is done, if the list has a place for it
-pub record Notes (old new : List Bool) (node : ℕ) : Type 0 where
-  pub size : length new ≡ length old
-  pub noted : node < length old → slice_index_or new node false ≡ true
-  pub kept : (other : ℕ) → slice_index_or old other false ≡ true → slice_index_or new other false ≡ true
-  pub only : (other : ℕ) → slice_index_or new other false ≡ true → (slice_index_or old other false ≡ true) ⊎ (other ≡ node)
-
--- a node is no longer done
-pub record Forgets (old new : List Bool) (node : ℕ) : Type 0 where
-  pub size : length new ≡ length old
-  pub others : (other : ℕ) → other ≢ node → slice_index_or new other false ≡ slice_index_or old other false
-  pub only : (other : ℕ) → slice_index_or new other false ≡ true → (slice_index_or old other false ≡ true) × (other ≢ node)
 
 -- a value is in a list or was found beside it; where several were found, any may be
 abbrev pub IsFound : List ℕ → Unmet → ℕ → Type 0

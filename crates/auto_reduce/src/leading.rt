@@ -7,7 +7,7 @@ ghost use Rattle.letter_diagram.specs.NodeMemo.{answer_of};
 ghost use Rattle.auto_reduce.specs.Leading.{IsLedFrom, RemembersLed, AddsAnswer};
 
 use crate::round_memo::RoundMemo;
-use letter_diagram::{Diagrams, Node, NodeMemo, Shape};
+use letter_diagram::{Diagrams, Node, Shape};
 use std::alloc::AllocError;
 use std::collections::HashMap;
 
@@ -26,22 +26,6 @@ trait Memo {
 }
 
 /// With room for each node, so that nothing is hashed.
-impl Memo for NodeMemo {
-    ghost answer = { answer_of };
-
-    ghost has_room = { λ memo node. node < length memo };
-
-    fn known(&self, node: Node) -> Option<Node> {
-        self.get(node)
-    }
-
-    fn keep(&mut self, node: Node, made: Node) -> Result<(), AllocError> {
-        self.insert(node, made);
-        Ok(())
-    }
-}
-
-/// With room for each node, to be used again.
 impl Memo for RoundMemo {
     ghost answer = { answer_of };
 
@@ -73,26 +57,9 @@ impl Memo for HashMap<Node, Node> {
 }
 
 /// For each of several nodes of `from`, in their order, the node in `to` that gives the entry of `table` at each of its values.
-/// What they share is done once.
-/// Costs the nodes that are led, and a memo with room for each node of `from`.
+/// What they share is done once. `memo` serves one call after another, for which it has room for each node of `from`.
+/// Costs the nodes that are led, and those that were led before.
 pub fn lead_nodes(
-    from: &Diagrams,
-    nodes: &[Node],
-    table: &[u32],
-    to: &mut Diagrams,
-) -> Result<Vec<Node>, AllocError>
-    requires known { All (λ node. node < length from.now) nodes.now }
-    requires leaves { All (λ node. (letter : ℕ) → map_at from.now node letter < length table.now) nodes.now }
-    ensures led { IfOk result (λ answers. EachAnswers (IsLedFrom from.now to.new table.now) nodes.now answers.items) }
-    ensures grows { Grows to.old to.new }
-{
-    let mut memo = NodeMemo::new(to.alloc(), from.len())?;
-    let answers = each_led(from, nodes, table, to, &mut memo)?;
-    Ok(answers)
-}
-
-/// The same with a memo that serves one call after another. Costs the nodes that are led, and those that were led before.
-pub fn lead_over(
     from: &Diagrams,
     nodes: &[Node],
     table: &[u32],

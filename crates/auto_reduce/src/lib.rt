@@ -12,6 +12,7 @@ mod listing;
 mod moves;
 mod order;
 mod partition;
+mod put;
 mod quotient;
 mod round_memo;
 mod rows;

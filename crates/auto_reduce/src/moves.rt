@@ -1,6 +1,6 @@
 //! States that move to new classes, as their nodes differ from those of the states that stand for their classes.
 ghost use Rattle.std.specs.Prelude.{◌≡◌, ◌≢◌, ◌<◌, ◌^◌, ◌+◌, ◌++◌, [], ℕ, All, AllPairs, Contains, length, map, slice_index, IfOk, OnOk};
-ghost use Rattle.auto_reduce.specs.Partition.{IsPartition, IsListing, IsPut, AreCandidates, AreMoves, chosen_node};
+ghost use Rattle.auto_reduce.specs.Partition.{IsPartition, IsListing, AreCandidates, AreMoves, chosen_node};
 
 use crate::classes::Partition;
 use crate::listing::{Listing, prune};
@@ -140,15 +140,4 @@ pub fn find_moves(
         sort_state(partition, listing, nodes, *state, &mut moves)?;
     }
     Ok(moves)
-}
-
-/// Gives states their new classes.
-pub fn put_numbers(classes: &mut [u32], states: &[u32], numbers: &[u32])
-    requires within { All (λ state. state < length classes.old) states.now }
-    requires same { length states.now ≡ length numbers.now }
-    ensures { IsPut classes.old states.now numbers.now classes.new }
-{
-    for turn in 0..states.len() {
-        classes[states[turn] as usize] = numbers[turn];
-    }
 }

@@ -6,7 +6,8 @@ ghost use Rattle.auto_reduce.specs.Partition.{IsSplit, IsPartition, IsListing, A
 
 use crate::classes::Partition;
 use crate::listing::{Listing, add_lists, all_states, list_each, list_states};
-use crate::moves::{Moves, candidates, find_moves, put_numbers};
+use crate::moves::{Moves, candidates, find_moves};
+use crate::put::put;
 use crate::round_memo::RoundMemo;
 use crate::rows::row_nodes;
 use crate::stale::{lead, lead_again, sharing_states, stale_states};
@@ -32,7 +33,7 @@ fn move_states(
     ensures representatives { OnOk result (listing.new.representatives.items ≡ listing.old.representatives.items ++ moves.now.firsts.items) }
     ensures lists { OnOk result (AreListed (map (λ list. list.items) listing.old.lists.items ++ replicate (length moves.now.firsts.items) []) moves.now.states.items moves.now.numbers.items (map (λ list. list.items) listing.new.lists.items)) }
 {
-    put_numbers(
+    put(
         partition.classes.as_mut_slice(),
         moves.states.as_slice(),
         moves.numbers.as_slice(),

@@ -9,6 +9,7 @@ ghost use Rattle.auto_reduce.specs.Quotient.{IsCanonical, IsOrder, AreNumbers, A
 use crate::canonical::canonical;
 use crate::leading::lead_nodes;
 use crate::order::Order;
+use crate::round_memo::RoundMemo;
 use crate::rows::picked;
 use crate::unmet::{Done, add_row, first_met};
 use auto_core::Auto;
@@ -16,7 +17,12 @@ use letter_diagram::{Diagrams, Node};
 use std::alloc::{AllocError, Global};
 
 /// The canonical states that words lead to, in the order in which a breadth-first walk in ascending letters meets them.
-fn breadth_first(alloc: Global, a: &Auto, canon: &[u32]) -> Result<Order, AllocError>
+fn breadth_first(
+    alloc: Global,
+    a: &Auto,
+    canon: &[u32],
+    memo: &mut RoundMemo,
+) -> Result<Order, AllocError>
     requires { IsCanonical a.now canon.now }
     ensures order { IfOk result (λ order. IsOrder a.now canon.now order) }
     ensures numbered { IfOk result (λ order. IsNumberedTo a.now canon.now order (length order + 1)) }
@@ -35,6 +41,7 @@ fn breadth_first(alloc: Global, a: &Auto, canon: &[u32]) -> Result<Order, AllocE
             &mut order,
             &mut done,
             &mut passed,
+            memo,
         )?;
         place += 1;
     }
@@ -42,7 +49,13 @@ fn breadth_first(alloc: Global, a: &Auto, canon: &[u32]) -> Result<Order, AllocE
 }
 
 /// The automaton whose states are the places in an order of canonical states.
-fn over_places(alloc: Global, a: &Auto, canon: &[u32], order: &[u32]) -> Result<Auto, AllocError>
+fn over_places(
+    alloc: Global,
+    a: &Auto,
+    canon: &[u32],
+    order: &[u32],
+    memo: &mut RoundMemo,
+) -> Result<Auto, AllocError>
     requires canonical { IsCanonical a.now canon.now }
     requires order { IsOrder a.now canon.now order.now }
     ensures { IfOk result (IsQuotientBy a.now canon.now order.now) }
@@ -55,7 +68,13 @@ fn over_places(alloc: Global, a: &Auto, canon: &[u32], order: &[u32]) -> Result<
     let room = nodes_left(from.len(), a.states(), order.len());
     let mut diagrams = Diagrams::with_capacity(alloc, room)?;
     let nodes = first_and_picked(alloc, a, order)?;
-    let mut rows = lead_nodes(from, nodes.as_slice(), table.as_slice(), &mut diagrams)?;
+    let mut rows = lead_nodes(
+        from,
+        nodes.as_slice(),
+        table.as_slice(),
+        &mut diagrams,
+        memo,
+    )?;
     let first = rows.remove(0);
     Ok(Auto::from_diagrams(tracks, diagrams, first, rows, accept))
 }
@@ -120,9 +139,10 @@ fn flags(alloc: Global, a: &Auto, order: &[u32]) -> Result<Vec<bool>, AllocError
 }
 
 /// The automaton of the same words with no state too many (Moore 1956), whose states are numbered in the order in which
-/// a breadth-first walk in ascending letters meets them. Costs, for each round of the refinement, the nodes of the rows of states
-/// that share their class and lead to a state whose class changed, and for the numbering the nodes of one row of each class.
-/// The answer has no node that its rows don't reach.
+/// a breadth-first walk in ascending letters meets them. While more than an eighth of the states move, a round of the refinement
+/// costs the nodes of the rows of all states that share their class. After that it costs the nodes of the rows of those among them that
+/// lead to a state that moved in the round before, and a mark for each state and for each node. The numbering costs the nodes of one
+/// row of each class. The answer has no node that its rows don't reach.
 pub fn reduce(alloc: Global, a: &Auto) -> Result<Auto, AllocError>
     ensures tracks { IfOk result (λ m. m.tracks ≡ a.now.tracks) }
     ensures words { IfOk result (λ m. (word : List ℕ) → IsWord (length a.now.tracks) word → Accepts m word ↔ Accepts a.now word) }
@@ -139,7 +159,8 @@ fn quotient(alloc: Global, a: &Auto) -> Result<Auto, AllocError>
     ensures { IfOk result (IsQuotient a.now) }
 {
     let canon = canonical(alloc, a)?;
-    let order = breadth_first(alloc, a, canon.as_slice())?;
-    let m = over_places(alloc, a, canon.as_slice(), order.as_slice())?;
+    let mut memo = RoundMemo::new(alloc, a.diagrams().len())?;
+    let order = breadth_first(alloc, a, canon.as_slice(), &mut memo)?;
+    let m = over_places(alloc, a, canon.as_slice(), order.as_slice(), &mut memo)?;
     Ok(m)
 }

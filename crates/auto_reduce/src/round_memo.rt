@@ -1,9 +1,8 @@
 //! Answers for nodes that serve one round of a refinement after another.
 ghost use Rattle.std.specs.Prelude.{◌≡◌, ℕ, None, length, IfOk, OnOk};
 ghost use Rattle.letter_diagram.specs.NodeMemo.{answer_of, Remembers};
-ghost use Rattle.auto_reduce.specs.RoundMemo.{AreForgotten, IsForgotten};
 
-use letter_diagram::Node;
+use letter_diagram::{Node, NodeMemo};
 use std::alloc::{AllocError, Global};
 use std::marker::Model;
 
@@ -11,7 +10,7 @@ use std::marker::Model;
 /// no more than to answer them.
 #[derive(Drop)]
 pub struct RoundMemo {
-    answers: Vec<Option<Node>>,
+    answers: NodeMemo,
     answered: Vec<Node>,
 }
 
@@ -21,27 +20,9 @@ impl Model for RoundMemo {
 
     ghost Value = { List (Option ℕ) };
 
-    ghost view = { λ m. m.answers.items };
+    ghost view = { λ m. m.answers };
 
-    ghost invariant = { λ m. AreAnswered m.answers.items m.answered.items };
-}
-
-/// Forgets the answer for a node.
-fn forget_one(answers: &mut Vec<Option<Node>>, node: Node)
-    ensures { IsForgotten answers.old.items answers.new.items node }
-{
-    if node.number() < answers.len() {
-        answers[node.number()] = None;
-    }
-}
-
-/// Forgets the answers for some nodes.
-fn forget(answers: &mut Vec<Option<Node>>, nodes: &[Node])
-    ensures { AreForgotten answers.old.items answers.new.items nodes.now }
-{
-    for node in nodes {
-        forget_one(answers, *node);
-    }
+    ghost invariant = { λ m. AreAnswered m.answers m.answered.items };
 }
 
 impl RoundMemo {
@@ -51,7 +32,7 @@ impl RoundMemo {
         ensures len { IfOk result (λ memo. length memo ≡ nodes) }
     {
         Ok(RoundMemo {
-            answers: vec![in alloc; None; nodes]?,
+            answers: NodeMemo::new(alloc, nodes)?,
             answered: Vec::new(alloc),
         })
     }
@@ -60,7 +41,7 @@ impl RoundMemo {
     pub fn get(&self, node: Node) -> Option<Node>
         ensures { result ≡ answer_of self.now node }
     {
-        self.answers.get(node.number()).copied().flatten()
+        self.answers.get(node)
     }
 
     /// A node past those that the memo has room for is not remembered.
@@ -68,9 +49,7 @@ impl RoundMemo {
         ensures { OnOk result (Remembers self.old self.new node answer) }
     {
         self.answered.push(node)?;
-        if let Some(place) = self.answers.get_mut(node.number()) {
-            *place = Some(answer);
-        }
+        self.answers.insert(node, answer);
         Ok(())
     }
 
@@ -79,7 +58,9 @@ impl RoundMemo {
         ensures none { (node : ℕ) → answer_of self.new node ≡ None }
         ensures len { length self.new ≡ length self.old }
     {
-        forget(&mut self.answers, self.answered.as_slice());
+        for node in self.answered.as_slice() {
+            self.answers.remove(*node);
+        }
         self.answered.clear();
     }
 }

@@ -2,11 +2,12 @@
 ghost use Rattle.std.specs.Prelude.{◌≡◌, ◌<◌, ◌^◌, ℕ, All, Contains, length, map, IfOk, OnOk};
 ghost use Rattle.letter_diagram.specs.Diagram.{Grows};
 ghost use Rattle.auto_reduce.specs.Ways.{AreRowWays};
-ghost use Rattle.auto_reduce.specs.Partition.{IsPartition, IsListing, AreRowNodes, AreLedRows, IsShared, AreStale, IsPut, AreLedAgain};
+ghost use Rattle.auto_reduce.specs.Partition.{IsPartition, IsListing, AreRowNodes, AreLedRows, IsShared, AreStale, AreLedAgain};
 
 use crate::classes::Partition;
-use crate::leading::lead_over;
+use crate::leading::lead_nodes;
 use crate::listing::{Listing, all_states};
+use crate::put::put;
 use crate::round_memo::RoundMemo;
 use crate::rows::picked;
 use crate::ways::{Ways, leading_to};
@@ -74,17 +75,6 @@ pub fn stale_states(
     Ok(stale)
 }
 
-/// Puts values at some places.
-fn put(nodes: &mut [Node], places: &[u32], values: &[Node])
-    requires within { All (λ place. place < length nodes.old) places.now }
-    requires same { length places.now ≡ length values.now }
-    ensures { IsPut nodes.old places.now values.now nodes.new }
-{
-    for i in 0..places.len() {
-        nodes[places[i] as usize] = values[i];
-    }
-}
-
 /// Leads the rows of some states to classes. The other states keep their nodes.
 pub fn lead_again(
     diagrams: &mut Diagrams,
@@ -103,7 +93,7 @@ pub fn lead_again(
     ensures grows { Grows diagrams.old diagrams.new }
 {
     let picked = picked(diagrams.alloc(), rows, states)?;
-    let nodes = lead_over(a.diagrams(), picked.as_slice(), classes, diagrams, memo)?;
+    let nodes = lead_nodes(a.diagrams(), picked.as_slice(), classes, diagrams, memo)?;
     put(led, states, nodes.as_slice());
     Ok(())
 }
@@ -121,7 +111,7 @@ pub fn lead(
     ensures led { IfOk result (λ led. AreLedRows a.now diagrams.new partition.now.classes.items led.items) }
     ensures grows { Grows diagrams.old diagrams.new }
 {
-    let led = lead_over(
+    let led = lead_nodes(
         a.diagrams(),
         rows,
         partition.classes.as_slice(),

@@ -1,14 +1,14 @@
 //! The canonical states to which a row leads and that were not met before it.
-ghost use Rattle.std.specs.Prelude.{[], ◌∷◌, ◌++◌, ◌≡◌, ◌≢◌, ◌<◌, ◌⊎◌, ℕ, true, false, length, slice_index_or, IfOk, OnOk, Contains, AllPairs};
+ghost use Rattle.std.specs.Prelude.{[], ◌∷◌, ◌++◌, ◌≡◌, ◌≢◌, ◌<◌, ◌⊎◌, ℕ, true, false, length, slice_index_or, slice_set, IfOk, OnOk, Contains, AllPairs};
 ghost use Rattle.letter_diagram.specs.Diagram.{map_at, top_track, Grows};
 ghost use Rattle.auto_reduce.specs.Leading.{entry_at};
-ghost use Rattle.auto_reduce.specs.Unmet.{AddsRow, IsMetLeaf, IsPruned, RemembersPruned, AreDone, Notes, Forgets, AreDoneWith, AreDoneBut, Finds};
+ghost use Rattle.auto_reduce.specs.Unmet.{AddsRow, IsMetLeaf, IsPruned, RemembersPruned, AreDone, AreDoneWith, AreDoneBut, Finds};
 
 use crate::leading::lead_few;
 use crate::order::Order;
+use crate::round_memo::RoundMemo;
 use letter_diagram::{Diagrams, Node, Shape};
 use std::alloc::{AllocError, Global};
-use std::collections::HashMap;
 use std::marker::Model;
 
 /// For each node of one `Diagrams`, by its number, whether it is done: it leads to canonical states that are in the order and to no others.
@@ -44,7 +44,7 @@ impl Done {
 
     /// A node past those that this was made for is not noted.
     fn add(&mut self, node: Node)
-        ensures { Notes self.old self.new node }
+        ensures { self.new ≡ slice_set self.old node true }
     {
         if let Some(place) = self.nodes.get_mut(node.number()) {
             *place = true;
@@ -52,7 +52,7 @@ impl Done {
     }
 
     fn remove(&mut self, node: Node)
-        ensures { Forgets self.old self.new node }
+        ensures { self.new ≡ slice_set self.old node false }
     {
         if let Some(place) = self.nodes.get_mut(node.number()) {
             *place = false;
@@ -152,7 +152,7 @@ fn pruned(
     order: &Order,
     met: Node,
     to: &mut Diagrams,
-    memo: &mut HashMap<Node, Node>,
+    memo: &mut RoundMemo,
     done: &mut Done,
 ) -> Result<Node, AllocError>
     requires known { node < length from.now }
@@ -169,8 +169,8 @@ fn pruned(
     if done.has(node) {
         return Ok(met);
     }
-    if let Some(known) = memo.get(&node) {
-        return Ok(*known);
+    if let Some(known) = memo.get(node) {
+        return Ok(known);
     }
     let made = match shape {
         Shape::Leaf(state) => pruned_leaf(order, met, to, canon[state as usize])?,
@@ -195,6 +195,7 @@ fn add_several(
     canon: &[u32],
     order: &mut Order,
     done: &mut Done,
+    memo: &mut RoundMemo,
     room: usize,
 ) -> Result<(), AllocError>
     requires known { row < length from.now }
@@ -207,16 +208,16 @@ fn add_several(
 {
     let mut to = Diagrams::with_capacity(alloc, room)?;
     let met = to.leaf(order.as_slice()[0])?;
-    let mut memo = HashMap::with_capacity(alloc, room)?;
-    let unmet = pruned(from, row, canon, order, met, &mut to, &mut memo, done)?;
+    memo.clear();
+    let unmet = pruned(from, row, canon, order, met, &mut to, memo, done)?;
     let leaves = to.leaves(unmet)?;
     order.add_all(leaves.as_slice())?;
     Ok(())
 }
 
 /// Puts the canonical states to which a row leads and that are not in the order at its end, by the least letters that lead to them.
-/// Makes a diagram only where there are several. Costs the nodes of the row that are not done. What is in `passed` before doesn't matter:
-/// it lends its room to one row after another.
+/// Makes a diagram only where there are several. Costs the nodes of the row that are not done. What is in `passed` and `memo` before
+/// doesn't matter: they lend their room to one row after another.
 pub fn add_row(
     alloc: Global,
     from: &Diagrams,
@@ -225,6 +226,7 @@ pub fn add_row(
     order: &mut Order,
     done: &mut Done,
     passed: &mut Vec<Node>,
+    memo: &mut RoundMemo,
 ) -> Result<(), AllocError>
     requires known { row < length from.now }
     requires leaves { (letter : ℕ) → map_at from.now row letter < length canon.now }
@@ -245,7 +247,7 @@ pub fn add_row(
         }
         Unmet::Several => {
             done.remove_all(passed.as_slice());
-            add_several(alloc, from, row, canon, order, done, passed.len())?;
+            add_several(alloc, from, row, canon, order, done, memo, passed.len())?;
             Ok(())
         }
     }

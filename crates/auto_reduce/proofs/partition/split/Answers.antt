@@ -61,3 +61,6 @@ returns-clause-settled c =
 pub returns-clause-within : goal.returns-clause-within
 returns-clause-within c =
     subst (λ n. All (λ state. state < n) c.in_ok-moves.moves.states.items) c.requires.partition.states (moved_within _ _ _ _ _ _ _ _ c.in_ok-moves.ensures.moves)
+
+pub returns-clause-moved : goal.returns-clause-moved
+returns-clause-moved c = record { kept = λ state within absent. c.in_ok-move_states.ensures.classes.kept state within absent 0 }

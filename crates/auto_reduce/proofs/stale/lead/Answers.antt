@@ -1,11 +1,11 @@
 use Rattle.auto_reduce.proofs.Stales.{AreLedRows-first}
 use Rattle.auto_reduce.proofs.stale.lead.Goals as goal
 
-pub lead_over-requires-clause-known : goal.lead_over-requires-clause-known
-lead_over-requires-clause-known c = rw c.diagrams.ensures.shapes c.requires.rows.known
+pub lead_nodes-requires-clause-known : goal.lead_nodes-requires-clause-known
+lead_nodes-requires-clause-known c = rw c.diagrams.ensures.shapes c.requires.rows.known
 
-pub lead_over-requires-clause-leaves : goal.lead_over-requires-clause-leaves
-lead_over-requires-clause-leaves c = rw (c.diagrams.ensures.shapes, c.as_slice.ensures.value, c.requires.partition.states) c.requires.rows.within
+pub lead_nodes-requires-clause-leaves : goal.lead_nodes-requires-clause-leaves
+lead_nodes-requires-clause-leaves c = rw (c.diagrams.ensures.shapes, c.as_slice.ensures.value, c.requires.partition.states) c.requires.rows.within
 
 pub returns-clause-led : goal.returns-clause-led
 returns-clause-led c =

@@ -6,13 +6,13 @@ use Rattle.auto_reduce.proofs.stale.lead_again.Goals as goal
 pub picked-requires : goal.picked-requires
 picked-requires c = rw c.requires.rows.size c.requires.states
 
-pub lead_over-requires-clause-known : goal.lead_over-requires-clause-known
-lead_over-requires-clause-known c =
+pub lead_nodes-requires-clause-known : goal.lead_nodes-requires-clause-known
+lead_nodes-requires-clause-known c =
     rw (c.diagrams.ensures.shapes, c.as_slice.ensures.value)
     (All-picked (λ node. node < length c.args.a.now.shapes) c.args.rows.now c.args.states.now c.in_ok-picked.picked.items c.in_ok-picked.ensures (rw c.requires.rows.size c.requires.states) c.requires.rows.known)
 
-pub lead_over-requires-clause-leaves : goal.lead_over-requires-clause-leaves
-lead_over-requires-clause-leaves c =
+pub lead_nodes-requires-clause-leaves : goal.lead_nodes-requires-clause-leaves
+lead_nodes-requires-clause-leaves c =
     rw (c.diagrams.ensures.shapes, c.as_slice.ensures.value, c.requires.classes)
     (All-picked (λ node. (letter : ℕ) → map_at c.args.a.now.shapes node letter < length c.args.a.now.accept) c.args.rows.now c.args.states.now c.in_ok-picked.picked.items c.in_ok-picked.ensures (rw c.requires.rows.size c.requires.states) c.requires.rows.within)
 

@@ -7,7 +7,7 @@ use Rattle.auto_reduce.proofs.unmet.+pruned.Goals as goal
 use Rattle.auto_reduce.proofs.unmet.+pruned.Goals.{in-Leaf+in_ok-made-in-Leaf, in-Test+in_ok-low-in-Test+in_ok-high-in-Test+in_ok-made-in-Test, then-same_map, else-same_map}
 
 pub returns-in-Some-clause-pruned : goal.returns-in-Some-clause-pruned
-returns-in-Some-clause-pruned t c = c.requires.remembered.pruned _ _ (sym c.in-Some.ensures.value)
+returns-in-Some-clause-pruned t c = c.requires.remembered.pruned _ _ (sym c.in-Some.ensures)
 
 pub bounds-canon-state : goal.bounds-canon-state
 bounds-canon-state t c =
@@ -49,7 +49,7 @@ returns-clause-remembered t c =
       | in-Leaf+in_ok-made-in-Leaf w ↦ rw (w.to-is, w.memo-is) (RemembersPruned-grows _ _ _ _ _ _ w.in_ok-made-in-Leaf.ensures.grows c.requires.remembered)
       | in-Test+in_ok-low-in-Test+in_ok-high-in-Test+in_ok-made-in-Test w ↦ rw (w.to-is, w.memo-is) (RemembersPruned-grows _ _ _ _ _ _ w.in_ok-made-in-Test.ensures.grows w.in_ok-high-in-Test.ensures.remembered)
     ] in
-    RemembersPruned-insert _ _ _ _ _ _ _ _ before c.in_ok-insert.ensures.updates (made t c)
+    RemembersPruned-insert _ _ _ _ _ _ _ _ before c.in_ok-insert.ensures (made t c)
 
 before_done : (t : ℕ) (c : goal.Joined-same_map t) → AreDone c.args.from.now c.args.canon.now c.args.order.now c.match-shape.done
 before_done t c = elim c.match-shape.branch [
