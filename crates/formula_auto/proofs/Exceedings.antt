@@ -2,9 +2,12 @@
 use Rattle.std.proofs.Common.{◌↔◌, ℕ, List, length, sym, subst}
 use Rattle.track_word.specs.declared.tracks.Var.{Var}
 use Rattle.auto_core.specs.Automaton.{Automaton, Accepts}
-use Rattle.lin_formula.specs.Tree.{Tree, And, Or, Ex, free_vars}
+use Rattle.lin_formula.specs.Tree.{Tree, Ex, free_vars}
 use Rattle.lin_formula.specs.Holds.{Sets}
+use Rattle.formula_auto.specs.Connected.{connect}
 use Rattle.formula_auto.specs.Decides.{Decides}
+use Rattle.formula_auto.specs.declared.connective.Connective.{Connective}
+use Rattle.formula_auto.specs.declared.connective.Connective.TheVariants.{And, Or}
 use Rattle.auto_core.specs.Spread.{BothSpreadExceeds, ExSpreadExceeds}
 use Rattle.formula_auto.specs.Step.{Says, Exceeds}
 use Rattle.formula_auto.proofs.SameWords.{SameWords, BothSpread-same, ExSpread-same}
@@ -22,21 +25,17 @@ module _ (e : Sets) (f g : Tree) (a b : Automaton) (budget : ℕ) (left : Decide
       let Right : List Var → Type 0 = λ gs. BothSpreadExceeds (free_vars f) gs (Accepts a) (Accepts b) budget in
       (λ h. subst Right right.tracks (subst Left left.tracks h), λ h. subst Left (sym left.tracks) (subst Right (sym right.tracks) h))
 
-  -- what `meet` tells of its automata is what is asked of the step And
-  pub Exceeds-And : BothSpreadExceeds a.tracks b.tracks (Accepts a) (Accepts b) budget ↔ Exceeds (And f g) e budget
-  unfolding Exceeds
-  Exceeds-And = (
+  same_spread : BothSpreadExceeds a.tracks b.tracks (Accepts a) (Accepts b) budget ↔ BothSpreadExceeds (free_vars f) (free_vars g) (Says f e) (Says g e) budget
+  same_spread = (
     λ h. BothSpread-same _ _ _ _ _ _ budget left.words right.words (on_tracks.0 h),
     λ h. on_tracks.1 (BothSpread-same _ _ _ _ _ _ budget says_left says_right h),
   )
 
-  -- and `join` of the step Or
-  pub Exceeds-Or : BothSpreadExceeds a.tracks b.tracks (Accepts a) (Accepts b) budget ↔ Exceeds (Or f g) e budget
+  -- what a product tells of its automata is what is asked of the step
+  pub Exceeds-connect : (connective : Connective) → BothSpreadExceeds a.tracks b.tracks (Accepts a) (Accepts b) budget ↔ Exceeds (connect connective f g) e budget
   unfolding Exceeds
-  Exceeds-Or = (
-    λ h. BothSpread-same _ _ _ _ _ _ budget left.words right.words (on_tracks.0 h),
-    λ h. on_tracks.1 (BothSpread-same _ _ _ _ _ _ budget says_left says_right h),
-  )
+  Exceeds-connect And = same_spread
+  Exceeds-connect Or = same_spread
 
 -- and `forget` of the step Ex
 pub Exceeds-Ex : (e : Sets) (x : Var) (g : Tree) (a : Automaton) (budget : ℕ) → Decides a g e → ExSpreadExceeds x a.tracks (Accepts a) budget ↔ Exceeds (Ex x g) e budget

@@ -13,6 +13,7 @@ pub mod Compiles
 pub mod Stable
 pub mod NoSets
 pub mod PlainLemmas
+pub mod Connections
 pub mod MemoLemmas
 pub mod WithMemo
 pub mod PartLemmas

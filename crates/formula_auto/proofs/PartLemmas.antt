@@ -22,7 +22,7 @@ get-append (y ∷ xs) ys zero x there = there
 get-append (y ∷ xs) ys (suc k) x there = get-append xs ys k x there
 
 -- a part has one automaton
-one_automaton : (m : MemoState) (part : Part) (a b : Automaton) → IsPart m part a → IsPart m part b → a ≡ b
+pub one_automaton : (m : MemoState) (part : Part) (a b : Automaton) → IsPart m part a → IsPart m part b → a ≡ b
 one_automaton m (Fresh c) a b left right = sym left ∙ right
 one_automaton m (Kept place) a b left right =
     ap (λ (entry : Formula × Automaton). entry.1) (same_Some (left.0, a) (right.0, b) (sym left.1 ∙ right.1))

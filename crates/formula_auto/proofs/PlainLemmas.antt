@@ -4,6 +4,9 @@ use Rattle.lin_formula.specs.Tree.{Tree, Lin, Value, Among, Not, And, Or, Ex, sy
 use Rattle.formula_auto.specs.PlainParts.{is_plain, plain_or, plain_within}
 use Rattle.formula_auto.specs.MemoState.{MemoState, known, counted, with_entry, Passes, IsMemoAfter}
 use Rattle.formula_auto.specs.Remembered.{IsStopped}
+use Rattle.formula_auto.specs.Connected.{connect}
+use Rattle.formula_auto.specs.declared.connective.Connective.{Connective}
+use Rattle.formula_auto.specs.declared.connective.Connective.TheVariants as connective
 use Rattle.formula_auto.specs.declared.errors.CompileError.{CompileError}
 use Rattle.formula_auto.specs.declared.errors.CompileError.TheVariants.{Over}
 use Rattle.track_word.specs.declared.tracks.Var.{Var}
@@ -113,11 +116,9 @@ pub record IsOfTwo (h f g : Tree) : Type 0 where
   pub parts : (n : ℕ) → plain_within h n ≡ plain_within f n ++ plain_within g (n - length (steps f))
   pub size : length (steps h) ≡ length (steps f) + length (steps g) + 1
 
-pub of_two-and : (f g : Tree) → is_plain (And f g) ≡ false → IsOfTwo (And f g) f g
-of_two-and f g h = record { parts = λ n. not_plain (And f g) n (plain_within f n ++ plain_within g (n - length (steps f))) h; size = both_fit f g (And f g) }
-
-pub of_two-or : (f g : Tree) → is_plain (Or f g) ≡ false → IsOfTwo (Or f g) f g
-of_two-or f g h = record { parts = λ n. not_plain (Or f g) n (plain_within f n ++ plain_within g (n - length (steps f))) h; size = both_fit f g (Or f g) }
+pub of_two : (connective : Connective) (f g : Tree) → is_plain (connect connective f g) ≡ false → IsOfTwo (connect connective f g) f g
+of_two connective.And f g h = record { parts = λ n. not_plain (And f g) n (plain_within f n ++ plain_within g (n - length (steps f))) h; size = both_fit f g (And f g) }
+of_two connective.Or f g h = record { parts = λ n. not_plain (Or f g) n (plain_within f n ++ plain_within g (n - length (steps f))) h; size = both_fit f g (Or f g) }
 
 -- a formula that is not plain, of one part
 pub record IsOfOne (h f : Tree) : Type 0 where

@@ -116,13 +116,6 @@ fits-ready (Ex x f) sets h = fits-ready f sets (record {
 pub ready : (f : Tree) (sets : List Automaton) → IsCompilable f sets → IsReady f sets
 ready f sets h = fits-ready f sets (fits f sets h)
 
--- the steps of the second part still fit
-pub room_right : (f g : Tree) (before done : ℕ) → done ≡ before + length (steps f) → before + length (steps f ++ steps g ++ And f g ∷ []) < 2 ^ 32 → done + length (steps g) < 2 ^ 32
-room_right f g before done is h = omega (arith, length-append (steps f ++ steps g) (And f g ∷ []), length-append (steps f) (steps g))
-
-pub room_right_or : (f g : Tree) (before done : ℕ) → done ≡ before + length (steps f) → before + length (steps f ++ steps g ++ Or f g ∷ []) < 2 ^ 32 → done + length (steps g) < 2 ^ 32
-room_right_or f g before done is h = omega (arith, length-append (steps f ++ steps g) (Or f g ∷ []), length-append (steps f) (steps g))
-
 module _ (sets : List Automaton) (number : ℕ) (vars : List Var) (named : IsSetFor sets number (length vars)) where
   -- the set that is named has a track for each variable, decides a set of integers, and is reduced
   pub set_fits : (a : Automaton) → slice_get sets number ≡ Some a → (length vars ≡ length a.tracks) × DecidesIntegers a × IsReduced a

@@ -11,6 +11,7 @@ pub use Rattle.lin_formula.specs.SetOf
 pub use Rattle.lin_formula.specs.TreeOf
 pub use Rattle.lin_formula.specs.Free
 pub mod Step
+pub mod Connected
 pub mod Decides
 pub mod Compiled
 pub mod Distinct

@@ -7,13 +7,13 @@ ghost use Rattle.lin_formula.specs.TreeOf.{tree_of};
 ghost use Rattle.lin_formula.specs.SetOf.{tables, members};
 ghost use Rattle.formula_auto.specs.Step.{FirstOver};
 ghost use Rattle.formula_auto.specs.Decides.{Decides};
+ghost use Rattle.formula_auto.specs.Connected.{connect};
 ghost use Rattle.formula_auto.specs.Compiled.{IsCompilable, IsCompiled, IsCompileError};
 ghost use Rattle.formula_auto.specs.Ready.{IsReady};
 
+use crate::connective::Connective;
 use crate::errors::CompileError;
-use crate::steps::{
-    comparison, complement, conjunction, disjunction, membership, projection, value_of,
-};
+use crate::steps::{comparison, complement, joined, membership, projection, value_of};
 use crate::table::SetTable;
 use auto_core::Auto;
 use lin_formula::Formula;
@@ -49,7 +49,7 @@ pub struct Made {
 }
 
 /// The automaton of a formula, where so many steps were taken before.
-#[tactic(auto, using(crate::proofs::Rooms::room_right, crate::proofs::Rooms::room_right_or))]
+#[cycle(compiled)]
 pub fn compiled(
     alloc: Global,
     f: &Formula,
@@ -88,20 +88,8 @@ pub fn compiled(
                 done: part.done,
             })
         }
-        Formula::And(g, h) => {
-            let left = compiled(alloc, g, sets, before, budget)?;
-            let right = compiled(alloc, h, sets, left.done, budget)?;
-            let step = right.done + 1;
-            let auto = conjunction(alloc, &left.auto, &right.auto, budget, step)?;
-            Ok(Made { auto, done: step })
-        }
-        Formula::Or(g, h) => {
-            let left = compiled(alloc, g, sets, before, budget)?;
-            let right = compiled(alloc, h, sets, left.done, budget)?;
-            let step = right.done + 1;
-            let auto = disjunction(alloc, &left.auto, &right.auto, budget, step)?;
-            Ok(Made { auto, done: step })
-        }
+        Formula::And(g, h) => both(alloc, Connective::And, g, h, sets, before, budget),
+        Formula::Or(g, h) => both(alloc, Connective::Or, g, h, sets, before, budget),
         Formula::Ex { var, body } => {
             let part = compiled(alloc, body, sets, before, budget)?;
             let step = part.done + 1;
@@ -109,4 +97,29 @@ pub fn compiled(
             Ok(Made { auto, done: step })
         }
     }
+}
+
+/// The automaton of two formulas put together.
+#[cycle(compiled)]
+fn both(
+    alloc: Global,
+    connective: Connective,
+    g: &Formula,
+    h: &Formula,
+    sets: &SetTable,
+    before: u32,
+    budget: u32,
+) -> Result<Made, CompileError>
+    requires ready { IsReady (connect connective (tree_of g.now) (tree_of h.now)) sets.now }
+    requires room { before + length (steps (connect connective (tree_of g.now) (tree_of h.now))) < 2 ^ 32 }
+    requires budget { (1 ≤ budget) × (budget ≤ 200000) }
+    ensures done { IfOk result (λ m. m.done ≡ before + length (steps (connect connective (tree_of g.now) (tree_of h.now)))) }
+    ensures ok { IfOk result (λ m. IsCompiled (connect connective (tree_of g.now) (tree_of h.now)) (tables sets.now) before budget m.auto) }
+    ensures err { IfErr result (IsCompileError (connect connective (tree_of g.now) (tree_of h.now)) (tables sets.now) before budget) }
+{
+    let left = compiled(alloc, g, sets, before, budget)?;
+    let right = compiled(alloc, h, sets, left.done, budget)?;
+    let step = right.done + 1;
+    let auto = joined(alloc, connective, &left.auto, &right.auto, budget, step)?;
+    Ok(Made { auto, done: step })
 }

@@ -4,6 +4,7 @@
 #![tactic(auto)]
 
 mod compiling;
+mod connective;
 mod errors;
 mod memo;
 mod part;

@@ -96,9 +96,11 @@ impl Memo {
     }
 
     /// The automaton of a part, lent.
+    #[tactic(auto, using(crate::proofs::PartLemmas::one_automaton))]
     pub(crate) fn automaton<'a>(&'a self, part: &'a Part) -> &'a Auto
         requires { (a : Automaton) × IsPart self.now part.now a }
-        ensures { IsPart self.now part.now result.now }
+        ensures has { IsPart self.now part.now result.now }
+        ensures only { (a : Automaton) → IsPart self.now part.now a → a ≡ result.now }
     {
         match part {
             Part::Fresh(auto) => auto,

@@ -1,27 +1,33 @@
 //! Compiling with a memo: what was made of a plain formula once is taken from there.
-ghost use Rattle.std.specs.Prelude.{◌≡◌, ℕ, ◌+◌, ◌<◌, ◌≤◌, ◌^◌, ◌∷◌, [], IsTrue, Contains, length, IfOk, IfErr, OnOk, None};
-ghost use Rattle.auto_core.specs.Automaton.{Automaton};
+ghost use Rattle.std.specs.Prelude.{◌≡◌, ℕ, ◌+◌, ◌<◌, ◌≤◌, ◌^◌, ◌∷◌, [], IsTrue, Contains, length, IfOk, IfErr, OnOk, None, false};
+ghost use Rattle.track_word.specs.Tracks.{with_vars};
+ghost use Rattle.auto_core.specs.Automaton.{Automaton, Accepts};
 ghost use Rattle.auto_core.specs.Integers.{DecidesIntegers};
 ghost use Rattle.auto_core.specs.Reduced.{IsReduced};
-ghost use Rattle.lin_formula.specs.Tree.{And, Or, steps};
+ghost use Rattle.auto_core.specs.Spread.{BothSpreadExceeds, ExSpreadExceeds};
+ghost use Rattle.lin_formula.specs.Tree as tree;
+ghost use Rattle.lin_formula.specs.Tree.{Tree, steps};
 ghost use Rattle.lin_formula.specs.TreeOf.{tree_of};
-ghost use Rattle.lin_formula.specs.SetOf.{tables, members};
+ghost use Rattle.lin_formula.specs.SetOf.{SetOf, tables, members};
 ghost use Rattle.formula_auto.specs.Step.{FirstOver};
 ghost use Rattle.formula_auto.specs.Decides.{Decides};
+ghost use Rattle.formula_auto.specs.Connected.{connect};
+ghost use Rattle.formula_auto.specs.StepError.{IsStepError};
 ghost use Rattle.formula_auto.specs.Compiled.{IsCompilable, IsCompileError};
 ghost use Rattle.formula_auto.specs.Ready.{IsReady};
 ghost use Rattle.formula_auto.specs.PlainParts as plain;
 ghost use Rattle.formula_auto.specs.PlainParts.{plain_parts};
 ghost use Rattle.formula_auto.specs.MemoState.{IsMemoAfter, IsMemoStopped, known};
 ghost use Rattle.formula_auto.specs.Remembered.{IsInterrupted};
-ghost use Rattle.formula_auto.specs.PartOf.{IsPart, IsRememberedPart, AreJoinable, IsJoined, IsJoinError, IsTurned, IsProjected, IsProjectError};
+ghost use Rattle.formula_auto.specs.PartOf.{IsPart, HasReduced, IsRememberedPart};
 
 use crate::compiling::compiled;
+use crate::connective::Connective;
 use crate::errors::CompileError;
 use crate::memo::Memo;
 use crate::part::{Part, Remembered};
 use crate::plain::{is_plain, steps_of};
-use crate::steps::{complement, conjunction, disjunction, projection};
+use crate::steps::{complement, joined, projection};
 use crate::table::SetTable;
 use auto_core::Auto;
 use lin_formula::Formula;
@@ -53,7 +59,7 @@ impl Memo {
     }
 
     /// The automaton of a part of a formula, where so many steps were taken before.
-    #[tactic(auto, using(crate::proofs::WithMemo::first_fits, crate::proofs::WithMemo::second_fits, crate::proofs::WithMemo::body_fits))]
+    #[cycle(compiled)]
     fn compiled(
         &mut self,
         alloc: Global,
@@ -78,26 +84,8 @@ impl Memo {
                     done: inner.done,
                 })
             }
-            Formula::And(g, h) => {
-                let left = self.compiled(alloc, g, sets, before)?;
-                let right = self.compiled(alloc, h, sets, left.done)?;
-                let step = right.done + 1;
-                let auto = self.both(alloc, &left.part, &right.part, step)?;
-                Ok(Remembered {
-                    part: Part::Fresh(auto),
-                    done: step,
-                })
-            }
-            Formula::Or(g, h) => {
-                let left = self.compiled(alloc, g, sets, before)?;
-                let right = self.compiled(alloc, h, sets, left.done)?;
-                let step = right.done + 1;
-                let auto = self.either(alloc, &left.part, &right.part, step)?;
-                Ok(Remembered {
-                    part: Part::Fresh(auto),
-                    done: step,
-                })
-            }
+            Formula::And(g, h) => self.both(alloc, Connective::And, g, h, sets, before),
+            Formula::Or(g, h) => self.both(alloc, Connective::Or, g, h, sets, before),
             Formula::Ex { var, body } => {
                 let inner = self.compiled(alloc, body, sets, before)?;
                 let step = inner.done + 1;
@@ -117,66 +105,74 @@ impl Memo {
         }
     }
 
+    /// The automaton of two formulas put together, which are no plain formula then.
+    #[cycle(compiled)]
+    fn both(
+        &mut self,
+        alloc: Global,
+        connective: Connective,
+        g: &Formula,
+        h: &Formula,
+        sets: &SetTable,
+        before: u32,
+    ) -> Result<Remembered, CompileError>
+        requires not_plain { plain.is_plain (connect connective (tree_of g.now) (tree_of h.now)) ≡ false }
+        requires ready { IsReady (connect connective (tree_of g.now) (tree_of h.now)) sets.now }
+        requires room { before + length (steps (connect connective (tree_of g.now) (tree_of h.now))) < 2 ^ 32 }
+        ensures ok { IfOk result (λ m. IsRememberedPart (connect connective (tree_of g.now) (tree_of h.now)) (tables sets.now) before self.old self.new m.part m.done) }
+        ensures err { IfErr result (IsInterrupted (connect connective (tree_of g.now) (tree_of h.now)) (tables sets.now) before self.old self.new) }
+    {
+        let left = self.compiled(alloc, g, sets, before)?;
+        let right = self.compiled(alloc, h, sets, left.done)?;
+        let step = right.done + 1;
+        let auto = self.joined(alloc, connective, &left.part, &right.part, step)?;
+        Ok(Remembered {
+            part: Part::Fresh(auto),
+            done: step,
+        })
+    }
+
     /// The complement of a part's automaton.
     fn not(&self, alloc: Global, part: &Part) -> Result<Auto, CompileError>
-        requires { (a : Automaton) × IsPart self.now part.now a × IsReduced a }
-        ensures ok { IfOk result (IsTurned self.now part.now) }
-        ensures err { IfErr result (λ why. why ≡ CompileError.Memory) }
+        requires { HasReduced self.now part.now }
+        ensures reduced { IfOk result IsReduced }
+        ensures decides { IfOk result (λ c. (a : Automaton) → IsPart self.now part.now a → (f : Tree) (e : ℕ → SetOf) → Decides a f (members e) → Decides c (tree.Not f) (members e)) }
+        ensures over { IfErr result (λ why. why ≡ CompileError.Memory) }
     {
         complement(alloc, self.automaton(part))
     }
 
     /// The projection of a part's automaton along a variable.
     fn some(&self, alloc: Global, var: Var, part: &Part, step: u32) -> Result<Auto, CompileError>
-        requires { (a : Automaton) × IsPart self.now part.now a × IsReduced a }
-        ensures ok { IfOk result (IsProjected self.now part.now var) }
-        ensures err { IfErr result (IsProjectError self.now part.now var step) }
+        requires { HasReduced self.now part.now }
+        ensures reduced { IfOk result IsReduced }
+        ensures decides { IfOk result (λ c. (a : Automaton) → IsPart self.now part.now a → (f : Tree) (e : ℕ → SetOf) → Decides a f (members e) → Decides c (tree.Ex var f) (members e)) }
+        ensures within { IfOk result (λ c. (a : Automaton) → IsPart self.now part.now a → ¬ ExSpreadExceeds var a.tracks (Accepts a) self.now.budget) }
+        ensures over { IfErr result (λ why. (a : Automaton) → IsPart self.now part.now a → IsStepError step (ExSpreadExceeds var a.tracks (Accepts a) self.now.budget) why) }
     {
         projection(alloc, var, self.automaton(part), self.budget(), step)
     }
 
-    /// The conjunction of the automata of two parts.
-    fn both(
+    /// The automata of two parts put together.
+    fn joined(
         &self,
         alloc: Global,
+        connective: Connective,
         left: &Part,
         right: &Part,
         step: u32,
     ) -> Result<Auto, CompileError>
-        requires { AreJoinable self.now left.now right.now }
-        ensures ok { IfOk result (IsJoined self.now left.now right.now And) }
-        ensures err { IfErr result (IsJoinError self.now left.now right.now step) }
+        requires left { HasReduced self.now left.now }
+        requires right { HasReduced self.now right.now }
+        requires tracks { (a b : Automaton) → IsPart self.now left.now a → IsPart self.now right.now b → length (with_vars a.tracks b.tracks) ≤ 20 }
+        ensures reduced { IfOk result IsReduced }
+        ensures decides { IfOk result (λ c. (a b : Automaton) → IsPart self.now left.now a → IsPart self.now right.now b → (f g : Tree) (e : ℕ → SetOf) → Decides a f (members e) → Decides b g (members e) → Decides c (connect connective f g) (members e)) }
+        ensures within { IfOk result (λ c. (a b : Automaton) → IsPart self.now left.now a → IsPart self.now right.now b → ¬ BothSpreadExceeds a.tracks b.tracks (Accepts a) (Accepts b) self.now.budget) }
+        ensures over { IfErr result (λ why. (a b : Automaton) → IsPart self.now left.now a → IsPart self.now right.now b → IsStepError step (BothSpreadExceeds a.tracks b.tracks (Accepts a) (Accepts b) self.now.budget) why) }
     {
-        let budget = self.budget();
-        conjunction(
-            alloc,
-            self.automaton(left),
-            self.automaton(right),
-            budget,
-            step,
-        )
-    }
-
-    /// The disjunction of the automata of two parts.
-    fn either(
-        &self,
-        alloc: Global,
-        left: &Part,
-        right: &Part,
-        step: u32,
-    ) -> Result<Auto, CompileError>
-        requires { AreJoinable self.now left.now right.now }
-        ensures ok { IfOk result (IsJoined self.now left.now right.now Or) }
-        ensures err { IfErr result (IsJoinError self.now left.now right.now step) }
-    {
-        let budget = self.budget();
-        disjunction(
-            alloc,
-            self.automaton(left),
-            self.automaton(right),
-            budget,
-            step,
-        )
+        let left = self.automaton(left);
+        let right = self.automaton(right);
+        joined(alloc, connective, left, right, self.budget(), step)
     }
 
     /// The automaton of a plain formula: lent by the table, or made and entered.

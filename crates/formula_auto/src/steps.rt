@@ -11,8 +11,10 @@ ghost use Rattle.lin_formula.specs.Tree.{Tree};
 ghost use Rattle.lin_formula.specs.SetOf.{SetOf, members};
 ghost use Rattle.lin_formula.specs.SetOf as set_of;
 ghost use Rattle.formula_auto.specs.Decides.{Decides};
+ghost use Rattle.formula_auto.specs.Connected.{connect};
 ghost use Rattle.formula_auto.specs.StepError.{IsStepError};
 
+use crate::connective::Connective;
 use crate::errors::CompileError;
 use auto_bool::{join, meet, not};
 use auto_core::Auto;
@@ -75,8 +77,9 @@ fn are_distinct(vars: &[Var]) -> bool
     }
 }
 
-pub fn conjunction(
+pub fn joined(
     alloc: Global,
+    connective: Connective,
     a: &Auto,
     b: &Auto,
     budget: u32,
@@ -87,37 +90,35 @@ pub fn conjunction(
     requires tracks { length (with_vars a.now.tracks b.now.tracks) ≤ 20 }
     requires budget { (1 ≤ budget) × (budget ≤ 200000) }
     ensures reduced { IfOk result IsReduced }
-    ensures decides { IfOk result (λ c. (f g : Tree) (e : ℕ → SetOf) → Decides a.now f (members e) → Decides b.now g (members e) → Decides c (tree.And f g) (members e)) }
+    ensures decides { IfOk result (λ c. (f g : Tree) (e : ℕ → SetOf) → Decides a.now f (members e) → Decides b.now g (members e) → Decides c (connect connective f g) (members e)) }
     ensures within { IfOk result (λ c. ¬ BothSpreadExceeds a.now.tracks b.now.tracks (Accepts a.now) (Accepts b.now) budget) }
     ensures over { IfErr result (IsStepError step (BothSpreadExceeds a.now.tracks b.now.tracks (Accepts a.now) (Accepts b.now) budget)) }
 {
-    match meet(alloc, a, b, budget) {
+    match product(alloc, connective, a, b, budget) {
         Ok(c) => reduced(alloc, &c),
         Err(Grown::Over) => Err(CompileError::Over { step }),
         Err(Grown::Memory) => Err(CompileError::Memory),
     }
 }
 
-pub fn disjunction(
+fn product(
     alloc: Global,
+    connective: Connective,
     a: &Auto,
     b: &Auto,
     budget: u32,
-    step: u32,
-) -> Result<Auto, CompileError>
+) -> Result<Auto, Grown>
     requires a_reduced { IsReduced a.now }
     requires b_reduced { IsReduced b.now }
     requires tracks { length (with_vars a.now.tracks b.now.tracks) ≤ 20 }
     requires budget { (1 ≤ budget) × (budget ≤ 200000) }
-    ensures reduced { IfOk result IsReduced }
-    ensures decides { IfOk result (λ c. (f g : Tree) (e : ℕ → SetOf) → Decides a.now f (members e) → Decides b.now g (members e) → Decides c (tree.Or f g) (members e)) }
-    ensures within { IfOk result (λ c. ¬ BothSpreadExceeds a.now.tracks b.now.tracks (Accepts a.now) (Accepts b.now) budget) }
-    ensures over { IfErr result (IsStepError step (BothSpreadExceeds a.now.tracks b.now.tracks (Accepts a.now) (Accepts b.now) budget)) }
+    ensures decides { IfOk result (λ c. (f g : Tree) (e : ℕ → SetOf) → Decides a.now f (members e) → Decides b.now g (members e) → Decides c (connect connective f g) (members e)) }
+    ensures within { OnOk result (¬ BothSpreadExceeds a.now.tracks b.now.tracks (Accepts a.now) (Accepts b.now) budget) }
+    ensures over { result ≡ Err Grown.Over → BothSpreadExceeds a.now.tracks b.now.tracks (Accepts a.now) (Accepts b.now) budget }
 {
-    match join(alloc, a, b, budget) {
-        Ok(c) => reduced(alloc, &c),
-        Err(Grown::Over) => Err(CompileError::Over { step }),
-        Err(Grown::Memory) => Err(CompileError::Memory),
+    match connective {
+        Connective::And => meet(alloc, a, b, budget),
+        Connective::Or => join(alloc, a, b, budget),
     }
 }
 
