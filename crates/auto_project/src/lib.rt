@@ -8,7 +8,6 @@ mod closure;
 mod join;
 mod placing;
 mod projection;
-mod row_memo;
 mod rows;
 mod sets;
 mod subsets;

@@ -6,9 +6,8 @@ ghost use Rattle.letter_diagram.specs.Merged.{HasSets};
 ghost use Rattle.letter_diagram.specs.NodeMemo.{answer_of};
 ghost use Rattle.auto_project.specs.Placed.{IsPlaced, AddsSetsOf, RemembersPlaced};
 
-use crate::row_memo::RowMemo;
 use crate::sets::number_of;
-use letter_diagram::{Diagrams, Merger, Node, Sets, Shape};
+use letter_diagram::{Diagrams, Merger, Node, NodeMemo, Sets, Shape};
 use std::alloc::{AllocError, Global};
 
 /// The sets that are numbered as places, and nodes whose maps lead letters to places. Nodes of a merger are led to them, each once:
@@ -17,19 +16,20 @@ use std::alloc::{AllocError, Global};
 pub struct Places {
     pub sets: Sets,
     pub rows: Diagrams,
-    pub placed: RowMemo,
+    pub placed: NodeMemo,
 }
 
 impl Places {
-    pub fn new(alloc: Global) -> Self
-        ensures fresh { result.sets ≡ [] }
-        ensures none { (node : ℕ) → answer_of result.placed node ≡ None }
+    /// No place, and no row.
+    pub fn new(alloc: Global) -> Result<Self, AllocError>
+        ensures fresh { IfOk result (λ places. places.sets ≡ []) }
+        ensures none { IfOk result (λ places. (node : ℕ) → answer_of places.placed node ≡ None) }
     {
-        Places {
+        Ok(Places {
             sets: Sets::new(alloc),
             rows: Diagrams::new(alloc),
-            placed: RowMemo::new(alloc),
-        }
+            placed: NodeMemo::new(alloc, 0)?,
+        })
     }
 
     /// The diagrams that the rows are nodes of.

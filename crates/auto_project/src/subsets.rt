@@ -95,7 +95,7 @@ impl<'a> Subsets<'a> {
             rows,
             first,
             merger,
-            places: Places::new(alloc),
+            places: Places::new(alloc)?,
         })
     }
 
