@@ -1,14 +1,12 @@
 -- Maps of other nodes, led through a table, as nodes are added.
-use Rattle.std.proofs.Common.{◌≡◌, ℕ, ◌<◌, ◌≤◌, Bool, true, false, List, length, get_or, nat_eq, Option, Some, arith, refl, sym, ap, ◌∙◌, subst, inl, inr, if◌then◌else◌}
-use Rattle.std.specs.Bool.{⊤}
+use Rattle.std.proofs.Common.{◌≡◌, ℕ, ◌<◌, ◌≤◌, Bool, true, false, List, length, get_or, nat_eq, Option, arith, refl, sym, ap, ◌∙◌, subst, if◌then◌else◌}
 use Rattle.std.specs.Int.{bit_at}
-use Rattle.std.specs.HashMap.{HashMap, get, Updates}
-use Rattle.std.proofs.lemmas.Grind.{common_steps}
-use Rattle.std.proofs.lemmas.Bool.{cases_eq}
 use Rattle.letter_diagram.specs.declared.diagrams.Shape.{Shape}
 use Rattle.letter_diagram.specs.declared.diagrams.Shape.TheVariants.{Leaf, Test}
 use Rattle.letter_diagram.specs.Diagram.{map_at, top_track, chosen, IsAt, Grows}
-use Rattle.auto_reduce.specs.Leading.{IsLedFrom, RemembersLed, AddsAnswer}
+use Rattle.letter_diagram.specs.NodeMemo.{Remembers}
+use Rattle.letter_diagram.proofs.Memos.{node_answers-insert}
+use Rattle.auto_reduce.specs.Leading.{IsLedFrom, RemembersLed}
 
 pub IsLedFrom-grows : (from old new : List Shape) (table : List ℕ) (a r : ℕ) → Grows old new → IsLedFrom from old table a r → IsLedFrom from new table a r
 IsLedFrom-grows from old new table a r grows is =
@@ -23,27 +21,11 @@ IsLedFrom-grows from old new table a r grows is =
       top = omega (arith, top, top_r);
     }
 
-pub RemembersLed-grows : (from old new : List Shape) (table : List ℕ) (answer : ℕ → Option ℕ) → Grows old new → RemembersLed from old table answer → RemembersLed from new table answer
-RemembersLed-grows from old new table answer grows all = record { led = λ a r at. IsLedFrom-grows from old new table a r grows (all.led a r at) }
+pub RemembersLed-grows : (from old new : List Shape) (table : List ℕ) (memo : List (Option ℕ)) → Grows old new → RemembersLed from old table memo → RemembersLed from new table memo
+RemembersLed-grows from old new table memo grows all = record { led = λ a r at. IsLedFrom-grows from old new table a r grows (all.led a r at) }
 
-pub RemembersLed-adds : (from shapes : List Shape) (table : List ℕ) (answer new : ℕ → Option ℕ) (has_room : Type 0) (a r : ℕ) → RemembersLed from shapes table answer → AddsAnswer answer new has_room a r → IsLedFrom from shapes table a r → RemembersLed from shapes table new
-RemembersLed-adds from shapes table answer new has_room a r all adds is = record {
-  led = λ b s at. elim (adds.only b s at) [
-    | inl before ↦ all.led b s before
-    | inr here ↦ rw (here.0, here.1) is
-  ];
-}
-
--- an answer that a hashed memo keeps
-pub AddsAnswer-updates : {S : Type 0} (memo new : HashMap ℕ ℕ S) (a r : ℕ) → Updates nat_eq memo new a (Some r) → AddsAnswer (get nat_eq memo) (get nat_eq new) ⊤ a r
-AddsAnswer-updates memo new a r updates = record {
-  only = λ b s at. elim (cases_eq a b) [
-    | inl e ↦ inr (sym e, grind (arith, common_steps, updates.1, at, e))
-    | inr ne ↦ inl (grind (arith, common_steps, updates.0 b, at, ne))
-  ];
-  here = λ room. grind (arith, common_steps, updates.1);
-  others = λ other apart. grind (arith, common_steps, updates.0 other, apart);
-}
+pub RemembersLed-insert : (from shapes : List Shape) (table : List ℕ) (memo new : List (Option ℕ)) (a r : ℕ) → RemembersLed from shapes table memo → Remembers memo new a r → IsLedFrom from shapes table a r → RemembersLed from shapes table new
+RemembersLed-insert from shapes table memo new a r all remembers is = record { led = node_answers-insert (IsLedFrom from shapes table) memo new a r all.led remembers is }
 
 -- a table's entry at one of two values
 pub entry-either : (table : List ℕ) (b : Bool) (v w : ℕ) → get_or table (if b then v else w) 0 ≡ (if b then get_or table v 0 else get_or table w 0)

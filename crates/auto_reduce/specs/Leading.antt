@@ -1,7 +1,8 @@
 -- Nodes of one list of shapes that have the maps of nodes of another, led through a table.
-use Rattle.std.specs.Prelude.{◌≡◌, ◌≢◌, ℕ, ◌<◌, ◌≤◌, ◌⊎◌, List, length, slice_index, Option, Some}
+use Rattle.std.specs.Prelude.{◌≡◌, ℕ, ◌<◌, ◌≤◌, List, length, slice_index, Option, Some}
 use Rattle.letter_diagram.specs.declared.diagrams.Shape.{Shape}
 use Rattle.letter_diagram.specs.Diagram.{map_at, top_track}
+use Rattle.letter_diagram.specs.NodeMemo.{answer_of}
 
 -- the entry of a table at the value of a node's map
 abbrev pub entry_at : List ℕ → List Shape → ℕ → ℕ → ℕ
@@ -14,12 +15,6 @@ pub record IsLedFrom (from shapes : List Shape) (table : List ℕ) (a r : ℕ) :
   pub map : (letter : ℕ) → map_at shapes r letter ≡ entry_at table from a letter
   pub top : top_track from a ≤ top_track shapes r
 
--- one more answer, which is known where there is room for it; other answers stay
-pub record AddsAnswer (old new : ℕ → Option ℕ) (has_room : Type 0) (node answer : ℕ) : Type 0 where
-  pub only : (a r : ℕ) → new a ≡ Some r → (old a ≡ Some r) ⊎ ((a ≡ node) × (r ≡ answer))
-  pub here : has_room → new node ≡ Some answer
-  pub others : (other : ℕ) → other ≢ node → new other ≡ old other
-
 -- the answers of a memo are led through the table
-pub record RemembersLed (from shapes : List Shape) (table : List ℕ) (answer : ℕ → Option ℕ) : Type 0 where
-  pub led : (a r : ℕ) → answer a ≡ Some r → IsLedFrom from shapes table a r
+pub record RemembersLed (from shapes : List Shape) (table : List ℕ) (memo : List (Option ℕ)) : Type 0 where
+  pub led : (a r : ℕ) → answer_of memo a ≡ Some r → IsLedFrom from shapes table a r

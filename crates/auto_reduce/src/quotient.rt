@@ -27,7 +27,7 @@ fn breadth_first(
     ensures order { IfOk result (λ order. IsOrder a.now canon.now order) }
     ensures numbered { IfOk result (λ order. IsNumberedTo a.now canon.now order (length order + 1)) }
 {
-    let mut order = first_met(alloc, a.diagrams(), a.first_node(), canon)?;
+    let mut order = first_met(alloc, a.diagrams(), a.first_node(), canon, memo)?;
     let mut done = Done::new(alloc, a.diagrams().len())?;
     let mut passed = Vec::new(alloc);
     let mut place = 0;

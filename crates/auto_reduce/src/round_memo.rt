@@ -1,4 +1,4 @@
-//! Answers for nodes that serve one round of a refinement after another.
+//! Answers for nodes that serve one round of a refinement after another, and one row of a numbering after another.
 ghost use Rattle.std.specs.Prelude.{◌≡◌, ℕ, None, length, IfOk, OnOk};
 ghost use Rattle.letter_diagram.specs.NodeMemo.{answer_of, Remembers};
 

@@ -4,7 +4,7 @@ ghost use Rattle.letter_diagram.specs.Diagram.{map_at, top_track, Grows};
 ghost use Rattle.auto_reduce.specs.Leading.{entry_at};
 ghost use Rattle.auto_reduce.specs.Unmet.{AddsRow, IsMetLeaf, IsPruned, RemembersPruned, AreDone, AreDoneWith, AreDoneBut, Finds};
 
-use crate::leading::lead_few;
+use crate::leading::lead_nodes;
 use crate::order::Order;
 use crate::round_memo::RoundMemo;
 use letter_diagram::{Diagrams, Node, Shape};
@@ -259,6 +259,7 @@ pub fn first_met(
     from: &Diagrams,
     row: Node,
     canon: &[u32],
+    memo: &mut RoundMemo,
 ) -> Result<Order, AllocError>
     requires known { row < length from.now }
     requires leaves { (letter : ℕ) → map_at from.now row letter < length canon.now }
@@ -267,7 +268,7 @@ pub fn first_met(
 {
     let mut order = Order::new(alloc);
     let mut to = Diagrams::new(alloc);
-    let led = lead_few(from, &[row], canon, &mut to)?;
+    let led = lead_nodes(from, &[row], canon, &mut to, memo)?;
     let leaves = to.leaves(led[0])?;
     order.add_all(leaves.as_slice())?;
     Ok(order)

@@ -1,4 +1,4 @@
 use Rattle.auto_reduce.proofs.leading.+led.Given as goal
 
 abbrev pub decreases-led : goal.decreases-led
-decreases-led g l = l.node
+decreases-led l = l.node

@@ -1,10 +1,10 @@
 use Rattle.letter_diagram.proofs.Maps.{Grows-trans}
 use Rattle.letter_diagram.proofs.Lists.{EachAnswers-push}
 use Rattle.auto_reduce.proofs.Leadings.{IsLedFrom-grows}
-use Rattle.auto_reduce.proofs.leading.each_led.Goals as goal
+use Rattle.auto_reduce.proofs.leading.lead_nodes.Goals as goal
 
 pub loop-node-preserved : goal.loop-node-preserved
-loop-node-preserved g c =
+loop-node-preserved c =
     let e = c.in_ok-answer.ensures in
     let i = c.loop-node.invariant in
     record {
