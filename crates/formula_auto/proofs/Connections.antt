@@ -1,5 +1,5 @@
 -- Two formulas put together, by And or by Or.
-use Rattle.std.proofs.Common.{◌≡◌, ℕ, ◌+◌, ◌*◌, ◌≤◌, List, [], ◌∷◌, ◌++◌, length, refl, ◌∙◌, ap, arith}
+use Rattle.std.proofs.Common.{◌≡◌, ℕ, ◌+◌, ◌≤◌, List, [], ◌∷◌, ◌++◌, length, refl}
 use Rattle.track_word.specs.Tracks.{with_vars}
 use Rattle.auto_core.specs.Automaton.{Automaton}
 use Rattle.lin_formula.specs.Tree as tree

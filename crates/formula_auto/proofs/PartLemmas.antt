@@ -9,8 +9,6 @@ use Rattle.lin_formula.specs.SetOf.{SetOf}
 use Rattle.formula_auto.specs.MemoState.{MemoState, IsEntryAt, IsMemoAfter, counted}
 use Rattle.formula_auto.specs.Remembered.{IsRemembered}
 use Rattle.formula_auto.specs.PartOf.{IsPart, IsRememberedPart}
-use Rattle.formula_auto.specs.PlainParts.{plain_parts}
-use Rattle.formula_auto.specs.declared.part.Remembered.{Remembered}
 use Rattle.formula_auto.specs.declared.part.Part.{Part}
 use Rattle.formula_auto.specs.declared.part.Part.TheVariants.{Fresh, Kept}
 use Rattle.formula_auto.proofs.MemoLemmas.{known-at}
@@ -49,15 +47,3 @@ module _ (f : Tree) (e : ℕ → SetOf) (before : ℕ) where
   module _ (old new : MemoState) (part : Part) (last : ℕ) (made : IsRememberedPart f e before old new part last) (a : Automaton) where
     pub lent : IsPart new part a → IsRemembered f e before old new a last
     lent has = subst (λ b. IsRemembered f e before old new b last) (one_automaton new part made.auto a made.has has) made.remembered
-
-    pub lent-later : (later : MemoState) (fs : List Tree) → IsMemoAfter new later fs → IsPart later part a → IsRemembered f e before old new a last
-    lent-later later fs after has =
-        subst (λ b. IsRemembered f e before old new b last) (one_automaton later part made.auto a (part-after new later fs part made.auto after made.has) has) made.remembered
-
--- the left part keeps its automaton while the right one is compiled
-pub both_lent : (f g : Tree) (e : ℕ → SetOf) (before : ℕ) (m0 m1 m2 : MemoState) (left right : Remembered) → IsRememberedPart f e before m0 m1 left.part left.done → IsRememberedPart g e left.done m1 m2 right.part right.done
-    → (a b : Automaton) → IsPart m2 left.part a → IsPart m2 right.part b → IsRemembered f e before m0 m1 a left.done × IsRemembered g e left.done m1 m2 b right.done
-both_lent f g e before m0 m1 m2 left right made_left made_right a b has_a has_b = (
-  lent-later f e before m0 m1 left.part left.done made_left a m2 (plain_parts g) made_right.remembered.after has_a,
-  lent g e left.done m1 m2 right.part right.done made_right b has_b,
-)

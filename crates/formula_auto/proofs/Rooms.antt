@@ -1,5 +1,5 @@
 -- What a formula asks holds of its parts too.
-use Rattle.std.proofs.Common.{◌≡◌, ◌≢◌, ℕ, suc, ◌+◌, ◌≤◌, ◌<◌, ◌^◌, List, [], ◌∷◌, ◌++◌, length, refl, sym, ap, ◌∙◌, subst, inl, inr, arith, length-append, Some, None}
+use Rattle.std.proofs.Common.{◌≡◌, ◌≢◌, ℕ, suc, ◌≤◌, List, [], ◌∷◌, ◌++◌, length, refl, sym, ap, ◌∙◌, subst, inl, inr, arith, Some, None}
 use Rattle.std.specs.List.{All, slice_get}
 use Rattle.std.proofs.lemmas.List.Elements.{All-cons, All-tail}
 use Rattle.std.proofs.lemmas.Option.{same_Some, slice_get_past}
@@ -8,7 +8,7 @@ use Rattle.auto_core.specs.Reduced.{IsReduced}
 use Rattle.track_word.specs.declared.tracks.Var.{Var}
 use Rattle.track_word.specs.Tracks.{with_vars}
 use Rattle.auto_core.specs.Automaton.{Automaton}
-use Rattle.lin_formula.specs.Tree.{Tree, Lin, Value, Among, Not, And, Or, Ex, IsWellMade, free_vars, vars_of, steps, memberships}
+use Rattle.lin_formula.specs.Tree.{Tree, Lin, Value, Among, Not, And, Or, Ex, IsWellMade, free_vars, vars_of, memberships}
 use Rattle.lin_formula.specs.Free.{IsOneOf}
 use Rattle.lin_formula.proofs.FreeVars.{one_of-with_var, one_of-with_vars, one_of-without_var}
 use Rattle.formula_auto.specs.Distinct.{Apart}

@@ -15,6 +15,7 @@ abbrev pub IsPart : MemoState → Part → Automaton → Type 0
 IsPart m (Fresh a) b = a ≡ b
 IsPart m (Kept place) b = (f : Formula) × (slice_get m.entries place ≡ Some (f, b))
 
+-- the part has an automaton, and that is reduced
 abbrev pub HasReduced : MemoState → Part → Type 0
 HasReduced m part = (a : Automaton) × IsPart m part a × IsReduced a
 

@@ -105,7 +105,7 @@ impl Memo {
         }
     }
 
-    /// The automaton of two formulas put together, which are no plain formula then.
+    /// The automaton of two formulas put together.
     #[cycle(compiled)]
     fn both(
         &mut self,
@@ -153,7 +153,7 @@ impl Memo {
         projection(alloc, var, self.automaton(part), self.budget(), step)
     }
 
-    /// The automata of two parts put together.
+    /// The automaton of what two parts are put together to.
     fn joined(
         &self,
         alloc: Global,

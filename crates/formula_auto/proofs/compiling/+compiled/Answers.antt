@@ -8,7 +8,7 @@ use Rattle.lin_formula.specs.SetOf.{tables, members, as_set}
 use Rattle.formula_auto.proofs.Rooms.{set_fits, set_there}
 use Rattle.formula_auto.specs.Decides.{Decides}
 use Rattle.formula_auto.proofs.Compiles.{compiled_both, compiled_ex, step_both, step_ex, error_left, error_right, error_ex}
-use Rattle.formula_auto.proofs.Connections.{size-connect, ready-connect}
+use Rattle.formula_auto.proofs.Connections.{ready-connect}
 use Rattle.formula_auto.proofs.compiling.+compiled.Goals as goal
 
 pub compiled-membership-requires-clause-size : goal.compiled-membership-requires-clause-size

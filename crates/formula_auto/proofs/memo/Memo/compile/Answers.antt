@@ -15,31 +15,6 @@ compiled-requires-clause-ready c = ready (tree_of c.args.f.now) c.args.sets.now 
 pub compiled-requires-clause-room : goal.compiled-requires-clause-room
 compiled-requires-clause-room c = omega (arith, c.requires.few_steps)
 
-pub returns-in_err-made-clause-reduced : goal.returns-in_err-made-clause-reduced
-returns-in_err-made-clause-reduced c =
-    let p = err_from_is_err_and c.from_residual.result c.from_residual.ensures.1 in
-    rw p.1 tt
-
-pub returns-in_err-made-clause-decides : goal.returns-in_err-made-clause-decides
-returns-in_err-made-clause-decides c =
-    let p = err_from_is_err_and c.from_residual.result c.from_residual.ensures.1 in
-    rw p.1 tt
-
-pub returns-in_err-made-clause-integers : goal.returns-in_err-made-clause-integers
-returns-in_err-made-clause-integers c =
-    let p = err_from_is_err_and c.from_residual.result c.from_residual.ensures.1 in
-    rw p.1 tt
-
-pub returns-in_err-made-clause-within : goal.returns-in_err-made-clause-within
-returns-in_err-made-clause-within c =
-    let p = err_from_is_err_and c.from_residual.result c.from_residual.ensures.1 in
-    rw p.1 tt
-
-pub returns-in_err-made-clause-after : goal.returns-in_err-made-clause-after
-returns-in_err-made-clause-after c =
-    let p = err_from_is_err_and c.from_residual.result c.from_residual.ensures.1 in
-    rw p.1 tt
-
 pub returns-in_err-made-clause-over : goal.returns-in_err-made-clause-over
 returns-in_err-made-clause-over c =
     let p = err_from_is_err_and c.from_residual.result c.from_residual.ensures.1 in
@@ -50,36 +25,8 @@ returns-in_err-made-clause-stopped c =
     let p = err_from_is_err_and c.from_residual.result c.from_residual.ensures.1 in
     rw (p.1, p.2) (stopped-first (tree_of c.args.f.now) c.args.self.now c.compiled.new.self c.in_err-made.field-0.0 c.in_err-made.ensures.err.1)
 
-pub returns-in_err-made-clause-budget : goal.returns-in_err-made-clause-budget
-returns-in_err-made-clause-budget c = c.in_err-made.ensures.err.1.after.budget
-
 pub taken-requires : goal.taken-requires
 taken-requires c = (c.in_ok-made.ensures.ok.auto, c.in_ok-made.ensures.ok.has)
-
-pub returns-in_err-taken-clause-reduced : goal.returns-in_err-taken-clause-reduced
-returns-in_err-taken-clause-reduced c =
-    let p = err_from_is_err_and c.from_residual-in_err-taken.result c.from_residual-in_err-taken.ensures.1 in
-    rw p.1 tt
-
-pub returns-in_err-taken-clause-decides : goal.returns-in_err-taken-clause-decides
-returns-in_err-taken-clause-decides c =
-    let p = err_from_is_err_and c.from_residual-in_err-taken.result c.from_residual-in_err-taken.ensures.1 in
-    rw p.1 tt
-
-pub returns-in_err-taken-clause-integers : goal.returns-in_err-taken-clause-integers
-returns-in_err-taken-clause-integers c =
-    let p = err_from_is_err_and c.from_residual-in_err-taken.result c.from_residual-in_err-taken.ensures.1 in
-    rw p.1 tt
-
-pub returns-in_err-taken-clause-within : goal.returns-in_err-taken-clause-within
-returns-in_err-taken-clause-within c =
-    let p = err_from_is_err_and c.from_residual-in_err-taken.result c.from_residual-in_err-taken.ensures.1 in
-    rw p.1 tt
-
-pub returns-in_err-taken-clause-after : goal.returns-in_err-taken-clause-after
-returns-in_err-taken-clause-after c =
-    let p = err_from_is_err_and c.from_residual-in_err-taken.result c.from_residual-in_err-taken.ensures.1 in
-    rw p.1 tt
 
 pub returns-in_err-taken-clause-over : goal.returns-in_err-taken-clause-over
 returns-in_err-taken-clause-over c =
@@ -90,9 +37,6 @@ pub returns-in_err-taken-clause-stopped : goal.returns-in_err-taken-clause-stopp
 returns-in_err-taken-clause-stopped c =
     let p = err_from_is_err_and c.from_residual-in_err-taken.result c.from_residual-in_err-taken.ensures.1 in
     rw (p.1, p.2) (length (steps (tree_of c.args.f.now)), c.in_ok-made.ensures.ok.remembered.after)
-
-pub returns-in_err-taken-clause-budget : goal.returns-in_err-taken-clause-budget
-returns-in_err-taken-clause-budget c = c.in_ok-made.ensures.ok.remembered.after.budget
 
 pub returns-clause-reduced : goal.returns-clause-reduced
 returns-clause-reduced c =

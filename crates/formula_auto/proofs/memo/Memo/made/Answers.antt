@@ -7,20 +7,6 @@ use Rattle.formula_auto.proofs.MemoLemmas.{entry_of-compiled}
 use Rattle.formula_auto.proofs.WithMemo.{remembered_made, interrupted_made, interrupted_memory}
 use Rattle.formula_auto.proofs.memo.Memo.made.Goals as goal
 
-pub compiled-requires-clause-ready : goal.compiled-requires-clause-ready
-compiled-requires-clause-ready c = c.requires.ready
-
-pub compiled-requires-clause-room : goal.compiled-requires-clause-room
-compiled-requires-clause-room c = c.requires.room
-
-pub compiled-requires-clause-budget : goal.compiled-requires-clause-budget
-compiled-requires-clause-budget c = (c.budget.ensures.low, c.budget.ensures.high)
-
-pub returns-in_err-made-clause-ok : goal.returns-in_err-made-clause-ok
-returns-in_err-made-clause-ok c =
-    let p = err_from_is_err_and c.from_residual.result c.from_residual.ensures.1 in
-    rw p.1 tt
-
 pub returns-in_err-made-clause-err : goal.returns-in_err-made-clause-err
 returns-in_err-made-clause-err c =
     let p = err_from_is_err_and c.from_residual.result c.from_residual.ensures.1 in
@@ -30,14 +16,6 @@ pub enter-requires-clause-entry : goal.enter-requires-clause-entry
 enter-requires-clause-entry c =
     subst (λ b. IsEntry b (tree_of c.args.f.now) c.in_ok-made.made.auto) c.budget.ensures.is
     (entry_of-compiled (tree_of c.args.f.now) (tables c.args.sets.now) c.args.before c.budget.result c.in_ok-made.made.auto c.requires.plain c.in_ok-made.ensures.ok)
-
-pub enter-requires-clause-unknown : goal.enter-requires-clause-unknown
-enter-requires-clause-unknown c = c.requires.unknown
-
-pub returns-in_err-part-clause-ok : goal.returns-in_err-part-clause-ok
-returns-in_err-part-clause-ok c =
-    let p = err_from_is_err_and c.from_residual-in_err-part.result c.from_residual-in_err-part.ensures.1 in
-    rw p.1 tt
 
 pub returns-in_err-part-clause-err : goal.returns-in_err-part-clause-err
 returns-in_err-part-clause-err c =

@@ -12,25 +12,7 @@ steps_of-requires c = omega (arith, c.requires.room)
 pub overflow_add-result : goal.overflow_add-result
 overflow_add-result c = record { fits = omega (arith, c.requires.room, c.steps_of.ensures) }
 
-pub made-requires-clause-plain : goal.made-requires-clause-plain
-made-requires-clause-plain c = c.requires.plain
-
-pub made-requires-clause-unknown : goal.made-requires-clause-unknown
-made-requires-clause-unknown c = c.in-None.ensures
-
-pub made-requires-clause-ready : goal.made-requires-clause-ready
-made-requires-clause-ready c = c.requires.ready
-
-pub made-requires-clause-room : goal.made-requires-clause-room
-made-requires-clause-room c = c.requires.room
-
 pub returns-in-Some-clause-ok : goal.returns-in-Some-clause-ok
 returns-in-Some-clause-ok c =
     subst (λ m. IsRememberedPart (tree_of c.args.f.now) (tables c.args.sets.now) c.args.before c.args.self.now m (Kept c.in-Some.place) (c.args.before + c.steps_of.result)) (sym c.count.ensures)
     (part-found (tree_of c.args.f.now) (tables c.args.sets.now) c.args.before c.args.self.now c.in-Some.place (c.args.before + c.steps_of.result) (ap (λ n. c.args.before + n) c.steps_of.ensures) c.in-Some.ensures)
-
-pub returns-in-None-clause-ok : goal.returns-in-None-clause-ok
-returns-in-None-clause-ok c = c.made.ensures.ok
-
-pub returns-in-None-clause-err : goal.returns-in-None-clause-err
-returns-in-None-clause-err c = c.made.ensures.err
