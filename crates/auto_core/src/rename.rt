@@ -1,15 +1,18 @@
 //! Automata whose tracks take their bits from other variables.
-ghost use Rattle.std.specs.Prelude.{◌≡◌, ◌≢◌, ◌↔◌, ◌≤◌, ◌<◌, ◌^◌, [], ℕ, List, length, map, All, AllPairs, IfOk, OnOk, nat_le};
+ghost use Rattle.std.specs.Prelude.{◌≡◌, ◌≢◌, ◌↔◌, ◌≤◌, ◌<◌, ◌^◌, ◌∷◌, [], ℕ, List, length, map, slice_index, All, AllPairs, IfOk, OnOk, IsTrue, nat_le};
 ghost use Rattle.std.specs.List.{position_or_len};
 ghost use Rattle.track_word.specs.Word.{IsWord};
 ghost use Rattle.track_word.specs.Tracks.{with_vars, with_var, place, part_of, IsAscending};
+ghost use Rattle.letter_diagram.specs.BroughtRelabelled.{IsBroughtRelabelled};
+ghost use Rattle.letter_diagram.specs.Listed.{EachAnswers};
 ghost use Rattle.letter_diagram.specs.Relabelled.{relabelled};
 ghost use Rattle.auto_core.specs.Automaton.{IsAutomaton, Accepts};
 ghost use Rattle.auto_core.specs.Integers.{DecidesIntegers};
 ghost use Rattle.auto_core.specs.Reduced.{IsReduced};
+ghost use Rattle.auto_core.specs.Rows.{IsOverNodes};
 
 use crate::auto::Auto;
-use letter_diagram::Diagrams;
+use letter_diagram::{Diagrams, Node};
 use std::alloc::{AllocError, Global};
 use track_word::Var;
 
@@ -33,6 +36,24 @@ impl Auto {
         Ok(renamed)
     }
 
+    /// The nodes of the first row and of the states' rows, for letters whose bits at the places are read, and the diagrams that
+    /// they are nodes of. Where each track keeps its place the nodes are copied as they are.
+    fn nodes_over(&self, alloc: Global, places: &[u8]) -> Result<(Diagrams, Vec<Node>), AllocError>
+        requires count { length places.now ≡ length self.now.tracks }
+        requires places { All (λ place. place < 20) places.now }
+        ensures over { IsOverNodes self.now }
+        ensures brought { IfOk result (λ made. EachAnswers (IsBroughtRelabelled self.now.shapes made.0 places.now) (self.now.first_node ∷ self.now.row_nodes) made.1.items) }
+    {
+        let nodes = self.all_nodes(alloc)?;
+        if are_in_order(places) {
+            let diagrams = self.diagrams().copy()?;
+            return Ok((diagrams, nodes));
+        }
+        let mut diagrams = Diagrams::with_capacity(alloc, self.diagrams().len())?;
+        let rows = diagrams.bring_relabelled(self.diagrams(), nodes.as_slice(), places)?;
+        Ok((diagrams, rows))
+    }
+
     /// The automaton over the tracks whose letters this one reads by the bits at the places.
     fn over_tracks(
         &self,
@@ -52,15 +73,25 @@ impl Auto {
         ensures valid { IfOk result (λ r. IsAutomaton r) }
     {
         let _ = self.tracks();
-        let nodes = self.all_nodes(alloc)?;
-        let mut diagrams = Diagrams::with_capacity(alloc, self.diagrams().len())?;
-        let mut rows = diagrams.bring_relabelled(self.diagrams(), nodes.as_slice(), places)?;
+        let (diagrams, mut rows) = self.nodes_over(alloc, places)?;
         let first = rows.remove(0);
         let accept = self.flags().to_vec(alloc)?;
         let renamed = Auto::from_diagrams(tracks, diagrams, first, rows, accept);
         let _ = renamed.diagrams();
         Ok(renamed)
     }
+}
+
+/// Whether each place is its own number.
+fn are_in_order(places: &[u8]) -> bool
+    ensures { IsTrue result → (i : ℕ) → i < length places.now → slice_index places.now i ≡ i }
+{
+    for (index, place) in places.iter().enumerate() {
+        if *place as usize != index {
+            return false;
+        }
+    }
+    true
 }
 
 /// The variables, ascending and without repeats.

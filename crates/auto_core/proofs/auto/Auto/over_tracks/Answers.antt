@@ -3,35 +3,35 @@ use Rattle.track_word.specs.Word.{IsWord}
 use Rattle.auto_core.proofs.Renamed.{AreRenamed, AreRenamed-brought, AreRows-renamed, words-renamed, DecidesIntegers-renamed, IsReduced-renamed}
 use Rattle.auto_core.proofs.Inverses.{covered}
 use Rattle.auto_core.proofs.auto.Auto.over_tracks.Goals as goal
+use Rattle.auto_core.proofs.auto.Auto.over_tracks.Goals.{In_ok-accept, After-diagrams-2}
 
-accept-is : (c : goal.In_ok-accept) → c.in_ok-accept.accept.items ≡ c.args.self.now.accept
+accept-is : (c : In_ok-accept) → c.in_ok-accept.accept.items ≡ c.args.self.now.accept
 accept-is c = search rules
 
 pub from_diagrams-renamed-requires : goal.from_diagrams-renamed-requires
 from_diagrams-renamed-requires c =
-    AreRows-renamed _ _ _ _ _ _ _ c.diagrams.ensures.nodes c.requires.ascending c.requires.few (accept-is c) c.requires.places
-    (AreRenamed-brought _ _ _ _ _ _ (rw (c.diagrams-2.ensures.shapes, c.as_slice.ensures.value, c.in_ok-nodes.ensures.nodes) at c.in_ok-rows.ensures.brought) c.remove-first.ensures.value c.remove-first.ensures.items)
+    AreRows-renamed _ _ _ _ _ _ _ c.nodes_over.ensures.over c.requires.ascending c.requires.few (accept-is c) c.requires.places
+    (AreRenamed-brought _ _ _ _ _ _ c.in_ok-diagrams.ensures.brought c.remove-first.ensures.value c.remove-first.ensures.items)
 
-accept-end : (c : goal.After-drop-nodes-2) → c.from_diagrams-renamed.result.accept ≡ c.args.self.now.accept
+accept-end : (c : After-diagrams-2) → c.from_diagrams-renamed.result.accept ≡ c.args.self.now.accept
 accept-end c = search rules
 
-made-end : (c : goal.After-drop-nodes-2) → AreRenamed c.args.self.now c.from_diagrams-renamed.result.shapes c.args.places.now c.from_diagrams-renamed.result.first_node c.from_diagrams-renamed.result.row_nodes
+made-end : (c : After-diagrams-2) → AreRenamed c.args.self.now c.from_diagrams-renamed.result.shapes c.args.places.now c.from_diagrams-renamed.result.first_node c.from_diagrams-renamed.result.row_nodes
 made-end c =
     let e = c.from_diagrams-renamed.ensures in
-    let brought = rw (c.diagrams-2.ensures.shapes, c.as_slice.ensures.value, c.in_ok-nodes.ensures.nodes) at c.in_ok-rows.ensures.brought in
-    rw (e.shapes, e.first_node, e.row_nodes) (AreRenamed-brought _ _ _ _ _ _ brought c.remove-first.ensures.value c.remove-first.ensures.items)
+    rw (e.shapes, e.first_node, e.row_nodes) (AreRenamed-brought _ _ _ _ _ _ c.in_ok-diagrams.ensures.brought c.remove-first.ensures.value c.remove-first.ensures.items)
 
 pub returns-clause-words : goal.returns-clause-words
 returns-clause-words c = λ word is.
-    words-renamed _ _ _ c.diagrams.ensures.nodes c.diagrams-4.ensures.nodes c.requires.count (accept-end c) (made-end c)
+    words-renamed _ _ _ c.nodes_over.ensures.over c.diagrams-2.ensures.nodes c.requires.count (accept-end c) (made-end c)
     word (subst (λ t. IsWord (length t) word) (sym c.from_diagrams-renamed.ensures.tracks) is)
 
 pub returns-clause-integers : goal.returns-clause-integers
-returns-clause-integers c = DecidesIntegers-renamed _ _ _ c.diagrams.ensures.nodes c.diagrams-4.ensures.nodes c.requires.count (accept-end c) (made-end c)
+returns-clause-integers c = DecidesIntegers-renamed _ _ _ c.nodes_over.ensures.over c.diagrams-2.ensures.nodes c.requires.count (accept-end c) (made-end c)
 
 pub returns-clause-reduced : goal.returns-clause-reduced
 returns-clause-reduced c = λ reduced different.
-    IsReduced-renamed _ _ _ c.diagrams.ensures.nodes c.diagrams-4.ensures.nodes c.requires.count (accept-end c) (made-end c)
+    IsReduced-renamed _ _ _ c.nodes_over.ensures.over c.diagrams-2.ensures.nodes c.requires.count (accept-end c) (made-end c)
     (λ letter small. covered c.args.places.now (length c.from_diagrams-renamed.result.tracks) letter different
     (subst (λ t. All (λ p. p < length t) c.args.places.now) (sym c.from_diagrams-renamed.ensures.tracks) c.requires.places) (subst (λ n. letter < 2 ^ n) (sym c.requires.count) small))
     reduced
