@@ -15,7 +15,8 @@ use Rattle.lin_formula.specs.Free.{IsOneOf}
 use Rattle.lin_formula.proofs.FreeVars.{if_cases}
 use Rattle.formula_auto.specs.Step.{Exceeds}
 use Rattle.formula_auto.specs.Decides.{Decides}
-use Rattle.formula_auto.proofs.Exceedings.{Exceeds-And, Exceeds-Or}
+use Rattle.formula_auto.specs.declared.connective.Connective.TheVariants.{And as by_and, Or as by_or}
+use Rattle.formula_auto.proofs.Exceedings.{Exceeds-connect}
 use Rattle.formula_auto.proofs.Parts.{Decides-And, Decides-Or, Decides-Not, Decides-same}
 use Rattle.set_plan.specs.Program.{IsSetOf}
 use Rattle.set_plan.specs.Sets.{IsSetOn}
@@ -89,7 +90,7 @@ module _ (tracks : List Var) (a b : Automaton) (left : IsSetOn tracks a) (right 
       IsSetOf-decides (Or (Among 0 tracks) (Among 1 tracks)) (two (Table a) (Table b)) r (either-decides c r tracks_c words_c tracks_r words_r)
 
   pub either-exceeds : (budget : ℕ) → BothSpreadExceeds a.tracks b.tracks (Accepts a) (Accepts b) budget ↔ Exceeds (Or (Among 0 tracks) (Among 1 tracks)) (members (two (Table a) (Table b))) budget
-  either-exceeds budget = Exceeds-Or (members (two (Table a) (Table b))) (Among 0 tracks) (Among 1 tracks) a b budget first second
+  either-exceeds budget = Exceeds-connect (members (two (Table a) (Table b))) (Among 0 tracks) (Among 1 tracks) a b budget first second by_or
 
   pub either-set : (c r : Automaton) → c.tracks ≡ with_vars a.tracks b.tracks
       → ((word : List ℕ) → IsWord (length c.tracks) word → Accepts c word ↔ (Accepts a (part_of c.tracks a.tracks word) ⊎ Accepts b (part_of c.tracks b.tracks word)))
@@ -126,7 +127,7 @@ module _ (tracks : List Var) (a b : Automaton) (left : IsSetOn tracks a) (right 
         IsSetOf-decides (And (Among 0 tracks) (Not (Among 1 tracks))) (two (Table a) (Table b)) r (except-decides c r tracks_c words_c tracks_r words_r)
 
     pub except-exceeds : (budget : ℕ) → BothSpreadExceeds a.tracks n.tracks (Accepts a) (Accepts n) budget ↔ Exceeds (And (Among 0 tracks) (Not (Among 1 tracks))) (members (two (Table a) (Table b))) budget
-    except-exceeds budget = Exceeds-And (members (two (Table a) (Table b))) (Among 0 tracks) (Not (Among 1 tracks)) a n budget first not-second
+    except-exceeds budget = Exceeds-connect (members (two (Table a) (Table b))) (Among 0 tracks) (Not (Among 1 tracks)) a n budget first not-second by_and
 
     pub except-set : (c r : Automaton) → c.tracks ≡ with_vars a.tracks n.tracks
         → ((word : List ℕ) → IsWord (length c.tracks) word → Accepts c word ↔ (Accepts a (part_of c.tracks a.tracks word) × Accepts n (part_of c.tracks n.tracks word)))
