@@ -10,7 +10,7 @@ use Rattle.track_word.specs.Word.{IsWord}
 use Rattle.letter_diagram.specs.declared.diagrams.Shape.{Shape}
 use Rattle.letter_diagram.specs.Diagram.{map_at}
 use Rattle.auto_core.specs.Rows.{AreRows}
-use Rattle.auto_bool.proofs.States.{state_within, run_within}
+use Rattle.auto_walk.proofs.States.{state_within, run_within}
 
 turned : (b : Bool) → IsTrue (not b) ↔ (IsTrue b → ⊥)
 turned true = (λ e h. true≢false (sym e), λ h. absurd (h refl))

@@ -1,6 +1,5 @@
 pub mod TrackLemmas
 pub mod SideLemmas
-pub mod States
 pub mod PairLemmas
 pub mod Spreads
 pub mod Complements

@@ -21,7 +21,7 @@ use Rattle.auto_bool.specs.declared.connective.Connective.{Connective}
 use Rattle.auto_bool.specs.declared.connective.Connective.TheVariants.{And, Or}
 use Rattle.auto_bool.specs.Both.{combined, place_of_pair, walker_over, both_walker}
 use Rattle.auto_bool.specs.Sides.{Reads}
-use Rattle.auto_bool.proofs.States.{state_within}
+use Rattle.auto_walk.proofs.States.{state_within}
 
 pub get_pair : (pairs : List (ℕ × ℕ)) (number : ℕ) (pair : ℕ × ℕ) → slice_get pairs number ≡ Some pair → slice_get (map place_of_pair pairs) number ≡ Some (place_of_pair pair)
 get_pair pairs number pair at = slice_get-map place_of_pair pairs number ∙ ap (option_map place_of_pair) at

@@ -14,7 +14,8 @@ use Rattle.auto_core.specs.Automaton.{Automaton, IsAutomaton, width, first_state
 use Rattle.auto_core.specs.Rows.{IsOverNodes}
 use Rattle.auto_core.proofs.RowLemmas.{get_or-row_of, get_or-rows_of}
 use Rattle.auto_bool.specs.Sides.{Reads, IsSide, AreAmong}
-use Rattle.auto_bool.proofs.TrackLemmas.{relabelled-places, restrict-below, restrict-same}
+use Rattle.auto_walk.proofs.Restricted.{relabelled-places, restrict-below, all_narrow}
+use Rattle.auto_bool.proofs.TrackLemmas.{restrict-same}
 
 pub Reads-kept : (old new : List Shape) (tracks node : ℕ) (value : ℕ → ℕ) → Grows old new → Reads old tracks node value → Reads new tracks node value
 Reads-kept old new tracks node value grows r = record {
@@ -34,11 +35,6 @@ IsSide-kept old new all a nodes grows s = record {
 -- what the nodes of an automaton know
 pub all_known : (a : Automaton) → IsOverNodes a → All (λ node. node < length a.shapes) (a.first_node ∷ a.row_nodes)
 all_known a over = All-cons (λ node. node < length a.shapes) a.first_node a.row_nodes over.nodes.first_known over.nodes.rows_known
-
-pub all_narrow : (a : Automaton) (all : List Var) → IsOverNodes a → All (λ node. LooksBelow a.shapes node (length (map (place all) a.tracks))) (a.first_node ∷ a.row_nodes)
-all_narrow a all over =
-    subst (λ bound. All (λ node. LooksBelow a.shapes node bound) (a.first_node ∷ a.row_nodes)) (sym (length-map a.tracks (place all)))
-    (All-cons (λ node. LooksBelow a.shapes node (length a.tracks)) a.first_node a.row_nodes over.nodes.first_narrow over.nodes.rows_narrow)
 
 pub places-small : (all some : List Var) → length all ≤ 20 → AreAmong all some → All (λ track. track < 20) (map (place all) some)
 places-small all some few among = All-weaker (λ track. track < length all) (λ track. track < 20) (λ track h. omega arith) (map (place all) some) among.within

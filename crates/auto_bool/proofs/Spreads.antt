@@ -9,7 +9,7 @@ use Rattle.auto_core.specs.Spread.{SameResidual, AlikeInBoth, BothSpreadExceeds}
 use Rattle.auto_walk.specs.Walker.{place_of, MoreThan}
 use Rattle.auto_bool.specs.declared.connective.Connective.{Connective}
 use Rattle.auto_bool.specs.Both.{both_walker}
-use Rattle.auto_bool.proofs.States.{state_within}
+use Rattle.auto_walk.proofs.States.{state_within}
 use Rattle.auto_bool.proofs.PairLemmas.{place_of-pair}
 
 state_of-append : (a : Automaton) (word letters : List ℕ) → word ≢ [] → state_of a (word ++ letters) ≡ run a (state_of a word) letters

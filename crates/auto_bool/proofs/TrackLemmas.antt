@@ -5,13 +5,11 @@ use Rattle.std.specs.Int.{bit_at}
 use Rattle.std.proofs.lemmas.Grind.{common_steps}
 use Rattle.std.proofs.lemmas.Bool.Decides.{nat_tests}
 use Rattle.std.proofs.lemmas.List.Elements.{All-nil, All-cons, All-head, All-tail, All-map}
-use Rattle.std.proofs.lemmas.Nat.Bits.{bit_at-lt}
 use Rattle.std.proofs.lemmas.List.{length-map}
 use Rattle.std.proofs.lemmas.Option.{slice_get-get_or}
 use Rattle.auto_walk.proofs.WalkLemmas.{map-take_more}
 use Rattle.track_word.specs.declared.tracks.Var.{Var}
 use Rattle.track_word.specs.Tracks.{IsAscending, with_var, with_vars, place, restrict}
-use Rattle.letter_diagram.specs.Relabelled.{relabelled}
 use Rattle.auto_bool.specs.Sides.{AreAmong}
 
 -- the three ways of putting a track before, at or after the first of some
@@ -139,18 +137,6 @@ AreAmong-left xs ys = record { within = All-map (λ track. track < length (with_
 
 pub AreAmong-right : (xs ys : List Var) → AreAmong (with_vars xs ys) ys
 AreAmong-right xs ys = record { within = All-map (λ track. track < length (with_vars xs ys)) (place (with_vars xs ys)) ys (all_within (with_vars xs ys) ys (has-right xs ys)) }
-
-pub relabelled-places : (all some : List Var) (letter : ℕ) → relabelled (map (place all) some) letter ≡ restrict all some letter
-relabelled-places all [] letter = refl
-relabelled-places all (v ∷ vs) letter = ap (λ n. bit_at letter (place all v) + 2 * n) (relabelled-places all vs letter)
-
-pub restrict-below : (all some : List Var) (letter : ℕ) → restrict all some letter < 2 ^ length some
-restrict-below all [] letter = omega arith
-restrict-below all (v ∷ vs) letter =
-    let rest = restrict-below all vs letter in
-    let bit = bit_at-lt letter (place all v) in
-    let double : 2 ^ suc (length vs) ≡ 2 * 2 ^ length vs = omega arith in
-    subst (λ n. bit_at letter (place all v) + 2 * restrict all vs letter < n) (sym double) (omega (arith, rest, bit))
 
 -- letters that agree on all tracks agree on some
 restrict-agree : (all some : List Var) (a b : ℕ) → All (λ track. track < length all) (map (place all) some) → ((k : ℕ) → k < length all → bit_at a k ≡ bit_at b k) → restrict all some a ≡ restrict all some b

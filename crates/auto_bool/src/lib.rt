@@ -7,8 +7,6 @@ mod complement;
 mod connective;
 mod product;
 mod side;
-#[cfg(test)]
-mod tests;
 mod tracks;
 
 pub use complement::not;

@@ -70,40 +70,46 @@ value-at : (tracks : List Var) (word : List ℕ) (t : ℕ) → IsAscending track
 value-at tracks word t up h =
     get_or-map (λ (x : Var). word_values tracks word x.0) tracks t (record { 0 = 0 }) (pos 0) h ∙ ap (val word) (place-at tracks t (record { 0 = 0 }) up h)
 
-module _ (a : Automaton) (values : List ℤ) (is : IsAutomaton a) (count : length values ≡ length a.tracks) (decides : DecidesIntegers a) (fits : All (FitsBelow 63) values)
+module _ (a : Automaton) (values : List ℤ) (n : ℕ) (is : IsAutomaton a) (count : length values ≡ length a.tracks) (decides : DecidesIntegers a) (fits : All (FitsBelow n) values)
     (spell : BitsSpell) (keeps : RepeatKeepsValues) (equal : EqualValuesEqualWords) where
-  spelled-word : IsWord (length a.tracks) (spelled values 63)
-  spelled-word = rw (← count) (spell values 63 fits).is_word
+  spelled-word : IsWord (length a.tracks) (spelled values n)
+  spelled-word = rw (← count) (spell values n fits).is_word
 
-  spelled-values : values_at a.tracks (word_values a.tracks (spelled values 63)) ≡ values
+  spelled-values : values_at a.tracks (word_values a.tracks (spelled values n)) ≡ values
   spelled-values =
-      let size : length (values_at a.tracks (word_values a.tracks (spelled values 63))) ≡ length a.tracks = length-map a.tracks (λ (x : Var). word_values a.tracks (spelled values 63) x.0) in
-      ext_get_or (pos 0) (values_at a.tracks (word_values a.tracks (spelled values 63))) values (size ∙ sym count) (λ t h.
+      let size : length (values_at a.tracks (word_values a.tracks (spelled values n))) ≡ length a.tracks = length-map a.tracks (λ (x : Var). word_values a.tracks (spelled values n) x.0) in
+      ext_get_or (pos 0) (values_at a.tracks (word_values a.tracks (spelled values n))) values (size ∙ sym count) (λ t h.
       let within : t < length a.tracks = omega (arith, size, h) in
-      value-at a.tracks (spelled values 63) t is.ascending within ∙ (spell values 63 fits).values t (omega (arith, within, count)))
+      value-at a.tracks (spelled values n) t is.ascending within ∙ (spell values n fits).values t (omega (arith, within, count)))
 
-  words-alike : (word : List ℕ) → IsWordOf a values word → Accepts a (spelled values 63) ↔ Accepts a word
+  words-alike : (word : List ℕ) → IsWordOf a values word → Accepts a (spelled values n) ↔ Accepts a word
   words-alike word of =
       let same = λ (t : ℕ) (h : t < length a.tracks).
-      (spell values 63 fits).values t (omega (arith, h, count)) ∙ ap (λ l. get_or l t (pos 0)) (sym of.values) ∙ value-at a.tracks word t is.ascending h in
-      elim (cases_lt (length word) (length (spelled values 63))) [
+      (spell values n fits).values t (omega (arith, h, count)) ∙ ap (λ l. get_or l t (pos 0)) (sym of.values) ∙ value-at a.tracks word t is.ascending h in
+      elim (cases_lt (length word) (length (spelled values n))) [
         | inl shorter ↦
-            let back = alike a decides keeps equal word (spelled values 63) of.is_word spelled-word (omega (arith, shorter)) (λ t h. sym (same t h)) in
+            let back = alike a decides keeps equal word (spelled values n) of.is_word spelled-word (omega (arith, shorter)) (λ t h. sym (same t h)) in
             (back.1, back.0)
-        | inr longer ↦ alike a decides keeps equal (spelled values 63) word spelled-word of.is_word longer same
+        | inr longer ↦ alike a decides keeps equal (spelled values n) word spelled-word of.is_word longer same
       ]
 
+  -- the word of the bits from a place on tells which tuples are accepted
+  pub accepted-spelled : Accepts a (spelled values n) ↔ IsAccepted a values
+  accepted-spelled = (
+    λ h. record { word = spelled values n; is_word = spelled-word; values = spelled-values; accepts = h },
+    λ accepted. (words-alike accepted.word (record { is_word = accepted.is_word; values = accepted.values })).1 accepted.accepts,
+  )
+
+module _ (a : Automaton) (values : List ℤ) (is : IsAutomaton a) (count : length values ≡ length a.tracks) (decides : DecidesIntegers a) (fits : All (FitsBelow 63) values)
+    (spell : BitsSpell) (keeps : RepeatKeepsValues) (equal : EqualValuesEqualWords) where
   -- what the word of 64 letters tells holds for each word of the values
   pub member-words : (flag : Bool) → flag ≡ is_final a (state_of a (word_of values)) → (word : List ℕ) → IsWordOf a values word → IsTrue flag ↔ Accepts a word
   unfolding word_of
-  member-words flag tells word of = rw tells (words-alike word of)
+  member-words flag tells word of = rw tells (words-alike a values 63 is count decides fits spell keeps equal word of)
 
   pub member-accepted : (flag : Bool) → flag ≡ is_final a (state_of a (word_of values)) → IsTrue flag ↔ IsAccepted a values
   unfolding word_of
-  member-accepted flag tells = (
-    λ h. record { word = spelled values 63; is_word = spelled-word; values = spelled-values; accepts = rw tells at h },
-    λ accepted. (member-words flag tells accepted.word (record { is_word = accepted.is_word; values = accepted.values })).1 accepted.accepts,
-  )
+  member-accepted flag tells = rw tells (accepted-spelled a values 63 is count decides fits spell keeps equal)
 
 -- an automaton that decides what holds of values decides a set of integers
 pub DecidesIntegers-values : RepeatKeepsValues → (a : Automaton) (tracks : List Var) (P : Values → Type 0) → a.tracks ≡ tracks → ((word : List ℕ) → IsWord (length tracks) word → Accepts a word ↔ P (word_values tracks word)) → DecidesIntegers a

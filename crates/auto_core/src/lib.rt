@@ -10,8 +10,6 @@ mod reading;
 mod rename;
 mod sums;
 mod terms;
-#[cfg(test)]
-mod tests;
 mod value;
 
 pub use auto::Auto;

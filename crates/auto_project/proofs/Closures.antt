@@ -15,7 +15,7 @@ use Rattle.letter_diagram.specs.Leaves.{AreLeaves}
 use Rattle.letter_diagram.specs.Merged.{HasSets}
 use Rattle.letter_diagram.proofs.Mergings.{HasSets-grows}
 use Rattle.auto_core.specs.Automaton.{Automaton, IsAutomaton}
-use Rattle.auto_bool.proofs.States.{state_within}
+use Rattle.auto_walk.proofs.States.{state_within}
 use Rattle.auto_project.specs.Lifted.{Begins, LiftLeads}
 use Rattle.auto_project.specs.SetMaps.{set_of, IsSetRow, AreSetRows, IsLedRow, IsJoined, IsNothing, IsUnionOf, IsGuarded, IsSwept}
 use Rattle.auto_project.proofs.Lists.{length-wider, all_in_or_one_not, in_or_not, Contains-range, Contains-head, Contains-cases}

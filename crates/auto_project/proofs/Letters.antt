@@ -14,7 +14,7 @@ use Rattle.std.proofs.lemmas.Nat.Bits.{bit_at-lt, bit_at-suc, bit_at_lowest, bit
 use Rattle.track_word.specs.declared.tracks.Var.{Var}
 use Rattle.track_word.specs.Tracks.{IsAscending, without_var, place, restrict}
 use Rattle.letter_diagram.specs.Restricted.{IsWithBit}
-use Rattle.auto_bool.proofs.TrackLemmas.{restrict-below}
+use Rattle.auto_walk.proofs.Restricted.{restrict-below}
 use Rattle.auto_project.specs.Lifted.{ReadsAs}
 use Rattle.auto_project.specs.Subsets.{lengthened}
 use Rattle.auto_project.proofs.Lists.{Contains-filter, Contains-from_filter, length-filter_less, length-filter_le}

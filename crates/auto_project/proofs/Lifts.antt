@@ -13,7 +13,7 @@ use Rattle.track_word.specs.Word.{repeat_first, repeated}
 use Rattle.track_word.specs.Tracks.{without_var, part_of}
 use Rattle.auto_core.specs.Automaton.{Automaton, IsAutomaton, first_state, next_state, run, state_of}
 use Rattle.auto_core.specs.Spread.{IsLift}
-use Rattle.auto_bool.proofs.TrackLemmas.{restrict-below}
+use Rattle.auto_walk.proofs.Restricted.{restrict-below}
 use Rattle.auto_project.specs.Lifted.{ReadsAs, Begins, Follows, LiftLeads}
 use Rattle.auto_project.specs.Subsets.{lengthened, leads_to, next_set}
 use Rattle.auto_project.proofs.Lists.{Contains-cons, Contains-cases, Contains-head, Contains-filter, Contains-from_filter, Contains-range, increasing-range}

@@ -22,7 +22,7 @@ use Rattle.auto_core.specs.Automaton.{Automaton, IsAutomaton, first_state, next_
 use Rattle.auto_walk.specs.Walker.{Walker, place_of, IsReached, AreTracks}
 use Rattle.auto_walk.specs.Rows.{AreNumbered, IsRow}
 use Rattle.auto_walk.proofs.WalkLemmas.{All-at, one_place}
-use Rattle.auto_bool.proofs.States.{state_within, run_within}
+use Rattle.auto_walk.proofs.States.{state_within, run_within}
 use Rattle.auto_project.specs.Lifted.{Begins, Follows, LiftLeads}
 use Rattle.auto_project.specs.Subsets.{lengthened, leads_to, next_set, set_walker}
 use Rattle.auto_project.specs.SetMaps.{set_of, IsSetRow, AreSetRows, HasSetRows, HasClosedRows, HasPlaceRows, IsUnionRow}

@@ -18,7 +18,7 @@ use Rattle.auto_core.specs.Automaton.{Automaton, IsAutomaton, first_state, next_
 use Rattle.auto_core.specs.Reduced.{IsReduced}
 use Rattle.auto_core.specs.Spread.{SameResidual, IsLift, LiftsInto, AlikeLifted, ExSpreadExceeds}
 use Rattle.auto_walk.specs.Walker.{Walker, place_of, MoreThan, IsWalked}
-use Rattle.auto_bool.proofs.States.{state_within}
+use Rattle.auto_walk.proofs.States.{state_within}
 use Rattle.auto_project.specs.Lifted.{LiftLeads}
 use Rattle.auto_project.specs.Subsets.{next_set, set_walker}
 use Rattle.auto_project.specs.SetMaps.{set_of, HasClosedRows}

@@ -21,7 +21,7 @@ use Rattle.auto_core.specs.Automaton.{Automaton, IsAutomaton, width, first_state
 use Rattle.auto_core.specs.Rows.{IsOverNodes}
 use Rattle.auto_core.proofs.RowLemmas.{get_or-row_of, get_or-rows_of}
 use Rattle.auto_core.proofs.Renamed.{AreRenamed}
-use Rattle.auto_bool.proofs.TrackLemmas.{relabelled-places, restrict-below}
+use Rattle.auto_walk.proofs.Restricted.{relabelled-places, restrict-below}
 use Rattle.auto_project.specs.Lifted.{ReadsAs, Begins, Follows}
 use Rattle.auto_project.specs.Subsets.{lengthened}
 use Rattle.auto_project.specs.SetMaps.{set_of, IsNarrow, IsSetRow, HasSetRows, AreSingletons, IsWideRow, AreWideRows, HasWideRows}

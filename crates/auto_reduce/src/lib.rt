@@ -20,8 +20,6 @@ mod same;
 mod signatures;
 mod stable;
 mod stale;
-#[cfg(test)]
-mod tests;
 mod unmet;
 mod ways;
 

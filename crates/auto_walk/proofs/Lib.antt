@@ -2,3 +2,5 @@ pub mod WalkLemmas
 pub mod RowLemmas
 pub mod WalkWords
 pub mod ResidueLemmas
+pub mod States
+pub mod Restricted

@@ -256,6 +256,3 @@ pub(crate) fn is_mated(board: &Board) -> bool
         Some(check) => is_held(board, check),
     }
 }
-
-#[cfg(test)]
-mod tests;

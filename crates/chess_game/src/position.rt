@@ -158,6 +158,3 @@ pub fn free_way(p: &Position, man: u8, ray: Ray, frame: Frame) -> Way
     let from = square_of_man(p, man);
     way_from(&p.board, from, ray, frame)
 }
-
-#[cfg(test)]
-mod tests;

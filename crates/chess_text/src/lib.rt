@@ -7,8 +7,6 @@ pub mod line_buffer;
 mod man_line;
 mod reader;
 mod replies;
-#[cfg(test)]
-mod tests;
 mod writer;
 
 pub use man_line::{TextWhy, read_man_line, read_turn_line};

@@ -16,8 +16,6 @@ mod reader;
 mod scan;
 mod sink;
 mod source;
-#[cfg(test)]
-mod tests;
 
 pub use bare::BareShelf;
 pub use files::{FetchError, KeepError, Shelf};

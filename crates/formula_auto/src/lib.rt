@@ -12,8 +12,6 @@ mod plain;
 mod remembering;
 mod steps;
 mod table;
-#[cfg(test)]
-mod tests;
 
 pub use compiling::compile;
 pub use errors::CompileError;

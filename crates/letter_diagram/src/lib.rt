@@ -17,8 +17,6 @@ mod product;
 mod relabel;
 mod restrict;
 mod sets;
-#[cfg(test)]
-mod tests;
 
 pub use diagrams::{Diagrams, Node, Shape};
 pub use merger::Merger;

@@ -9,8 +9,6 @@ mod formula;
 mod free;
 pub mod laws;
 mod lists;
-#[cfg(test)]
-mod tests;
 
 pub use atoms::{LinWhy, among, lin, value};
 pub use copying::{copy, same};

@@ -17,6 +17,3 @@ mod text;
 pub use desk::run;
 pub use order::{Order, UsageWhy, order_of};
 pub use status::Status;
-
-#[cfg(test)]
-mod tests;

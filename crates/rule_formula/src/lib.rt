@@ -17,8 +17,6 @@ mod opt;
 mod point;
 mod seats;
 mod stock;
-#[cfg(test)]
-mod tests;
 
 pub use bearing_list::bearings;
 pub use choices::options;

@@ -6,8 +6,6 @@
 mod atoms;
 mod bits;
 pub mod laws;
-#[cfg(test)]
-mod tests;
 mod tracks;
 
 pub use atoms::Rel;

@@ -12,8 +12,6 @@ mod ply_sets;
 mod solved;
 mod solver;
 mod stock;
-#[cfg(test)]
-mod tests;
 mod tuple;
 mod turns;
 

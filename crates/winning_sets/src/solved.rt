@@ -1,5 +1,5 @@
 //! Solved positions.
-ghost use Rattle.std.specs.Prelude.{◌≡◌, ◌↔◌, ◌+◌, ◌≤◌, ℕ, IfSome, IsSomeAnd, IsTrue, length, option_copied};
+ghost use Rattle.std.specs.Prelude.{◌≡◌, ◌↔◌, ◌+◌, ◌≤◌, ℕ, [], slice_index_or, IfSome, IsSomeAnd, IsTrue, length, option_copied};
 ghost use Rattle.auto_core.specs.Integers.{IsAccepted};
 ghost use Rattle.game_rules.specs.Game.{Value};
 ghost use Rattle.rule_formula.specs.Fits.{HasStock, mask_of, masks_of};
@@ -143,11 +143,23 @@ impl Solved {
     }
 
     /// The masks of the starting position, ascending.
-    fn masks(&self) -> &[u8]
+    pub fn masks(&self) -> &[u8]
         ensures masks { result.now ≡ masks_of self.now.position }
         ensures valid { IsSolution self.now }
     {
         self.masks.as_slice()
+    }
+
+    /// The kept sets of a ply in the order of the masks, and none past the last ply.
+    pub fn kept_sets(&self, ply: u8) -> &[Auto]
+        ensures sets { result.now ≡ slice_index_or self.now.kept ply [] }
+        ensures valid { IsSolution self.now }
+    {
+        if (ply as usize) < self.kept.len() {
+            self.kept[ply as usize].as_slice()
+        } else {
+            &[]
+        }
     }
 
     /// How many states the set of a ply and a mask has, and none where there is no set.
