@@ -1,5 +1,5 @@
 -- The values along a ray, without their last bits.
-use Rattle.std.proofs.Common.{◌≡◌, ◌≢◌, ℕ, zero, suc, ℤ, pos, negsuc, ◌+ℤ◌, ◌-ℤ◌, ◌*ℤ◌, ◌≤ℤ◌, ◌+◌, ◌-◌, ◌*◌, ◌/◌, ◌%◌, ◌^◌, ◌<◌, ◌≤◌, Bool, true, false, cond, List, [], ◌∷◌, length, All, get_or, set, arith, inl, inr, ◌⊎◌, refl, sym, ap, ◌∙◌, subst}
+use Rattle.std.proofs.Common.{◌≡◌, ℕ, suc, ℤ, pos, ◌+ℤ◌, ◌*ℤ◌, ◌+◌, ◌*◌, ◌%◌, ◌^◌, ◌≤◌, Bool, true, false, cond, List, [], ◌∷◌, length, get_or, set, arith, refl, ap, ◌∙◌}
 use Rattle.std.specs.Int.{int_shr}
 use Rattle.std.proofs.lemmas.Int.{ints}
 use Rattle.track_word.specs.Word.{integer_bit, letter_of, letters_below}
@@ -7,7 +7,7 @@ use Rattle.auto_core.proofs.Prefixes.{int_shr-none}
 use Rattle.auto_search.specs.declared.axis.Axis.{Axis}
 use Rattle.auto_search.specs.declared.ray.Ray.{Ray}
 use Rattle.auto_search.specs.declared.way.Way.{Way}
-use Rattle.auto_search.specs.Way.{IsWay, IsSlope, value_after, tuple_at}
+use Rattle.auto_search.specs.Way.{IsWay, IsSlope, tuple_at}
 use Rattle.auto_search.specs.Bits.{number, sum_at, carry, letter_at, letters, fall, rise, IsAxis, IsRay}
 use Rattle.auto_search.proofs.Sums.{integer_bit-lt, added, int_shr-suc, each_slope, times-double, times-add, carry-step, letter_of-set2}
 
@@ -86,7 +86,7 @@ module _ (way : Way) (near : ℕ) {steps : ℕ} (ray : Ray) (is_way : IsWay way)
   letters-are [] hi small = refl
   letters-are (bit ∷ bits) hi small =
       let first = letter-is (length bits) (sum_at ray.x (length bits) (carry ray.x bits) bit) (sum_at ray.y (length bits) (carry ray.y bits) bit) (along ray.x way.dx (whole hi (bit ∷ bits))) (along ray.y way.dy (whole hi (bit ∷ bits))) (omega (arith, small))
-          (sum-bit ray.x way.dx is_way.dx is.x.zero is.x.one bit bits hi) (sum-bit ray.y way.dy is_way.dy is.y.zero is.y.one bit bits hi) in
+      (sum-bit ray.x way.dx is_way.dx is.x.zero is.x.one bit bits hi) (sum-bit ray.y way.dy is_way.dy is.y.zero is.y.one bit bits hi) in
       let others = letters-are bits (2 * hi + bit_number bit) (omega (arith, small)) in
       let same = whole-cons hi bit bits in
       let others' = rw (← same) at others in

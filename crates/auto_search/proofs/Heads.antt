@@ -1,10 +1,9 @@
 -- The states that the first bits of a distance lead to.
-use Rattle.std.proofs.Common.{◌≡◌, ◌≢◌, ◌↔◌, ℕ, zero, suc, ℤ, pos, negsuc, neg_ℤ, ◌+ℤ◌, ◌-ℤ◌, ◌*ℤ◌, ◌≤ℤ◌, ◌+◌, ◌-◌, ◌*◌, ◌/◌, ◌%◌, ◌^◌, ◌<◌, ◌≤◌, Bool, true, false, cond, List, [], ◌∷◌, ◌++◌, length, All, get_or, set, Option, Some, None, option_map, option_and_then, IsTrue, unsigned_abs, arith, inl, inr, ◌⊎◌, refl, sym, ap, ◌∙◌, subst}
-use Rattle.std.specs.Int.{int_shr, bit_at}
-use Rattle.std.proofs.lemmas.Bool.{cases_eq}
+use Rattle.std.proofs.Common.{◌≡◌, ◌↔◌, ℕ, zero, suc, ℤ, pos, negsuc, ◌+ℤ◌, ◌*ℤ◌, ◌+◌, ◌*◌, ◌/◌, ◌%◌, ◌^◌, ◌<◌, ◌≤◌, Bool, true, false, cond, List, [], ◌∷◌, ◌++◌, length, All, get_or, set, Some, option_map, IsTrue, unsigned_abs, arith, refl, sym, ap, ◌∙◌, subst}
+use Rattle.std.specs.Int.{int_shr}
 use Rattle.std.proofs.lemmas.Int.{ints}
-use Rattle.std.proofs.lemmas.List.{length-set, length-append, get_or-set_same, get_or-set_other}
-use Rattle.std.proofs.lemmas.Nat.{pow_pos, pow-add}
+use Rattle.std.proofs.lemmas.List.{length-set, length-append}
+use Rattle.std.proofs.lemmas.Nat.{pow-add}
 use Rattle.std.proofs.Math.Nat.{div-eq_of_lt, mul-le-mul_left}
 use Rattle.track_word.specs.Word.{integer_bit, letter_of, letters_below, spelled, FitsBelow, BitsSpell, RepeatKeepsValues, EqualValuesEqualWords}
 use Rattle.auto_core.specs.Automaton.{Automaton, IsAutomaton, Accepts, first_state, next_state, run, state_of, is_final}
@@ -14,13 +13,13 @@ use Rattle.auto_search.specs.declared.axis.Axis.{Axis}
 use Rattle.auto_search.specs.declared.ray.Ray.{Ray}
 use Rattle.auto_search.specs.declared.way.Way.{Way}
 use Rattle.auto_search.specs.Way.{IsWay, IsSlope, tuple_at, IsHit}
-use Rattle.auto_search.specs.Bits.{number, sum_at, carry, letter_at, letters, fall, rise, IsAxis, IsRay}
-use Rattle.auto_search.specs.Search.{Leads, sign_of, started}
-use Rattle.auto_search.specs.Heads.{head_number, IsTrimmed, read, zeros, headed}
+use Rattle.auto_search.specs.Bits.{number, sum_at, carry, letter_at, IsAxis, IsRay}
+use Rattle.auto_search.specs.Search.{Leads, sign_of}
+use Rattle.auto_search.specs.Heads.{head_number, read, zeros, headed}
 use Rattle.auto_search.proofs.Sums.{integer_bit-lt, added, int_shr-suc, each_slope, times-double, carry-step, letter_of-set2}
 use Rattle.auto_search.proofs.Fronts.{pow_le, number-lt}
 use Rattle.auto_search.proofs.Carries.{along, whole, carried, bit_number, added-is, none-times, tuple-is, letters-are}
-use Rattle.auto_search.proofs.Hits.{choice, choice-is, sign-choice, fits-sign, fits-abs, fits-past, base-fits, all-fit}
+use Rattle.auto_search.proofs.Hits.{choice-is, sign-choice, fits-sign, fits-abs, fits-past, base-fits, all-fit}
 
 -- past its top a value has its sign alone
 high-bit : (z : ℤ) (p q : ℕ) → p ≤ q → FitsBelow p z → integer_bit z q ≡ integer_bit z p
@@ -146,17 +145,11 @@ module _ (a : Automaton) (valid : IsAutomaton a) (decides : DecidesIntegers a) (
     pub to : Leads a ray state lo → IsHit a way (near + whole (head_number head) lo)
     pub from : IsHit a way (near + whole (head_number head) lo) → Leads a ray state lo
 
-  t-here : ℕ
-  t-here = whole (head_number head) lo
-
   x-here : ℤ
   x-here = along ray.x way.dx (whole (head_number head) lo)
 
   y-here : ℤ
   y-here = along ray.y way.dy (whole (head_number head) lo)
-
-  more-bits : ℕ
-  more-bits = length (head ++ zeros)
 
   fits-here : (d : ℤ) (axis : Axis) → IsSlope d → unsigned_abs axis.base + 2 * steps < 2 ^ ray.top → FitsBelow (length lo + length (head ++ zeros)) (along axis d (whole (head_number head) lo))
   fits-here d axis slope short =

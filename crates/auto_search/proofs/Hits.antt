@@ -1,6 +1,6 @@
 -- Bits that complete the front before all bits, and distances whose tuple is in the set.
-use Rattle.std.proofs.Common.{◌≡◌, ◌≢◌, ◌↔◌, ℕ, zero, suc, ℤ, pos, negsuc, neg_ℤ, ◌+ℤ◌, ◌-ℤ◌, ◌*ℤ◌, ◌≤ℤ◌, ◌+◌, ◌-◌, ◌*◌, ◌/◌, ◌%◌, ◌^◌, ◌<◌, ◌≤◌, Bool, true, false, cond, nat_eq, List, [], ◌∷◌, length, All, get_or, set, Option, Some, None, option_map, option_and_then, MatchOption, IsTrue, unsigned_abs, arith, inl, inr, ◌⊎◌, refl, sym, ap, ◌∙◌, subst}
-use Rattle.std.specs.Int.{int_shr, bit_at}
+use Rattle.std.proofs.Common.{◌≡◌, ℕ, zero, suc, ℤ, pos, negsuc, neg_ℤ, ◌+ℤ◌, ◌*ℤ◌, ◌+◌, ◌-◌, ◌*◌, ◌/◌, ◌%◌, ◌^◌, ◌<◌, ◌≤◌, Bool, true, false, cond, nat_eq, List, [], ◌∷◌, length, All, get_or, set, Option, Some, None, option_map, unsigned_abs, arith, inl, inr, refl, sym, ap, ◌∙◌, subst}
+use Rattle.std.specs.Int.{int_shr}
 use Rattle.std.proofs.lemmas.Bool.{cases_eq, cases_lt}
 use Rattle.std.proofs.lemmas.Bool.Decides.{nat_tests}
 use Rattle.std.proofs.lemmas.Int.{ints}
@@ -10,17 +10,17 @@ use Rattle.std.proofs.lemmas.Nat.Bits.{bit_at-zero, bit_at-pow_same}
 use Rattle.std.proofs.lemmas.Option.{option_and_then_some}
 use Rattle.std.proofs.Math.Nat.{div-eq_of_lt, lt-div-mul-add}
 use Rattle.track_word.specs.Word.{integer_bit, letter_of, letters_below, spelled, FitsBelow, BitsSpell, RepeatKeepsValues, EqualValuesEqualWords}
-use Rattle.auto_core.specs.Automaton.{Automaton, IsAutomaton, Accepts, width, first_state, next_state, run, state_of, is_final}
-use Rattle.auto_core.specs.Integers.{DecidesIntegers, IsAccepted}
+use Rattle.auto_core.specs.Automaton.{Automaton, IsAutomaton, Accepts, width, first_state}
+use Rattle.auto_core.specs.Integers.{DecidesIntegers}
 use Rattle.auto_core.proofs.Members.{accepted-spelled}
 use Rattle.auto_search.specs.declared.axis.Axis.{Axis}
 use Rattle.auto_search.specs.declared.ray.Ray.{Ray}
 use Rattle.auto_search.specs.declared.way.Way.{Way}
-use Rattle.auto_search.specs.Way.{IsWay, IsSlope, tuple_at, IsHit, IsLeastHit, IsLeastFound}
-use Rattle.auto_search.specs.Bits.{number, sum_at, carry, letter_at, letters, slot_of, fall, rise, IsAxis, IsRay}
-use Rattle.auto_search.specs.Search.{Suits, IsFront, Leads, Completes, mark, Remembers, IsDead, IsLeastAhead, IsFoundAhead, sign_of, started, IsStart}
+use Rattle.auto_search.specs.Way.{IsWay, IsSlope, tuple_at, IsHit, IsLeastFound}
+use Rattle.auto_search.specs.Bits.{number, carry, letter_at, letters, slot_of, fall, rise, IsAxis, IsRay}
+use Rattle.auto_search.specs.Search.{Suits, Leads, Completes, IsDead, IsLeastAhead, sign_of, started, IsStart}
 use Rattle.auto_search.proofs.Sums.{integer_bit-lt, each_slope, carry-le, letter-lt}
-use Rattle.auto_search.proofs.Fronts.{option_map-some, slot-parts, pow_le, number-lt}
+use Rattle.auto_search.proofs.Fronts.{option_map-some, slot-parts, pow_le}
 use Rattle.auto_search.proofs.Carries.{along, whole, carried, none-times, letter-is, tuple-is, letters-are}
 
 -- the bits of a number
@@ -105,6 +105,10 @@ along-fits : (d : ℤ) (axis : Axis) (v steps place : ℕ) → IsSlope d → uns
 along-fits d axis v steps place slope b small =
     fits-abs (along axis d v) place (each_slope (λ d. unsigned_abs (axis.base +ℤ (pos v *ℤ d)) < 2 ^ place)
     (omega (arith, ints, b, small)) (omega (arith, ints, b, small)) (omega (arith, ints, b, small)) (omega (arith, ints, b, small)) (omega (arith, ints, b, small)) d slope)
+
+-- small values fit
+pub all-small : (values : List ℤ) (n place : ℕ) → All (λ value. unsigned_abs value ≤ n) values → n < 2 ^ place → All (FitsBelow place) values
+all-small values n place small h = λ k d inside. fits-abs (get_or values k d) place (let b = small k d inside in omega (arith, b, h))
 
 pub base-fits : (axis : Axis) (steps place : ℕ) → unsigned_abs axis.base + 2 * steps < 2 ^ place → FitsBelow place axis.base
 base-fits axis steps place b = fits-abs axis.base place (omega (arith, b))
@@ -266,12 +270,3 @@ module _ (a : Automaton) (valid : IsAutomaton a) (decides : DecidesIntegers a) (
       | inr above ↦ above
     ];
   }
-
--- no marks, nothing to remember
-pub nothing-marked : (a : Automaton) (ray : Ray) (failed : List ℕ) → ((k : ℕ) → get_or failed k 0 ≡ 0) → Remembers a ray failed
-nothing-marked a ray failed none = record {
-  dead = λ bits state known marked leads.
-      let z : bit_at 0 (slot_of ray bits) ≡ 0 = bit_at-zero (slot_of ray bits) in
-      let e = ap (λ n. bit_at n (slot_of ray bits)) (none (length bits * length a.accept + state)) in
-      absurd (omega (arith, z, e, marked));
-}

@@ -1,5 +1,5 @@
 -- Steps of the walk over heads.
-use Rattle.std.proofs.Common.{◌≡◌, ◌≢◌, ◌↔◌, ℕ, zero, suc, ◌+◌, ◌-◌, ◌*◌, ◌/◌, ◌%◌, ◌<◌, ◌≤◌, Bool, true, false, cond, nat_eq, List, [], ◌∷◌, ◌++◌, length, All, sum, get_or, set, Option, Some, None, option_map, arith, inl, inr, ◌⊎◌, refl, sym, ap, ◌∙◌, subst}
+use Rattle.std.proofs.Common.{◌≡◌, ◌≢◌, ◌↔◌, ℕ, ◌+◌, ◌*◌, ◌/◌, ◌%◌, ◌<◌, ◌≤◌, Bool, true, false, cond, nat_eq, List, [], ◌∷◌, length, get_or, set, Option, Some, None, option_map, arith, inl, inr, ◌⊎◌, refl, sym, ap, ◌∙◌, subst}
 use Rattle.std.proofs.lemmas.Bool.{cases_eq, cases_lt}
 use Rattle.std.proofs.lemmas.Bool.Decides.{nat_tests}
 use Rattle.std.proofs.lemmas.List.{length-set, get_or-set_same, get_or-set_other}
@@ -8,11 +8,11 @@ use Rattle.auto_search.specs.declared.ray.Ray.{Ray}
 use Rattle.std.proofs.lemmas.Nat.{same_from_place}
 use Rattle.auto_core.specs.Automaton.{next_state}
 use Rattle.auto_search.specs.Bits.{sum_at, letter_at}
-use Rattle.auto_search.specs.Search.{Suits, IsFront, IsStep}
-use Rattle.auto_search.specs.Met.{IsAlone, IsAfter, Adds, Walks, HasSizes, Begins}
-use Rattle.auto_search.proofs.Sums.{integer_bit-lt, added, added-le}
+use Rattle.auto_search.specs.Search.{Suits, IsFront}
+use Rattle.auto_search.specs.Met.{IsAfter, Adds, Walks, HasSizes, Begins}
+use Rattle.auto_search.proofs.Sums.{integer_bit-lt, added-le}
 use Rattle.auto_search.proofs.Fronts.{option_map-some, slot-parts}
-use Rattle.auto_search.specs.Heads.{IsTrimmed, headed, head_number, read, zeros, IsOpened}
+use Rattle.auto_search.specs.Heads.{IsTrimmed, headed, IsOpened}
 use Rattle.auto_search.specs.Met.{Trace, up, moment, IsSlot, Entered, Once, Twice, Known, IsFirst, Follows, IsMet, HasPlace, Goes}
 
 -- a value changed at one place
@@ -70,14 +70,11 @@ module _ (g new : Trace) (states slots states' slots' : List ℕ) (len : ℕ) (g
   Known-kept : (head : List Bool) (slot state : ℕ) → Known g states slots len head slot state → Known new states' slots' len' head slot state
   Known-kept head slot state k = elim k [ inl e ↦ inl (Entered-kept head slot state e) | inr t ↦ inr (Twice-kept slot state t) ]
 
-  Known-at : (head head' : List Bool) (slot state : ℕ) → head' ≡ head → Known g states slots len head slot state → Known new states' slots' len' head' slot state
-  Known-at head head' slot state e k = subst (λ h. Known new states' slots' len' h slot state) (sym e) (Known-kept head slot state k)
-
 -- the moment passes, and there was nothing to enter
 pub met-wait : (a : Automaton) (ray : Ray) (g : Trace) (times states slots : List ℕ) (len starts now : ℕ) → IsMet a ray g times states slots len starts now
     → ((slot state : ℕ) → slot ≡ now → slot < 9 → IsSlot ray slot → headed a ray [] (slot / 3) (slot % 3) ≡ Some state → Entered g states slots len [] slot state)
     → ((k slot state : ℕ) (bit : Bool) → k < len → slot < 9 → moment k bit slot ≡ now → (g.heads k ≡ [] → bit ≡ true) → IsSlot ray slot → headed a ray (bit ∷ g.heads k) (slot / 3) (slot % 3) ≡ Some state
-      → up ray bit slot ≡ get_or slots k 0 → Known g states slots len (bit ∷ g.heads k) slot state)
+    → up ray bit slot ≡ get_or slots k 0 → Known g states slots len (bit ∷ g.heads k) slot state)
     → IsMet a ray g times states slots len starts (now + 1)
 met-wait a ray g times states slots len starts now is first here = record {
   trimmed = is.trimmed;
@@ -165,7 +162,7 @@ module _ (a : Automaton) (ray : Ray) (g : Trace) (times times' states slots : Li
       (later : (bit' : Bool) (slot' : ℕ) → now < moment len bit' slot')
       (first : (slot' state' : ℕ) → slot' ≡ now → slot' < 9 → IsSlot ray slot' → headed a ray [] (slot' / 3) (slot' % 3) ≡ Some state' → Entered next (set states len state) (set slots len slot) (len + 1) [] slot' state')
       (here : (k slot' state' : ℕ) (bit' : Bool) → k < len → slot' < 9 → moment k bit' slot' ≡ now → IsSlot ray slot' → headed a ray (bit' ∷ g.heads k) (slot' / 3) (slot' % 3) ≡ Some state'
-        → up ray bit' slot' ≡ get_or slots k 0 → Known next (set states len state) (set slots len slot) (len + 1) (bit' ∷ g.heads k) slot' state') where
+      → up ray bit' slot' ≡ get_or slots k 0 → Known next (set states len state) (set slots len slot) (len + 1) (bit' ∷ g.heads k) slot' state') where
     pub met-push : IsMet a ray next times' (set states len state) (set slots len slot) (len + 1) starts' (now + 1)
     met-push = record {
       trimmed = λ j h. elim (cases_lt j len) [
@@ -342,19 +339,15 @@ module _ (a : Automaton) (ray : Ray) (suits : Suits a ray) (g : Trace) (times st
     to = child-to a ray suits (get_or slots entry 0) (get_or states entry 0) bit after is_after (g.heads entry) (is.reads entry within) slot state small found
 
     sl-here : get_or slots' len 0 ≡ slot
-    unfolding slots'
     sl-here = get_or-set_same slots len slot 0 in_slots
 
     st-here : get_or states' len 0 ≡ state
-    unfolding states'
     st-here = get_or-set_same states len state 0 in_states
 
     sl-below : (j : ℕ) → j < len → get_or slots' j 0 ≡ get_or slots j 0
-    unfolding slots'
     sl-below j h = get_or-set_other slots len j slot 0 (λ e. omega (arith, h, e))
 
     st-below : (j : ℕ) → j < len → get_or states' j 0 ≡ get_or states j 0
-    unfolding states'
     st-below j h = get_or-set_other states len j state 0 (λ e. omega (arith, h, e))
 
     follows : Follows ray g' slots' len
@@ -369,7 +362,6 @@ module _ (a : Automaton) (ray : Ray) (suits : Suits a ray) (g : Trace) (times st
     some-here n = let e = sym here-head ∙ n in cc
 
     once' : (slot' state' : ℕ) → slot' < 9 → 1 ≤ get_or times' (state' * 9 + slot') 0 → Once g' states' slots' (len + 1) slot' state'
-    unfolding times'
     once' slot' state' s h = elim (cases_eq (state' * 9 + slot') (state * 9 + slot)) [
       | inl e ↦
           let same = same_from_place state' slot' state slot 9 s small e in
@@ -378,7 +370,6 @@ module _ (a : Automaton) (ray : Ray) (suits : Suits a ray) (g : Trace) (times st
     ]
 
     twice' : state < length a.accept → (slot' state' : ℕ) → slot' < 9 → 2 ≤ get_or times' (state' * 9 + slot') 0 → Twice g' states' slots' (len + 1) slot' state'
-    unfolding times'
     twice' known slot' state' s h = elim (cases_eq (state' * 9 + slot') (state * 9 + slot)) [
       | inl e ↦
           let same = same_from_place state' slot' state slot 9 s small e in
@@ -412,7 +403,7 @@ module _ (a : Automaton) (ray : Ray) (suits : Suits a ray) (g : Trace) (times st
     ]
 
     pub try-push : IsMet a ray g' times' states' slots' (len + 1) starts (moment entry bit slot + 1)
-    unfolding g' states' slots'
+    unfolding g'
     try-push =
         let known = front.states slot state found in
         met-push a ray g times times' states slots len starts starts (moment entry bit slot) is (bit ∷ g.heads entry) entry bit slot state in_states in_slots
@@ -478,16 +469,16 @@ module _ (a : Automaton) (ray : Ray) (suits : Suits a ray) (times states slots t
       → Walks a ray times states slots len times'' states'' slots'' len'' starts starts now (moment entry bit (slot + 1))
   walk-add state found times'' states'' slots'' len'' adds place in1 in2 = elim adds [
     | inl same ↦ record {
-        longer = let l = walk.longer in let e = same.4 in omega (arith, l, e);
-        same_states = λ j h. ap (λ l. get_or l j 0) same.2 ∙ walk.same_states j h;
-        same_slots = λ j h. ap (λ l. get_or l j 0) same.3 ∙ walk.same_slots j h;
-        sizes = record { times_kept = ap length same.1 ∙ walk.sizes.times_kept; states_kept = ap length same.2 ∙ walk.sizes.states_kept; slots_kept = ap length same.3 ∙ walk.sizes.slots_kept };
-        place = place;
-        met = λ g is.
-            let w = walk.met g is in
-            let n = try-twice a ray suits w.0 times' states' slots' len' starts entry slot bit w.1 walk.place within-here small (may-here w.0 w.1) after after-here front state found same.0 in
-            (w.0, rw (← moment-suc entry slot bit, same.1, same.2, same.3, same.4) n, w.2);
-      }
+      longer = let l = walk.longer in let e = same.4 in omega (arith, l, e);
+      same_states = λ j h. ap (λ l. get_or l j 0) same.2 ∙ walk.same_states j h;
+      same_slots = λ j h. ap (λ l. get_or l j 0) same.3 ∙ walk.same_slots j h;
+      sizes = record { times_kept = ap length same.1 ∙ walk.sizes.times_kept; states_kept = ap length same.2 ∙ walk.sizes.states_kept; slots_kept = ap length same.3 ∙ walk.sizes.slots_kept };
+      place = place;
+      met = λ g is.
+          let w = walk.met g is in
+          let n = try-twice a ray suits w.0 times' states' slots' len' starts entry slot bit w.1 walk.place within-here small (may-here w.0 w.1) after after-here front state found same.0 in
+          (w.0, rw (← moment-suc entry slot bit, same.1, same.2, same.3, same.4) n, w.2);
+    }
     | inr more ↦
         let i1 : len' < length states' = elim in1 [ inl y ↦ y | inr n ↦ absurd (let m = more.0 in omega (arith, m, n)) ] in
         let i2 : len' < length slots' = elim in2 [ inl y ↦ y | inr n ↦ absurd (let m = more.0 in omega (arith, m, n)) ] in
@@ -504,9 +495,11 @@ module _ (a : Automaton) (ray : Ray) (suits : Suits a ray) (times states slots t
           met = λ g is.
               let w = walk.met g is in
               let n = try-push a ray suits w.0 times' states' slots' len' starts entry slot bit w.1 walk.place within-here small (may-here w.0 w.1) after after-here front state found i1 i2 in
-              let goes = push-goes a ray suits w.0 times' states' slots' len' starts entry slot bit w.1 walk.place within-here small (may-here w.0 w.1) after after-here front state found i1 i2 in
-              (g' a ray suits w.0 times' states' slots' len' starts entry slot bit w.1 walk.place within-here small (may-here w.0 w.1) after after-here front state found i1 i2,
-                rw (← moment-suc entry slot bit, more.1, more.2, more.3, more.4) n, Goes-trans g w.0 (g' a ray suits w.0 times' states' slots' len' starts entry slot bit w.1 walk.place within-here small (may-here w.0 w.1) after after-here front state found i1 i2) len len' walk.longer w.2 goes);
+              let goes = push-goes a ray suits w.0 times' states' slots' len' starts entry slot bit w.1 walk.place within-here small (may-here w.0 w.1) after after-here front state found i1 i2 in (
+                g' a ray suits w.0 times' states' slots' len' starts entry slot bit w.1 walk.place within-here small (may-here w.0 w.1) after after-here front state found i1 i2,
+                rw (← moment-suc entry slot bit, more.1, more.2, more.3, more.4) n,
+                Goes-trans g w.0 (g' a ray suits w.0 times' states' slots' len' starts entry slot bit w.1 walk.place within-here small (may-here w.0 w.1) after after-here front state found i1 i2) len len' walk.longer w.2 goes,
+              );
         }
   ]
 
@@ -524,30 +517,30 @@ walk-skip a ray times states slots len starts entry place within start = record 
   sizes = record { times_kept = refl; states_kept = refl; slots_kept = refl };
   place = place;
   met = λ g is. (
-      g,
-      record {
-        trimmed = is.trimmed;
-        reads = is.reads;
-        small = is.small;
-        origin = is.origin;
-        enough = is.enough;
-        begins = is.begins;
-        increasing = is.increasing;
-        before = λ j h. let b = is.before j h in omega (arith, b);
-        firsts = λ slot state h small fits e. is.firsts slot state (omega (arith, small)) small fits e;
-        once = is.once;
-        twice = is.twice;
-        closed = λ k slot state bit known small h some fits e u. elim (cases_lt (moment k bit slot) (moment entry false 0)) [
-          | inl below ↦ is.closed k slot state bit known small below some fits e u
-          | inr past ↦
-              let b = within-block k entry slot bit small past h in
-              let root = (is.begins entry within).1 start in
-              let yes = some (ap g.heads b.0 ∙ root) in
-              absurd (let no = sym b.1 ∙ yes in cc)
-        ];
-      },
-      record { heads = λ j h. refl; parent = λ j h. refl; bit = λ j h. refl; key = λ j h. refl },
-    );
+    g,
+    record {
+      trimmed = is.trimmed;
+      reads = is.reads;
+      small = is.small;
+      origin = is.origin;
+      enough = is.enough;
+      begins = is.begins;
+      increasing = is.increasing;
+      before = λ j h. let b = is.before j h in omega (arith, b);
+      firsts = λ slot state h small fits e. is.firsts slot state (omega (arith, small)) small fits e;
+      once = is.once;
+      twice = is.twice;
+      closed = λ k slot state bit known small h some fits e u. elim (cases_lt (moment k bit slot) (moment entry false 0)) [
+        | inl below ↦ is.closed k slot state bit known small below some fits e u
+        | inr past ↦
+            let b = within-block k entry slot bit small past h in
+            let root = (is.begins entry within).1 start in
+            let yes = some (ap g.heads b.0 ∙ root) in
+            absurd (let no = sym b.1 ∙ yes in cc)
+      ];
+    },
+    record { heads = λ j h. refl; parent = λ j h. refl; bit = λ j h. refl; key = λ j h. refl },
+  );
 }
 
 here-nil : (g : Trace) (len slot : ℕ) → (grown g len [] 0 false slot).heads len ≡ []

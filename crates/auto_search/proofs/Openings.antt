@@ -1,6 +1,6 @@
 -- Fronts of heads, and the distances that heads meet.
-use Rattle.std.proofs.Common.{◌≡◌, ◌≢◌, ◌↔◌, ℕ, zero, suc, ◌+◌, ◌-◌, ◌*◌, ◌/◌, ◌%◌, ◌^◌, ◌<◌, ◌≤◌, Bool, true, false, List, [], ◌∷◌, ◌++◌, length, get_or, Option, Some, None, option_map, arith, inl, inr, ◌⊎◌, refl, sym, ap, ◌∙◌, subst}
-use Rattle.std.proofs.lemmas.Bool.{cases_eq, cases_lt}
+use Rattle.std.proofs.Common.{◌≡◌, ℕ, zero, suc, ◌+◌, ◌-◌, ◌*◌, ◌/◌, ◌%◌, ◌^◌, ◌<◌, ◌≤◌, Bool, true, false, List, [], ◌∷◌, length, get_or, Option, None, option_map, arith, inl, inr, sym, ap, ◌∙◌, subst}
+use Rattle.std.proofs.lemmas.Bool.{cases_eq}
 use Rattle.std.proofs.lemmas.Nat.{mod_below, pow_pos}
 use Rattle.std.proofs.Math.Nat.{div-add-mod, mul_comm}
 use Rattle.track_word.specs.Word.{BitsSpell, RepeatKeepsValues, EqualValuesEqualWords}
@@ -12,14 +12,14 @@ use Rattle.auto_search.specs.Fews.{HasFew}
 use Rattle.auto_search.specs.declared.way.Way.{Way}
 use Rattle.auto_search.specs.Way.{IsWay, IsHit, HasHits}
 use Rattle.auto_search.specs.Bits.{number, sum_at, letter_at, carry, slot_of, IsRay}
-use Rattle.auto_search.specs.Search.{Suits, IsStep, IsStart, stepped, Leads}
-use Rattle.auto_search.specs.Heads.{IsTrimmed, headed, head_number, read, zeros, IsOpened}
+use Rattle.auto_search.specs.Search.{Suits, IsStep, IsStart, Leads}
+use Rattle.auto_search.specs.Heads.{IsTrimmed, head_number, read, IsOpened}
 use Rattle.auto_search.specs.Met.{IsSlot, Meets}
 use Rattle.auto_search.proofs.Sums.{integer_bit-lt, added-le, carry-le}
-use Rattle.auto_search.proofs.Fronts.{slot-parts, number-lt}
+use Rattle.auto_search.proofs.Fronts.{slot-parts}
 use Rattle.auto_search.proofs.Carries.{whole}
 use Rattle.auto_search.proofs.Hits.{bits-for}
-use Rattle.auto_search.proofs.Heads.{head-decides, Decided}
+use Rattle.auto_search.proofs.Heads.{head-decides}
 use Rattle.auto_search.proofs.Counts.{Raised, raised-has}
 use Rattle.auto_search.proofs.Tallies.{has-same}
 
@@ -101,17 +101,20 @@ module _ (a : Automaton) (valid : IsAutomaton a) (decides : DecidesIntegers a) (
       let total : n ≡ head_number h.0 * 2 ^ ray.top + number l.0 = rw (eh, el) (let h = div-add-mod n (2 ^ ray.top) in let c = mul_comm (n / 2 ^ ray.top) (2 ^ ray.top) in omega (arith, h, c)) in
       let where_is : 1 + whole (head_number h.0) l.0 ≡ t = ap (λ k. 1 + k) (same-whole h.0 l.0 l.1 ∙ sym total) ∙ (let z : 1 + n ≡ t = omega (arith, some) in z) in
       let d = head-decides a valid decides spell keeps equal way 1 ray is_way is count h.0 l.0 l.1 in
-      let parts = slot-carries l.0 in
-      (n, (let z : t ≡ 1 + n = omega (arith, some) in z), record {
-        head = h.0;
-        trimmed = h.1;
-        lo = l.0;
-        size = l.1;
-        is = total;
-        state = d.0;
-        reads = rw (parts.0, parts.1) d.1.reads;
-        leads = d.1.from (rw where_is hit);
-      })
+      let parts = slot-carries l.0 in (
+        n,
+        (let z : t ≡ 1 + n = omega (arith, some) in z),
+        record {
+          head = h.0;
+          trimmed = h.1;
+          lo = l.0;
+          size = l.1;
+          is = total;
+          state = d.0;
+          reads = rw (parts.0, parts.1) d.1.reads;
+          leads = d.1.from (rw where_is hit);
+        },
+      )
 
   -- what heads meet are the distances, less one
   pub hits-counted : (few : Few) → HasFew few (Meets a ray) → HasHits a way few

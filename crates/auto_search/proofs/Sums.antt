@@ -1,16 +1,14 @@
 -- Sums of bits, and the values that they are the bits of.
-use Rattle.std.proofs.Common.{◌≡◌, ◌≢◌, ℕ, zero, suc, ℤ, pos, negsuc, ◌+ℤ◌, ◌-ℤ◌, ◌*ℤ◌, ◌≤ℤ◌, ◌+◌, ◌-◌, ◌*◌, ◌/◌, ◌%◌, ◌^◌, ◌<◌, ◌≤◌, Bool, true, false, cond, List, [], ◌∷◌, length, All, get_or, set, arith, inl, inr, ◌⊎◌, refl, sym, ap, ◌∙◌, subst}
+use Rattle.std.proofs.Common.{◌≡◌, ◌≢◌, ℕ, zero, suc, ℤ, pos, negsuc, ◌+ℤ◌, ◌*ℤ◌, ◌+◌, ◌-◌, ◌*◌, ◌/◌, ◌%◌, ◌^◌, ◌<◌, ◌≤◌, Bool, true, false, cond, List, [], ◌∷◌, length, get_or, set, arith, sym, ap, ◌∙◌}
 use Rattle.std.specs.Int.{bit_at, int_shr}
 use Rattle.std.proofs.lemmas.Int.{ints}
-use Rattle.std.proofs.lemmas.Nat.{pow_pos, shr-shr}
+use Rattle.std.proofs.lemmas.Nat.{shr-shr}
 use Rattle.std.proofs.lemmas.Nat.Bits.{bit_at-lt, bit_at-zero}
 use Rattle.std.proofs.lemmas.List.{length-set, get_or-set_other}
-use Rattle.track_word.specs.Word.{integer_bit, letter_of, letters_below, FitsBelow}
+use Rattle.track_word.specs.Word.{integer_bit, letter_of}
 use Rattle.auto_search.specs.declared.axis.Axis.{Axis}
-use Rattle.auto_search.specs.declared.ray.Ray.{Ray}
-use Rattle.auto_search.specs.declared.way.Way.{Way}
-use Rattle.auto_search.specs.Way.{IsWay, IsSlope, value_after, tuple_at}
-use Rattle.auto_search.specs.Bits.{number, sum_at, carry, letter_at, letters, slot_of, IsAxis, IsRay}
+use Rattle.auto_search.specs.Way.{IsSlope}
+use Rattle.auto_search.specs.Bits.{carry}
 
 pub integer_bit-lt : (z : ℤ) (place : ℕ) → integer_bit z place < 2
 integer_bit-lt (pos n) place = bit_at-lt n place

@@ -1,5 +1,5 @@
 -- What a walk's entries yield, counted.
-use Rattle.std.proofs.Common.{◌≡◌, ◌≢◌, ◌↔◌, ℕ, zero, suc, ◌+◌, ◌-◌, ◌*◌, ◌/◌, ◌%◌, ◌^◌, ◌<◌, ◌≤◌, Bool, true, false, List, [], ◌∷◌, length, get_or, Option, Some, None, arith, inl, inr, ◌⊎◌, refl, sym, ap, ◌∙◌, subst}
+use Rattle.std.proofs.Common.{◌≡◌, ℕ, ◌+◌, ◌*◌, ◌/◌, ◌%◌, ◌^◌, ◌<◌, ◌≤◌, Bool, true, false, List, length, get_or, Option, None, arith, inl, inr, ◌⊎◌, refl, sym, ap, ◌∙◌, subst}
 use Rattle.std.proofs.lemmas.Bool.{cases_eq, cases_lt}
 use Rattle.std.proofs.lemmas.Nat.{same_from_place}
 use Rattle.auto_core.specs.Automaton.{Automaton}
@@ -8,12 +8,13 @@ use Rattle.auto_search.specs.declared.few.Few.{Few}
 use Rattle.auto_search.specs.declared.few.Few.TheVariants.{Zero, One, More}
 use Rattle.auto_search.specs.Fews.{HasFew, plus_of}
 use Rattle.auto_search.specs.Bits.{number, slot_of, carry}
-use Rattle.auto_search.specs.Search.{Suits, Completes, CompletedBy, Leads}
-use Rattle.auto_search.specs.Heads.{IsTrimmed, headed, head_number}
-use Rattle.auto_search.specs.Met.{Trace, moment, IsSlot, Entered, Twice, IsMet, HasPlace, Goes, IsAlone, Walks, Yields, Meets, Counting}
+use Rattle.auto_search.specs.Search.{Suits, CompletedBy, Leads}
+use Rattle.auto_search.specs.Heads.{head_number}
+use Rattle.auto_search.specs.Met.{Trace, moment, IsSlot, IsMet, Goes, IsAlone, Walks, Yields, Meets, Counting, IsEntered}
 use Rattle.auto_search.proofs.Sums.{carry-le}
 use Rattle.auto_search.proofs.Fronts.{slot-parts, number-lt}
 use Rattle.auto_search.proofs.Counts.{plus-has, raised-has, Raised}
+use Rattle.auto_search.proofs.Rooms.{place-inside}
 use Rattle.auto_search.proofs.Walked.{number-same, trimmed-same, apart, known-all}
 
 -- equal sets have as many numbers
@@ -69,16 +70,20 @@ module _ (a : Automaton) (ray : Ray) (suits : Suits a ray) (g : Trace) (times st
     | inl below ↦ inl (record { entry = y.entry; within = below; lo = y.lo; size = y.size; is = y.is; slot = y.slot; leads = y.leads })
     | inr past ↦
         let same : y.entry ≡ end = let w = y.within in omega (arith, past, w) in
-        inr (number y.lo, y.is ∙ ap (λ k. head_number (g.heads k) * 2 ^ ray.top + number y.lo) same, record {
-          bits = y.lo;
-          size = y.size;
-          is = refl;
-          completes = record {
-            state = get_or states end 0;
-            found = ap (λ k. get_or front k None) (y.slot ∙ ap (λ k. get_or slots k 0) same) ∙ alone.there;
-            leads = subst (λ k. Leads a ray (get_or states k 0) y.lo) same y.leads;
-          };
-        })
+        inr (
+          number y.lo,
+          y.is ∙ ap (λ k. head_number (g.heads k) * 2 ^ ray.top + number y.lo) same,
+          record {
+            bits = y.lo;
+            size = y.size;
+            is = refl;
+            completes = record {
+              state = get_or states end 0;
+              found = ap (λ k. get_or front k None) (y.slot ∙ ap (λ k. get_or slots k 0) same) ∙ alone.there;
+              leads = subst (λ k. Leads a ray (get_or states k 0) y.lo) same y.leads;
+            };
+          },
+        )
   ]
 
   disjoint : (n : ℕ) → Yields a ray g states slots end n → Raised (head_number (g.heads end) * 2 ^ ray.top) (CompletedBy a ray ray.top front) n → ⊥
@@ -113,11 +118,11 @@ turn-counts a ray suits times states slots times1 states1 slots1 times2 states2 
     let l1 = w1.longer in
     let l2 = w2.longer in
     let goes : Goes is.trace m2.0 len = record {
-        heads = λ j h. m2.2.heads j (omega (arith, h, l1)) ∙ m1.2.heads j h;
-        parent = λ j h. m2.2.parent j (omega (arith, h, l1)) ∙ m1.2.parent j h;
-        bit = λ j h. m2.2.bit j (omega (arith, h, l1)) ∙ m1.2.bit j h;
-        key = λ j h. m2.2.key j (omega (arith, h, l1)) ∙ m1.2.key j h;
-      } in
+      heads = λ j h. m2.2.heads j (omega (arith, h, l1)) ∙ m1.2.heads j h;
+      parent = λ j h. m2.2.parent j (omega (arith, h, l1)) ∙ m1.2.parent j h;
+      bit = λ j h. m2.2.bit j (omega (arith, h, l1)) ∙ m1.2.bit j h;
+      key = λ j h. m2.2.key j (omega (arith, h, l1)) ∙ m1.2.key j h;
+    } in
     let ss = λ (j : ℕ) (h : j < len). w2.same_states j (omega (arith, h, l1)) ∙ w1.same_states j h in
     let sl = λ (j : ℕ) (h : j < len). w2.same_slots j (omega (arith, h, l1)) ∙ w1.same_slots j h in
     let next = one-more a ray suits is.trace times states slots len starts (moment end false 0) end is.met within front alone few more is.few_yields done in
@@ -196,12 +201,35 @@ module _ (a : Automaton) (ray : Ray) (suits : Suits a ray) (times states slots :
       where
         at : (f : Few) → HasFew f (Yields a ray is.trace states slots end) → HasFew f (Meets a ray)
         at Zero h = λ n m. elim (meets-yields n m) [ inl y ↦ h n y | inr two ↦ h two.0 two.3 ]
-        at One h = (h.0, yields-meets h.0 h.1, λ n m. elim (meets-yields n m) [
-          | inl y ↦ h.2 n y
-          | inr two ↦
-              let e1 = h.2 two.0 two.3 in
-              let e2 = h.2 two.1 two.4 in
-              let o = two.2 in
-              absurd (omega (arith, e1, e2, o))
-        ])
+        at One h = (
+          h.0,
+          yields-meets h.0 h.1,
+          λ n m. elim (meets-yields n m) [
+            | inl y ↦ h.2 n y
+            | inr two ↦
+                let e1 = h.2 two.0 two.3 in
+                let e2 = h.2 two.1 two.4 in
+                let o = two.2 in
+                absurd (omega (arith, e1, e2, o))
+          ],
+        )
         at More h = (h.0, h.1, h.2, yields-meets h.0 h.3, yields-meets h.1 h.4)
+
+-- a state that was entered for a slot has an entry
+pub counting-entered : (a : Automaton) (ray : Ray) (times states slots : List ℕ) (len starts end : ℕ) (few : Few) → Counting a ray times states slots len starts end few → IsEntered times states slots len
+counting-entered a ray times states slots len starts end few is =
+    let inside = place-inside a times states slots len is.place in
+    record {
+      in_states = inside.0;
+      in_slots = inside.1;
+      within = λ j h. let s = is.met.small j h in let s0 = s.0 in let s1 = s.1 in let size = is.place.times_size in omega (arith, s0, s1, size);
+      each = λ k some. each k some;
+    }
+  where
+    each : (k : ℕ) → 0 < get_or times k 0 → (j : ℕ) × (j < len) × (get_or states j 0 * 9 + get_or slots j 0 ≡ k)
+    each k some =
+        let parts : k / 9 * 9 + k % 9 ≡ k = omega arith in
+        let o = is.met.once (k % 9) (k / 9) (omega arith) (rw parts some) in
+        let s = o.is_slot in
+        let q = o.is_state in
+        (o.entry, o.within, rw (s, q) parts)

@@ -1,19 +1,14 @@
 -- A walk that is done has met each head, or a state twice.
-use Rattle.std.proofs.Common.{◌≡◌, ◌≢◌, ◌↔◌, ℕ, zero, suc, ◌+◌, ◌-◌, ◌*◌, ◌/◌, ◌%◌, ◌^◌, ◌<◌, ◌≤◌, Bool, true, false, cond, List, [], ◌∷◌, ◌++◌, length, get_or, set, Option, Some, None, option_map, arith, inl, inr, ◌⊎◌, refl, sym, ap, ◌∙◌, subst}
+use Rattle.std.proofs.Common.{◌≡◌, ◌≢◌, ℕ, zero, suc, ◌+◌, ◌/◌, ◌%◌, ◌^◌, ◌<◌, ◌≤◌, Bool, true, false, List, [], ◌∷◌, ◌++◌, length, get_or, Some, option_map, arith, inl, inr, refl, sym, ap, ◌∙◌, subst}
 use Rattle.std.proofs.lemmas.Bool.{cases_eq, cases_lt}
-use Rattle.std.proofs.lemmas.Nat.{same_from_place}
 use Rattle.auto_core.specs.Automaton.{Automaton, next_state}
 use Rattle.auto_search.specs.declared.ray.Ray.{Ray}
-use Rattle.auto_search.specs.declared.few.Few.{Few}
-use Rattle.auto_search.specs.declared.few.Few.TheVariants.{Zero, One, More}
-use Rattle.auto_search.specs.Fews.{HasFew, plus_of}
-use Rattle.auto_search.specs.Bits.{number, sum_at, letter_at, carry, slot_of}
-use Rattle.auto_search.specs.Search.{Suits, Completes, CompletedBy, Leads}
+use Rattle.auto_search.specs.Bits.{number, sum_at, letter_at}
+use Rattle.auto_search.specs.Search.{Suits}
 use Rattle.auto_search.specs.Heads.{IsTrimmed, headed, head_number, read, zeros}
-use Rattle.auto_search.specs.Met.{Trace, up, moment, IsSlot, Entered, Twice, Known, IsFirst, Follows, IsMet, HasPlace, Goes, IsAlone, Walks, Yields, Meets, Counting}
-use Rattle.auto_search.proofs.Sums.{integer_bit-lt, added, added-le, carry-le}
+use Rattle.auto_search.specs.Met.{Trace, up, moment, IsSlot, Entered, Twice, Known, IsMet}
+use Rattle.auto_search.proofs.Sums.{integer_bit-lt, added-le}
 use Rattle.auto_search.proofs.Fronts.{option_map-some, slot-parts, number-lt}
-use Rattle.auto_search.proofs.Counts.{plus-has, raised-has, Raised}
 
 -- bits of one number, and as many, are the same
 pub number-same : (b c : List Bool) → length b ≡ length c → number b ≡ number c → b ≡ c
@@ -119,9 +114,6 @@ module _ (a : Automaton) (ray : Ray) (suits : Suits a ray) (g : Trace) (times st
         top-bit [] false t e = absurd (let h = t.1 in omega (arith, h))
         top-bit (b ∷ head) false t e = absurd (never-nil b head e)
 
-        sx' : ℕ
-        sx' = sum_at ray.x ray.top (slot / 3) bit
-
         both : {q : ℕ} → Twice g states slots len (up ray bit slot) q → read a ray (head ++ zeros) (sum_at ray.x ray.top (slot / 3) bit / 2) (sum_at ray.y ray.top (slot % 3) bit / 2) ≡ Some q
             → next_state a q (letter_at ray ray.top (sum_at ray.x ray.top (slot / 3) bit) (sum_at ray.y ray.top (slot % 3) bit)) ≡ state → Known g states slots len (bit ∷ head) slot state
         both {q} twice r n =
@@ -153,28 +145,28 @@ module _ (a : Automaton) (ray : Ray) (suits : Suits a ray) (g : Trace) (times st
                   absurd (apart twice.second twice.first twice.second (omega arith) twice.order twice.within heads.1 (twice.first_slot ∙ sym twice.second_slot))
               | inr other ↦ elim (cases_lt e1.entry e2.entry) [
                 | inl less ↦ record {
-                    first = e1.entry;
-                    second = e2.entry;
-                    order = less;
-                    within = e2.within;
-                    some_first = λ n. never-nil bit (g.heads twice.first) (sym e1.is_head ∙ n);
-                    some_second = λ n. never-nil bit (g.heads twice.second) (sym e2.is_head ∙ n);
-                    first_slot = e1.is_slot;
-                    first_state = e1.is_state;
-                    second_slot = e2.is_slot;
-                    second_state = e2.is_state;
-                  }
+                  first = e1.entry;
+                  second = e2.entry;
+                  order = less;
+                  within = e2.within;
+                  some_first = λ n. never-nil bit (g.heads twice.first) (sym e1.is_head ∙ n);
+                  some_second = λ n. never-nil bit (g.heads twice.second) (sym e2.is_head ∙ n);
+                  first_slot = e1.is_slot;
+                  first_state = e1.is_state;
+                  second_slot = e2.is_slot;
+                  second_state = e2.is_state;
+                }
                 | inr more ↦ record {
-                    first = e2.entry;
-                    second = e1.entry;
-                    order = omega (arith, more, other);
-                    within = e1.within;
-                    some_first = λ n. never-nil bit (g.heads twice.second) (sym e2.is_head ∙ n);
-                    some_second = λ n. never-nil bit (g.heads twice.first) (sym e1.is_head ∙ n);
-                    first_slot = e2.is_slot;
-                    first_state = e2.is_state;
-                    second_slot = e1.is_slot;
-                    second_state = e1.is_state;
-                  }
+                  first = e2.entry;
+                  second = e1.entry;
+                  order = omega (arith, more, other);
+                  within = e1.within;
+                  some_first = λ n. never-nil bit (g.heads twice.second) (sym e2.is_head ∙ n);
+                  some_second = λ n. never-nil bit (g.heads twice.first) (sym e1.is_head ∙ n);
+                  first_slot = e2.is_slot;
+                  first_state = e2.is_state;
+                  second_slot = e1.is_slot;
+                  second_state = e1.is_state;
+                }
               ]
             ]

@@ -1,7 +1,6 @@
 -- The first bits of a distance, and the states that they lead to.
-use Rattle.std.specs.Prelude.{◌≡◌, ℕ, ◌+◌, ◌*◌, ◌/◌, ◌%◌, ◌<◌, ◌≤◌, Bool, true, false, List, [], ◌∷◌, ◌++◌, length, if◌then◌else◌, slice_index, slice_index_or, Option, Some, None, option_map, ◌⊎◌}
+use Rattle.std.specs.Prelude.{◌≡◌, ℕ, ◌+◌, ◌*◌, ◌/◌, ◌%◌, ◌<◌, ◌≤◌, Bool, false, List, [], ◌∷◌, ◌++◌, if◌then◌else◌, slice_index_or, Option, Some, None, option_map}
 use Rattle.auto_core.specs.Automaton.{Automaton, next_state}
-use Rattle.auto_search.specs.declared.axis.Axis.{Axis}
 use Rattle.auto_search.specs.declared.ray.Ray.{Ray}
 use Rattle.auto_search.specs.Bits.{sum_at, letter_at}
 use Rattle.auto_search.specs.Search.{started}
@@ -20,9 +19,9 @@ IsTrimmed (bit ∷ head) = IsTrimmed head × (0 < head_number (bit ∷ head))
 abbrev pub read : Automaton → Ray → List Bool → ℕ → ℕ → Option ℕ
 read a ray [] cx cy = started a ray cx cy
 read a ray (bit ∷ head) cx cy =
-  let sx = sum_at ray.x ray.top cx bit in
-  let sy = sum_at ray.y ray.top cy bit in
-  option_map (λ state. next_state a state (letter_at ray ray.top sx sy)) (read a ray head (sx / 2) (sy / 2))
+    let sx = sum_at ray.x ray.top cx bit in
+    let sy = sum_at ray.y ray.top cy bit in
+    option_map (λ state. next_state a state (letter_at ray ray.top sx sy)) (read a ray head (sx / 2) (sy / 2))
 
 -- bits so high that no value is too long
 abbrev pub zeros : List Bool

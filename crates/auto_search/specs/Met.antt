@@ -1,7 +1,6 @@
 -- Heads that were met in a walk: each state is entered at most twice for each number carried over, besides what the walk begins with.
 use Rattle.std.specs.Prelude.{◌≡◌, ◌≢◌, ◌↔◌, ℕ, ◌+◌, ◌*◌, ◌/◌, ◌%◌, ◌^◌, ◌<◌, ◌≤◌, Bool, true, false, List, [], ◌∷◌, length, All, sum, if◌then◌else◌, slice_index, slice_index_or, slice_set, Option, Some, None, ◌⊎◌}
 use Rattle.auto_core.specs.Automaton.{Automaton}
-use Rattle.auto_search.specs.declared.axis.Axis.{Axis}
 use Rattle.auto_search.specs.declared.ray.Ray.{Ray}
 use Rattle.auto_search.specs.Bits.{sum_at, number, slot_of}
 use Rattle.auto_search.specs.declared.few.Few.{Few}
@@ -87,7 +86,7 @@ pub record IsMet (a : Automaton) (ray : Ray) (g : Trace) (times states slots : L
   pub once : (slot state : ℕ) → slot < 9 → 1 ≤ slice_index times (state * 9 + slot) → Once g states slots len slot state
   pub twice : (slot state : ℕ) → slot < 9 → 2 ≤ slice_index times (state * 9 + slot) → Twice g states slots len slot state
   pub closed : (k slot state : ℕ) (bit : Bool) → k < len → slot < 9 → moment k bit slot < now → (g.heads k ≡ [] → bit ≡ true) → IsSlot ray slot → headed a ray (bit ∷ g.heads k) (slot / 3) (slot % 3) ≡ Some state
-    → up ray bit slot ≡ slice_index slots k → Known g states slots len (bit ∷ g.heads k) slot state
+      → up ray bit slot ≡ slice_index slots k → Known g states slots len (bit ∷ g.heads k) slot state
 
 -- room for all that may be met
 pub record HasPlace (a : Automaton) (times states slots : List ℕ) (len : ℕ) : Type 0 where
@@ -107,8 +106,8 @@ pub record Goes (old new : Trace) (len : ℕ) : Type 0 where
 -- one more entry, where its state was not entered twice before
 abbrev pub Adds : List ℕ → List ℕ → List ℕ → ℕ → List ℕ → List ℕ → List ℕ → ℕ → ℕ → ℕ → Type 0
 Adds times states slots len times' states' slots' len' state slot =
-  ((2 ≤ slice_index times (state * 9 + slot)) × (times' ≡ times) × (states' ≡ states) × (slots' ≡ slots) × (len' ≡ len))
-  ⊎ ((slice_index times (state * 9 + slot) < 2) × (times' ≡ slice_set times (state * 9 + slot) (slice_index times (state * 9 + slot) + 1)) × (states' ≡ slice_set states len state) × (slots' ≡ slice_set slots len slot) × (len' ≡ len + 1))
+    ((2 ≤ slice_index times (state * 9 + slot)) × (times' ≡ times) × (states' ≡ states) × (slots' ≡ slots) × (len' ≡ len))
+    ⊎ ((slice_index times (state * 9 + slot) < 2) × (times' ≡ slice_set times (state * 9 + slot) (slice_index times (state * 9 + slot) + 1)) × (states' ≡ slice_set states len state) × (slots' ≡ slice_set slots len slot) × (len' ≡ len + 1))
 
 -- lists as long as before
 pub record SameSizes (times states slots times' states' slots' : List ℕ) : Type 0 where

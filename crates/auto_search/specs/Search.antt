@@ -1,5 +1,5 @@
 -- States at the places of a ray: fronts, and what was found to lead nowhere.
-use Rattle.std.specs.Prelude.{◌≡◌, ℕ, ◌+◌, ◌*◌, ◌/◌, ◌%◌, ◌^◌, ◌<◌, ◌≤◌, Bool, List, [], ◌∷◌, length, if◌then◌else◌, nat_le, ◌&&◌, slice_index, slice_index_or, Option, Some, None, option_map, option_and_then, ◌⊎◌, IsTrue, ℤ, pos, MatchOption, nat_eq}
+use Rattle.std.specs.Prelude.{◌≡◌, ℕ, ◌+◌, ◌*◌, ◌/◌, ◌%◌, ◌^◌, ◌<◌, ◌≤◌, Bool, List, length, if◌then◌else◌, slice_index, slice_index_or, Option, Some, None, option_map, option_and_then, ◌⊎◌, IsTrue, MatchOption, nat_eq}
 use Rattle.std.specs.Int.{bit_at}
 use Rattle.track_word.specs.Word.{integer_bit}
 use Rattle.auto_core.specs.Automaton.{Automaton, width, first_state, next_state, run, is_final}
@@ -33,9 +33,9 @@ pub record Completes (a : Automaton) (ray : Ray) (front : List (Option ℕ)) (bi
 -- the state after one more bit, for what the bits after it carry over
 abbrev pub stepped : Automaton → Ray → ℕ → Bool → List (Option ℕ) → ℕ → ℕ → Option ℕ
 stepped a ray place bit front cx cy =
-  let sx = sum_at ray.x place cx bit in
-  let sy = sum_at ray.y place cy bit in
-  option_map (λ state. next_state a state (letter_at ray place sx sy)) (slice_index_or front (3 * (sx / 2) + sy / 2) None)
+    let sx = sum_at ray.x place cx bit in
+    let sy = sum_at ray.y place cy bit in
+    option_map (λ state. next_state a state (letter_at ray place sx sy)) (slice_index_or front (3 * (sx / 2) + sy / 2) None)
 
 -- the front after one more bit
 pub record IsStep (a : Automaton) (ray : Ray) (place : ℕ) (bit : Bool) (front after : List (Option ℕ)) : Type 0 where
@@ -85,7 +85,7 @@ pub record CompletedBy (a : Automaton) (ray : Ray) (place : ℕ) (front : List (
 -- the sign bit for what all bits carry over to a place, or none where the value is too long
 abbrev pub sign_of : Axis → ℕ → ℕ → Option ℕ
 sign_of axis place carried =
-  if nat_eq carried (axis.zero + integer_bit axis.base place) then Some 0 else (if nat_eq (carried + 1) (axis.zero + integer_bit axis.base place) then Some 1 else None)
+    if nat_eq carried (axis.zero + integer_bit axis.base place) then Some 0 else (if nat_eq (carried + 1) (axis.zero + integer_bit axis.base place) then Some 1 else None)
 
 -- the state after the sign letter for what all bits carry over
 abbrev pub started : Automaton → Ray → ℕ → ℕ → Option ℕ

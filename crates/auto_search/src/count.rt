@@ -8,7 +8,7 @@ ghost use Rattle.auto_search.specs.Met.{HasSizes, SameSizes, Counting, Meets, Is
 
 use crate::course::Course;
 use crate::few::Few;
-use crate::front::{alone, start, step, Front};
+use crate::front::{Front, alone, start, step};
 use crate::marks::Marks;
 use crate::met::Met;
 use crate::several::several;

@@ -48,23 +48,25 @@ pub fn step(course: &Course, place: u8, bit: bool, front: &Front) -> Front
 {
     let mut after = NO_STATES;
     for slot in 0..SLOTS {
-        let carry = Carry::of_slot(slot);
-        if carry.x <= course.ray.x.zero + course.ray.x.one
-            && carry.y <= course.ray.y.zero + course.ray.y.one
-        {
-            after[slot as usize] = next(course, place, bit, front, carry);
-        }
+        after[slot as usize] = next(course, place, bit, front, Carry::of_slot(slot));
     }
     after
 }
 
-/// The state after one more bit for what the bits after it carry over.
+/// The state after one more bit for what the bits after it carry over, or none where they cannot carry that over.
 fn next(course: &Course, place: u8, bit: bool, front: &Front, carry: Carry) -> Option<u32>
     requires front { IsFront course.now.auto.now front.now }
     requires place { place ≤ course.now.ray.now.top }
-    ensures next { result ≡ stepped course.now.auto.now course.now.ray.now place bit front.now carry.x carry.y }
+    ensures next { carry.x ≤ course.now.ray.now.x.zero + course.now.ray.now.x.one → carry.y ≤ course.now.ray.now.y.zero + course.now.ray.now.y.one → result ≡ stepped course.now.auto.now course.now.ray.now place bit front.now carry.x carry.y }
+    ensures only { IfSome result (λ state. (carry.x ≤ course.now.ray.now.x.zero + course.now.ray.now.x.one) × (carry.y ≤ course.now.ray.now.y.zero + course.now.ray.now.y.one)) }
     ensures within { IfSome result (λ state. state < length course.now.auto.now.accept) }
 {
+    if carry.x > course.ray.x.zero + course.ray.x.one {
+        return None;
+    }
+    if carry.y > course.ray.y.zero + course.ray.y.one {
+        return None;
+    }
     let x = course.ray.x.sum(place, carry.x, bit);
     let y = course.ray.y.sum(place, carry.y, bit);
     let before = Carry { x: x / 2, y: y / 2 };

@@ -4,7 +4,7 @@ ghost use Rattle.auto_search.specs.Search.{IsFront, IsFoundAhead};
 ghost use Rattle.auto_search.specs.Marks.{Serves, SameRoom};
 
 use crate::course::Course;
-use crate::front::{is_empty, is_final, step, Front};
+use crate::front::{Front, is_empty, is_final, step};
 use crate::marks::Marks;
 
 /// The least number of so many bits that completes the front.
@@ -21,7 +21,11 @@ pub fn least(marks: &mut Marks, course: &Course, place: u8, front: &Front) -> Op
         return None;
     }
     if place == 0 {
-        return if is_final(course, &front) { Some(0) } else { None };
+        return if is_final(course, &front) {
+            Some(0)
+        } else {
+            None
+        };
     }
     let place = place - 1;
     let low = step(course, place, false, &front);

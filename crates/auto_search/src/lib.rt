@@ -19,4 +19,4 @@ mod way;
 
 pub use few::Few;
 pub use search::Search;
-pub use way::{value_along, Way};
+pub use way::{Way, value_along};

@@ -6,7 +6,7 @@ ghost use Rattle.auto_search.specs.Search.{IsFront};
 
 use crate::carry::SLOTS;
 use crate::course::Course;
-use crate::front::{alone, step, Front};
+use crate::front::{Front, alone, step};
 
 /// How often a state is entered for one slot, besides what a walk begins with.
 pub const MOST_TIMES: u8 = 2;

@@ -4,7 +4,7 @@ ghost use Rattle.track_word.specs.Word.{integer_bit, letter_of};
 ghost use Rattle.auto_search.specs.Way.{IsWay};
 ghost use Rattle.auto_search.specs.Bits.{IsRay, IsStill};
 
-use crate::axis::{unit_of, Axis};
+use crate::axis::{Axis, unit_of};
 use crate::way::Way;
 use track_word::bit_of;
 
@@ -31,19 +31,9 @@ impl Ray {
         requires steps { steps ≤ 2 ^ 64 }
         ensures { IsRay way.now near steps result }
     {
-        let x = Axis::new(
-            way.fixed[way.x_track as usize],
-            way.dx,
-            near,
-            way.x_track,
-        );
-        let y = Axis::new(
-            way.fixed[way.y_track as usize],
-            way.dy,
-            near,
-            way.y_track,
-        );
-        let top = bits_of(reach_of(way.fixed, x.base, y.base, steps));
+        let x = Axis::new(way.fixed[way.x_track as usize], way.dx, near, way.x_track);
+        let y = Axis::new(way.fixed[way.y_track as usize], way.dy, near, way.y_track);
+        let top = bits_of(reach_of(way.fixed, x, y, steps));
         Ray {
             x,
             y,
@@ -54,16 +44,16 @@ impl Ray {
 }
 
 /// A bound on all values that the ray meets within so many steps.
-fn reach_of(fixed: &[i64], x: i128, y: i128, steps: u128) -> u128
-    requires x { unsigned_abs x < 2 ^ 66 }
-    requires y { unsigned_abs y < 2 ^ 66 }
+fn reach_of(fixed: &[i64], x: Axis, y: Axis, steps: u128) -> u128
+    requires x { unsigned_abs x.base < 2 ^ 66 }
+    requires y { unsigned_abs y.base < 2 ^ 66 }
     requires steps { steps ≤ 2 ^ 64 }
     ensures fixed { All (λ value. unsigned_abs value ≤ result) fixed.now }
-    ensures x { unsigned_abs x + 2 * steps ≤ result }
-    ensures y { unsigned_abs y + 2 * steps ≤ result }
+    ensures x { unsigned_abs x.base + 2 * steps ≤ result }
+    ensures y { unsigned_abs y.base + 2 * steps ≤ result }
     ensures small { result < 2 ^ 67 }
 {
-    let moving = x.unsigned_abs().max(y.unsigned_abs()) + 2 * steps;
+    let moving = x.base.unsigned_abs().max(y.base.unsigned_abs()) + 2 * steps;
     moving.max(greatest(fixed) as u128)
 }
 

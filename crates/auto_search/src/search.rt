@@ -6,14 +6,14 @@ ghost use Rattle.auto_search.specs.Marks.{Serves, SameRoom, IsClear};
 ghost use Rattle.auto_search.specs.Way.{IsWay, IsLeastFound, HasHits};
 
 use crate::carry::SLOTS;
-use crate::count::{count, Room};
+use crate::count::{Room, count};
 use crate::course::Course;
 use crate::few::Few;
 use crate::front::start;
 use crate::least::least;
 use crate::marks::Marks;
-use crate::met::{Met, MOST_TIMES};
-use crate::ray::{Ray, MOST_PLACES};
+use crate::met::{MOST_TIMES, Met};
+use crate::ray::{MOST_PLACES, Ray};
 use crate::way::Way;
 use auto_core::Auto;
 use std::alloc::{AllocError, Global};

@@ -6,7 +6,7 @@ ghost use Rattle.auto_search.specs.Marks.{Serves, SameRoom};
 
 use crate::course::Course;
 use crate::few::Few;
-use crate::front::{is_empty, is_final, step, Front};
+use crate::front::{Front, is_empty, is_final, step};
 use crate::marks::Marks;
 
 /// How many numbers of so many bits complete the front.
@@ -23,7 +23,11 @@ pub fn several(marks: &mut Marks, course: &Course, place: u8, front: &Front) -> 
         return Few::Zero;
     }
     if place == 0 {
-        return if is_final(course, &front) { Few::One } else { Few::Zero };
+        return if is_final(course, &front) {
+            Few::One
+        } else {
+            Few::Zero
+        };
     }
     let place = place - 1;
     let low = step(course, place, false, &front);

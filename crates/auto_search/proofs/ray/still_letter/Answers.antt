@@ -1,4 +1,4 @@
-use Rattle.std.proofs.Common.{◌≡◌, ◌≤◌, ◌+◌, ◌-◌, ◌*◌, ◌^◌, ℕ, arith, sym, ◌∙◌}
+use Rattle.std.proofs.Common.{◌≡◌, ◌≤◌, ◌+◌, ◌-◌, ◌*◌, ℕ, arith, sym, ◌∙◌}
 use Rattle.auto_search.proofs.Sums.{letter-parts}
 use Rattle.auto_search.proofs.ray.still_letter.Goals as goal
 
