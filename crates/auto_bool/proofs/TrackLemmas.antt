@@ -161,23 +161,3 @@ place-at all some i d among h =
 pub places-more : (all some : List Var) (places : List ℕ) (i n : ℕ) (d : Var) → i < length some → places ≡ map (place all) (take i some) → n ≡ place all (get_or some i d) → places ++ n ∷ [] ≡ map (place all) (take (i + 1) some)
 places-more all some places i n d h so_far next =
     ap (λ l. l ++ n ∷ []) so_far ∙ ap (λ m. map (place all) (take i some) ++ m ∷ []) next ∙ sym (map-take_more (place all) some i (get_or some i d) (slice_get-get_or some i d h))
-
-length-with_var : (x : Var) (ys : List Var) → length (with_var x ys) ≤ length ys + 1
-length-with_var x [] = omega arith
-length-with_var x (y ∷ ys) = elim (order x.0 y.0) [
-  | inl before ↦ let l = ap length (before-is x y ys before) in omega (arith, l)
-  | inr (inl at) ↦ let l = ap length (at-is x y ys at) in omega (arith, l)
-  | inr (inr after) ↦ let l = ap length (after-is x y ys after) in let rest = length-with_var x ys in omega (arith, l, rest)
-]
-
--- both lists together have at most as many tracks as the one and the other
-pub length-with_vars : (xs ys : List Var) → length (with_vars xs ys) ≤ length xs + length ys
-length-with_vars [] ys = omega arith
-length-with_vars (x ∷ xs) ys = let one = length-with_var x (with_vars xs ys) in let rest = length-with_vars xs ys in omega (arith, one, rest)
-
--- what a track that is put in its place keeps
-pub ascending-inserted : (x : Var) (old new : List Var) → new ≡ with_var x old → IsAscending old → IsAscending new
-ascending-inserted x old new is all = subst IsAscending (sym is) (ascending-with_vars (x ∷ []) old all)
-
-pub length-inserted : (x : Var) (old new : List Var) (bound : ℕ) → new ≡ with_var x old → length old ≤ bound → length new ≤ bound + 1
-length-inserted x old new bound is few = let one = length-with_var x old in let l = ap length is in omega (arith, one, l, few)

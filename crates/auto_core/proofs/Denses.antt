@@ -6,6 +6,8 @@ use Rattle.std.proofs.lemmas.Grind.{common_steps}
 use Rattle.std.proofs.Math.Nat.{mod-eq_of_lt, mod-mod, div-lt_iff_lt-mul}
 use Rattle.std.proofs.lemmas.Bool.{cases_lt}
 use Rattle.std.proofs.lemmas.List.{ext_get_or, get_or-take, get_or-drop, get_or_append_left, get_or_push, get_or_default}
+use Rattle.std.specs.List.{Contains}
+use Rattle.std.proofs.lemmas.List.Elements.{Contains-get_or}
 use Rattle.track_word.specs.declared.tracks.Var.{Var}
 use Rattle.letter_diagram.specs.declared.diagrams.Shape.{Shape}
 use Rattle.letter_diagram.specs.Diagram.{map_at, LooksBelow, Grows}
@@ -61,6 +63,12 @@ row_of-is shapes width table node size is =
     ext_get_or 0 (row_of shapes width node) table (l ∙ sym size) (λ i h.
     let below : i < width = omega (arith, l, h) in
     get_or-row_of shapes width node i below ∙ is.map i ∙ ap (λ k. slice_index table k) (plain i width below))
+
+-- the values of the node are the row's entries
+pub leaves-row : (shapes : List Shape) (tracks : ℕ) (table : List ℕ) (node : ℕ) → length table ≡ 2 ^ tracks → IsRowFrom shapes (2 ^ tracks) table 0 node → (letter : ℕ) → Contains table (map_at shapes node letter)
+leaves-row shapes tracks table node size is letter =
+    let below = mod_below letter (2 ^ tracks) (pow_pos tracks) in
+    rw (is.map letter) (Contains-get_or table (0 + letter % 2 ^ tracks) 0 (omega (arith, below, size)))
 
 division : (i width : ℕ) → i ≡ i / width * width + i % width
 division i width = grind (arith, common_steps)

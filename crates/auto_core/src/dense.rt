@@ -1,8 +1,9 @@
 //! Automata from dense tables.
 ghost use Rattle.std.specs.Prelude.{◌≡◌, ◌<◌, ◌≤◌, ◌^◌, ◌*◌, ℕ, length, IfOk};
-ghost use Rattle.letter_diagram.specs.Diagram.{Grows, top_track};
+ghost use Rattle.std.specs.List.{Contains};
+ghost use Rattle.letter_diagram.specs.Diagram.{map_at, Grows, LooksBelow, top_track};
 ghost use Rattle.auto_core.specs.Automaton.{IsAutomaton};
-ghost use Rattle.auto_core.specs.Rows.{AreTables};
+ghost use Rattle.auto_core.specs.Rows.{row_of, AreTables};
 ghost use Rattle.auto_core.specs.Dense.{IsRowFrom, IsPartFrom, AreRowsFrom};
 
 use crate::auto::Auto;
@@ -59,11 +60,14 @@ fn nodes_of_rows(
     Ok(nodes)
 }
 
-/// The node whose map is a dense row.
-fn node_of_row(diagrams: &mut Diagrams, table: &[u32], tracks: u8) -> Result<Node, AllocError>
+/// The node whose map is a dense row: `table` has an entry for each letter over so many tracks, in the order of the letters.
+pub fn node_of_row(diagrams: &mut Diagrams, table: &[u32], tracks: u8) -> Result<Node, AllocError>
     requires few { tracks ≤ 20 }
     requires size { length table.now ≡ 2 ^ tracks }
     ensures row { IfOk result (λ node. IsRowFrom diagrams.new (2 ^ tracks) table.now 0 node) }
+    ensures entries { IfOk result (λ node. row_of diagrams.new (2 ^ tracks) node ≡ table.now) }
+    ensures narrow { IfOk result (λ node. LooksBelow diagrams.new node tracks) }
+    ensures leaves { IfOk result (λ node. (letter : ℕ) → Contains table.now (map_at diagrams.new node letter)) }
     ensures grows { Grows diagrams.old diagrams.new }
 {
     let node = node_from(diagrams, table, tracks, 0, 0)?;

@@ -13,3 +13,4 @@ mod terms;
 mod value;
 
 pub use auto::Auto;
+pub use dense::node_of_row;

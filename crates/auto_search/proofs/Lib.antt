@@ -1,0 +1,12 @@
+pub mod Sums
+pub mod Fronts
+pub mod MarkLemmas
+pub mod Carries
+pub mod Hits
+pub mod Counts
+pub mod Heads
+pub mod Mets
+pub mod Rooms
+pub mod Walked
+pub mod Tallies
+pub mod Openings

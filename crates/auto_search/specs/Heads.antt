@@ -1,0 +1,37 @@
+-- The first bits of a distance, and the states that they lead to.
+use Rattle.std.specs.Prelude.{◌≡◌, ℕ, ◌+◌, ◌*◌, ◌/◌, ◌%◌, ◌<◌, ◌≤◌, Bool, false, List, [], ◌∷◌, ◌++◌, if◌then◌else◌, slice_index_or, Option, Some, None, option_map}
+use Rattle.auto_core.specs.Automaton.{Automaton, next_state}
+use Rattle.auto_search.specs.declared.ray.Ray.{Ray}
+use Rattle.auto_search.specs.Bits.{sum_at, letter_at}
+use Rattle.auto_search.specs.Search.{started}
+
+-- the number of some bits, the lowest one first
+abbrev pub head_number : List Bool → ℕ
+head_number [] = 0
+head_number (bit ∷ head) = 2 * head_number head + (if bit then 1 else 0)
+
+-- the highest bit is 1
+abbrev pub IsTrimmed : List Bool → Type 0
+IsTrimmed [] = Unit {0}
+IsTrimmed (bit ∷ head) = IsTrimmed head × (0 < head_number (bit ∷ head))
+
+-- the state after the sign letter and the letters of these bits, at places past all bits of the near end, for what the bits after them carry over
+abbrev pub read : Automaton → Ray → List Bool → ℕ → ℕ → Option ℕ
+read a ray [] cx cy = started a ray cx cy
+read a ray (bit ∷ head) cx cy =
+    let sx = sum_at ray.x ray.top cx bit in
+    let sy = sum_at ray.y ray.top cy bit in
+    option_map (λ state. next_state a state (letter_at ray ray.top sx sy)) (read a ray head (sx / 2) (sy / 2))
+
+-- bits so high that no value is too long
+abbrev pub zeros : List Bool
+zeros = false ∷ false ∷ false ∷ []
+
+-- the state of a head, for what the bits below the top carry over
+abbrev pub headed : Automaton → Ray → List Bool → ℕ → ℕ → Option ℕ
+headed a ray head cx cy = read a ray (head ++ zeros) cx cy
+
+-- the front of the head 0
+pub record IsOpened (a : Automaton) (ray : Ray) (front : List (Option ℕ)) : Type 0 where
+  pub at : (slot : ℕ) → slot < 9 → (slot / 3 ≤ ray.x.zero + ray.x.one) → (slot % 3 ≤ ray.y.zero + ray.y.one) → slice_index_or front slot None ≡ headed a ray [] (slot / 3) (slot % 3)
+  pub only : (slot state : ℕ) → slice_index_or front slot None ≡ Some state → (slot / 3 ≤ ray.x.zero + ray.x.one) × (slot % 3 ≤ ray.y.zero + ray.y.one)

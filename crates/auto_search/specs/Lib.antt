@@ -1,0 +1,10 @@
+pub use Rattle.auto_core.specs.Automaton
+pub use Rattle.auto_core.specs.Integers
+pub mod Fews
+pub mod Way
+pub mod Bits
+pub mod Search
+pub mod Marks
+pub mod Heads
+pub mod Met
+pub mod Room

@@ -1,0 +1,99 @@
+//! One of the two tracks that a ray moves on.
+ghost use Rattle.std.specs.Prelude.{◌≡◌, ◌+◌, ◌*◌, ◌^◌, ◌<◌, ◌≤◌, ◌+ℤ◌, ◌*ℤ◌, ◌≤ℤ◌, pos, unsigned_abs};
+ghost use Rattle.track_word.specs.Word.{integer_bit};
+ghost use Rattle.auto_search.specs.Way.{IsSlope};
+ghost use Rattle.auto_search.specs.Bits.{IsAxis, fall, rise, sum_at};
+ghost use Rattle.auto_search.specs.Search.{sign_of};
+
+use crate::way::value_along;
+use track_word::bit_of;
+
+/// The value of a track at the near end of a ray, and what the bits of a distance add to it.
+/// A slope that falls counts its carries from the fall on, so that none is negative.
+#[derive(Clone, Copy)]
+pub struct Axis {
+    pub base: i128,
+    /// What a bit 0 adds.
+    pub zero: u8,
+    /// What a bit 1 adds.
+    pub one: u8,
+    /// The letter that has this track's bit alone.
+    pub unit: u32,
+}
+
+impl Axis {
+    pub fn new(value: i64, slope: i8, near: u128, track: u8) -> Axis
+        requires slope { IsSlope slope }
+        requires near { near ≤ 2 ^ 64 }
+        requires track { track < 20 }
+        ensures axis { IsAxis value slope near track result }
+        ensures small { unsigned_abs result.base < 2 ^ 66 }
+    {
+        Axis {
+            base: value_along(value, slope, near),
+            zero: fall_of(slope),
+            one: rise_of(slope),
+            unit: unit_of(track),
+        }
+    }
+
+    /// What comes together at a place: what is carried over to it, the bit of the near end, and what the bit of the distance adds.
+    pub fn sum(self, place: u8, carried: u8, bit: bool) -> u8
+        requires small { self.zero + self.one ≤ 2 }
+        requires carried { carried ≤ 2 }
+        requires place { place ≤ 127 }
+        ensures sum { result ≡ sum_at self place carried bit }
+        ensures within { result ≤ 5 }
+    {
+        carried + bit_of(self.base, place) as u8 + if bit { self.one } else { self.zero }
+    }
+
+    /// The sign bit of the value for what all bits carry over to a place, or none where the value is too long.
+    pub fn sign(self, place: u8, carried: u8) -> Option<u8>
+        requires small { self.zero + self.one ≤ 2 }
+        requires carried { carried ≤ 2 }
+        requires place { place ≤ 127 }
+        ensures { result ≡ sign_of self place carried }
+    {
+        let start = self.zero + bit_of(self.base, place) as u8;
+        if carried == start {
+            Some(0)
+        } else if carried + 1 == start {
+            Some(1)
+        } else {
+            None
+        }
+    }
+}
+
+/// By how much a slope falls.
+fn fall_of(slope: i8) -> u8
+    requires { IsSlope slope }
+    ensures { result ≡ fall slope }
+{
+    match slope {
+        -2 => 2,
+        -1 => 1,
+        _ => 0,
+    }
+}
+
+/// By how much a slope rises.
+fn rise_of(slope: i8) -> u8
+    requires { IsSlope slope }
+    ensures { result ≡ rise slope }
+{
+    match slope {
+        1 => 1,
+        2 => 2,
+        _ => 0,
+    }
+}
+
+/// The letter that has the bit of a track alone.
+pub fn unit_of(track: u8) -> u32
+    requires { track < 20 }
+    ensures { result ≡ 2 ^ track }
+{
+    1 << track
+}

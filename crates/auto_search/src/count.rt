@@ -1,0 +1,93 @@
+//! How many of all positive distances have their tuple in the set.
+ghost use Rattle.std.specs.Prelude.{◌≡◌, ◌≤◌, ◌<◌, ◌*◌, ◌+◌, length, slice_index, ℕ};
+ghost use Rattle.auto_search.specs.Fews.{HasFew};
+ghost use Rattle.auto_search.specs.Search.{IsFront};
+ghost use Rattle.auto_search.specs.Marks.{Serves, SameRoom, IsClear};
+ghost use Rattle.auto_search.specs.Heads.{IsOpened};
+ghost use Rattle.auto_search.specs.Met.{HasSizes, SameSizes, Counting, Meets, IsEntered};
+
+use crate::course::Course;
+use crate::few::Few;
+use crate::front::{Front, alone, start, step};
+use crate::marks::Marks;
+use crate::met::Met;
+use crate::several::several;
+
+/// What a search writes on.
+#[derive(Drop)]
+pub struct Room {
+    pub marks: Marks,
+    pub met: Met,
+}
+
+/// How many numbers of steps from the near end have their tuple in the set. The room is cleared before and after.
+pub fn count(room: &mut Room, course: &Course) -> Few
+    requires serves { Serves course.now.auto.now course.now.ray.now room.old.marks }
+    requires sizes { HasSizes course.now.auto.now room.old.met.times.items room.old.met.states.items room.old.met.slots.items }
+    requires none { (k : ℕ) → slice_index room.old.met.times.items k ≡ 0 }
+    ensures few { HasFew result (Meets course.now.auto.now course.now.ray.now) }
+    ensures clear { IsClear room.new.marks }
+    ensures room { SameRoom room.old.marks room.new.marks }
+    ensures none { (k : ℕ) → slice_index room.new.met.times.items k ≡ 0 }
+    ensures sizes { SameSizes room.old.met.times.items room.old.met.states.items room.old.met.slots.items room.new.met.times.items room.new.met.states.items room.new.met.slots.items }
+{
+    let few = walk(room, course);
+    room.marks.clear();
+    room.met.clear();
+    few
+}
+
+/// Counts by a walk over the heads of all numbers: each entry is a head, and yields the numbers whose last bits complete it.
+fn walk(room: &mut Room, course: &Course) -> Few
+    requires serves { Serves course.now.auto.now course.now.ray.now room.old.marks }
+    requires sizes { HasSizes course.now.auto.now room.old.met.times.items room.old.met.states.items room.old.met.slots.items }
+    requires none { (k : ℕ) → slice_index room.old.met.times.items k ≡ 0 }
+    ensures few { HasFew result (Meets course.now.auto.now course.now.ray.now) }
+    ensures serves { Serves course.now.auto.now course.now.ray.now room.new.marks }
+    ensures room { SameRoom room.old.marks room.new.marks }
+    ensures entered { IsEntered room.new.met.times.items room.new.met.states.items room.new.met.slots.items room.new.met.len }
+    ensures sizes { SameSizes room.old.met.times.items room.old.met.states.items room.old.met.slots.items room.new.met.times.items room.new.met.states.items room.new.met.slots.items }
+{
+    room.met.begin(course, &opened(course));
+    let starts = room.met.len;
+    let mut few = Few::Zero;
+    for entry in 0..room.met.slots.len() {
+        if entry >= room.met.len {
+            return few;
+        }
+        few = turn(room, course, entry, starts, few);
+        if let Few::More = few {
+            return few;
+        }
+    }
+    few
+}
+
+/// Counts what an entry yields, and follows on it.
+fn turn(room: &mut Room, course: &Course, entry: usize, starts: usize, few: Few) -> Few
+    requires serves { Serves course.now.auto.now course.now.ray.now room.old.marks }
+    requires entry { entry < room.old.met.len }
+    requires counting { Counting course.now.auto.now course.now.ray.now room.old.met.times.items room.old.met.states.items room.old.met.slots.items room.old.met.len starts entry few }
+    ensures counting { Counting course.now.auto.now course.now.ray.now room.new.met.times.items room.new.met.states.items room.new.met.slots.items room.new.met.len starts (entry + 1) result }
+    ensures serves { Serves course.now.auto.now course.now.ray.now room.new.marks }
+    ensures room { SameRoom room.old.marks room.new.marks }
+    ensures sizes { SameSizes room.old.met.times.items room.old.met.states.items room.old.met.slots.items room.new.met.times.items room.new.met.states.items room.new.met.slots.items }
+{
+    let front = alone(room.met.slot_of(entry), room.met.state_of(entry));
+    let more = several(&mut room.marks, course, course.ray.top, &front);
+    room.met.follow(course, entry, false, starts);
+    room.met.follow(course, entry, true, starts);
+    few.plus(more)
+}
+
+/// The front so high that no value is too long, where the head is 0.
+fn opened(course: &Course) -> Front
+    ensures opened { IsOpened course.now.auto.now course.now.ray.now result }
+    ensures front { IsFront course.now.auto.now result }
+{
+    let top = course.ray.top;
+    let front = start(course);
+    let front = step(course, top, false, &front);
+    let front = step(course, top, false, &front);
+    step(course, top, false, &front)
+}

@@ -1,0 +1,115 @@
+//! The states that a ray can have led to where some first bits of a distance are known.
+ghost use Rattle.std.specs.Prelude.{◌≡◌, ◌≤◌, ◌<◌, ◌*◌, ◌+◌, ◌/◌, ◌%◌, ℕ, IsTrue, None, Some, IfSome, slice_index_or, length, IsSome, ◌↔◌, [], MatchOption};
+ghost use Rattle.auto_search.specs.Search.{IsFront, IsStep, IsStart, started, stepped, Completes};
+ghost use Rattle.auto_search.specs.Met.{IsAlone};
+
+use crate::carry::{Carry, SLOTS};
+use crate::course::Course;
+
+/// For each slot the state, or none, that leads to what these bits carry over.
+pub type Front = [Option<u32>; SLOTS as usize];
+
+/// A front without states.
+pub const NO_STATES: Front = [None; SLOTS as usize];
+
+/// The front before all bits.
+pub fn start(course: &Course) -> Front
+    ensures start { IsStart course.now.auto.now course.now.ray.now result }
+    ensures front { IsFront course.now.auto.now result }
+{
+    let mut front = NO_STATES;
+    for slot in 0..SLOTS {
+        front[slot as usize] = first(course, Carry::of_slot(slot));
+    }
+    front
+}
+
+/// The state after the sign letter for what all bits carry over.
+fn first(course: &Course, carry: Carry) -> Option<u32>
+    ensures started { result ≡ started course.now.auto.now course.now.ray.now carry.x carry.y }
+    ensures within { IfSome result (λ state. state < length course.now.auto.now.accept) }
+{
+    let top = course.ray.top;
+    match course.ray.x.sign(top, carry.x) {
+        None => None,
+        Some(x) => match course.ray.y.sign(top, carry.y) {
+            None => None,
+            Some(y) => Some(course.auto.first_of(course.letter(top, x, y))),
+        },
+    }
+}
+
+/// The front after one more bit of the distance.
+pub fn step(course: &Course, place: u8, bit: bool, front: &Front) -> Front
+    requires front { IsFront course.now.auto.now front.now }
+    requires place { place ≤ course.now.ray.now.top }
+    ensures step { IsStep course.now.auto.now course.now.ray.now place bit front.now result }
+    ensures front { IsFront course.now.auto.now result }
+{
+    let mut after = NO_STATES;
+    for slot in 0..SLOTS {
+        after[slot as usize] = next(course, place, bit, front, Carry::of_slot(slot));
+    }
+    after
+}
+
+/// The state after one more bit for what the bits after it carry over, or none where they cannot carry that over.
+fn next(course: &Course, place: u8, bit: bool, front: &Front, carry: Carry) -> Option<u32>
+    requires front { IsFront course.now.auto.now front.now }
+    requires place { place ≤ course.now.ray.now.top }
+    ensures next { carry.x ≤ course.now.ray.now.x.zero + course.now.ray.now.x.one → carry.y ≤ course.now.ray.now.y.zero + course.now.ray.now.y.one → result ≡ stepped course.now.auto.now course.now.ray.now place bit front.now carry.x carry.y }
+    ensures only { IfSome result (λ state. (carry.x ≤ course.now.ray.now.x.zero + course.now.ray.now.x.one) × (carry.y ≤ course.now.ray.now.y.zero + course.now.ray.now.y.one)) }
+    ensures within { IfSome result (λ state. state < length course.now.auto.now.accept) }
+{
+    if carry.x > course.ray.x.zero + course.ray.x.one {
+        return None;
+    }
+    if carry.y > course.ray.y.zero + course.ray.y.one {
+        return None;
+    }
+    let x = course.ray.x.sum(place, carry.x, bit);
+    let y = course.ray.y.sum(place, carry.y, bit);
+    let before = Carry { x: x / 2, y: y / 2 };
+    match front[before.slot() as usize] {
+        None => None,
+        Some(state) => Some(course.auto.next_of(state, course.letter(place, x, y))),
+    }
+}
+
+/// Whether there is no state.
+pub fn is_empty(front: &Front) -> bool
+    ensures { IsTrue result → (slot : ℕ) → slice_index_or front.now slot None ≡ None }
+{
+    for state in front {
+        if state.is_some() {
+            return false;
+        }
+    }
+    true
+}
+
+/// Whether the front is completed by no more bits.
+pub fn is_final(course: &Course, front: &Front) -> bool
+    requires front { IsFront course.now.auto.now front.now }
+    ensures { IsTrue result ↔ Completes course.now.auto.now course.now.ray.now front.now [] }
+{
+    let carry = Carry {
+        x: course.ray.x.zero,
+        y: course.ray.y.zero,
+    };
+    match front[carry.slot() as usize] {
+        None => false,
+        Some(state) => course.auto.accept_of(state),
+    }
+}
+
+/// The front of one state alone.
+pub fn alone(slot: u8, state: u32) -> Front
+    requires { slot < 9 }
+    ensures alone { IsAlone slot state result }
+    ensures size { length result ≡ 9 }
+{
+    let mut front = NO_STATES;
+    front[slot as usize] = Some(state);
+    front
+}

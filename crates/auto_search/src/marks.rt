@@ -1,0 +1,139 @@
+//! Marks at states that lead nowhere.
+ghost use Rattle.std.specs.Prelude.{◌≡◌, ◌≤◌, ◌<◌, ◌*◌, ◌+◌, IsTrue, ◌↔◌, ℕ, length, All, slice_index};
+ghost use Rattle.std.specs.Int.{bit_at};
+ghost use Rattle.auto_search.specs.Search.{IsFront, IsLive, IsDead, cell_of};
+ghost use Rattle.auto_search.specs.Marks.{Serves, SameRoom, IsClear, IsListed, IsMarked, HasCellFrom, HasCellBelow};
+
+use crate::carry::SLOTS;
+use crate::course::Course;
+use crate::front::Front;
+use auto_core::Auto;
+
+/// For each place and each state a cell with a bit for each slot, and the cells with bits, as far as there is room to list them.
+#[derive(Drop)]
+pub struct Marks {
+    pub failed: Vec<u16>,
+    pub cells: Vec<usize>,
+    pub listed: usize,
+}
+
+impl Marks {
+    /// Whether a cell has a slot's bit.
+    fn has(&self, cell: usize, slot: u8) -> bool
+        requires cell { cell < length self.now.failed.items }
+        requires slot { slot < 9 }
+        ensures { IsTrue result ↔ (bit_at (slice_index self.now.failed.items cell) slot ≡ 1) }
+    {
+        (self.failed[cell] >> slot) & 1 == 1
+    }
+
+    /// Gives a cell a slot's bit.
+    fn add(&mut self, cell: usize, slot: u8)
+        requires cell { cell < length self.old.failed.items }
+        requires slot { slot < 9 }
+        requires listed { IsListed self.old.failed.items self.old.cells.items self.old.listed }
+        ensures marked { IsMarked self.old.failed.items self.new.failed.items cell slot }
+        ensures listed { IsListed self.new.failed.items self.new.cells.items self.new.listed }
+        ensures room { SameRoom self.old self.new }
+    {
+        self.list(cell);
+        self.failed[cell] |= 1 << slot;
+    }
+
+    /// Lists a cell, unless it has marks already or the list is full.
+    fn list(&mut self, cell: usize)
+        requires cell { cell < length self.old.failed.items }
+        requires listed { IsListed self.old.failed.items self.old.cells.items self.old.listed }
+        ensures failed { self.new.failed.items ≡ self.old.failed.items }
+        ensures listed { IsListed self.new.failed.items self.new.cells.items self.new.listed }
+        ensures here { self.new.listed < length self.new.cells.items → HasCellBelow self.new.cells.items self.new.listed cell }
+        ensures size { length self.new.cells.items ≡ length self.old.cells.items }
+    {
+        if self.failed[cell] == 0 && self.listed < self.cells.len() {
+            self.cells[self.listed] = cell;
+            self.listed += 1;
+        }
+    }
+
+    /// The front without its marked states.
+    pub fn live(&self, course: &Course, place: u8, front: &Front) -> Front
+        requires serves { Serves course.now.auto.now course.now.ray.now self.now }
+        requires place { place ≤ course.now.ray.now.top }
+        requires front { IsFront course.now.auto.now front.now }
+        ensures live { IsLive course.now.auto.now self.now.failed.items place front.now result }
+        ensures front { IsFront course.now.auto.now result }
+    {
+        let mut left = *front;
+        for slot in 0..SLOTS {
+            if let Some(state) = front[slot as usize] {
+                if self.has(cell_at(course.auto, place, state), slot) {
+                    left[slot as usize] = None;
+                }
+            }
+        }
+        left
+    }
+
+    /// Marks the states of a front that no bits complete.
+    pub fn add_all(&mut self, course: &Course, place: u8, front: &Front)
+        requires serves { Serves course.now.auto.now course.now.ray.now self.old }
+        requires place { place ≤ course.now.ray.now.top }
+        requires front { IsFront course.now.auto.now front.now }
+        requires dead { IsDead course.now.auto.now course.now.ray.now place front.now }
+        ensures serves { Serves course.now.auto.now course.now.ray.now self.new }
+        ensures room { SameRoom self.old self.new }
+    {
+        for slot in 0..SLOTS {
+            if let Some(state) = front[slot as usize] {
+                self.add(cell_at(course.auto, place, state), slot);
+            }
+        }
+    }
+
+    /// Takes all marks away, at the cost of those that there are.
+    pub fn clear(&mut self)
+        requires { IsListed self.old.failed.items self.old.cells.items self.old.listed }
+        ensures clear { IsClear self.new }
+        ensures room { SameRoom self.old self.new }
+    {
+        if self.listed < self.cells.len() {
+            empty_cells(
+                self.failed.as_mut_slice(),
+                &self.cells.as_slice()[..self.listed],
+            );
+        } else {
+            empty(self.failed.as_mut_slice());
+        }
+        self.listed = 0;
+    }
+}
+
+/// The cell of a state at a place.
+fn cell_at(a: &Auto, place: u8, state: u32) -> usize
+    requires place { place ≤ 67 }
+    requires state { state < length a.now.accept }
+    ensures cell { result ≡ cell_of a.now place state }
+    ensures within { result < length a.now.accept * 68 }
+{
+    place as usize * a.states() as usize + state as usize
+}
+
+/// Empties these cells, where all others are empty.
+fn empty_cells(failed: &mut [u16], cells: &[usize])
+    requires within { All (λ cell. cell < length failed.old) cells.now }
+    requires others { (cell : ℕ) → 0 < slice_index failed.old cell → HasCellFrom cells.now 0 cell }
+    ensures { (cell : ℕ) → slice_index failed.new cell ≡ 0 }
+{
+    for cell in cells {
+        failed[*cell] = 0;
+    }
+}
+
+/// Empties all cells.
+fn empty(failed: &mut [u16])
+    ensures { (cell : ℕ) → slice_index failed.new cell ≡ 0 }
+{
+    for cell in failed.iter_mut() {
+        *cell = 0;
+    }
+}

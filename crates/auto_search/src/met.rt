@@ -1,0 +1,128 @@
+//! What a walk over heads has met.
+ghost use Rattle.std.specs.Prelude.{◌≡◌, ◌≤◌, ◌<◌, ◌*◌, ◌+◌, ◌/◌, ◌%◌, length, slice_index, slice_set, ℕ};
+ghost use Rattle.auto_search.specs.Met.{HasPlace, HasSizes, SameSizes, Begins, Adds, Walks, IsAfter, IsEntered, moment};
+ghost use Rattle.auto_search.specs.Heads.{IsOpened};
+ghost use Rattle.auto_search.specs.Search.{IsFront};
+
+use crate::carry::SLOTS;
+use crate::course::Course;
+use crate::front::{Front, alone, step};
+
+/// How often a state is entered for one slot, besides what a walk begins with.
+pub const MOST_TIMES: u8 = 2;
+
+/// How often each state was entered for each slot; and the states that were entered, in order, with their slots.
+#[derive(Drop)]
+pub struct Met {
+    pub times: Vec<u8>,
+    pub states: Vec<u32>,
+    pub slots: Vec<u8>,
+    pub len: usize,
+}
+
+impl Met {
+    /// Enters a state with a slot.
+    pub fn put(&mut self, state: u32, slot: u8)
+        requires states { self.old.len < length self.old.states.items }
+        requires slots { self.old.len < length self.old.slots.items }
+        ensures times { self.new.times.items ≡ self.old.times.items }
+        ensures states { self.new.states.items ≡ slice_set self.old.states.items self.old.len state }
+        ensures slots { self.new.slots.items ≡ slice_set self.old.slots.items self.old.len slot }
+        ensures len { self.new.len ≡ self.old.len + 1 }
+    {
+        self.states[self.len] = state;
+        self.slots[self.len] = slot;
+        self.len += 1;
+    }
+
+    /// Enters a state with a slot, where it was not entered twice before.
+    pub fn add(&mut self, course: &Course, state: u32, slot: u8)
+        requires place { HasPlace course.now.auto.now self.old.times.items self.old.states.items self.old.slots.items self.old.len }
+        requires state { state < length course.now.auto.now.accept }
+        requires slot { slot < 9 }
+        ensures adds { Adds self.old.times.items self.old.states.items self.old.slots.items self.old.len self.new.times.items self.new.states.items self.new.slots.items self.new.len state slot }
+        ensures place { HasPlace course.now.auto.now self.new.times.items self.new.states.items self.new.slots.items self.new.len }
+    {
+        let at = state as usize * SLOTS as usize + slot as usize;
+        if self.times[at] < MOST_TIMES {
+            self.times[at] += 1;
+            self.put(state, slot);
+        }
+    }
+
+    /// Begins with the states of a front.
+    pub fn begin(&mut self, course: &Course, front: &Front)
+        requires sizes { HasSizes course.now.auto.now self.old.times.items self.old.states.items self.old.slots.items }
+        requires none { (k : ℕ) → slice_index self.old.times.items k ≡ 0 }
+        requires front { IsFront course.now.auto.now front.now }
+        requires opened { IsOpened course.now.auto.now course.now.ray.now front.now }
+        ensures sizes { SameSizes self.old.times.items self.old.states.items self.old.slots.items self.new.times.items self.new.states.items self.new.slots.items }
+        ensures begins { Begins course.now.auto.now course.now.ray.now self.new.times.items self.new.states.items self.new.slots.items self.new.len 9 }
+    {
+        self.len = 0;
+        for slot in 0..SLOTS {
+            match front[slot as usize] {
+                None => {}
+                Some(state) => self.put(state, slot),
+            }
+        }
+    }
+
+    /// The slot of an entry.
+    pub fn slot_of(&self, entry: usize) -> u8
+        requires { entry < length self.now.slots.items }
+        ensures { result ≡ slice_index self.now.slots.items entry }
+    {
+        self.slots[entry]
+    }
+
+    /// The state of an entry.
+    pub fn state_of(&self, entry: usize) -> u32
+        requires { entry < length self.now.states.items }
+        ensures { result ≡ slice_index self.now.states.items entry }
+    {
+        self.states[entry]
+    }
+
+    /// Enters the states that an entry leads to by a bit; by 0 none where the walk begins with the entry.
+    pub fn follow(&mut self, course: &Course, entry: usize, bit: bool, starts: usize)
+        requires place { HasPlace course.now.auto.now self.old.times.items self.old.states.items self.old.slots.items self.old.len }
+        requires entry { entry < self.old.len }
+        requires slot { slice_index self.old.slots.items entry < 9 }
+        requires state { slice_index self.old.states.items entry < length course.now.auto.now.accept }
+        ensures { Walks course.now.auto.now course.now.ray.now self.old.times.items self.old.states.items self.old.slots.items self.old.len self.new.times.items self.new.states.items self.new.slots.items self.new.len starts starts (moment entry bit 0) (moment entry bit 9) }
+    {
+        if bit || entry >= starts {
+            let after = after_entry(course, self.slot_of(entry), self.state_of(entry), bit);
+            for slot in 0..SLOTS {
+                match after[slot as usize] {
+                    None => {}
+                    Some(state) => self.add(course, state, slot),
+                }
+            }
+        }
+    }
+
+    /// Takes all entries away, at the cost of those that there are.
+    pub fn clear(&mut self)
+        requires { IsEntered self.old.times.items self.old.states.items self.old.slots.items self.old.len }
+        ensures none { (k : ℕ) → slice_index self.new.times.items k ≡ 0 }
+        ensures sizes { SameSizes self.old.times.items self.old.states.items self.old.slots.items self.new.times.items self.new.states.items self.new.slots.items }
+    {
+        for entry in 0..self.len {
+            let at = self.states[entry] as usize * SLOTS as usize + self.slots[entry] as usize;
+            self.times[at] = 0;
+        }
+        self.len = 0;
+    }
+}
+
+/// The front after one more bit, at the top, of one state alone.
+fn after_entry(course: &Course, slot: u8, state: u32, bit: bool) -> Front
+    requires slot { slot < 9 }
+    requires state { state < length course.now.auto.now.accept }
+    ensures after { IsAfter course.now.auto.now course.now.ray.now slot state bit result }
+    ensures front { IsFront course.now.auto.now result }
+{
+    step(course, course.ray.top, bit, &alone(slot, state))
+}

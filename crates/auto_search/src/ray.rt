@@ -1,0 +1,130 @@
+//! A ray, ready to be searched from its near end on.
+ghost use Rattle.std.specs.Prelude.{◌≡◌, ◌≤◌, ◌<◌, ◌^◌, ◌+◌, ◌*◌, ℕ, length, All, pos, slice_index, slice_index_or, unsigned_abs};
+ghost use Rattle.track_word.specs.Word.{integer_bit, letter_of};
+ghost use Rattle.auto_search.specs.Way.{IsWay};
+ghost use Rattle.auto_search.specs.Bits.{IsRay, IsStill};
+
+use crate::axis::{Axis, unit_of};
+use crate::way::Way;
+use track_word::bit_of;
+
+/// The most places that a search reads, the sign's among them: a value on a ray has at most 67 bits.
+pub const MOST_PLACES: usize = 68;
+
+/// The two tracks on which a ray moves, and the letters of all others.
+#[derive(Drop)]
+pub struct Ray {
+    pub x: Axis,
+    pub y: Axis,
+    /// For each place up to the top the letter of the tracks that do not move.
+    pub still: [u32; MOST_PLACES],
+    /// The place from which on the values have no bits but their signs.
+    pub top: u8,
+}
+
+impl Ray {
+    /// The ray from its near end on, for so many steps.
+    pub fn new(way: &Way, near: u128, steps: u128) -> Ray
+        requires way { IsWay way.now }
+        requires few { length way.now.fixed.now ≤ 20 }
+        requires near { near ≤ 2 ^ 64 }
+        requires steps { steps ≤ 2 ^ 64 }
+        ensures { IsRay way.now near steps result }
+    {
+        let x = Axis::new(way.fixed[way.x_track as usize], way.dx, near, way.x_track);
+        let y = Axis::new(way.fixed[way.y_track as usize], way.dy, near, way.y_track);
+        let top = bits_of(reach_of(way.fixed, x, y, steps));
+        Ray {
+            x,
+            y,
+            still: still_letters(way, top),
+            top,
+        }
+    }
+}
+
+/// A bound on all values that the ray meets within so many steps.
+fn reach_of(fixed: &[i64], x: Axis, y: Axis, steps: u128) -> u128
+    requires x { unsigned_abs x.base < 2 ^ 66 }
+    requires y { unsigned_abs y.base < 2 ^ 66 }
+    requires steps { steps ≤ 2 ^ 64 }
+    ensures fixed { All (λ value. unsigned_abs value ≤ result) fixed.now }
+    ensures x { unsigned_abs x.base + 2 * steps ≤ result }
+    ensures y { unsigned_abs y.base + 2 * steps ≤ result }
+    ensures small { result < 2 ^ 67 }
+{
+    let moving = x.base.unsigned_abs().max(y.base.unsigned_abs()) + 2 * steps;
+    moving.max(greatest(fixed) as u128)
+}
+
+/// A bound on values, whatever their signs.
+fn greatest(values: &[i64]) -> u64
+    ensures bound { All (λ value. unsigned_abs value ≤ result) values.now }
+    ensures small { result ≤ 2 ^ 63 }
+{
+    let mut most = 0;
+    for value in values {
+        most = most.max(value.unsigned_abs());
+    }
+    most
+}
+
+/// How many bits a number has.
+fn bits_of(number: u128) -> u8
+    requires { number < 2 ^ 67 }
+    ensures enough { number < 2 ^ result }
+    ensures few { result ≤ 67 }
+{
+    (128 - number.leading_zeros()) as u8
+}
+
+/// The letters of the tracks that do not move, for the places up to the top.
+fn still_letters(way: &Way, top: u8) -> [u32; MOST_PLACES]
+    requires way { IsWay way.now }
+    requires few { length way.now.fixed.now ≤ 20 }
+    requires top { top ≤ 67 }
+    ensures still { (place : ℕ) → place ≤ top → IsStill way.now place (slice_index result place) }
+{
+    let mut still = [0; MOST_PLACES];
+    for place in 0..top + 1 {
+        still[place as usize] = still_letter(way, place);
+    }
+    still
+}
+
+/// The letter of a place without the bits of the two tracks.
+fn still_letter(way: &Way, place: u8) -> u32
+    requires way { IsWay way.now }
+    requires few { length way.now.fixed.now ≤ 20 }
+    requires place { place ≤ 67 }
+    ensures { IsStill way.now place result }
+{
+    let whole = letter_at(way.fixed, place);
+    let x = bit_of_track(way.fixed, way.x_track, place) * unit_of(way.x_track);
+    let y = bit_of_track(way.fixed, way.y_track, place) * unit_of(way.y_track);
+    whole - x - y
+}
+
+/// The bit of a place of the value of a track.
+fn bit_of_track(values: &[i64], track: u8, place: u8) -> u32
+    requires track { track < length values.now }
+    requires place { place ≤ 67 }
+    ensures bit { result ≡ integer_bit (slice_index_or values.now track (pos 0)) place }
+    ensures small { result < 2 }
+{
+    let value = values[track as usize];
+    bit_of(value as i128, place)
+}
+
+/// The letter of the bits of one place.
+fn letter_at(values: &[i64], place: u8) -> u32
+    requires few { length values.now ≤ 20 }
+    requires place { place ≤ 67 }
+    ensures letter { result ≡ letter_of values.now place }
+    ensures within { result < 2 ^ length values.now }
+{
+    match values.split_first() {
+        None => 0,
+        Some((value, rest)) => bit_of(*value as i128, place) + 2 * letter_at(rest, place),
+    }
+}

@@ -1,0 +1,132 @@
+//! The search along a ray.
+ghost use Rattle.std.specs.Prelude.{◌≡◌, ◌≤◌, ◌^◌, ◌*◌, length, IfOk};
+ghost use Rattle.auto_core.specs.Integers.{DecidesIntegers};
+ghost use Rattle.auto_search.specs.Search.{IsFirstAhead};
+ghost use Rattle.auto_search.specs.Marks.{Serves, SameRoom, IsClear};
+ghost use Rattle.auto_search.specs.Way.{IsWay, IsLeastFound, HasHits};
+
+use crate::carry::SLOTS;
+use crate::count::{Room, count};
+use crate::course::Course;
+use crate::few::Few;
+use crate::front::start;
+use crate::least::least;
+use crate::marks::Marks;
+use crate::met::{MOST_TIMES, Met};
+use crate::ray::{MOST_PLACES, Ray};
+use crate::way::Way;
+use auto_core::Auto;
+use std::alloc::{AllocError, Global};
+use std::marker::Model;
+use track_word::laws::{
+    bits_spell_their_integers, repeating_first_letter_keeps_values, words_of_equal_values_are_equal,
+};
+
+/// How many marked cells are listed for each reserved state: a search that marks more clears all cells.
+const LISTED: usize = 2;
+
+/// Room for searches in automata of at most so many states.
+#[derive(Drop)]
+pub struct Search {
+    states: u32,
+    room: Room,
+}
+
+impl Model for Search {
+    ghost use Rattle.std.specs.Prelude.{ℕ};
+    ghost use Rattle.auto_search.specs.Room.{IsRoom};
+
+    ghost Value = { ℕ };
+
+    ghost view = { λ search. search.states };
+
+    ghost invariant = { λ search. IsRoom search.states search.room };
+}
+
+impl Search {
+    /// Takes the memory for automata of at most so many states, about 250 bytes for each.
+    pub fn reserve(alloc: Global, states: u32) -> Result<Search, AllocError>
+        ensures { IfOk result (λ search. search ≡ states) }
+    {
+        let count = states as usize;
+        let marks = Marks {
+            failed: vec![in alloc; 0u16; count * MOST_PLACES]?,
+            cells: vec![in alloc; 0usize; count * LISTED]?,
+            listed: 0,
+        };
+        let pairs = count * SLOTS as usize;
+        let entries = SLOTS as usize + pairs * MOST_TIMES as usize;
+        let met = Met {
+            times: vec![in alloc; 0u8; pairs]?,
+            states: vec![in alloc; 0u32; entries]?,
+            slots: vec![in alloc; 0u8; entries]?,
+            len: 0,
+        };
+        Ok(Search {
+            states,
+            room: Room { marks, met },
+        })
+    }
+
+    /// The least distance from `near` to `far` whose tuple is in the set. At most the automaton's states, nine carries and the bits
+    /// of the values and of `far - near` are searched.
+    pub fn least_on_ray(&mut self, a: &Auto, way: &Way, near: u128, far: u128) -> Option<u128>
+        requires decides { DecidesIntegers a.now }
+        requires room { length a.now.accept ≤ self.old }
+        requires count { length way.now.fixed.now ≡ length a.now.tracks }
+        requires way { IsWay way.now }
+        requires far { far ≤ 2 ^ 64 }
+        ensures least { IsLeastFound a.now way.now near far result }
+        ensures kept { self.new ≡ self.old }
+    {
+        if far < near {
+            return None;
+        }
+        bits_spell_their_integers();
+        repeating_first_letter_keeps_values();
+        words_of_equal_values_are_equal();
+        let _ = a.tracks();
+        let ray = Ray::new(way, near, far - near);
+        let course = Course { auto: a, ray: &ray };
+        match ahead(&mut self.room.marks, &course) {
+            None => None,
+            Some(steps) => {
+                if steps <= far - near {
+                    Some(near + steps)
+                } else {
+                    None
+                }
+            }
+        }
+    }
+
+    /// How many of all positive distances, without bound, have their tuple in the set.
+    pub fn count_on_ray(&mut self, a: &Auto, way: &Way) -> Few
+        requires decides { DecidesIntegers a.now }
+        requires room { length a.now.accept ≤ self.old }
+        requires count { length way.now.fixed.now ≡ length a.now.tracks }
+        requires way { IsWay way.now }
+        ensures few { HasHits a.now way.now result }
+        ensures kept { self.new ≡ self.old }
+    {
+        bits_spell_their_integers();
+        repeating_first_letter_keeps_values();
+        words_of_equal_values_are_equal();
+        let _ = a.tracks();
+        let ray = Ray::new(way, 1, 0);
+        let course = Course { auto: a, ray: &ray };
+        count(&mut self.room, &course)
+    }
+}
+
+/// The least number of steps from the near end at which the tuple is in the set. The marks are cleared before and after.
+fn ahead(marks: &mut Marks, course: &Course) -> Option<u128>
+    requires { Serves course.now.auto.now course.now.ray.now marks.old }
+    ensures found { IsFirstAhead course.now.auto.now course.now.ray.now result }
+    ensures clear { IsClear marks.new }
+    ensures room { SameRoom marks.old marks.new }
+{
+    let found = least(marks, course, course.ray.top, &start(course));
+    marks.clear();
+    found
+}
