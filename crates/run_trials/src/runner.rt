@@ -2,7 +2,7 @@
 
 use crate::fault::{Refusal, ScriptWhy, Stop};
 use crate::report::write_run;
-use crate::statement::Statement;
+use crate::statement::{Part, Statement};
 use crate::texts::Texts;
 use crate::trial::{Case, Trial};
 use desk_base::BareShelf;
@@ -65,7 +65,7 @@ impl<W: Write + Drop> Runner<W> {
                 self.close()?;
                 self.block = Block::Trial(Trial::new(self.alloc, line, head));
             }
-            part => {
+            Statement::Part(part) => {
                 let added = self.block.add(line, part);
                 added.map_err(|why| Refusal { line, why })?;
             }
@@ -116,13 +116,7 @@ impl<W: Write + Drop> Runner<W> {
             given,
         } = case;
         let (mut source, mut sink) = given.open(self.alloc)?;
-        let status = run(
-            self.alloc,
-            &words,
-            &mut source,
-            &mut sink,
-            &mut self.shelf,
-        );
+        let status = run(self.alloc, &words, &mut source, &mut sink, &mut self.shelf);
         self.runs = self.runs.saturating_add(1);
         write_run(&mut self.out, title.as_str(), sink.bytes(), status.code())?;
         Ok(())
@@ -130,26 +124,24 @@ impl<W: Write + Drop> Runner<W> {
 }
 
 impl Block {
-    /// Adds bytes to the text or to the input of the run, or a setting to the run.
-    fn add(&mut self, line: u64, part: Statement) -> Result<(), ScriptWhy> {
-        match part {
-            Statement::Bytes(bytes) => self.add_bytes(bytes),
-            Statement::Setting(setting) => match self {
-                Block::Trial(trial) => trial.add_setting(line, setting),
-                _ => Err(ScriptWhy::Stray),
-            },
-            _ => Err(ScriptWhy::Stray),
-        }
-    }
-
-    fn add_bytes(&mut self, bytes: Vec<u8>) -> Result<(), ScriptWhy> {
+    /// Adds a part to the text or the run that is open.
+    fn add(&mut self, line: u64, part: Part) -> Result<(), ScriptWhy> {
         match self {
             Block::Nothing => Err(ScriptWhy::Stray),
-            Block::Text(text) => {
-                text.bytes.extend_from_slice(bytes.as_slice())?;
+            Block::Text(text) => text.add(part),
+            Block::Trial(trial) => trial.add(line, part),
+        }
+    }
+}
+
+impl NamedText {
+    fn add(&mut self, part: Part) -> Result<(), ScriptWhy> {
+        match part {
+            Part::Bytes(bytes) => {
+                self.bytes.extend_from_slice(bytes.as_slice())?;
                 Ok(())
             }
-            Block::Trial(trial) => trial.add_bytes(bytes),
+            Part::Setting(_) => Err(ScriptWhy::Stray),
         }
     }
 }

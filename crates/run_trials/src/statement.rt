@@ -13,10 +13,17 @@ pub enum Statement {
     Remark,
     /// A text of this name begins.
     Text(String),
-    /// More bytes of the text, or of the run's input.
-    Bytes(Vec<u8>),
     /// A run begins: the word `run` and the words that it is given.
     Run(CaseLine),
+    /// A part of the text or of the run that has begun.
+    Part(Part),
+}
+
+/// A part of a text or of a run.
+#[derive(Drop)]
+pub enum Part {
+    /// More bytes of the text, or of the input of the run.
+    Bytes(Vec<u8>),
     /// A setting of the run.
     Setting(CaseLine),
 }
@@ -31,7 +38,7 @@ pub fn read_statement(alloc: Global, line: &[u8]) -> Result<Statement, ScriptWhy
         return Ok(Statement::Remark);
     }
     if let Some(piece) = text.strip_prefix('|') {
-        return Ok(Statement::Bytes(read_piece(alloc, piece)?));
+        return Ok(Statement::Part(Part::Bytes(read_piece(alloc, piece)?)));
     }
     let text = text.trim_end();
     if let Some(name) = text.strip_prefix("text ") {
@@ -41,7 +48,7 @@ pub fn read_statement(alloc: Global, line: &[u8]) -> Result<Statement, ScriptWhy
     if text == "run" || text.starts_with("run ") {
         return Ok(Statement::Run(line));
     }
-    Ok(Statement::Setting(line))
+    Ok(Statement::Part(Part::Setting(line)))
 }
 
 /// The bytes behind a bar: a line with its LF; behind `-`, a text as it is; behind `* N`, a text N times.

@@ -3,6 +3,7 @@
 use crate::cases::{CaseLine, Cases};
 use crate::fault::{Refusal, ScriptWhy};
 use crate::setting::{Given, Setting, read_setting};
+use crate::statement::Part;
 use crate::texts::Texts;
 use crate::words::read_words;
 use std::alloc::Global;
@@ -18,13 +19,12 @@ pub struct Trial {
     cases: Option<Cases>,
 }
 
-/// What stands under a run.
+/// What a line under a run adds to it.
 #[derive(Drop)]
-enum Entry {
-    /// Bytes of its input.
-    Bytes(Vec<u8>),
-    /// A setting, and the number of its line.
-    Setting(u64, CaseLine),
+struct Entry {
+    /// The number of the line.
+    line: u64,
+    part: Part,
 }
 
 impl Trial {
@@ -47,21 +47,23 @@ impl Trial {
         }
     }
 
-    /// Adds bytes to the input.
-    pub fn add_bytes(&mut self, bytes: Vec<u8>) -> Result<(), ScriptWhy> {
-        self.entries.push(Entry::Bytes(bytes))?;
+    /// Adds a part. At most one setting of a run has a range.
+    pub fn add(&mut self, line: u64, part: Part) -> Result<(), ScriptWhy> {
+        if let Part::Setting(setting) = &part {
+            self.add_cases(setting.cases())?;
+        }
+        self.entries.push(Entry { line, part })?;
         Ok(())
     }
 
-    /// Adds a setting. At most one of a run has a range.
-    pub fn add_setting(&mut self, line: u64, setting: CaseLine) -> Result<(), ScriptWhy> {
-        if setting.cases().is_some() {
+    /// Takes the range of a setting, if it has one.
+    fn add_cases(&mut self, cases: Option<Cases>) -> Result<(), ScriptWhy> {
+        if cases.is_some() {
             if self.cases.is_some() {
                 return Err(ScriptWhy::Range);
             }
-            self.cases = setting.cases();
+            self.cases = cases;
         }
-        self.entries.push(Entry::Setting(line, setting))?;
         Ok(())
     }
 
@@ -69,10 +71,15 @@ impl Trial {
     pub fn case(&self, alloc: Global, texts: &Texts, number: u32) -> Result<Case, Refusal> {
         let mut case = match Case::new(alloc, &self.head, number) {
             Ok(case) => case,
-            Err(why) => return Err(Refusal { line: self.line, why }),
+            Err(why) => return Err(Refusal {
+                line: self.line,
+                why,
+            }),
         };
         for entry in &self.entries {
-            case.add_entry(alloc, texts, number, entry)?;
+            let line = entry.line;
+            let added = case.add(alloc, texts, number, &entry.part);
+            added.map_err(|why| Refusal { line, why })?;
         }
         Ok(case)
     }
@@ -99,18 +106,17 @@ impl Case {
         })
     }
 
-    fn add_entry(
+    fn add(
         &mut self,
         alloc: Global,
         texts: &Texts,
         number: u32,
-        entry: &Entry,
-    ) -> Result<(), Refusal> {
-        let (line, added) = match entry {
-            Entry::Bytes(bytes) => (0, self.given.add_bytes(bytes.as_slice())),
-            Entry::Setting(line, setting) => (*line, self.add_setting(alloc, texts, number, setting)),
-        };
-        added.map_err(|why| Refusal { line, why })
+        part: &Part,
+    ) -> Result<(), ScriptWhy> {
+        match part {
+            Part::Bytes(bytes) => self.given.add_bytes(bytes.as_slice()),
+            Part::Setting(setting) => self.add_setting(alloc, texts, number, setting),
+        }
     }
 
     fn add_setting(
