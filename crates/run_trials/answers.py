@@ -11,7 +11,7 @@ import re, sys
 RANGE = re.compile(r"^(.*) (\d+) \.\. (\d+)( .*)?$")
 FRONT = re.compile(r"^first (K|K - 1|\d+) bytes of$")
 ESCAPE = re.compile(rb"\\(\\|n|r|x[0-9a-f]{2})")
-HOST_CODE = re.compile(r"^code \d+$")
+CODE = re.compile(r"^code \d+$")
 
 
 def plain(text):
@@ -45,7 +45,7 @@ class Run:
     def written(self, k, texts):
         """What comes of one case: the line that names it, the output and the code."""
         title = " / ".join(RANGE.sub(lambda m: f"{m[1]} {k}{m[4] or ''}", line) for line in self.lines)
-        if not self.answers or not HOST_CODE.match(self.answers[-1]):
+        if not self.answers or not CODE.match(self.answers[-1]):
             sys.exit(f"line {self.number}: no code")
         output, front = b"", None
         for answer in self.answers[:-1]:
