@@ -23,7 +23,8 @@ use Rattle.mate_plan.specs.Plan.{Level, level_with, no_sets}
 use Rattle.set_plan.proofs.Composition.{none_some}
 use Rattle.winning_sets.specs.Lent.{AreEmpties, AreWithin, IsEmptyOn, set_or, sets_or}
 use Rattle.winning_sets.specs.PlanMeans.{AreLevelsOf, IsLevelOf}
-use Rattle.winning_sets.specs.Solve.{AreSets, HasTuplesOf, IsSetAt, set_of, sets_at}
+use Rattle.mask_sets.specs.Sets.{set_of}
+use Rattle.winning_sets.specs.Solve.{AreSets, HasTuplesOf, IsSetAt, sets_at}
 use Rattle.winning_sets.proofs.KeptLevels.{same_has}
 use Rattle.winning_sets.proofs.KeptTakes.{contains_cases, contains_head, contains_none, contains_rest, same_some}
 

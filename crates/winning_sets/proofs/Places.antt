@@ -1,56 +1,22 @@
--- Where the set of a mask is.
-use Rattle.std.proofs.Common.{◌≡◌, ℕ, zero, suc, ◌<◌, ◌≤◌, ◌==◌, if◌then◌else◌, Bool, true, false, List, [], ◌∷◌, length, get_or, Option, Some, None, refl, sym, ap, ◌∙◌, arith}
-use Rattle.std.specs.Prelude.{slice_get, option_and_then}
-use Rattle.std.proofs.lemmas.Bool.{eqb-true, eq-eqb}
-use Rattle.std.proofs.lemmas.Option.{slice_get-get_or, slice_get_past}
+-- Where the set of a ply and a mask is.
+use Rattle.std.proofs.Common.{◌≡◌, ℕ, zero, suc, List, [], ◌∷◌, get_or, None, refl, ap, ◌∙◌}
 use Rattle.auto_core.specs.Automaton.{Automaton}
-use Rattle.winning_sets.specs.Solve.{set_of, sets_at}
+use Rattle.mask_sets.specs.Sets.{Table, set_at, set_of}
+use Rattle.rule_formula.specs.Fits.{masks_of}
+use Rattle.winning_sets.specs.Solve.{Solution, kept_at, sets_at}
 
-here : {X : Type 0} (m mask : ℕ) (x y : X) → m ≡ mask → (if m == mask then x else y) ≡ x
-here m mask x y same = by (m == mask) refl
-  where
-    by : (b : Bool) → m == mask ≡ b → (if b then x else y) ≡ x
-    by true e = refl
-    by false e = let t : m == mask ≡ true = eq-eqb m mask same in cc
+no_sets : (masks : List ℕ) (mask : ℕ) → set_of masks [] mask ≡ None
+no_sets [] mask = refl
+no_sets (m ∷ masks) mask = refl
 
-elsewhere : {X : Type 0} (m mask : ℕ) (x y : X) → (m ≡ mask → ⊥) → (if m == mask then x else y) ≡ y
-elsewhere m mask x y other = by (m == mask) refl
-  where
-    by : (b : Bool) → m == mask ≡ b → (if b then x else y) ≡ y
-    by true e = absurd (other (eqb-true m mask e))
-    by false e = refl
+-- it is the set of the mask among those of the ply
+pub sets_at-ply : (masks : List ℕ) (plies : List (List Automaton)) (ply mask : ℕ) → set_of masks (get_or plies ply []) mask ≡ sets_at masks plies ply mask
+sets_at-ply masks [] ply mask = no_sets masks mask
+sets_at-ply masks (x ∷ xs) zero mask = refl
+sets_at-ply masks (x ∷ xs) (suc ply) mask = sets_at-ply masks xs ply mask
 
--- the set at the first place of the mask
-pub set_of-place : (masks : List ℕ) (sets : List Automaton) (mask k : ℕ) → k < length masks → get_or masks k 0 ≡ mask → ((j : ℕ) → j < k → get_or masks j 0 ≡ mask → ⊥) → set_of masks sets mask ≡ slice_get sets k
-set_of-place [] sets mask k within is before = absurd (omega (arith, within))
-set_of-place (m ∷ masks) [] mask k within is before = refl
-set_of-place (m ∷ masks) (a ∷ sets) mask zero within is before = here m mask (Some a) (set_of masks sets mask) is
-set_of-place (m ∷ masks) (a ∷ sets) mask (suc k) within is before =
-    elsewhere m mask (Some a) (set_of masks sets mask) (before 0 (omega arith))
-    ∙ set_of-place masks sets mask k (omega (arith, within)) is (λ j less. before (suc j) (omega (arith, less)))
-
--- there is none of a mask that is not among the masks
-pub set_of-none : (masks : List ℕ) (sets : List Automaton) (mask : ℕ) → ((j : ℕ) → j < length masks → get_or masks j 0 ≡ mask → ⊥) → set_of masks sets mask ≡ None
-set_of-none [] sets mask none = refl
-set_of-none (m ∷ masks) [] mask none = refl
-set_of-none (m ∷ masks) (a ∷ sets) mask none =
-    elsewhere m mask (Some a) (set_of masks sets mask) (none 0 (omega arith))
-    ∙ set_of-none masks sets mask (λ j less. none (suc j) (omega (arith, less)))
-
--- and at no ply
-pub sets_at-none : (masks : List ℕ) (plies : List (List Automaton)) (ply mask : ℕ) → ((j : ℕ) → j < length masks → get_or masks j 0 ≡ mask → ⊥) → sets_at masks plies ply mask ≡ None
-sets_at-none masks plies ply mask none = by (slice_get plies ply)
-  where
-    by : (o : Option (List Automaton)) → option_and_then (λ sets. set_of masks sets mask) o ≡ None
-    by None = refl
-    by (Some sets) = set_of-none masks sets mask none
-
--- at a ply, the set at the first place of the mask
-pub sets_at-place : (masks : List ℕ) (plies : List (List Automaton)) (sets : List Automaton) (ply mask k : ℕ) → ply < length plies → sets ≡ get_or plies ply sets → k < length masks → get_or masks k 0 ≡ mask → ((j : ℕ) → j < k → get_or masks j 0 ≡ mask → ⊥) → sets_at masks plies ply mask ≡ slice_get sets k
-sets_at-place masks plies sets ply mask k in_plies at within is before =
-    let there : slice_get plies ply ≡ Some sets = slice_get-get_or plies ply sets in_plies ∙ ap Some (sym at) in
-    ap (option_and_then (λ s. set_of masks s mask)) there ∙ set_of-place masks sets mask k within is before
-
--- and past the last ply none
-pub sets_at-past : (masks : List ℕ) (plies : List (List Automaton)) (ply mask : ℕ) → length plies ≤ ply → sets_at masks plies ply mask ≡ None
-sets_at-past masks plies ply mask past = ap (option_and_then (λ s. set_of masks s mask)) (slice_get_past plies ply past)
+-- the kept sets of a ply as they are handed out
+pub kept_at-table : (s : Solution) (ply mask : ℕ) (masks : List ℕ) (sets : List Automaton) (t : Table) → masks ≡ masks_of s.position → sets ≡ get_or s.kept ply [] → t ≡ record { masks = masks; sets = sets } → set_at t mask ≡ kept_at s ply mask
+kept_at-table s ply mask masks sets t masks_are sets_are is =
+    ap (λ u. set_at u mask) is
+    ∙ (ap (λ l. set_of l sets mask) masks_are ∙ (ap (λ l. set_of (masks_of s.position) l mask) sets_are ∙ sets_at-ply (masks_of s.position) s.kept ply mask))

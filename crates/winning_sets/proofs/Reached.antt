@@ -15,12 +15,13 @@ use Rattle.mate_plan.specs.Levels.{AreNames}
 use Rattle.winning_sets.specs.Finished.{AreFinished}
 use Rattle.winning_sets.specs.Lent.{AreEmpties, set_or, sets_or}
 use Rattle.winning_sets.specs.Reach.{Reach}
-use Rattle.winning_sets.specs.Solve.{HasTuplesOf, IsReachedSet, IsUnreached, SolverState, set_of, sets_at}
+use Rattle.mask_sets.specs.Sets.{set_of}
+use Rattle.winning_sets.specs.Solve.{HasTuplesOf, IsReachedSet, IsUnreached, SolverState, sets_at}
 use Rattle.winning_sets.proofs.Answered.{all_reached_are}
 use Rattle.winning_sets.proofs.Growing.{names-grow, sets_or-grows}
 use Rattle.winning_sets.proofs.LentLemmas.{Names, lent_at_place, lent_count, names_within}
 use Rattle.winning_sets.proofs.MeaningLaws.{mean}
-use Rattle.winning_sets.proofs.Places.{set_of-place}
+use Rattle.mask_sets.proofs.Lookups.{set_of-place}
 
 -- there is an empty set and a name for each of the masks
 pub empties_count : (stock : List Man) (masks : List ℕ) (empties : List Automaton) → AreEmpties stock masks empties → length empties ≡ length masks

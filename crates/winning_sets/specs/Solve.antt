@@ -9,6 +9,7 @@ use Rattle.game_rules.specs.declared.men.Side.{Side}
 use Rattle.rule_formula.specs.Fits.{HasStock, IsGameMask, mask_of, masks_of}
 use Rattle.rule_formula.specs.Placed.{is_live, tuple_of}
 use Rattle.rule_formula.specs.Trees.{tracks_of}
+use Rattle.mask_sets.specs.Sets.{set_of}
 use Rattle.set_plan.specs.Outcome.{Ends, Stops}
 use Rattle.set_plan.specs.declared.stop.PlanError.{PlanError}
 use Rattle.set_plan.specs.declared.stop.PlanError.TheVariants as plan_error
@@ -42,12 +43,6 @@ pub record IsSetAt (stock : List Man) (mask : ℕ) (a : Automaton) : Type 0 wher
 -- the sets of the plies and masks, where there are any
 abbrev pub Sets : Type 0
 Sets = ℕ → ℕ → Option Automaton
-
--- the set of a mask, where there is one for each of the masks, in their order
-abbrev pub set_of : List ℕ → List Automaton → ℕ → Option Automaton
-set_of [] sets mask = None
-set_of (m ∷ masks) [] mask = None
-set_of (m ∷ masks) (a ∷ sets) mask = if m == mask then Some a else set_of masks sets mask
 
 -- the set of a ply and a mask, where there is for each ply, in order, one for each of the masks
 abbrev pub sets_at : List ℕ → List (List Automaton) → Sets

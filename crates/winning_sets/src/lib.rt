@@ -12,7 +12,6 @@ mod ply_sets;
 mod solved;
 mod solver;
 mod stock;
-mod tuple;
 mod turns;
 
 pub use mate_plan::{Part, PartName};

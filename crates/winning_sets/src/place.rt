@@ -1,40 +1,30 @@
-//! Where the set of a ply and a mask is.
-ghost use Rattle.std.specs.Prelude.{◌≡◌, ◌≢◌, ◌<◌, ℕ, IfNone, IfSome, length, option_copied, slice_get, slice_index};
+//! Where the sets of a ply are.
+ghost use Rattle.std.specs.Prelude.{◌≡◌, [], option_copied, slice_index_or};
 ghost use Rattle.winning_sets.specs.Solve.{sets_at};
 
 use crate::ply_sets::PlySets;
 use auto_core::Auto;
+use mask_sets::MaskSets;
 
-/// The place of a mask among masks.
-pub(crate) fn place_of(masks: &[u8], mask: u8) -> Option<usize>
-    ensures within { IfSome result (λ k. k < length masks.now) }
-    ensures found { IfSome result (λ k. slice_index masks.now k ≡ mask) }
-    ensures before { IfSome result (λ k. (j : ℕ) → j < k → slice_index masks.now j ≢ mask) }
-    ensures none { IfNone result ((j : ℕ) → j < length masks.now → slice_index masks.now j ≢ mask) }
+/// The sets of a ply, and none past the last ply.
+pub(crate) fn sets_of_ply(plies: &[PlySets], ply: u8) -> &[Auto]
+    ensures { result.now ≡ slice_index_or plies.now ply [] }
 {
-    for (k, other) in masks.iter().enumerate() {
-        if *other == mask {
-            return Some(k);
-        }
+    if (ply as usize) < plies.len() {
+        plies[ply as usize].as_slice()
+    } else {
+        &[]
     }
-    None
-}
-
-/// The set at a place.
-fn set_in(sets: &[Auto], k: usize) -> Option<&Auto>
-    ensures { option_copied result ≡ slice_get sets.now k }
-{
-    if k < sets.len() { Some(&sets[k]) } else { None }
 }
 
 /// The set of a ply and a mask, where each ply has one for each of the masks.
-pub(crate) fn set_at<'a>(masks: &[u8], plies: &'a [PlySets], ply: u8, mask: u8) -> Option<&'a Auto>
+pub(crate) fn set_at<'a>(
+    masks: &'a [u8],
+    plies: &'a [PlySets],
+    ply: u8,
+    mask: u8,
+) -> Option<&'a Auto>
     ensures { option_copied result ≡ sets_at masks.now plies.now ply mask }
 {
-    let k = place_of(masks, mask)?;
-    if (ply as usize) < plies.len() {
-        set_in(plies[ply as usize].as_slice(), k)
-    } else {
-        None
-    }
+    MaskSets::new(masks, sets_of_ply(plies, ply)).get(mask)
 }

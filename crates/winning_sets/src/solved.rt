@@ -6,13 +6,13 @@ ghost use Rattle.rule_formula.specs.Fits.{HasStock, mask_of, masks_of};
 ghost use Rattle.rule_formula.specs.Placed.{tuple_of};
 ghost use Rattle.winning_sets.specs.Solve.{IsKeptIn, IsMostStates, IsSolution, end_of, kept_at, reach_at, states_of};
 
-use crate::place::set_at;
+use crate::place::{set_at, sets_of_ply};
 use crate::ply_sets::PlySets;
 use crate::stock::has_stock;
-use crate::tuple::coordinates;
 use crate::turns::{last_ply, side_at};
 use auto_core::Auto;
 use chess_game::{Position, Side};
+use mask_sets::MaskSets;
 use smallvec::SmallVec;
 use std::marker::Model;
 
@@ -155,11 +155,7 @@ impl Solved {
         ensures sets { result.now ≡ slice_index_or self.now.kept ply [] }
         ensures valid { IsSolution self.now }
     {
-        if (ply as usize) < self.kept.len() {
-            self.kept[ply as usize].as_slice()
-        } else {
-            &[]
-        }
+        sets_of_ply(self.kept.as_slice(), ply)
     }
 
     /// How many states the set of a ply and a mask has, and none where there is no set.
@@ -187,10 +183,7 @@ impl Solved {
         requires { HasStock self.now.position.men p.now }
         ensures { IsTrue result ↔ IsSomeAnd (kept_at self.now ply (mask_of p.now)) (λ a. IsAccepted a (tuple_of p.now)) }
     {
-        match self.set(ply, p.mask()) {
-            Some(set) => set.member(coordinates(p).as_slice()),
-            None => false,
-        }
+        MaskSets::new(self.masks(), self.kept_sets(ply)).contains(p)
     }
 
     /// Whether the winner mates within so many moves from the starting position.

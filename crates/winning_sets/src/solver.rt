@@ -10,13 +10,13 @@ ghost use Rattle.winning_sets.specs.Solve.{AreKept, AreReachedTo, IsAnswer, IsOf
 use crate::kept::{kept_levels, push_level};
 use crate::lent::{copied, empty_sets, lent};
 use crate::names::{SolveError, solve_error};
-use crate::place::place_of;
 use crate::ply_sets::PlySets;
 use crate::solved::Solved;
 use crate::turns::{last_ply, side_at};
 use auto_core::Auto;
 use chess_game::{Position, Side};
 use formula_auto::Memo;
+use mask_sets::place_of_mask;
 use mate_plan::{LevelNames, PartName, point_level, reach_level};
 use rule_formula::masks;
 use set_plan::{PlanError, Sets};
@@ -100,7 +100,7 @@ impl Solver {
         if ply == 0 || ply as usize >= self.levels.len() {
             return None;
         }
-        let k = place_of(self.masks.as_slice(), mask)?;
+        let k = place_of_mask(self.masks.as_slice(), mask)?;
         let names = self.levels[ply as usize].as_slice();
         Some(lent(&self.sets, &self.empties[k], names[k]))
     }

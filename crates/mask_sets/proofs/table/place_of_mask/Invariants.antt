@@ -1,5 +1,5 @@
 use Rattle.std.proofs.Common.{◌≡◌, ℕ, ◌<◌, get_or}
-use Rattle.winning_sets.proofs.place.place_of.Given as goal
+use Rattle.mask_sets.proofs.table.place_of_mask.Given as goal
 
 abbrev pub invariant-loop-k : goal.invariant-loop-k
 invariant-loop-k l = (j : ℕ) → j < l.k → get_or l.masks j 0 ≡ l.mask → ⊥

@@ -1,6 +1,6 @@
 use Rattle.std.proofs.Common.{◌≡◌, ◌*◌, ◌≤◌, length}
 use Rattle.rule_formula.specs.Placed.{tuple_to}
-use Rattle.winning_sets.proofs.tuple.coordinates.Given as goal
+use Rattle.mask_sets.proofs.tuple.coordinates.Given as goal
 
 abbrev pub invariant-loop-n : goal.invariant-loop-n
 invariant-loop-n l = (l.tuple.items ≡ tuple_to l.p l.n) × (length l.tuple.items ≤ 2 * l.n)

@@ -1,0 +1,38 @@
+-- A set of positions as automata, one for each mask of the live men.
+use Rattle.std.specs.Prelude.{◌≡◌, ℕ, ◌≤◌, ◌==◌, if◌then◌else◌, List, [], ◌∷◌, length, Option, Some, None, IsSomeAnd}
+use Rattle.auto_core.specs.Automaton.{Automaton}
+use Rattle.auto_core.specs.Integers.{DecidesIntegers, IsAccepted}
+use Rattle.game_rules.specs.Game.{Position}
+use Rattle.rule_formula.specs.Fits.{mask_of}
+use Rattle.rule_formula.specs.Placed.{tuple_of}
+
+-- the set of a mask, where there is one for each of the masks, in their order
+abbrev pub set_of : List ℕ → List Automaton → ℕ → Option Automaton
+set_of [] sets mask = None
+set_of (m ∷ masks) [] mask = None
+set_of (m ∷ masks) (a ∷ sets) mask = if m == mask then Some a else set_of masks sets mask
+
+-- masks with their sets
+pub record Table : Type 0 where
+  pub masks : List ℕ
+  pub sets : List Automaton
+
+abbrev pub set_at : Table → ℕ → Option Automaton
+set_at t mask = set_of t.masks t.sets mask
+
+-- the coordinates of the position are in the set of its own mask
+abbrev pub IsIn : Table → Position → Type 0
+IsIn t q = IsSomeAnd (set_at t (mask_of q)) (λ a. IsAccepted a (tuple_of q))
+
+-- the automaton decides a set of integers, and has as many tracks as the position has coordinates
+pub record IsSetFor (q : Position) (a : Automaton) : Type 0 where
+  pub integers : DecidesIntegers a
+  pub count : length (tuple_of q) ≡ length a.tracks
+
+-- the set of the position's own mask, if there is one, is of that kind
+abbrev pub IsAskable : Table → Position → Type 0
+IsAskable t q = (a : Automaton) → set_at t (mask_of q) ≡ Some a → IsSetFor q a
+
+-- no set has more states than these
+abbrev pub HaveAtMost : ℕ → Table → Type 0
+HaveAtMost most t = (mask : ℕ) (a : Automaton) → set_at t mask ≡ Some a → length a.accept ≤ most
