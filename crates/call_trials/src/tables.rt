@@ -1,0 +1,65 @@
+//! Whether parts may be tables of an automaton, and whether automata may be put together.
+
+ghost use Rattle.std.specs.Prelude.{◌≡◌, ◌<◌, ◌≤◌, ◌^◌, All, IsTrue, length};
+ghost use Rattle.track_word.specs.Tracks.{with_vars, IsAscending};
+ghost use Rattle.auto_core.specs.Rows.{AreTables};
+ghost use Rattle.call_trials.specs.Small.{IsLow};
+
+use track_word::Var;
+
+/// Whether each variable comes before the next.
+fn ascend(vars: &[Var]) -> bool
+    ensures { IsTrue result → IsAscending vars.now }
+{
+    match vars {
+        [a, b, ..] if a.0 >= b.0 => false,
+        [_, rest @ ..] => ascend(rest),
+        [] => true,
+    }
+}
+
+/// Whether each entry is below the bound.
+fn below(entries: &[u32], bound: usize) -> bool
+    ensures { IsTrue result → All (λ entry. entry < bound) entries.now }
+{
+    for entry in entries {
+        if *entry as usize >= bound {
+            return false;
+        }
+    }
+    true
+}
+
+/// Whether each variable is below twenty.
+fn are_low(vars: &[Var]) -> bool
+    ensures { IsTrue result → All IsLow vars.now }
+{
+    for var in vars {
+        if var.0 >= 20 {
+            return false;
+        }
+    }
+    true
+}
+
+/// Whether these are tracks, a first row, the rows of the states and their flags.
+pub fn are_tables(tracks: &[Var], first: &[u32], next: &[u32], accept: &[bool]) -> bool
+    ensures { IsTrue result → AreTables tracks.now first.now next.now accept.now }
+{
+    if tracks.len() > 20 || !ascend(tracks) || accept.is_empty() || accept.len() >= 1000 {
+        return false;
+    }
+    let width = 1usize << tracks.len();
+    first.len() == width
+        && next.len() == accept.len() * width
+        && below(first, accept.len())
+        && below(next, accept.len())
+}
+
+/// Whether two automata have few tracks together.
+pub fn fit_together(a: &[Var], b: &[Var]) -> bool
+    requires { IsAscending b.now }
+    ensures { IsTrue result → length (with_vars a.now b.now) ≤ 20 }
+{
+    are_low(a) && are_low(b)
+}
