@@ -56,7 +56,12 @@ fn table(alloc: Global, fields: &mut Fields) -> Result<Auto, RowError> {
     for flag in fields.word()?.split(',') {
         accept.push(flag == "yes")?;
     }
-    if !are_tables(tracks.as_slice(), first.as_slice(), next.as_slice(), accept.as_slice()) {
+    if !are_tables(
+        tracks.as_slice(),
+        first.as_slice(),
+        next.as_slice(),
+        accept.as_slice(),
+    ) {
         return Err(RowError::Condition);
     }
     Ok(Auto::from_rows(alloc, tracks, first, next, accept)?)

@@ -35,12 +35,7 @@ fn has_few_steps(f: &Formula) -> bool {
 
 /// Compiles a formula over some sets.
 #[tactic(auto, using(crate::proofs::SmallLemmas::small_compilable))]
-pub fn compiled(
-    alloc: Global,
-    f: &Formula,
-    sets: &SetTable,
-    budget: u32,
-) -> Result<Fate, RowError>
+pub fn compiled(alloc: Global, f: &Formula, sets: &SetTable, budget: u32) -> Result<Fate, RowError>
     requires sets { All IsSet sets.now }
     requires budget { (1 ≤ budget) × (budget ≤ 200000) }
 {

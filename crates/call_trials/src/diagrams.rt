@@ -21,7 +21,12 @@ fn track(fields: &mut Fields) -> Result<u8, RowError>
     Ok(track)
 }
 
-fn relabelled(alloc: Global, d: &mut Diagrams, fields: &mut Fields, depth: u8) -> Result<Node, RowError>
+fn relabelled(
+    alloc: Global,
+    d: &mut Diagrams,
+    fields: &mut Fields,
+    depth: u8,
+) -> Result<Node, RowError>
     ensures known { IfOk result (λ node. node < length d.new) }
 {
     let tracks = numbers::<u8>(alloc, fields.word()?)?;
@@ -171,7 +176,13 @@ pub fn bring_row(alloc: Global, fields: &mut Fields, out: &mut String) -> Result
     Ok(())
 }
 
-fn write_pairs(out: &mut String, d: &Diagrams, pairs: &Pairs, node: Node, letters: &[u32]) -> Result<(), RowError>
+fn write_pairs(
+    out: &mut String,
+    d: &Diagrams,
+    pairs: &Pairs,
+    node: Node,
+    letters: &[u32],
+) -> Result<(), RowError>
     requires { node < length d.now }
 {
     for (place, letter) in letters.iter().enumerate() {
@@ -199,7 +210,13 @@ pub fn pair_row(alloc: Global, fields: &mut Fields, out: &mut String) -> Result<
     write_pairs(out, &d, &pairs, node, letters.as_slice())?;
     let node = product.apply(a, b)?;
     out.push_str(" product ")?;
-    write_pairs(out, product.diagrams(), product.pairs(), node, letters.as_slice())
+    write_pairs(
+        out,
+        product.diagrams(),
+        product.pairs(),
+        node,
+        letters.as_slice(),
+    )
 }
 
 fn number_set(sets: &mut Sets, set: &[u32]) -> Result<u32, RowError> {
@@ -240,7 +257,13 @@ fn write_set(out: &mut String, sets: &Sets, number: u32) -> Result<(), RowError>
     Ok(())
 }
 
-fn write_sets(out: &mut String, d: &Diagrams, sets: &Sets, node: Node, letters: &[u32]) -> Result<(), RowError>
+fn write_sets(
+    out: &mut String,
+    d: &Diagrams,
+    sets: &Sets,
+    node: Node,
+    letters: &[u32],
+) -> Result<(), RowError>
     requires { node < length d.now }
 {
     for (place, letter) in letters.iter().enumerate() {
@@ -268,11 +291,19 @@ pub fn merge_row(alloc: Global, fields: &mut Fields, out: &mut String) -> Result
     let node = d.merge_track(a, track, &mut sets)?;
     write_sets(out, &d, &sets, node, letters.as_slice())?;
     out.push_str(" merger ")?;
-    if merger.sets().len() > 1000 || !are_below(&merger.diagrams().leaves(a)?, merger.sets().len()) {
+    if merger.sets().len() > 1000
+        || !are_below(&merger.diagrams().leaves(a)?, merger.sets().len())
+    {
         return Err(RowError::Condition);
     }
     let node = merger.apply(a)?;
-    write_sets(out, merger.diagrams(), merger.sets(), node, letters.as_slice())
+    write_sets(
+        out,
+        merger.diagrams(),
+        merger.sets(),
+        node,
+        letters.as_slice(),
+    )
 }
 
 /// `sets SETS`: the number of each set, in order, and the sets that are numbered.

@@ -98,7 +98,10 @@ pub fn var_of(field: &str) -> Result<Var, RowError> {
 }
 
 /// The numbers of a field, parted by commas. The field `-` has none.
-pub fn numbers<T: FromStr<Err = ParseIntError> + Drop>(alloc: Global, field: &str) -> Result<Vec<T>, RowError> {
+pub fn numbers<T: FromStr<Err = ParseIntError> + Drop>(
+    alloc: Global,
+    field: &str,
+) -> Result<Vec<T>, RowError> {
     let mut list = Vec::new(alloc);
     if field == "-" {
         return Ok(list);

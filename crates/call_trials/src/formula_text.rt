@@ -94,7 +94,11 @@ fn read(alloc: Global, fields: &mut Fields, depth: u8) -> Result<Formula, RowErr
         }
         "all" => {
             let var = fields.var()?;
-            let some = made(ex(alloc, var, made(not(alloc, read(alloc, fields, depth - 1)?))?))?;
+            let some = made(ex(
+                alloc,
+                var,
+                made(not(alloc, read(alloc, fields, depth - 1)?))?,
+            ))?;
             made(not(alloc, some))
         }
         _ => Err(RowError::Word),

@@ -31,7 +31,12 @@ pub fn write_vars(out: &mut String, vars: &[Var]) -> Result<(), RowError> {
 }
 
 /// Writes for each tuple of a field whether it is a member.
-pub fn write_members(alloc: Global, out: &mut String, a: &Auto, tuples: &str) -> Result<(), RowError> {
+pub fn write_members(
+    alloc: Global,
+    out: &mut String,
+    a: &Auto,
+    tuples: &str,
+) -> Result<(), RowError> {
     for (place, tuple) in tuples.split('/').enumerate() {
         if place > 0 {
             out.push(' ')?;
@@ -126,13 +131,15 @@ pub fn memo_row(alloc: Global, fields: &mut Fields, out: &mut String) -> Result<
 pub fn atom_row(alloc: Global, fields: &mut Fields, out: &mut String) -> Result<(), RowError> {
     let parts = atom(alloc, fields)?;
     fields.end()?;
-    out.push_str(match lin(alloc, parts.terms.as_slice(), parts.rel, parts.bound) {
-        Ok(_) => "accepted",
-        Err(LinWhy::Terms) => "terms",
-        Err(LinWhy::Coefficient) => "coefficient",
-        Err(LinWhy::Bound) => "bound",
-        Err(LinWhy::Memory) => return Err(RowError::Memory),
-    })?;
+    out.push_str(
+        match lin(alloc, parts.terms.as_slice(), parts.rel, parts.bound) {
+            Ok(_) => "accepted",
+            Err(LinWhy::Terms) => "terms",
+            Err(LinWhy::Coefficient) => "coefficient",
+            Err(LinWhy::Bound) => "bound",
+            Err(LinWhy::Memory) => return Err(RowError::Memory),
+        },
+    )?;
     Ok(())
 }
 

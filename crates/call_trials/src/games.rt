@@ -98,7 +98,11 @@ fn position_of(lines: &str) -> Result<Position, RowError> {
 }
 
 /// `position NAME LINES`: names a position.
-pub fn position_row(alloc: Global, stocks: &mut Stocks, fields: &mut Fields) -> Result<(), RowError> {
+pub fn position_row(
+    alloc: Global,
+    stocks: &mut Stocks,
+    fields: &mut Fields,
+) -> Result<(), RowError> {
     let name = String::from_str(alloc, fields.word()?)?;
     let position = position_of(fields.rest())?;
     stocks.named.push(Named { name, position })?;
@@ -106,7 +110,11 @@ pub fn position_row(alloc: Global, stocks: &mut Stocks, fields: &mut Fields) -> 
 }
 
 /// `soundness NAME`: whether the position is sound, or the first reason why not.
-pub fn soundness_row(stocks: &Stocks, fields: &mut Fields, out: &mut String) -> Result<(), RowError> {
+pub fn soundness_row(
+    stocks: &Stocks,
+    fields: &mut Fields,
+    out: &mut String,
+) -> Result<(), RowError> {
     let position = stocks.position(fields.word()?)?;
     fields.end()?;
     match soundness(&position) {
@@ -141,7 +149,12 @@ pub fn move_row(stocks: &Stocks, fields: &mut Fields, out: &mut String) -> Resul
     match try_move(&position, Move { man, x, y }) {
         Err(why) => out.push_str(illegal_words(why))?,
         Ok(made) => {
-            write!(out, "legal men {} turn {}", made.mask(), side_letter(made.turn()))?;
+            write!(
+                out,
+                "legal men {} turn {}",
+                made.mask(),
+                side_letter(made.turn())
+            )?;
             if soundness(&made).is_err() {
                 return Err(RowError::Condition);
             }
@@ -162,7 +175,11 @@ pub fn king_row(stocks: &Stocks, fields: &mut Fields, out: &mut String) -> Resul
 }
 
 /// `attacked NAME SIDE X Y`: whether a man of the side bears on the square.
-pub fn attacked_row(stocks: &Stocks, fields: &mut Fields, out: &mut String) -> Result<(), RowError> {
+pub fn attacked_row(
+    stocks: &Stocks,
+    fields: &mut Fields,
+    out: &mut String,
+) -> Result<(), RowError> {
     let position = stocks.position(fields.word()?)?;
     let side = side_of(fields.word()?)?;
     let x = fields.i64()?;
@@ -179,7 +196,13 @@ pub fn ray_row(fields: &mut Fields, out: &mut String) -> Result<(), RowError> {
     let index = fields.u8()?;
     fields.end()?;
     match ray(kind, side, index) {
-        Some(ray) => write!(out, "{} {} {}", ray.dx, ray.dy, if ray.far { "far" } else { "near" })?,
+        Some(ray) => write!(
+            out,
+            "{} {} {}",
+            ray.dx,
+            ray.dy,
+            if ray.far { "far" } else { "near" }
+        )?,
         None => out.push_str("none")?,
     }
     Ok(())
@@ -202,7 +225,12 @@ fn frame_of(alloc: Global, field: &str) -> Result<Frame, RowError> {
 }
 
 /// `way NAME MAN RAY FRAME`: the distances that the man may go along the ray, and whom he meets.
-pub fn way_row(alloc: Global, stocks: &Stocks, fields: &mut Fields, out: &mut String) -> Result<(), RowError> {
+pub fn way_row(
+    alloc: Global,
+    stocks: &Stocks,
+    fields: &mut Fields,
+    out: &mut String,
+) -> Result<(), RowError> {
     let position = stocks.position(fields.word()?)?;
     let number = fields.u8()?;
     let index = fields.u8()?;
@@ -248,12 +276,21 @@ pub fn reply_row(fields: &mut Fields, out: &mut String) -> Result<(), RowError> 
 }
 
 /// `options NAME MASK SIDE`: the ways in which the side's men may go, each as man, ray and who is taken.
-pub fn options_row(alloc: Global, stocks: &Stocks, fields: &mut Fields, out: &mut String) -> Result<(), RowError> {
+pub fn options_row(
+    alloc: Global,
+    stocks: &Stocks,
+    fields: &mut Fields,
+    out: &mut String,
+) -> Result<(), RowError> {
     let position = stocks.position(fields.word()?)?;
     let mask = fields.u8()?;
     let side = side_of(fields.word()?)?;
     fields.end()?;
-    for (place, opt) in options(alloc, &position, mask, side)?.as_slice().iter().enumerate() {
+    for (place, opt) in options(alloc, &position, mask, side)?
+        .as_slice()
+        .iter()
+        .enumerate()
+    {
         if place > 0 {
             out.push(' ')?;
         }
@@ -263,7 +300,12 @@ pub fn options_row(alloc: Global, stocks: &Stocks, fields: &mut Fields, out: &mu
 }
 
 /// `masks NAME`: the sets of live men that there may be in a game from the position.
-pub fn mask_row(alloc: Global, stocks: &Stocks, fields: &mut Fields, out: &mut String) -> Result<(), RowError> {
+pub fn mask_row(
+    alloc: Global,
+    stocks: &Stocks,
+    fields: &mut Fields,
+    out: &mut String,
+) -> Result<(), RowError> {
     let position = stocks.position(fields.word()?)?;
     fields.end()?;
     for (place, mask) in masks(alloc, &position)?.as_slice().iter().enumerate() {

@@ -113,7 +113,12 @@ fn kind_of(word: &str) -> Result<Kind, RowError> {
 }
 
 /// Writes the answer of a row that calls automata or formulas.
-fn automata(alloc: Global, kind: Kind, fields: &mut Fields, out: &mut String) -> Result<(), RowError> {
+fn automata(
+    alloc: Global,
+    kind: Kind,
+    fields: &mut Fields,
+    out: &mut String,
+) -> Result<(), RowError> {
     match kind {
         Kind::Formula => formula_row(alloc, fields, out),
         Kind::Ask => ask_row(alloc, fields, out),
@@ -135,7 +140,12 @@ fn automata(alloc: Global, kind: Kind, fields: &mut Fields, out: &mut String) ->
 }
 
 /// Writes the answer of a row that calls diagrams or ports.
-fn diagrams(alloc: Global, kind: Kind, fields: &mut Fields, out: &mut String) -> Result<(), RowError> {
+fn diagrams(
+    alloc: Global,
+    kind: Kind,
+    fields: &mut Fields,
+    out: &mut String,
+) -> Result<(), RowError> {
     match kind {
         Kind::Read => read_row(alloc, fields, out),
         Kind::Shape => shape_row(alloc, fields, out),
@@ -156,7 +166,12 @@ fn diagrams(alloc: Global, kind: Kind, fields: &mut Fields, out: &mut String) ->
 }
 
 /// Writes the answer of a row, which is none where the row names a position.
-pub fn answer(alloc: Global, stocks: &mut Stocks, row: &str, out: &mut String) -> Result<(), RowError> {
+pub fn answer(
+    alloc: Global,
+    stocks: &mut Stocks,
+    row: &str,
+    out: &mut String,
+) -> Result<(), RowError> {
     let mut fields = Fields::new(row);
     match kind_of(fields.word()?)? {
         Kind::Position => position_row(alloc, stocks, &mut fields),

@@ -8,7 +8,7 @@ use crate::formulas::write_members;
 use crate::games::{Stocks, side_letter, side_of};
 use auto_core::Auto;
 use std::alloc::Global;
-use winning_sets::{Solved, SolveError, Solver};
+use winning_sets::{SolveError, Solved, Solver};
 
 fn solver_of(alloc: Global, stocks: &Stocks, fields: &mut Fields) -> Result<Solver, RowError> {
     let position = stocks.sound(fields.word()?)?;
@@ -31,7 +31,12 @@ fn solved(solver: &mut Solver, moves: u8) -> Result<Solved, RowError> {
 
 /// `solve NAME WINNER BUDGET MOVES`: for one number of moves after another, by one solver, whether the winner mates, the last ply, and
 /// the last ply at which all that is reached is known.
-pub fn solve_row(alloc: Global, stocks: &Stocks, fields: &mut Fields, out: &mut String) -> Result<(), RowError> {
+pub fn solve_row(
+    alloc: Global,
+    stocks: &Stocks,
+    fields: &mut Fields,
+    out: &mut String,
+) -> Result<(), RowError> {
     let mut solver = solver_of(alloc, stocks, fields)?;
     let list = numbers::<u8>(alloc, fields.word()?)?;
     fields.end()?;
@@ -41,12 +46,22 @@ pub fn solve_row(alloc: Global, stocks: &Stocks, fields: &mut Fields, out: &mut 
         }
         let solved = solved(&mut solver, *moves)?;
         let verdict = yes_or_no(solved.verdict());
-        write!(out, "{verdict} last {} known {}", solved.last_ply(), solver.plies())?;
+        write!(
+            out,
+            "{verdict} last {} known {}",
+            solved.last_ply(),
+            solver.plies()
+        )?;
     }
     Ok(())
 }
 
-fn write_set(alloc: Global, out: &mut String, set: Option<&Auto>, tuples: &str) -> Result<(), RowError> {
+fn write_set(
+    alloc: Global,
+    out: &mut String,
+    set: Option<&Auto>,
+    tuples: &str,
+) -> Result<(), RowError> {
     match set {
         Some(a) => write_members(alloc, out, a, tuples),
         None => Ok(out.push_str("none")?),
@@ -55,7 +70,12 @@ fn write_set(alloc: Global, out: &mut String, set: Option<&Auto>, tuples: &str) 
 
 /// `reached NAME WINNER BUDGET MOVES PLY MASK TUPLES`: which tuples are reached at a ply with these live men, as the solver says and
 /// as what it solved says.
-pub fn reached_row(alloc: Global, stocks: &Stocks, fields: &mut Fields, out: &mut String) -> Result<(), RowError> {
+pub fn reached_row(
+    alloc: Global,
+    stocks: &Stocks,
+    fields: &mut Fields,
+    out: &mut String,
+) -> Result<(), RowError> {
     let mut solver = solver_of(alloc, stocks, fields)?;
     let solved = solved(&mut solver, fields.u8()?)?;
     let ply = fields.u8()?;
@@ -68,7 +88,12 @@ pub fn reached_row(alloc: Global, stocks: &Stocks, fields: &mut Fields, out: &mu
 }
 
 /// `kept NAME WINNER BUDGET MOVES PLY MASK TUPLES`: which tuples are in the kept set of a ply and these live men.
-pub fn kept_row(alloc: Global, stocks: &Stocks, fields: &mut Fields, out: &mut String) -> Result<(), RowError> {
+pub fn kept_row(
+    alloc: Global,
+    stocks: &Stocks,
+    fields: &mut Fields,
+    out: &mut String,
+) -> Result<(), RowError> {
     let mut solver = solver_of(alloc, stocks, fields)?;
     let solved = solved(&mut solver, fields.u8()?)?;
     let ply = fields.u8()?;
@@ -79,7 +104,12 @@ pub fn kept_row(alloc: Global, stocks: &Stocks, fields: &mut Fields, out: &mut S
 }
 
 /// `keeps NAME WINNER BUDGET MOVES PLY NAME`: whether the second position is kept at a ply.
-pub fn keeps_row(alloc: Global, stocks: &Stocks, fields: &mut Fields, out: &mut String) -> Result<(), RowError> {
+pub fn keeps_row(
+    alloc: Global,
+    stocks: &Stocks,
+    fields: &mut Fields,
+    out: &mut String,
+) -> Result<(), RowError> {
     let mut solver = solver_of(alloc, stocks, fields)?;
     let solved = solved(&mut solver, fields.u8()?)?;
     let ply = fields.u8()?;
@@ -91,13 +121,23 @@ pub fn keeps_row(alloc: Global, stocks: &Stocks, fields: &mut Fields, out: &mut 
 
 /// `game NAME WINNER BUDGET MOVES`: the winner, the moves, the masks with the number of kept sets at each ply, and whether the most
 /// states of a kept set are those of one of them.
-pub fn game_row(alloc: Global, stocks: &Stocks, fields: &mut Fields, out: &mut String) -> Result<(), RowError> {
+pub fn game_row(
+    alloc: Global,
+    stocks: &Stocks,
+    fields: &mut Fields,
+    out: &mut String,
+) -> Result<(), RowError> {
     let mut solver = solver_of(alloc, stocks, fields)?;
     let solved = solved(&mut solver, fields.u8()?)?;
     fields.end()?;
     let winner = side_letter(solved.winner());
     let men = solved.position().count();
-    write!(out, "moves {} winner {winner} men {men} masks {} kept", solved.moves(), solved.masks().len())?;
+    write!(
+        out,
+        "moves {} winner {winner} men {men} masks {} kept",
+        solved.moves(),
+        solved.masks().len()
+    )?;
     let mut most = 0;
     for ply in 0..solved.last_ply().saturating_add(1) {
         let sets = solved.kept_sets(ply);
