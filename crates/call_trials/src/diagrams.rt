@@ -21,6 +21,7 @@ fn track(fields: &mut Fields) -> Result<u8, RowError>
     Ok(track)
 }
 
+#[cycle(spelled)]
 fn relabelled(
     alloc: Global,
     d: &mut Diagrams,
@@ -37,6 +38,7 @@ fn relabelled(
     Ok(d.relabel(a, tracks.as_slice())?)
 }
 
+#[cycle(spelled)]
 fn mapped(alloc: Global, d: &mut Diagrams, fields: &mut Fields, depth: u8) -> Result<Node, RowError>
     ensures known { IfOk result (λ node. node < length d.new) }
 {
@@ -48,6 +50,7 @@ fn mapped(alloc: Global, d: &mut Diagrams, fields: &mut Fields, depth: u8) -> Re
     Ok(d.map_leaves(a, table.as_slice())?)
 }
 
+#[cycle(spelled)]
 fn read(alloc: Global, d: &mut Diagrams, fields: &mut Fields, depth: u8) -> Result<Node, RowError>
     ensures known { IfOk result (λ node. node < length d.new) }
     ensures grows { Grows d.old d.new }
