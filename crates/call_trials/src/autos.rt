@@ -172,20 +172,25 @@ pub fn automaton(alloc: Global, fields: &mut Fields) -> Result<Auto, RowError> {
     read(alloc, fields, MOST_DEPTH)
 }
 
+/// The number of letters.
+fn width_of(a: &Auto) -> u32
+    ensures { result ≡ 2 ^ length a.now.tracks }
+{
+    1 << a.tracks().len()
+}
+
 /// Whether all letters are below the width.
 fn fit(word: &[u32], width: u32) -> bool
     ensures { IsTrue result → All (λ letter. letter < width) word.now }
 {
-    for letter in word {
-        if *letter >= width {
-            return false;
-        }
-    }
-    true
+    word.iter().all(|letter| *letter < width)
 }
 
 fn is_accepted(a: &Auto, word: &[u32]) -> Result<bool, RowError> {
-    if word.is_empty() || !fit(word, 1 << a.tracks().len()) {
+    if word.is_empty() {
+        return Err(RowError::Condition);
+    }
+    if !fit(word, width_of(a)) {
         return Err(RowError::Condition);
     }
     Ok(a.accepts(word))
@@ -272,7 +277,7 @@ fn write_rows(out: &mut String, a: &Auto, width: u32) -> Result<(), RowError>
 pub fn rows_row(alloc: Global, fields: &mut Fields, out: &mut String) -> Result<(), RowError> {
     let a = automaton(alloc, fields)?;
     fields.end()?;
-    write_rows(out, &a, 1 << a.tracks().len())
+    write_rows(out, &a, width_of(&a))
 }
 
 /// `bit VALUE PLACE`: the bit of a value in two's complement.

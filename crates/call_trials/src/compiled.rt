@@ -1,6 +1,8 @@
 //! Formulas that are compiled, where they are such as may be.
 
-ghost use Rattle.std.specs.Prelude.{◌≤◌, All};
+ghost use Rattle.std.specs.Prelude.{◌<◌, ◌≤◌, ◌^◌, All, IsTrue, length};
+ghost use Rattle.lin_formula.specs.Tree.{steps};
+ghost use Rattle.lin_formula.specs.TreeOf.{tree_of};
 ghost use Rattle.call_trials.specs.Small.{IsSet};
 
 use crate::errors::RowError;
@@ -29,8 +31,13 @@ fn outcome(answer: Result<Auto, CompileError>) -> Result<Fate, RowError> {
 }
 
 /// Whether the formula has few steps.
-fn has_few_steps(f: &Formula) -> bool {
-    matches!(steps_of(f), Some(count) if count < 1 << 31)
+fn has_few_steps(f: &Formula) -> bool
+    ensures { IsTrue result → length (steps (tree_of f.now)) < 2 ^ 31 }
+{
+    match steps_of(f) {
+        Some(count) => count < 2147483648,
+        None => false,
+    }
 }
 
 /// Compiles a formula over some sets.
@@ -39,7 +46,10 @@ pub fn compiled(alloc: Global, f: &Formula, sets: &SetTable, budget: u32) -> Res
     requires sets { All IsSet sets.now }
     requires budget { (1 ≤ budget) × (budget ≤ 200000) }
 {
-    if !is_small(f, sets) || !has_few_steps(f) {
+    if !is_small(f, sets) {
+        return Err(RowError::Condition);
+    }
+    if !has_few_steps(f) {
         return Err(RowError::Condition);
     }
     outcome(compile(alloc, f, sets, budget))
@@ -55,7 +65,10 @@ pub fn remembered(
 ) -> Result<Fate, RowError>
     requires sets { All IsSet sets.now }
 {
-    if !is_small(f, sets) || !has_few_steps(f) {
+    if !is_small(f, sets) {
+        return Err(RowError::Condition);
+    }
+    if !has_few_steps(f) {
         return Err(RowError::Condition);
     }
     outcome(memo.compile(alloc, f, sets))
@@ -63,7 +76,10 @@ pub fn remembered(
 
 /// Whether the values are a member of the automaton's set.
 pub fn is_member(alloc: Global, a: &Auto, values: &[i64]) -> Result<bool, RowError> {
-    if values.len() != a.tracks().len() || !sign_stable(alloc, a)? {
+    if values.len() != a.tracks().len() {
+        return Err(RowError::Condition);
+    }
+    if !sign_stable(alloc, a)? {
         return Err(RowError::Condition);
     }
     Ok(a.member(values))

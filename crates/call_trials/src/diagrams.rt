@@ -2,12 +2,12 @@
 //!
 //! `leaf N`, `node T D D`, `choose T D D`, `bit T`, `restrict T BIT D`, `relabel TRACKS D`, `map TABLE D`.
 
-ghost use Rattle.std.specs.Prelude.{◌≡◌, ◌<◌, ◌≤◌, ℕ, All, IfOk, IsTrue, length};
-ghost use Rattle.letter_diagram.specs.Diagram.{map_at, Grows};
+ghost use Rattle.std.specs.Prelude.{◌≡◌, ◌<◌, ◌≤◌, ℕ, IfOk, OnOk, length};
+ghost use Rattle.letter_diagram.specs.Diagram.{Grows};
 
 use crate::errors::RowError;
 use crate::fields::{Fields, MOST_DEPTH, number, numbers, yes_or_no};
-use crate::looks::{are_below, are_tracks, ascends, looks_below};
+use crate::looks::{are_tracks, ascends, has_leaves_below, looks_below};
 use letter_diagram::{Diagrams, Merger, Node, Pairs, PairsError, Product, Sets, Shape};
 use std::alloc::Global;
 
@@ -22,6 +22,53 @@ fn track(fields: &mut Fields) -> Result<u8, RowError>
 }
 
 #[cycle(spelled)]
+fn tested(alloc: Global, d: &mut Diagrams, fields: &mut Fields, depth: u8) -> Result<Node, RowError>
+    ensures known { IfOk result (λ node. node < length d.new) }
+    ensures grows { OnOk result (Grows d.old d.new) }
+{
+    let track = track(fields)?;
+    let low = read(alloc, d, fields, depth)?;
+    let high = read(alloc, d, fields, depth)?;
+    if track >= d.top(low) || track >= d.top(high) {
+        return Err(RowError::Condition);
+    }
+    let node = d.node(track, low, high)?;
+    Ok(node)
+}
+
+#[cycle(spelled)]
+fn chosen(alloc: Global, d: &mut Diagrams, fields: &mut Fields, depth: u8) -> Result<Node, RowError>
+    ensures known { IfOk result (λ node. node < length d.new) }
+    ensures grows { OnOk result (Grows d.old d.new) }
+{
+    let track = track(fields)?;
+    let low = read(alloc, d, fields, depth)?;
+    let high = read(alloc, d, fields, depth)?;
+    let node = d.choose(track, low, high)?;
+    Ok(node)
+}
+
+#[cycle(spelled)]
+fn restricted(
+    alloc: Global,
+    d: &mut Diagrams,
+    fields: &mut Fields,
+    depth: u8,
+) -> Result<Node, RowError>
+    ensures known { IfOk result (λ node. node < length d.new) }
+    ensures grows { OnOk result (Grows d.old d.new) }
+{
+    let track = track(fields)?;
+    let bit = fields.u8()?;
+    if bit > 1 {
+        return Err(RowError::Condition);
+    }
+    let a = read(alloc, d, fields, depth)?;
+    let node = d.restrict(a, track, bit)?;
+    Ok(node)
+}
+
+#[cycle(spelled)]
 fn relabelled(
     alloc: Global,
     d: &mut Diagrams,
@@ -29,72 +76,60 @@ fn relabelled(
     depth: u8,
 ) -> Result<Node, RowError>
     ensures known { IfOk result (λ node. node < length d.new) }
+    ensures grows { OnOk result (Grows d.old d.new) }
 {
     let tracks = numbers::<u8>(alloc, fields.word()?)?;
     let a = read(alloc, d, fields, depth)?;
     if !are_tracks(tracks.as_slice()) || !looks_below(d, a, tracks.len()) {
         return Err(RowError::Condition);
     }
-    Ok(d.relabel(a, tracks.as_slice())?)
+    let node = d.relabel(a, tracks.as_slice())?;
+    Ok(node)
 }
 
 #[cycle(spelled)]
 fn mapped(alloc: Global, d: &mut Diagrams, fields: &mut Fields, depth: u8) -> Result<Node, RowError>
     ensures known { IfOk result (λ node. node < length d.new) }
+    ensures grows { OnOk result (Grows d.old d.new) }
 {
     let table = numbers::<u32>(alloc, fields.word()?)?;
     let a = read(alloc, d, fields, depth)?;
-    if !are_below(&d.leaves(a)?, table.len()) {
+    if !has_leaves_below(d, a, table.len())? {
         return Err(RowError::Condition);
     }
-    Ok(d.map_leaves(a, table.as_slice())?)
+    let node = d.map_leaves(a, table.as_slice())?;
+    Ok(node)
 }
 
 #[cycle(spelled)]
 fn read(alloc: Global, d: &mut Diagrams, fields: &mut Fields, depth: u8) -> Result<Node, RowError>
     ensures known { IfOk result (λ node. node < length d.new) }
-    ensures grows { Grows d.old d.new }
+    ensures grows { OnOk result (Grows d.old d.new) }
 {
     if depth == 0 {
         return Err(RowError::Deep);
     }
-    let depth = depth - 1;
     match fields.word()? {
-        "leaf" => Ok(d.leaf(fields.u32()?)?),
-        "bit" => Ok(d.bit(track(fields)?)?),
-        "node" => {
-            let track = track(fields)?;
-            let low = read(alloc, d, fields, depth)?;
-            let high = read(alloc, d, fields, depth)?;
-            if track >= d.top(low) || track >= d.top(high) {
-                return Err(RowError::Condition);
-            }
-            Ok(d.node(track, low, high)?)
+        "leaf" => {
+            let node = d.leaf(fields.u32()?)?;
+            Ok(node)
         }
-        "choose" => {
-            let track = track(fields)?;
-            let low = read(alloc, d, fields, depth)?;
-            let high = read(alloc, d, fields, depth)?;
-            Ok(d.choose(track, low, high)?)
+        "bit" => {
+            let node = d.bit(track(fields)?)?;
+            Ok(node)
         }
-        "restrict" => {
-            let track = track(fields)?;
-            let bit = fields.u8()?;
-            if bit > 1 {
-                return Err(RowError::Condition);
-            }
-            let a = read(alloc, d, fields, depth)?;
-            Ok(d.restrict(a, track, bit)?)
-        }
-        "relabel" => relabelled(alloc, d, fields, depth),
-        "map" => mapped(alloc, d, fields, depth),
+        "node" => tested(alloc, d, fields, depth - 1),
+        "choose" => chosen(alloc, d, fields, depth - 1),
+        "restrict" => restricted(alloc, d, fields, depth - 1),
+        "relabel" => relabelled(alloc, d, fields, depth - 1),
+        "map" => mapped(alloc, d, fields, depth - 1),
         _ => Err(RowError::Word),
     }
 }
 
 fn diagram(alloc: Global, d: &mut Diagrams, fields: &mut Fields) -> Result<Node, RowError>
     ensures known { IfOk result (λ node. node < length d.new) }
-    ensures grows { Grows d.old d.new }
+    ensures grows { OnOk result (Grows d.old d.new) }
 {
     read(alloc, d, fields, MOST_DEPTH)
 }
@@ -287,16 +322,14 @@ pub fn merge_row(alloc: Global, fields: &mut Fields, out: &mut String) -> Result
     let mut d = Diagrams::new(alloc);
     let a = diagram(alloc, &mut d, fields)?;
     fields.end()?;
-    if sets.len() > 1000 || !are_below(&d.leaves(a)?, sets.len()) {
+    if sets.len() > 1000 || !has_leaves_below(&d, a, sets.len())? {
         return Err(RowError::Condition);
     }
     let mut merger = Merger::new(d.copy()?, sets_of(alloc, field)?, track);
     let node = d.merge_track(a, track, &mut sets)?;
     write_sets(out, &d, &sets, node, letters.as_slice())?;
     out.push_str(" merger ")?;
-    if merger.sets().len() > 1000
-        || !are_below(&merger.diagrams().leaves(a)?, merger.sets().len())
-    {
+    if merger.sets().len() > 1000 || !has_leaves_below(merger.diagrams(), a, merger.sets().len())? {
         return Err(RowError::Condition);
     }
     let node = merger.apply(a)?;

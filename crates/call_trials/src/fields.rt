@@ -1,5 +1,7 @@
 //! The fields of a row, parted by one space.
 
+ghost use Rattle.std.specs.Prelude.{◌≤◌, IfOk};
+
 use crate::errors::RowError;
 use std::alloc::Global;
 use std::num::ParseIntError;
@@ -67,7 +69,9 @@ impl<'a> Fields<'a> {
     }
 
     /// A budget of states.
-    pub fn budget(&mut self) -> Result<u32, RowError> {
+    pub fn budget(&mut self) -> Result<u32, RowError>
+        ensures { IfOk result (λ budget. (1 ≤ budget) × (budget ≤ 200000)) }
+    {
         let budget = self.u32()?;
         if budget < 1 || budget > 200000 {
             return Err(RowError::Number);

@@ -243,7 +243,7 @@ pub fn way_row(
     let Some(ray) = ray(man.kind, man.side, index) else {
         return Err(RowError::Condition);
     };
-    if man.place == Place::Gone {
+    if let Place::Gone = man.place {
         return Err(RowError::Condition);
     }
     let way = free_way(&position, number, ray, frame);

@@ -22,24 +22,14 @@ fn ascend(vars: &[Var]) -> bool
 fn below(entries: &[u32], bound: usize) -> bool
     ensures { IsTrue result → All (λ entry. entry < bound) entries.now }
 {
-    for entry in entries {
-        if *entry as usize >= bound {
-            return false;
-        }
-    }
-    true
+    entries.iter().all(|entry| (*entry as usize) < bound)
 }
 
 /// Whether each variable is below twenty.
 fn are_low(vars: &[Var]) -> bool
     ensures { IsTrue result → All IsLow vars.now }
 {
-    for var in vars {
-        if var.0 >= 20 {
-            return false;
-        }
-    }
-    true
+    vars.iter().all(|var| var.0 < 20)
 }
 
 /// Whether these are tracks, a first row, the rows of the states and their flags.
@@ -57,6 +47,7 @@ pub fn are_tables(tracks: &[Var], first: &[u32], next: &[u32], accept: &[bool]) 
 }
 
 /// Whether two automata have few tracks together.
+#[tactic(auto, using(crate::proofs::SmallLemmas::low_together))]
 pub fn fit_together(a: &[Var], b: &[Var]) -> bool
     requires { IsAscending b.now }
     ensures { IsTrue result → length (with_vars a.now b.now) ≤ 20 }
