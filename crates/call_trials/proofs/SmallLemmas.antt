@@ -1,10 +1,10 @@
 -- Small formulas may be compiled.
-use Rattle.std.proofs.Common.{ℕ, suc, ◌+◌, ◌<◌, ◌≤◌, ℤ, List, [], ◌∷◌, length, nat_lt, ◌==◌, if◌then◌else◌, arith}
+use Rattle.std.proofs.Common.{◌≡◌, ℕ, zero, suc, ◌+◌, ◌<◌, ◌≤◌, ℤ, List, [], ◌∷◌, length, map, slice_index, nat_lt, ◌==◌, if◌then◌else◌, arith, ap, sym, subst}
 use Rattle.std.specs.List.{All}
 use Rattle.std.proofs.lemmas.Bool.Decides.{nat_tests}
 use Rattle.std.proofs.lemmas.List.Elements.{All-nil, All-cons, All-tail, All-append}
 use Rattle.track_word.specs.declared.tracks.Var.{Var}
-use Rattle.track_word.specs.Tracks.{with_var, with_vars}
+use Rattle.track_word.specs.Tracks.{IsAscending, with_var, with_vars}
 use Rattle.track_word.specs.Atom.{term_vars}
 use Rattle.auto_core.specs.Automaton.{Automaton}
 use Rattle.lin_formula.specs.Tree.{Tree, Lin, Value, Among, Not, And, Or, Ex, IsWellMade, vars_of, memberships}
@@ -84,3 +84,38 @@ small_compilable f sets h = record {
   few_vars = let few = length-climb 0 (vars_of f) (omega arith) (climbs f sets h) in omega (arith, few);
   has_sets = there f sets h;
 }
+
+numbers : List Var → List ℕ
+numbers ys = map (λ (v : Var). v.0) ys
+
+next_number : (x : Var) (ys : List Var) (k : ℕ) → slice_index (numbers (x ∷ ys)) (suc k + 1) ≡ slice_index (numbers ys) (k + 1)
+unfolding numbers
+next_number x ys k = let e : suc k + 1 ≡ suc (k + 1) = omega arith in ap (λ i. slice_index (map (λ (v : Var). v.0) (x ∷ ys)) i) e
+
+pub ascending_cons : (x y : Var) (ys : List Var) → x.0 < y.0 → IsAscending (y ∷ ys) → IsAscending (x ∷ y ∷ ys)
+unfolding numbers
+ascending_cons x y ys less rest zero h = less
+ascending_cons x y ys less rest (suc k) h =
+    subst (λ n. slice_index (map (λ (v : Var). v.0) (y ∷ ys)) k < n) (sym (next_number x (y ∷ ys) k)) (rest k (omega (arith, h)))
+
+pub ascending_one : (x : Var) → IsAscending (x ∷ [])
+ascending_one x k h = absurd (omega (arith, h))
+
+pub ascending_none : IsAscending []
+ascending_none k h = absurd (omega (arith, h))
+
+climbs_ascending : (n : ℕ) (ys : List Var) → (0 < length ys → n ≤ slice_index (map (λ (v : Var). v.0) ys) 0) → IsAscending ys → All IsLow ys → Climbs n ys
+unfolding numbers
+climbs_ascending n [] from all low = tt
+climbs_ascending n (y ∷ []) from all low = (from (omega arith), low 0 y (omega arith), tt)
+climbs_ascending n (y ∷ z ∷ zs) from all low =
+    let next = all 0 (omega arith) in (
+      from (omega arith),
+      low 0 y (omega arith),
+      climbs_ascending (suc y.0) (z ∷ zs) (λ h. omega (arith, next)) (λ k h. subst (λ n. slice_index (map (λ (v : Var). v.0) (z ∷ zs)) k < n) (next_number y (z ∷ zs) k) (all (suc k) (omega (arith, h)))) (All-tail IsLow y (z ∷ zs) low),
+    )
+
+pub low_together : (xs ys : List Var) → IsAscending ys → All IsLow xs → All IsLow ys → length (with_vars xs ys) ≤ 20
+low_together xs ys all x_low y_low =
+    let few = length-climb 0 (with_vars xs ys) (omega arith) (climb_with_low xs ys x_low (climbs_ascending 0 ys (λ h. omega arith) all y_low)) in
+    omega (arith, few)

@@ -7,7 +7,7 @@ ghost use Rattle.letter_diagram.specs.Diagram.{Grows};
 
 use crate::errors::RowError;
 use crate::fields::{Fields, MOST_DEPTH, number, numbers, yes_or_no};
-use crate::looks::{are_tracks, ascends, has_leaves_below, looks_below};
+use crate::looks::{are_tracks, has_leaves_below, looks_below};
 use letter_diagram::{Diagrams, Merger, Node, Pairs, PairsError, Product, Sets, Shape};
 use std::alloc::Global;
 
@@ -257,11 +257,12 @@ pub fn pair_row(alloc: Global, fields: &mut Fields, out: &mut String) -> Result<
     )
 }
 
-fn number_set(sets: &mut Sets, set: &[u32]) -> Result<u32, RowError> {
-    if !ascends(set) {
-        return Err(RowError::Condition);
-    }
-    match sets.number(set) {
+/// The number of the set of some elements.
+fn number_set(sets: &mut Sets, elements: Vec<u32>) -> Result<u32, RowError> {
+    let mut set = elements;
+    set.sort()?;
+    set.dedup();
+    match sets.number(set.as_slice()) {
         Ok(number) => Ok(number),
         Err(PairsError::Full) => Err(RowError::Condition),
         Err(PairsError::Memory) => Err(RowError::Memory),
@@ -273,7 +274,7 @@ fn sets_of(alloc: Global, field: &str) -> Result<Sets, RowError> {
     let mut sets = Sets::new(alloc);
     for set in field.split('/') {
         let elements = numbers::<u32>(alloc, set)?;
-        let _ = number_set(&mut sets, elements.as_slice())?;
+        let _ = number_set(&mut sets, elements)?;
     }
     Ok(sets)
 }
@@ -349,7 +350,7 @@ pub fn sets_row(alloc: Global, fields: &mut Fields, out: &mut String) -> Result<
     let mut sets = Sets::new(alloc);
     for set in field.split('/') {
         let elements = numbers::<u32>(alloc, set)?;
-        write!(out, "{} ", number_set(&mut sets, elements.as_slice())?)?;
+        write!(out, "{} ", number_set(&mut sets, elements)?)?;
     }
     out.push_str("of")?;
     for number in 0..sets.len() as u32 {

@@ -1,7 +1,6 @@
 //! What conditions on diagrams say of a row.
 
 ghost use Rattle.std.specs.Prelude.{◌<◌, ℕ, All, IfOk, IsTrue, length};
-ghost use Rattle.std.specs.List.Sorted.{IsStrictlyIncreasing};
 ghost use Rattle.letter_diagram.specs.Diagram.{map_at, LooksBelow};
 
 use letter_diagram::{Diagrams, Node, Shape};
@@ -43,15 +42,4 @@ pub fn are_tracks(tracks: &[u8]) -> bool
     ensures { IsTrue result → All (λ track. track < 20) tracks.now }
 {
     tracks.iter().all(|track| *track < 20)
-}
-
-/// Whether each number is less than the next.
-pub fn ascends(set: &[u32]) -> bool
-    ensures { IsTrue result → IsStrictlyIncreasing set.now }
-{
-    match set {
-        [a, b, ..] if a >= b => false,
-        [_, rest @ ..] => ascends(rest),
-        [] => true,
-    }
 }

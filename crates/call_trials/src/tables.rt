@@ -8,13 +8,14 @@ ghost use Rattle.call_trials.specs.Small.{IsLow};
 use track_word::Var;
 
 /// Whether each variable comes before the next.
+#[tactic(auto, using(crate::proofs::SmallLemmas::ascending_cons, crate::proofs::SmallLemmas::ascending_one, crate::proofs::SmallLemmas::ascending_none))]
 fn ascend(vars: &[Var]) -> bool
     ensures { IsTrue result → IsAscending vars.now }
 {
     match vars {
-        [a, b, ..] if a.0 >= b.0 => false,
-        [_, rest @ ..] => ascend(rest),
         [] => true,
+        [_] => true,
+        [a, rest @ ..] => a.0 < rest[0].0 && ascend(rest),
     }
 }
 
