@@ -13,7 +13,8 @@ use Rattle.auto_reduce.specs.Leading.{entry_at}
 use Rattle.auto_reduce.specs.Quotient.{IsCanonical, IsMet, IsOrderTo}
 use Rattle.auto_reduce.specs.Unmet.{AddsRow}
 use Rattle.auto_reduce.proofs.Counting.{length_le-below}
-use Rattle.auto_reduce.proofs.States.{state_within, state_of-append}
+use Rattle.auto_walk.proofs.States.{state_within}
+use Rattle.auto_reduce.proofs.States.{state_of-append}
 use Rattle.auto_reduce.proofs.Orders.{Contains-on}
 use Rattle.auto_reduce.proofs.RowNodes.{AreRowNodes-own}
 

@@ -1,5 +1,5 @@
 -- The automaton over the places of an order of canonical states, and what it accepts.
-use Rattle.std.proofs.Common.{◌≡◌, ◌≢◌, ◌↔◌, ℕ, zero, suc, ◌<◌, ◌%◌, ◌^◌, Bool, List, [], ◌∷◌, length, get_or, drop, Contains, AllPairs, All, arith, refl, sym, ap, ◌∙◌, subst, inl, inr}
+use Rattle.std.proofs.Common.{◌≡◌, ◌≢◌, ◌↔◌, ℕ, zero, suc, ◌<◌, ◌≤◌, ◌%◌, ◌^◌, Bool, List, [], ◌∷◌, length, get_or, drop, Contains, AllPairs, All, arith, refl, sym, ap, ◌∙◌, subst, inl, inr}
 use Rattle.std.proofs.lemmas.Bool.{cases_order}
 use Rattle.std.proofs.lemmas.List.Elements.{All-cons, All-head, All-tail, All-get_or, All-from_get_or}
 use Rattle.track_word.specs.Word.{IsWord}
@@ -13,7 +13,8 @@ use Rattle.auto_core.proofs.RowLemmas.{get_or-row_of, next_state-dense, IsAutoma
 use Rattle.auto_reduce.specs.Leading.{entry_at, IsLedFrom}
 use Rattle.auto_reduce.specs.Quotient.{IsCanonical, IsMet, IsOrder, AreNumbers, AreClassNumbers, ArePicked, AreFlags, IsQuotientBy}
 use Rattle.auto_reduce.specs.Numbering.{IsQuotient}
-use Rattle.auto_reduce.proofs.States.{first_within, next_within, state_within, run_within}
+use Rattle.auto_walk.proofs.States.{state_within, run_within}
+use Rattle.auto_reduce.proofs.States.{first_within, next_within}
 use Rattle.auto_reduce.proofs.Orders.{place_in}
 use Rattle.auto_reduce.proofs.Leads.{LeadsTo, leads_low, leads-first, leads-row, canon_within, order_within, order_few, order_some}
 use Rattle.auto_reduce.proofs.Stales.{All-picked}
@@ -226,3 +227,9 @@ quotient_reduced a m q = IsReduced-quotient a q.canon q.order m q.quotient
 
 pub quotient_tracks : (a m : Automaton) → IsQuotient a m → m.tracks ≡ a.tracks
 quotient_tracks a m q = q.quotient.tracks
+
+pub quotient_fewer : (a m : Automaton) → IsQuotient a m → length m.accept ≤ length a.accept
+quotient_fewer a m q =
+    let few = order_few a q.canon q.quotient.canonical q.order (length q.order) q.quotient.order_is in
+    let size = q.quotient.size in
+    omega (arith, few, size)

@@ -20,14 +20,6 @@ first_within a is letter = entry_within (length a.accept) a.first letter is.some
 pub next_within : (a : Automaton) → IsAutomaton a → (state letter : ℕ) → next_state a state letter < length a.accept
 next_within a is state letter = entry_within (length a.accept) a.next (state * width a + letter) is.some_state is.next_within
 
-pub run_within : (a : Automaton) → IsAutomaton a → (letters : List ℕ) (state : ℕ) → state < length a.accept → run a state letters < length a.accept
-run_within a is [] state h = h
-run_within a is (letter ∷ letters) state h = run_within a is letters (next_state a state letter) (next_within a is state letter)
-
-pub state_within : (a : Automaton) → IsAutomaton a → (word : List ℕ) → state_of a word < length a.accept
-state_within a is [] = is.some_state
-state_within a is (sign ∷ letters) = run_within a is letters _ (first_within a is sign)
-
 pub state_of-append : (a : Automaton) (word letters : List ℕ) → word ≢ [] → state_of a (word ++ letters) ≡ run a (state_of a word) letters
 state_of-append a [] letters nonempty = absurd (nonempty refl)
 state_of-append a (sign ∷ word) letters nonempty = fold-append (next_state a) (first_state a sign) word letters

@@ -148,6 +148,7 @@ pub fn reduce(alloc: Global, a: &Auto) -> Result<Auto, AllocError>
     ensures words { IfOk result (λ m. (word : List ℕ) → IsWord (length a.now.tracks) word → Accepts m word ↔ Accepts a.now word) }
     ensures reduced { IfOk result IsReduced }
     ensures numbered { IfOk result IsNumberedBreadthFirst }
+    ensures fewer { IfOk result (λ m. length m.accept ≤ length a.now.accept) }
     ensures valid { IfOk result IsAutomaton }
 {
     let m = quotient(alloc, a)?;

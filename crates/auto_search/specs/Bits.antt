@@ -29,7 +29,7 @@ letters ray [] = []
 letters ray (bit ∷ bits) =
     letter_at ray (length bits) (sum_at ray.x (length bits) (carry ray.x bits) bit) (sum_at ray.y (length bits) (carry ray.y bits) bit) ∷ letters ray bits
 
--- what is carried over on both tracks, as one number
+-- the slot of what the last bits carry over on the two tracks, one of nine
 abbrev pub slot_of : Ray → List Bool → ℕ
 slot_of ray bits = 3 * carry ray.x bits + carry ray.y bits
 

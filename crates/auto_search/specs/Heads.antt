@@ -15,7 +15,7 @@ abbrev pub IsTrimmed : List Bool → Type 0
 IsTrimmed [] = Unit {0}
 IsTrimmed (bit ∷ head) = IsTrimmed head × (0 < head_number (bit ∷ head))
 
--- the state after the sign letter and the letters of these bits, at places past all bits of the near end, for what the bits after them carry over
+-- the state after the sign letter and the letters of these bits, at places from the top on, for what the bits after them carry over
 abbrev pub read : Automaton → Ray → List Bool → ℕ → ℕ → Option ℕ
 read a ray [] cx cy = started a ray cx cy
 read a ray (bit ∷ head) cx cy =

@@ -1,4 +1,4 @@
--- Heads that were met in a walk: each state is entered at most twice for each number carried over, besides what the walk begins with.
+-- Heads that were met in a walk: each state is entered at most twice for each slot, besides what the walk begins with.
 use Rattle.std.specs.Prelude.{◌≡◌, ◌≢◌, ◌↔◌, ℕ, ◌+◌, ◌*◌, ◌/◌, ◌%◌, ◌^◌, ◌<◌, ◌≤◌, Bool, true, false, List, [], ◌∷◌, length, All, sum, if◌then◌else◌, slice_index, slice_index_or, slice_set, Option, Some, None, ◌⊎◌}
 use Rattle.auto_core.specs.Automaton.{Automaton}
 use Rattle.auto_search.specs.declared.ray.Ray.{Ray}

@@ -15,7 +15,7 @@ pub record Suits (a : Automaton) (ray : Ray) : Type 0 where
   pub few : width a ≤ 2 ^ 20
   pub few_places : ray.top ≤ 67
 
--- a state, or none, for each number carried over
+-- a state, or none, for each slot
 pub record IsFront (a : Automaton) (front : List (Option ℕ)) : Type 0 where
   pub size : length front ≡ 9
   pub states : (slot state : ℕ) → slice_index_or front slot None ≡ Some state → state < length a.accept

@@ -73,6 +73,7 @@ fn greatest(values: &[i64]) -> u64
 fn bits_of(number: u128) -> u8
     requires { number < 2 ^ 67 }
     ensures enough { number < 2 ^ result }
+    ensures needed { 2 ^ result ≤ 2 * number + 1 }
     ensures few { result ≤ 67 }
 {
     (128 - number.leading_zeros()) as u8

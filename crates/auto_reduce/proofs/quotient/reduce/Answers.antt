@@ -1,4 +1,4 @@
-use Rattle.auto_reduce.proofs.Quotients.{quotient_words, quotient_reduced, quotient_tracks}
+use Rattle.auto_reduce.proofs.Quotients.{quotient_words, quotient_reduced, quotient_tracks, quotient_fewer}
 use Rattle.auto_reduce.proofs.Numberings.{quotient_numbered}
 use Rattle.auto_reduce.proofs.quotient.reduce.Goals as goal
 
@@ -13,6 +13,9 @@ returns-clause-reduced c = quotient_reduced _ _ c.in_ok-m.ensures
 
 pub returns-clause-numbered : goal.returns-clause-numbered
 returns-clause-numbered c = quotient_numbered _ _ c.in_ok-m.ensures
+
+pub returns-clause-fewer : goal.returns-clause-fewer
+returns-clause-fewer c = quotient_fewer _ _ c.in_ok-m.ensures
 
 pub returns-clause-valid : goal.returns-clause-valid
 returns-clause-valid c = c.in_ok-m.ensures.quotient.valid

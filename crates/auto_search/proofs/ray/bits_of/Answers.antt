@@ -1,4 +1,4 @@
-use Rattle.std.proofs.Common.{◌≡◌, ◌-◌, ◌^◌, ◌<◌, arith, inl, inr, subst}
+use Rattle.std.proofs.Common.{◌≡◌, ◌+◌, ◌-◌, ◌*◌, ◌^◌, ◌<◌, ◌≤◌, arith, inl, inr, subst}
 use Rattle.std.specs.Int.Count.{count_leading_zeros}
 use Rattle.std.proofs.lemmas.Bool.{cases_lt}
 use Rattle.std.proofs.lemmas.Nat.{leading_length}
@@ -12,6 +12,14 @@ returns-clause-enough c =
     let sum = l.1 in
     let e : l.0 ≡ 128 - count_leading_zeros 128 c.args.number = omega (arith, sum) in
     subst (λ n. c.args.number < 2 ^ n) e l.2
+
+pub returns-clause-needed : goal.returns-clause-needed
+returns-clause-needed c =
+    let h = c.requires in
+    let l = leading_length 128 c.args.number (omega (arith, h)) in
+    let sum = l.1 in
+    let e : l.0 ≡ 128 - count_leading_zeros 128 c.args.number = omega (arith, sum) in
+    subst (λ n. 2 ^ n ≤ 2 * c.args.number + 1) e l.3
 
 pub returns-clause-few : goal.returns-clause-few
 returns-clause-few c =

@@ -1,0 +1,15 @@
+//! Numbers of a script.
+
+use crate::fault::ScriptWhy;
+use std::str::FromStr;
+
+/// The number that the word is, if its type holds it.
+pub fn read_number<N: FromStr>(word: &str) -> Result<N, ScriptWhy>
+where
+    N::Err: Drop,
+{
+    match word.parse::<N>() {
+        Ok(number) => Ok(number),
+        Err(_) => Err(ScriptWhy::Number),
+    }
+}

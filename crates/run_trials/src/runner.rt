@@ -1,0 +1,147 @@
+//! Performing the runs of a script.
+
+use crate::fault::{Refusal, ScriptWhy, Stop};
+use crate::report::write_run;
+use crate::statement::{Part, Statement};
+use crate::texts::Texts;
+use crate::trial::{Case, Trial};
+use desk_base::BareShelf;
+use mate_desk::run;
+use std::alloc::Global;
+use std::io::Write;
+use std::mem;
+
+/// Performs the runs of a script as its lines come, and writes what comes of each.
+#[derive(Drop)]
+pub struct Runner<W: Write + Drop> {
+    alloc: Global,
+    out: W,
+    texts: Texts,
+    /// The files. What a run keeps is there for those behind it.
+    shelf: BareShelf,
+    block: Block,
+    runs: u64,
+}
+
+/// What the next lines belong to.
+#[derive(Drop)]
+enum Block {
+    Nothing,
+    Text(NamedText),
+    Trial(Trial),
+}
+
+/// A text whose lines are coming.
+#[derive(Drop)]
+struct NamedText {
+    /// The number of the line that names it.
+    line: u64,
+    name: String,
+    bytes: Vec<u8>,
+}
+
+impl<W: Write + Drop> Runner<W> {
+    pub fn new(alloc: Global, out: W) -> Self {
+        Runner {
+            alloc,
+            out,
+            texts: Texts::new(alloc),
+            shelf: BareShelf::new(),
+            block: Block::Nothing,
+            runs: 0,
+        }
+    }
+
+    /// Takes what the line of this number says. A text or a run is closed by the next one.
+    pub fn take(&mut self, line: u64, statement: Statement) -> Result<(), Stop> {
+        match statement {
+            Statement::Remark => {}
+            Statement::Text(name) => {
+                self.close()?;
+                let bytes = Vec::new(self.alloc);
+                self.block = Block::Text(NamedText { line, name, bytes });
+            }
+            Statement::Run(head) => {
+                self.close()?;
+                self.block = Block::Trial(Trial::new(self.alloc, line, head));
+            }
+            Statement::Part(part) => {
+                let added = self.block.add(line, part);
+                added.map_err(|why| Refusal { line, why })?;
+            }
+        }
+        Ok(())
+    }
+
+    /// Closes the last text or run, and writes how many runs there were.
+    pub fn finish(&mut self) -> Result<(), Stop> {
+        self.close()?;
+        let runs = self.runs;
+        writeln!(self.out, "{runs} runs")?;
+        Ok(())
+    }
+
+    /// Writes which line is refused, and why.
+    pub fn refuse(&mut self, refusal: Refusal) -> Result<(), Stop> {
+        let line = refusal.line;
+        let words = refusal.why.words();
+        writeln!(self.out, "script line {line}: {words}")?;
+        Ok(())
+    }
+
+    /// Closes what is open: a text gets its name, a run is done.
+    fn close(&mut self) -> Result<(), Stop> {
+        match mem::replace(&mut self.block, Block::Nothing) {
+            Block::Nothing => {}
+            Block::Text(NamedText { line, name, bytes }) => {
+                let added = self.texts.add(name, bytes);
+                added.map_err(|why| Refusal { line, why })?;
+            }
+            Block::Trial(trial) => {
+                let cases = trial.cases();
+                for number in cases.first..=cases.last {
+                    let case = trial.case(self.alloc, &self.texts, number)?;
+                    self.perform(case)?;
+                }
+            }
+        }
+        Ok(())
+    }
+
+    /// Does a run, and writes what comes of it.
+    fn perform(&mut self, case: Case) -> Result<(), Stop> {
+        let Case {
+            title,
+            words,
+            given,
+        } = case;
+        let (mut source, mut sink) = given.open(self.alloc)?;
+        let status = run(self.alloc, &words, &mut source, &mut sink, &mut self.shelf);
+        self.runs = self.runs.saturating_add(1);
+        write_run(&mut self.out, title.as_str(), sink.bytes(), status.code())?;
+        Ok(())
+    }
+}
+
+impl Block {
+    /// Adds a part to the text or the run that is open.
+    fn add(&mut self, line: u64, part: Part) -> Result<(), ScriptWhy> {
+        match self {
+            Block::Nothing => Err(ScriptWhy::Stray),
+            Block::Text(text) => text.add(part),
+            Block::Trial(trial) => trial.add(line, part),
+        }
+    }
+}
+
+impl NamedText {
+    fn add(&mut self, part: Part) -> Result<(), ScriptWhy> {
+        match part {
+            Part::Bytes(bytes) => {
+                self.bytes.extend_from_slice(bytes.as_slice())?;
+                Ok(())
+            }
+            Part::Setting(_) => Err(ScriptWhy::Stray),
+        }
+    }
+}

@@ -1,0 +1,78 @@
+//! Bytes as a script spells them.
+
+ghost use Rattle.std.specs.Prelude.{◌<◌, IfOk};
+ghost use Rattle.run_trials.specs.Spelling.{AreDigits, Begins, BeginsWithDigits, Escapes, IsDigit, Spells};
+
+use crate::fault::ScriptWhy;
+use std::alloc::Global;
+
+/// The bytes that the text spells. Each byte is spelled by itself, but a backslash by `\\`; `\n` is LF, `\r` is CR, and `\xHH` is the
+/// byte of these two hexadecimal digits.
+pub fn read_bytes(alloc: Global, text: &str) -> Result<Vec<u8>, ScriptWhy>
+    ensures { IfOk result (λ bytes. Spells text.now bytes.items) }
+{
+    let mut bytes = Vec::new(alloc);
+    let mut rest = text.as_bytes();
+    while !rest.is_empty() {
+        let (byte, behind) = read_byte(rest)?;
+        bytes.push(byte)?;
+        rest = behind;
+    }
+    Ok(bytes)
+}
+
+/// The first byte that the text spells, and what comes behind it.
+fn read_byte(text: &[u8]) -> Result<(u8, &[u8]), ScriptWhy>
+    ensures { IfOk result (λ read. Begins text.now read.0 read.1.now) }
+{
+    match text {
+        [b'\\', escape @ ..] => read_escape(escape),
+        [byte, rest @ ..] => Ok((*byte, rest)),
+        [] => Err(ScriptWhy::Escape),
+    }
+}
+
+/// The byte that the letters behind a backslash are, and what comes behind them.
+fn read_escape(text: &[u8]) -> Result<(u8, &[u8]), ScriptWhy>
+    ensures { IfOk result (λ read. Escapes text.now read.0 read.1.now) }
+{
+    match text {
+        [b'\\', rest @ ..] => Ok((b'\\', rest)),
+        [b'n', rest @ ..] => Ok((b'\n', rest)),
+        [b'r', rest @ ..] => Ok((b'\r', rest)),
+        [b'x', digits @ ..] => read_hexadecimal(digits),
+        _ => Err(ScriptWhy::Escape),
+    }
+}
+
+/// The byte that the first two digits are, and what comes behind them.
+fn read_hexadecimal(text: &[u8]) -> Result<(u8, &[u8]), ScriptWhy>
+    ensures { IfOk result (λ read. BeginsWithDigits text.now read.0 read.1.now) }
+{
+    match text {
+        [high, low, rest @ ..] => {
+            let byte = read_digits(*high, *low)?;
+            Ok((byte, rest))
+        }
+        _ => Err(ScriptWhy::Escape),
+    }
+}
+
+/// The byte that two hexadecimal digits are.
+fn read_digits(high: u8, low: u8) -> Result<u8, ScriptWhy>
+    ensures { IfOk result (AreDigits high low) }
+{
+    Ok(16 * read_digit(high)? + read_digit(low)?)
+}
+
+/// The number that a hexadecimal digit is.
+fn read_digit(digit: u8) -> Result<u8, ScriptWhy>
+    ensures number { IfOk result (IsDigit digit) }
+    ensures small { IfOk result (λ value. value < 16) }
+{
+    match digit {
+        b'0'..=b'9' => Ok(digit - b'0'),
+        b'a'..=b'f' => Ok(digit - b'a' + 10),
+        _ => Err(ScriptWhy::Escape),
+    }
+}

@@ -1,0 +1,143 @@
+//! Runs with what stands under them.
+
+use crate::cases::{CaseLine, Cases};
+use crate::fault::{Refusal, ScriptWhy};
+use crate::setting::{Given, Setting, read_setting};
+use crate::statement::Part;
+use crate::texts::Texts;
+use crate::words::read_words;
+use std::alloc::Global;
+
+/// A run with what stands under it. It is done once, or once for each number of its range; there is at most one range.
+#[derive(Drop)]
+pub struct Trial {
+    /// The number of its line.
+    line: u64,
+    /// The word `run`, and the words that it is given.
+    head: CaseLine,
+    entries: Vec<Entry>,
+    cases: Option<Cases>,
+}
+
+/// What a line under a run adds to it.
+#[derive(Drop)]
+struct Entry {
+    /// The number of the line.
+    line: u64,
+    part: Part,
+}
+
+impl Trial {
+    /// The run that the line of this number begins, with nothing under it yet.
+    pub fn new(alloc: Global, line: u64, head: CaseLine) -> Self {
+        let cases = head.cases();
+        Trial {
+            line,
+            head,
+            entries: Vec::new(alloc),
+            cases,
+        }
+    }
+
+    /// The numbers of its cases: those of its range, or only 0.
+    pub fn cases(&self) -> Cases {
+        match self.cases {
+            Some(cases) => cases,
+            None => Cases { first: 0, last: 0 },
+        }
+    }
+
+    /// Adds a part. At most one setting of a run has a range.
+    pub fn add(&mut self, line: u64, part: Part) -> Result<(), ScriptWhy> {
+        if let Part::Setting(setting) = &part {
+            self.add_cases(setting.cases())?;
+        }
+        self.entries.push(Entry { line, part })?;
+        Ok(())
+    }
+
+    /// Takes the range of a setting, if it has one.
+    fn add_cases(&mut self, cases: Option<Cases>) -> Result<(), ScriptWhy> {
+        if cases.is_some() {
+            if self.cases.is_some() {
+                return Err(ScriptWhy::Range);
+            }
+            self.cases = cases;
+        }
+        Ok(())
+    }
+
+    /// The case of this number.
+    pub fn case(&self, alloc: Global, texts: &Texts, number: u32) -> Result<Case, Refusal> {
+        let mut case = match Case::new(alloc, &self.head, number) {
+            Ok(case) => case,
+            Err(why) => return Err(Refusal {
+                line: self.line,
+                why,
+            }),
+        };
+        for entry in &self.entries {
+            let line = entry.line;
+            let added = case.add(alloc, texts, number, &entry.part);
+            added.map_err(|why| Refusal { line, why })?;
+        }
+        Ok(case)
+    }
+}
+
+/// A run in one case.
+#[derive(Drop)]
+pub struct Case {
+    /// The words and the settings, as the script spells them.
+    pub title: String,
+    pub words: Vec<String>,
+    pub given: Given,
+}
+
+impl Case {
+    fn new(alloc: Global, head: &CaseLine, number: u32) -> Result<Self, ScriptWhy> {
+        let title = head.at(alloc, number)?;
+        let words = read_words(alloc, title.as_str())?;
+        let given = Given::new(alloc);
+        Ok(Case {
+            title,
+            words,
+            given,
+        })
+    }
+
+    fn add(
+        &mut self,
+        alloc: Global,
+        texts: &Texts,
+        number: u32,
+        part: &Part,
+    ) -> Result<(), ScriptWhy> {
+        match part {
+            Part::Bytes(bytes) => self.given.add_bytes(bytes.as_slice()),
+            Part::Setting(setting) => self.add_setting(alloc, texts, number, setting),
+        }
+    }
+
+    fn add_setting(
+        &mut self,
+        alloc: Global,
+        texts: &Texts,
+        number: u32,
+        setting: &CaseLine,
+    ) -> Result<(), ScriptWhy> {
+        let line = setting.at(alloc, number)?;
+        self.title.push_str(" / ")?;
+        self.title.push_str(line.as_str())?;
+        match read_setting(alloc, line.as_str())? {
+            Setting::Text(name) => self.given.add_bytes(texts.get(name)?),
+            Setting::Input(change) => self.given.change(change),
+            Setting::Read(calls) => self.given.reads.set(calls),
+            Setting::Write(calls) => self.given.writes.set(calls),
+            Setting::Room(room) => {
+                self.given.room = room;
+                Ok(())
+            }
+        }
+    }
+}
