@@ -1,6 +1,6 @@
 -- The first move along a ray that leads into the sets: the least hit of the search, or the capture behind all free distances.
-use Rattle.std.proofs.Common.{◌≡◌, ◌≢◌, ◌⊎◌, ◌↔◌, inl, inr, ℕ, zero, suc, ◌<◌, ◌≤◌, ◌+ℤ◌, ◌*ℤ◌, ℤ, pos, ◌+◌, length, to_z, of_z, Bor, Bool, true, false, List, Option, Some, None, refl, sym, ap, subst, ◌∙◌, arith}
-use Rattle.std.specs.Prelude.{IsTrue, IsSomeAnd, IfSome, IfNone, slice_set}
+use Rattle.std.proofs.Common.{◌≡◌, ◌≢◌, ◌⊎◌, ◌↔◌, inl, inr, ℕ, zero, suc, ◌<◌, ◌≤◌, ℤ, ◌+◌, length, to_z, of_z, Bor, true, false, List, Option, Some, None, refl, sym, ap, subst, ◌∙◌, arith}
+use Rattle.std.specs.Prelude.{IsTrue, IsSomeAnd, slice_set}
 use Rattle.std.specs.Int.{w8}
 use Rattle.std.proofs.lemmas.Option.{same_Some, slice_get_within}
 use Rattle.auto_core.specs.Automaton.{Automaton}
@@ -12,10 +12,10 @@ use Rattle.game_rules.specs.declared.men.Place.TheVariants.{Gone}
 use Rattle.game_rules.specs.declared.men.Ray.{Ray}
 use Rattle.game_rules.specs.declared.men.Square.{Square}
 use Rattle.game_rules.specs.Game.{Position, Holds, IsAfter, IsEmptySquare, IsLiveAnd, Legal, Sound, StandsOn, Step, after_steps, man_at, other, square_of}
-use Rattle.game_rules.specs.Rays.{IsAt, ray_of, serves_moves}
+use Rattle.game_rules.specs.Rays.{IsAt, serves_moves}
 use Rattle.game_laws.specs.Answer.{distance}
 use Rattle.game_laws.specs.OnRay.{IsOnRay}
-use Rattle.game_laws.proofs.CheckLemmas.{any_is, one_square, some_and}
+use Rattle.game_laws.proofs.CheckLemmas.{any_is, one_square}
 use Rattle.game_laws.proofs.LineLemmas.{steps_distance}
 use Rattle.game_laws.proofs.MoveLemmas.{same_after}
 use Rattle.game_laws.proofs.RayLemmas.{true_or_not}
@@ -28,7 +28,7 @@ use Rattle.chess_game.specs.declared.way.Frame.{Frame}
 use Rattle.rule_formula.specs.Fits.{HasStock, mask_of}
 use Rattle.rule_formula.specs.Placed.{tuple_of}
 use Rattle.rule_formula.proofs.PlacedLemmas.{all_men, stock_man-men}
-use Rattle.game_session.specs.Choice.{FirstOf, IsAlongRay, IsBefore, IsCapture, IsFirst, IsQuiet, Leads, target}
+use Rattle.game_session.specs.Choice.{FirstOf, IsAlongRay, IsBefore, IsCapture, IsQuiet, Leads, target}
 use Rattle.game_session.specs.Aims.{AreNext, IsHitAlong, IsLeast, IsLeastFound, IsMet, IsMover, tuple_along}
 use Rattle.mask_sets.specs.Places.{coordinates_before}
 use Rattle.mask_sets.specs.Sets.{IsIn, Table, set_at}

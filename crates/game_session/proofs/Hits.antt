@@ -1,32 +1,26 @@
 -- The moves along one ray that lead into the sets, and the hits of the search.
-use Rattle.std.proofs.Common.{◌≡◌, ◌≢◌, ◌⊎◌, ◌↔◌, inl, inr, ℕ, zero, suc, ◌<◌, ◌≤◌, ◌+ℤ◌, ◌*ℤ◌, ℤ, pos, List, Option, Some, None, refl, sym, ap, subst, ◌∙◌, arith}
-use Rattle.std.specs.Prelude.{IsTrue, IsSomeAnd, MatchOption}
+use Rattle.std.proofs.Common.{◌≡◌, ◌↔◌, ℕ, suc, Option, Some, None, refl, sym, ap, subst, ◌∙◌, arith}
+use Rattle.std.specs.Prelude.{IsTrue, IsSomeAnd}
 use Rattle.std.proofs.lemmas.Option.{same_Some}
 use Rattle.auto_core.specs.Automaton.{Automaton}
 use Rattle.auto_core.specs.Integers.{IsAccepted}
-use Rattle.game_rules.specs.declared.men.Man.{Man}
 use Rattle.game_rules.specs.declared.men.Ray.{Ray}
 use Rattle.game_rules.specs.declared.men.Square.{Square}
-use Rattle.game_rules.specs.Game.{Position, Holds, InCheck, IsEmptySquare, IsLiveAnd, Legal, Sound, StandsOn, Step, after_steps, man_at, other, square_of}
-use Rattle.game_rules.specs.Rays.{IsAt, ray_of, serves_captures, serves_moves}
+use Rattle.game_rules.specs.Game.{Position, IsEmptySquare, Legal, StandsOn, Step, man_at}
+use Rattle.game_rules.specs.Rays.{IsAt, ray_of, serves_moves}
 use Rattle.game_laws.specs.OnRay.{IsOnRay}
-use Rattle.game_laws.proofs.CheckLemmas.{any_is, one_square, some_and}
-use Rattle.game_laws.proofs.DecideLemmas.{is_after, position_after}
-use Rattle.game_laws.proofs.MoveLemmas.{same_after}
-use Rattle.game_laws.proofs.SoundLemmas.{live_at}
-use Rattle.chess_game.specs.Way.{IsFree, IsFreeFrom, IsHitFrom, IsInside}
-use Rattle.chess_game.specs.Way as way
-use Rattle.chess_game.specs.declared.moves.Move.{Move}
+use Rattle.game_laws.proofs.CheckLemmas.{one_square}
+use Rattle.game_laws.proofs.DecideLemmas.{position_after}
+use Rattle.chess_game.specs.Way.{IsFreeFrom, IsInside}
 use Rattle.chess_game.specs.declared.way.Frame.{Frame}
 use Rattle.rule_formula.specs.Fits.{mask_of}
 use Rattle.rule_formula.specs.Placed.{tuple_of}
-use Rattle.rule_formula.proofs.PlacedLemmas.{all_men}
-use Rattle.game_session.specs.Choice.{FirstOf, IsAlongRay, IsBefore, IsCapture, IsFirst, IsQuiet, Leads, target}
+use Rattle.game_session.specs.Choice.{IsQuiet, Leads, target}
 use Rattle.game_session.specs.Aims.{AreNext, IsHitAlong, IsMover, tuple_along}
 use Rattle.mask_sets.specs.Sets.{IsIn, Table, set_at}
 use Rattle.game_session.specs.declared.choice.Choice.{Choice}
 use Rattle.game_session.proofs.Tuples.{mask_moved, tuple_hit}
-use Rattle.game_session.proofs.Ways.{capture_hit, empty_or_held, free_step, nobody_before, quiet_free, serves_quiet}
+use Rattle.game_session.proofs.Ways.{free_step, quiet_free}
 
 some_is : {A : Type 0} (o : Option A) (P : A → Type 0) → IsSomeAnd o P → (a : A) × (o ≡ Some a) × P a
 some_is None P h = absurd h

@@ -1,5 +1,5 @@
 -- The first move over all rays of a man, and over all men.
-use Rattle.std.proofs.Common.{◌≡◌, ◌≢◌, ◌⊎◌, inl, inr, ℕ, zero, suc, ◌+◌, ◌<◌, ◌≤◌, List, [], ◌∷◌, length, Option, Some, None, refl, sym, ap, subst, ◌∙◌, arith}
+use Rattle.std.proofs.Common.{◌≡◌, ◌≢◌, inl, inr, ℕ, zero, suc, ◌+◌, ◌<◌, List, [], ◌∷◌, length, Option, Some, None, refl, sym, ap, subst, ◌∙◌, arith}
 use Rattle.std.specs.Prelude.{slice_get, IsSomeAnd}
 use Rattle.std.proofs.lemmas.Bool.{cases_lt}
 use Rattle.std.proofs.lemmas.Option.{same_Some}
@@ -10,15 +10,13 @@ use Rattle.game_rules.specs.declared.men.Place.{Place}
 use Rattle.game_rules.specs.declared.men.Place.TheVariants.{At, Gone}
 use Rattle.game_rules.specs.declared.men.Ray.{Ray}
 use Rattle.game_rules.specs.declared.men.Side.{Side}
-use Rattle.game_rules.specs.declared.men.Square.{Square}
-use Rattle.game_rules.specs.Game.{Position, Legal, StandsOn, man_at, place_square, square_of}
+use Rattle.game_rules.specs.Game.{Position, man_at, place_square, square_of}
 use Rattle.game_rules.specs.Rays.{ray_of, rays_of}
 use Rattle.game_laws.specs.OnRay.{IsOnOneRay}
 use Rattle.game_laws.proofs.CheckLemmas.{some_and}
 use Rattle.game_laws.proofs.RayLemmas.{step_one}
-use Rattle.chess_game.specs.Way.{IsInside}
 use Rattle.chess_game.specs.declared.way.Frame.{Frame}
-use Rattle.game_session.specs.Choice.{FirstOf, IsAlongRay, IsBefore, IsFirst, IsOf, Leads, Pick, target}
+use Rattle.game_session.specs.Choice.{FirstOf, IsAlongRay, IsBefore, IsOf, Leads, Pick}
 use Rattle.game_session.specs.Aims.{IsMover}
 use Rattle.game_session.specs.declared.choice.Choice.{Choice}
 use Rattle.game_session.proofs.Firsts.{man_high}

@@ -1,5 +1,5 @@
 -- Legal moves along a ray, and how far it is free.
-use Rattle.std.proofs.Common.{◌≡◌, ◌≢◌, ◌⊎◌, inl, inr, ℕ, zero, suc, ◌<◌, ◌≤◌, ◌-ℤ◌, ◌+ℤ◌, ◌*ℤ◌, ℤ, pos, Bool, true, false, Option, Some, None, refl, sym, ap, subst, ◌∙◌, arith}
+use Rattle.std.proofs.Common.{◌≡◌, ◌⊎◌, inl, inr, ℕ, zero, suc, ◌<◌, ◌≤◌, ◌-ℤ◌, ◌+ℤ◌, ◌*ℤ◌, ℤ, pos, true, false, Option, Some, None, refl, sym, ap, subst, ◌∙◌, arith}
 use Rattle.std.specs.Prelude.{IsTrue, IsSomeAnd}
 use Rattle.std.proofs.lemmas.Int.{ints}
 use Rattle.std.proofs.lemmas.Bool.{cases_lt}
@@ -8,9 +8,8 @@ use Rattle.game_rules.specs.declared.men.Kind.{Kind}
 use Rattle.game_rules.specs.declared.men.Kind.TheVariants.{King, Queen, Rook, Bishop, Knight, Pawn}
 use Rattle.game_rules.specs.declared.men.Man.{Man}
 use Rattle.game_rules.specs.declared.men.Ray.{Ray}
-use Rattle.game_rules.specs.declared.men.Side.{Side}
 use Rattle.game_rules.specs.declared.men.Square.{Square}
-use Rattle.game_rules.specs.Game.{Position, Bears, Goes, GoesAs, Holds, IsAfter, IsApart, IsBetween, IsEmptySquare, IsLiveAnd, IsOpen, Legal, Sound, StandsOn, Step, after_steps, forward, man_at, other, square_of}
+use Rattle.game_rules.specs.Game.{Position, Bears, GoesAs, Holds, IsApart, IsBetween, IsEmptySquare, IsLiveAnd, IsOpen, StandsOn, Step, after_steps, forward, man_at, other, square_of}
 use Rattle.game_rules.specs.Rays.{IsAt, leap, ray_of, serves_captures, serves_moves}
 use Rattle.game_laws.specs.OnRay.{IsBorneAlong, IsOnOneRay, IsOnRay}
 use Rattle.game_laws.proofs.CheckLemmas.{any_is, one_square, some_and}
@@ -20,7 +19,6 @@ use Rattle.game_laws.proofs.MoveLemmas.{stands_or_not}
 use Rattle.game_laws.proofs.RayLemmas.{borne_bears, step_one, true_or_not}
 use Rattle.game_laws.proofs.SoundLemmas.{any_at, live_at, side_or_other}
 use Rattle.game_laws.proofs.TableLemmas.{ray_is}
-use Rattle.chess_game.specs.Fault.{StandsAt}
 use Rattle.chess_game.specs.Way.{IsFreeFrom, IsHitFrom, IsInside}
 use Rattle.chess_game.specs.declared.way.Frame.{Frame}
 use Rattle.rule_formula.proofs.PlacedLemmas.{all_men}

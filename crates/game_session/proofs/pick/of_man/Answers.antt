@@ -1,5 +1,4 @@
 use Rattle.std.proofs.Common.{◌≡◌, None, sym, ◌∙◌, arith}
-use Rattle.std.specs.Prelude.{IsSomeAnd}
 use Rattle.game_rules.specs.Rays.{ray_of}
 use Rattle.mask_sets.specs.Sets.{IsIn}
 use Rattle.game_session.proofs.Picks.{mover_at, ray_eight, ray_first, ray_more, ray_none}

@@ -1,6 +1,5 @@
-use Rattle.std.proofs.Common.{◌≡◌, Some, None, ap, sym, subst, ◌∙◌}
-use Rattle.std.specs.Prelude.{IsTrue, IsSomeAnd, option_copied}
-use Rattle.game_rules.specs.declared.men.Man.{Man}
+use Rattle.std.proofs.Common.{◌≡◌, Some, None, ap, sym, ◌∙◌}
+use Rattle.std.specs.Prelude.{IsTrue, option_copied}
 use Rattle.game_rules.specs.Rays.{serves_moves}
 use Rattle.rule_formula.specs.Fits.{mask_of}
 use Rattle.rule_formula.proofs.FitLemmas.{mask_one}
