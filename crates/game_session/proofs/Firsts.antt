@@ -1,0 +1,390 @@
+-- The first move along a ray that leads into the sets: the least hit of the search, or the capture behind all free distances.
+use Rattle.std.proofs.Common.{◌≡◌, ◌≢◌, ◌⊎◌, ◌↔◌, inl, inr, ℕ, zero, suc, ◌<◌, ◌≤◌, ◌+ℤ◌, ◌*ℤ◌, ℤ, pos, ◌+◌, length, to_z, of_z, Bor, Bool, true, false, List, Option, Some, None, refl, sym, ap, subst, ◌∙◌, arith}
+use Rattle.std.specs.Prelude.{IsTrue, IsSomeAnd, IfSome, IfNone, slice_set}
+use Rattle.std.specs.Int.{w8}
+use Rattle.std.proofs.lemmas.Option.{same_Some, slice_get_within}
+use Rattle.auto_core.specs.Automaton.{Automaton}
+use Rattle.auto_core.specs.Integers.{IsAccepted}
+use Rattle.auto_search.specs.Way.{IsSlope, IsWay, tuple_at, value_after, IsLeastFound as IsWayFound}
+use Rattle.auto_search.specs.declared.way.Way.{Way}
+use Rattle.game_rules.specs.declared.men.Man.{Man}
+use Rattle.game_rules.specs.declared.men.Place.TheVariants.{Gone}
+use Rattle.game_rules.specs.declared.men.Ray.{Ray}
+use Rattle.game_rules.specs.declared.men.Square.{Square}
+use Rattle.game_rules.specs.Game.{Position, Holds, IsAfter, IsEmptySquare, IsLiveAnd, Legal, Sound, StandsOn, Step, after_steps, man_at, other, square_of}
+use Rattle.game_rules.specs.Rays.{IsAt, ray_of, serves_moves}
+use Rattle.game_laws.specs.Answer.{distance}
+use Rattle.game_laws.specs.OnRay.{IsOnRay}
+use Rattle.game_laws.proofs.CheckLemmas.{any_is, one_square, some_and}
+use Rattle.game_laws.proofs.LineLemmas.{steps_distance}
+use Rattle.game_laws.proofs.MoveLemmas.{same_after}
+use Rattle.game_laws.proofs.RayLemmas.{true_or_not}
+use Rattle.game_laws.proofs.SoundLemmas.{at_same, fate, fate_kind, fate_side}
+use Rattle.game_laws.proofs.TableLemmas.{ray_is}
+use Rattle.chess_game.specs.Fault.{StandsAt}
+use Rattle.chess_game.specs.Way.{IsFree, IsFreeFrom, IsHit, IsHitFrom, IsInside}
+use Rattle.chess_game.specs.declared.moves.Move.{Move}
+use Rattle.chess_game.specs.declared.way.Frame.{Frame}
+use Rattle.rule_formula.specs.Fits.{HasStock, mask_of}
+use Rattle.rule_formula.specs.Placed.{tuple_of}
+use Rattle.rule_formula.proofs.PlacedLemmas.{all_men, stock_man-men}
+use Rattle.game_session.specs.Choice.{FirstOf, IsAlongRay, IsBefore, IsCapture, IsFirst, IsQuiet, Leads, target}
+use Rattle.game_session.specs.Aims.{AreNext, IsHitAlong, IsLeast, IsLeastFound, IsMet, IsMover, tuple_along}
+use Rattle.mask_sets.specs.Places.{coordinates_before}
+use Rattle.mask_sets.specs.Sets.{IsIn, Table, set_at}
+use Rattle.game_session.specs.declared.choice.Choice.{Choice}
+use Rattle.game_session.proofs.Hits.{going, hit_leads, leads_at, quiet_hit}
+use Rattle.game_session.proofs.Slopes.{ray_slopes, slope_same}
+use Rattle.game_session.proofs.Tuples.{live_room, mask_moved, stands_live}
+use Rattle.game_session.proofs.Ways.{capture_hit, empty_or_held, nobody_before, serves_quiet}
+
+-- of two moves along one ray the first is the nearer one
+pub nearer : (d c : Choice) → IsBefore d c → d.mv.man ≡ c.mv.man → d.ray ≡ c.ray → d.distance < c.distance
+nearer d c (inl less) man ray = absurd (omega (arith, less, man))
+nearer d c (inr (e, inl less)) man ray = absurd (omega (arith, less, ray))
+nearer d c (inr (e, inr h)) man ray = h.1
+
+-- what is said of a live man's square
+module _ (p : Position) (i n : ℕ) (r : Ray) (mover : IsMover p i n r) (P : Square → Type 0) where
+  pub of_square : IsSomeAnd (man_at p i) (λ m. IsLiveAnd m P) → P mover.square
+  of_square h =
+      let live : IsLiveAnd mover.man P = subst (λ (o : Option Man). IsSomeAnd o (λ m. IsLiveAnd m P)) mover.is_man h in
+      subst (λ (o : Option Square). IsSomeAnd o P) mover.stands live
+
+  pub on_square : P mover.square → IsSomeAnd (man_at p i) (λ m. IsLiveAnd m P)
+  on_square h =
+      subst (λ (o : Option Man). IsSomeAnd o (λ m. IsLiveAnd m P)) (sym mover.is_man)
+      (subst (λ (o : Option Square). IsSomeAnd o P) (sym mover.stands) h)
+
+stands_is : (p : Position) (h : ℕ) (z : Square) → StandsAt p h z → (m : Man) × (man_at p h ≡ Some m) × StandsOn m z
+stands_is p h z s = by (man_at p h) s
+  where
+    by : (o : Option Man) → IsSomeAnd o (λ m. StandsOn m z) → (m : Man) × (o ≡ Some m) × StandsOn m z
+    by None s = absurd s
+    by (Some m) s = (m, refl, s)
+
+module _ (p : Position) (table : Table) (next : AreNext p table) (f : Frame) (j n : ℕ) (r : Ray) (mover : IsMover p (suc j) n r) where
+  abbrev Quiet : Option Choice → Type 0
+  Quiet o = FirstOf (IsQuiet p (suc j) n) (IsIn table) f p o
+
+  abbrev Capture : Option Choice → Type 0
+  Capture o = FirstOf (IsCapture p (suc j) n) (IsIn table) f p o
+
+  -- without a set there is no quiet move into the sets
+  pub none_there : set_at table (mask_of p) ≡ None → Quiet None
+  none_there none d q (e, ray, empty) h =
+      let g = going p table next f j n r mover d q e ray h in
+      let mask : mask_of q ≡ mask_of p = mask_moved p q j (target d.mv) mover.square mover.man mover.is_man mover.stands g.2.after empty in
+      let no : set_at table (mask_of q) ≡ None = ap (set_at table) mask ∙ none in
+      subst (λ (o : Option Automaton). IsSomeAnd o (λ a. IsAccepted a (tuple_of q))) no h.is_in
+
+  -- nor on a ray that does not serve moves
+  pub none_served : serves_moves mover.man.kind n ≡ false → Quiet None
+  none_served never d q (e, ray, empty) h =
+      let g = going p table next f j n r mover d q e ray h in
+      let serves : serves_moves mover.man.kind n ≡ true = serves_quiet p (suc j) (target d.mv) q g.2 mover.man mover.is_man mover.square mover.stands n d.distance g.0 empty in
+      let no : false ≡ true = sym never ∙ serves in
+      cc
+
+  module _ (a : Automaton) (set_is : set_at table (mask_of p) ≡ Some a) (near far : ℕ) (free : (t : ℕ) → ((near ≤ t) × (t ≤ far)) ↔ IsFree p (suc j) r f t) where
+    -- a quiet move into the sets is hit
+    found : (d : Choice) (q : Position) → IsQuiet p (suc j) n d → Leads (IsIn table) f p d q → (near ≤ d.distance) × (d.distance ≤ far) × IsHitAlong a p (suc j) r d.distance
+    found d q has h =
+        let hit = quiet_hit p table next f j n r mover a d q set_is has h in
+        let within = (free d.distance).1 (on_square p (suc j) n r mover (λ b. IsFreeFrom p b r f d.distance) hit.0) in
+        (within.0, within.1, hit.1)
+
+    pub none_hit : ((t : ℕ) → near ≤ t → t ≤ far → IsHitAlong a p (suc j) r t → ⊥) → Quiet None
+    none_hit none d q has h = let w = found d q has h in none d.distance w.0 w.1 w.2
+
+    pub first_hit : (t : ℕ) (c : Choice) → IsLeast (IsHitAlong a p (suc j) r) near far t → c.mv.man ≡ suc j → c.ray ≡ n → c.distance ≡ t → IsSomeAnd (man_at p (suc j)) (λ m. IsLiveAnd m (λ b. target c.mv ≡ after_steps b t r.dx r.dy)) → IsTrue (serves_moves mover.man.kind n) → Quiet (Some c)
+    first_hit t c least man ray far_is leads serves =
+        let at_t : IsFreeFrom p mover.square r f t = of_square p (suc j) n r mover (λ b. IsFreeFrom p b r f t) ((free t).0 (least.from, least.to)) in
+        let w : IsFreeFrom p mover.square r f c.distance = subst (IsFreeFrom p mover.square r f) (sym far_is) at_t in
+        let lead : target c.mv ≡ after_steps mover.square t r.dx r.dy = of_square p (suc j) n r mover (λ b. target c.mv ≡ after_steps b t r.dx r.dy) leads in
+        let to : target c.mv ≡ w.to = lead ∙ (ap (λ k. after_steps mover.square k r.dx r.dy) (sym far_is) ∙ sym w.leads.leads) in
+        let hit : IsHitAlong a p (suc j) r c.distance = subst (IsHitAlong a p (suc j) r) (sym far_is) least.has in
+        let all = hit_leads p table next f j n r mover a c set_is man ray serves w to hit in
+        record {
+          has = all.0;
+          position = all.1.0;
+          leads = all.1.1;
+          first = λ d q has h before.
+              let v = found d q has h in
+              let close = nearer d c before (has.0 ∙ sym man) (has.1 ∙ sym ray) in
+              let t_least = least.least d.distance v.0 v.2 in
+              omega (arith, close, t_least, far_is);
+        }
+
+  -- a capture along the ray is one of the first man met
+  pub capture_met : Sound p → (d : Choice) (q : Position) → IsCapture p (suc j) n d → Leads (IsIn table) f p d q → (h : ℕ) × IsHit p (suc j) r f h
+  capture_met sound d q (e, ray, held) h =
+      let g = going p table next f j n r mover d q e ray h in
+      let w = any_is p _ held in
+      let hit = capture_hit p (suc j) (target d.mv) q g.2 mover.man mover.is_man mover.square mover.stands n d.distance g.0 f h.inside sound.apart w.0 w.1 w.2 w.3.1 in
+      (w.0, on_square p (suc j) n r mover (λ b. IsHitFrom p b r f w.0) (subst (λ k. IsHitFrom p mover.square k f w.0) g.1 hit))
+
+  pub none_met : Sound p → ((h : ℕ) → IsHit p (suc j) r f h → ⊥) → Capture None
+  none_met sound none d q has h = let w = capture_met sound d q has h in none w.0 w.1
+
+  module _ (sound : Sound p) (mv : Move) (man : mv.man ≡ suc j) (met : IsMet p (suc j) r f (target mv)) where
+    hit : IsHitFrom p mover.square r f met.number
+    hit = of_square p (suc j) n r mover (λ b. IsHitFrom p b r f met.number) met.hit
+
+    hit_to : hit.to ≡ target mv
+    hit_to =
+        let v = stands_is p met.number hit.to hit.hit in
+        let w = stands_is p met.number (target mv) met.there in
+        one_square w.0 (target mv) hit.to w.2 (subst (λ m. StandsOn m hit.to) (same_Some v.0 w.0 (sym v.1 ∙ w.1)) v.2)
+
+    hit_held : IsEmptySquare p hit.to → ⊥
+    hit_held none =
+        let v = stands_is p met.number hit.to hit.hit in
+        (all_men p (λ m. StandsOn m hit.to → ⊥)).0 none met.number v.0 v.1 v.2
+
+    -- each capture along the ray goes there
+    where_it_goes : (d : Choice) (q : Position) → IsCapture p (suc j) n d → Leads (IsIn table) f p d q → (d.distance ≡ hit.distance) × (target d.mv ≡ target mv)
+    where_it_goes d q (e, ray, held) h =
+        let g = going p table next f j n r mover d q e ray h in
+        let at : IsAt r d.distance mover.square (target d.mv) = leads_at p table next f j n r mover d q g in
+        let at_hit : IsAt g.0.ray hit.distance mover.square hit.to = subst (λ k. IsAt k hit.distance mover.square hit.to) (sym g.1) hit.leads in
+        let not_before : hit.distance < d.distance → ⊥ = λ less. hit_held (nobody_before p (suc j) (target d.mv) q g.2 mover.man mover.is_man mover.square mover.stands n d.distance g.0 hit.distance hit.to less at_hit) in
+        let w = any_is p _ held in
+        let not_after : d.distance < hit.distance → ⊥ = λ less. (all_men p (λ m. StandsOn m (target d.mv) → ⊥)).0 (hit.first d.distance (target d.mv) less at) w.0 w.1 w.2 w.3.1 in
+        let same : d.distance ≡ hit.distance = same_number d.distance hit.distance not_after not_before in
+        (same, at.leads ∙ (ap (λ k. after_steps mover.square k r.dx r.dy) same ∙ (sym hit.leads.leads ∙ hit_to)))
+      where
+        same_number : (a b : ℕ) → (a < b → ⊥) → (b < a → ⊥) → a ≡ b
+        same_number a b h k = elim (order a b) [ inl less ↦ absurd (h less) | inr (inl e) ↦ e | inr (inr more) ↦ absurd (k more) ]
+          where
+            order : (a b : ℕ) → (a < b) ⊎ ((a ≡ b) ⊎ (b < a))
+            order a b = grind arith
+
+    -- so it is this move, and leads to what it leads to
+    its_legal : (d : Choice) (q : Position) → IsCapture p (suc j) n d → Leads (IsIn table) f p d q → Legal p mv.man (target mv) q
+    its_legal d q has h =
+        subst (λ i. Legal p i (target mv) q) (has.0 ∙ sym man) (subst (λ z. Legal p d.mv.man z q) (where_it_goes d q has h).1 h.legal)
+
+    pub none_legal : ((q : Position) → Legal p mv.man (target mv) q → ⊥) → Capture None
+    none_legal none d q has h = none q (its_legal d q has h)
+
+    pub none_in : (q : Position) → Legal p mv.man (target mv) q → (IsIn table q → ⊥) → Capture None
+    none_in q legal out d q' has h =
+        let same : q' ≡ q = same_after p mv.man (target mv) q' q (its_legal d q' has h).step.after legal.step.after in
+        out (subst (IsIn table) same h.is_in)
+
+    -- the distance by the squares
+    steps_right : (t : ℕ) → (r.far ≡ true → t ≡ distance mover.square (target mv)) → (r.far ≡ false → t ≡ 1) → t ≡ hit.distance
+    steps_right t far near =
+        elim (true_or_not r.far) [
+          | inl is ↦ far is ∙ (ap (distance mover.square) (sym hit_to) ∙ steps_distance mover.square hit.to r.dx r.dy ((ray_is mover.man.side mover.man.kind n r mover.is_ray).direction is) hit.distance hit.leads.leads)
+          | inr is ↦ near is ∙ sym (hit.leads.one is)
+        ]
+
+    pub some_in : (q : Position) → Legal p mv.man (target mv) q → IsIn table q → (t : ℕ) → IsSomeAnd (man_at p (suc j)) (λ m. IsLiveAnd m (λ b. (r.far ≡ true → t ≡ distance b (target mv)) × (r.far ≡ false → t ≡ 1))) → Capture (Some (record { mv = mv; ray = n; distance = t }))
+    some_in q legal is_in t steps =
+        let by = of_square p (suc j) n r mover (λ b. (r.far ≡ true → t ≡ distance b (target mv)) × (r.far ≡ false → t ≡ 1)) steps in
+        let right : t ≡ hit.distance = steps_right t by.0 by.1 in
+        let at : IsAt r t mover.square (target mv) = subst (λ k. IsAt r k mover.square (target mv)) (sym right) (subst (IsAt r hit.distance mover.square) hit_to hit.leads) in
+        let his : Step p (suc j) (target mv) q = subst (λ i. Step p i (target mv) q) man legal.step in
+        let on : IsOnRay mover.man mover.square (target mv) n t = record { ray = r; is_ray = mover.is_ray; leads = at } in
+        record {
+          has = (man, refl, held (empty_or_held p (suc j) (target mv) q his mover.man mover.is_man mover.square mover.stands n t on));
+          position = q;
+          leads = record {
+            man = mover.man;
+            from = mover.square;
+            is_man = ap (man_at p) man ∙ mover.is_man;
+            stands = mover.stands;
+            on = on;
+            inside = subst (IsInside f) hit_to hit.inside;
+            legal = legal;
+            is_in = is_in;
+          };
+          first = λ d q' has h before.
+              let close = nearer d (record { mv = mv; ray = n; distance = t }) before (has.0 ∙ sym man) has.1 in
+              let same = (where_it_goes d q' has h).0 in
+              omega (arith, close, same, right);
+        }
+      where
+        held : IsEmptySquare p (target mv) ⊎ Holds p (other p.turn) (target mv) → Holds p (other p.turn) (target mv)
+        held (inl none) = absurd (hit_held (subst (IsEmptySquare p) (sym hit_to) none))
+        held (inr h) = h
+
+  -- the moves along the ray are the quiet ones and the captures
+  which : (d : Choice) (q : Position) → IsAlongRay (suc j) n d → Leads (IsIn table) f p d q → IsQuiet p (suc j) n d ⊎ IsCapture p (suc j) n d
+  which d q (e, ray) h =
+      let g = going p table next f j n r mover d q e ray h in
+      elim (empty_or_held p (suc j) (target d.mv) q g.2 mover.man mover.is_man mover.square mover.stands n d.distance g.0) [
+        | inl none ↦ inl (e, ray, none)
+        | inr held ↦ inr (e, ray, held)
+      ]
+
+  pub quiet_first : (c : Choice) → Quiet (Some c) → FirstOf (IsAlongRay (suc j) n) (IsIn table) f p (Some c)
+  quiet_first c h = record {
+    has = (h.has.0, h.has.1);
+    position = h.position;
+    leads = h.leads;
+    first = λ d q has into before. elim (which d q has into) [
+      | inl quiet ↦ h.first d q quiet into before
+      | inr taking ↦
+          let g = going p table next f j n r mover c h.position h.has.0 h.has.1 h.leads in
+          let k = going p table next f j n r mover d q has.0 has.1 into in
+          let at : IsAt g.0.ray d.distance mover.square (target d.mv) = subst (λ b. IsAt b d.distance mover.square (target d.mv)) (sym g.1) (leads_at p table next f j n r mover d q k) in
+          let close = nearer d c before (has.0 ∙ sym h.has.0) (has.1 ∙ sym h.has.1) in
+          let none = nobody_before p (suc j) (target c.mv) h.position g.2 mover.man mover.is_man mover.square mover.stands n c.distance g.0 d.distance (target d.mv) close at in
+          let w = any_is p _ taking.2 in
+          (all_men p (λ m. StandsOn m (target d.mv) → ⊥)).0 none w.0 w.1 w.2 w.3.1
+    ];
+  }
+
+  pub capture_first : Quiet None → (o : Option Choice) → Capture o → FirstOf (IsAlongRay (suc j) n) (IsIn table) f p o
+  capture_first none None h = λ d q has into. elim (which d q has into) [ inl quiet ↦ none d q quiet into | inr taking ↦ h d q taking into ]
+  capture_first none (Some c) h = record {
+    has = (h.has.0, h.has.1);
+    position = h.position;
+    leads = h.leads;
+    first = λ d q has into before. elim (which d q has into) [ inl quiet ↦ none d q quiet into | inr taking ↦ h.first d q taking into before ];
+  }
+
+-- the same for a man of any number: man 0 is none
+module _ (p : Position) (table : Table) (next : AreNext p table) (f : Frame) where
+  abbrev QuietOf : ℕ → ℕ → Option Choice → Type 0
+  QuietOf i n o = FirstOf (IsQuiet p i n) (IsIn table) f p o
+
+  abbrev CaptureOf : ℕ → ℕ → Option Choice → Type 0
+  CaptureOf i n o = FirstOf (IsCapture p i n) (IsIn table) f p o
+
+  abbrev AlongOf : ℕ → ℕ → Option Choice → Type 0
+  AlongOf i n o = FirstOf (IsAlongRay i n) (IsIn table) f p o
+
+  pub quiet_none_there : (i n : ℕ) (r : Ray) → IsMover p i n r → set_at table (mask_of p) ≡ None → QuietOf i n None
+  quiet_none_there zero n r mover none = absurd (cc)
+  quiet_none_there (suc j) n r mover none = none_there p table next f j n r mover none
+
+  pub quiet_none_served : (i n : ℕ) (r : Ray) (mover : IsMover p i n r) → serves_moves mover.man.kind n ≡ false → QuietOf i n None
+  quiet_none_served zero n r mover never = absurd (cc)
+  quiet_none_served (suc j) n r mover never = none_served p table next f j n r mover never
+
+  pub quiet_none_hit : (i n : ℕ) (r : Ray) → IsMover p i n r → (a : Automaton) → set_at table (mask_of p) ≡ Some a → (near far : ℕ) → ((t : ℕ) → ((near ≤ t) × (t ≤ far)) ↔ IsFree p i r f t) → ((t : ℕ) → near ≤ t → t ≤ far → IsHitAlong a p i r t → ⊥) → QuietOf i n None
+  quiet_none_hit zero n r mover a is near far free none = absurd (cc)
+  quiet_none_hit (suc j) n r mover a is near far free none = none_hit p table next f j n r mover a is near far free none
+
+  pub quiet_first_hit : (i n : ℕ) (r : Ray) (mover : IsMover p i n r) (a : Automaton) → set_at table (mask_of p) ≡ Some a → (near far : ℕ) → ((t : ℕ) → ((near ≤ t) × (t ≤ far)) ↔ IsFree p i r f t) → (t : ℕ) (c : Choice) → IsLeast (IsHitAlong a p i r) near far t → c.mv.man ≡ i → c.ray ≡ n → c.distance ≡ t → IsSomeAnd (man_at p i) (λ m. IsLiveAnd m (λ b. target c.mv ≡ after_steps b t r.dx r.dy)) → IsTrue (serves_moves mover.man.kind n) → QuietOf i n (Some c)
+  quiet_first_hit zero n r mover a is near far free t c least man ray far_is leads serves = absurd (cc)
+  quiet_first_hit (suc j) n r mover a is near far free t c least man ray far_is leads serves =
+      first_hit p table next f j n r mover a is near far free t c least man ray far_is leads serves
+
+  pub capture_none_met : (i n : ℕ) (r : Ray) → IsMover p i n r → Sound p → ((h : ℕ) → IsHit p i r f h → ⊥) → CaptureOf i n None
+  capture_none_met zero n r mover sound none = absurd (cc)
+  capture_none_met (suc j) n r mover sound none = none_met p table next f j n r mover sound none
+
+  pub capture_none_legal : (i n : ℕ) (r : Ray) → IsMover p i n r → Sound p → (mv : Move) → mv.man ≡ i → IsMet p i r f (target mv) → ((q : Position) → Legal p mv.man (target mv) q → ⊥) → CaptureOf i n None
+  capture_none_legal zero n r mover sound mv man met none = absurd (cc)
+  capture_none_legal (suc j) n r mover sound mv man met none = none_legal p table next f j n r mover sound mv man met none
+
+  pub capture_none_in : (i n : ℕ) (r : Ray) → IsMover p i n r → Sound p → (mv : Move) → mv.man ≡ i → IsMet p i r f (target mv) → (q : Position) → Legal p mv.man (target mv) q → (IsIn table q → ⊥) → CaptureOf i n None
+  capture_none_in zero n r mover sound mv man met q legal out = absurd (cc)
+  capture_none_in (suc j) n r mover sound mv man met q legal out = none_in p table next f j n r mover sound mv man met q legal out
+
+  pub capture_some_in : (i n : ℕ) (r : Ray) → IsMover p i n r → Sound p → (mv : Move) → mv.man ≡ i → IsMet p i r f (target mv) → (q : Position) → Legal p mv.man (target mv) q → IsIn table q → (t : ℕ) → IsSomeAnd (man_at p i) (λ m. IsLiveAnd m (λ b. (r.far ≡ true → t ≡ distance b (target mv)) × (r.far ≡ false → t ≡ 1))) → CaptureOf i n (Some (record { mv = mv; ray = n; distance = t }))
+  capture_some_in zero n r mover sound mv man met q legal is_in t steps = absurd (cc)
+  capture_some_in (suc j) n r mover sound mv man met q legal is_in t steps =
+      some_in p table next f j n r mover sound mv man met q legal is_in t steps
+
+  pub along_quiet : (i n : ℕ) (r : Ray) → IsMover p i n r → (c : Choice) → QuietOf i n (Some c) → AlongOf i n (Some c)
+  along_quiet zero n r mover c h = absurd (cc)
+  along_quiet (suc j) n r mover c h = quiet_first p table next f j n r mover c h
+
+  pub along_capture : (i n : ℕ) (r : Ray) → IsMover p i n r → QuietOf i n None → (o : Option Choice) → CaptureOf i n o → AlongOf i n o
+  along_capture zero n r mover none o h = absurd (cc)
+  along_capture (suc j) n r mover none o h = capture_first p table next f j n r mover none o h
+
+-- a position has the stock of its own men, and so has one after a step
+pub own_stock : (p : Position) → HasStock p.men p
+own_stock p = record {
+  count = refl;
+  men = λ k m n is_m is_n. let same : m ≡ n = same_Some m n (sym is_m ∙ (stock_man-men p k ∙ is_n)) in (ap (λ a. a.side) (sym same), ap (λ a. a.kind) (sym same));
+}
+
+pub step_stock : (stock : List Man) (p q : Position) (i : ℕ) (z : Square) → HasStock stock p → IsAfter p i z q → HasStock stock q
+step_stock stock p q i z has after = record {
+  count = after.same_count ∙ has.count;
+  men = λ k m n is_m is_n.
+      let w = at_same q p k n (sym after.same_count) is_n in
+      let same = has.men k m w.0 is_m w.1 in
+      let fated = fate p i z q after k w.0 n w.1 is_n in
+      (sym (fate_side fated) ∙ same.0, sym (fate_kind fated) ∙ same.1);
+}
+
+-- the way that is searched is that of the man along the ray
+pub record IsAlong (p : Position) (i : ℕ) (r : Ray) (way : Way) : Type 0 where
+  pub fixed : way.fixed.now ≡ tuple_of p
+  pub x_track : way.x_track ≡ coordinates_before p i
+  pub y_track : way.y_track ≡ coordinates_before p i + 1
+  pub dx : way.dx ≡ r.dx
+  pub dy : way.dy ≡ r.dy
+
+pub along_is : (p : Position) (i n : ℕ) (r : Ray) (fixed : Bor (List ℤ)) (place : ℕ) → IsMover p i n r → fixed.now ≡ tuple_of p → place ≡ coordinates_before p i → IsAlong p i r (record { fixed = fixed; x_track = place; y_track = place + 1; dx = to_z w8 (of_z w8 r.dx); dy = to_z w8 (of_z w8 r.dy) })
+along_is p i n r fixed place mover same at =
+    let short = ray_slopes mover.man.kind mover.man.side n r mover.is_ray in
+    record { fixed = same; x_track = at; y_track = ap (λ k. k + 1) at; dx = slope_same r.dx short.x; dy = slope_same r.dy short.y }
+
+-- it can be searched
+pub way_right : (p : Position) (i n : ℕ) (r : Ray) (way : Way) → IsMover p i n r → IsAlong p i r way → IsWay way
+way_right p i n r way mover along =
+    let short = ray_slopes mover.man.kind mover.man.side n r mover.is_ray in
+    let live : IsSomeAnd (man_at p i) (λ m. m.place ≢ Gone) = subst (λ (o : Option Man). IsSomeAnd o (λ m. m.place ≢ Gone)) (sym mover.is_man) (stands_live mover.man mover.square mover.stands) in
+    let room = live_room p i live in
+    let len = ap length along.fixed in
+    record {
+      x_track = omega (arith, room, len, along.x_track);
+      y_track = omega (arith, room, len, along.y_track);
+      apart = λ e. omega (arith, e, along.x_track, along.y_track);
+      dx = subst IsSlope (sym along.dx) short.x;
+      dy = subst IsSlope (sym along.dy) short.y;
+    }
+
+-- a list with two of its numbers gone so many steps
+abbrev Stepped : ℕ → List ℤ → ℕ → ℕ → ℤ → ℤ → List ℤ
+Stepped t xs x y dx dy = slice_set (slice_set xs x (value_after xs x dx t)) y (value_after xs y dy t)
+
+-- its tuples are those along the ray
+tuples_along : (p : Position) (i : ℕ) (r : Ray) (way : Way) → IsAlong p i r way → (t : ℕ) → tuple_at way t ≡ tuple_along p i r t
+tuples_along p i r way along t =
+    let x = coordinates_before p i in
+    ap (λ xs. Stepped t xs way.x_track way.y_track way.dx way.dy) along.fixed
+    ∙ (ap (λ k. Stepped t (tuple_of p) k way.y_track way.dx way.dy) along.x_track
+    ∙ (ap (λ k. Stepped t (tuple_of p) x k way.dx way.dy) along.y_track
+    ∙ (ap (λ d. Stepped t (tuple_of p) x (x + 1) d way.dy) along.dx ∙ ap (λ d. Stepped t (tuple_of p) x (x + 1) r.dx d) along.dy)))
+
+-- and what the search finds is what is found along the ray
+pub least_along : (a : Automaton) (p : Position) (i : ℕ) (r : Ray) (way : Way) (near far : ℕ) (found : Option ℕ) → IsAlong p i r way → IsWayFound a way near far found → IsLeastFound (IsHitAlong a p i r) near far found
+least_along a p i r way near far None along none =
+    λ t low high hit. none t low high (subst (IsAccepted a) (sym (tuples_along p i r way along t)) hit)
+least_along a p i r way near far (Some t) along is = record {
+  from = is.from;
+  to = is.to;
+  has = subst (IsAccepted a) (tuples_along p i r way along t) is.hit;
+  least = λ u low hit. is.least u low (subst (IsAccepted a) (sym (tuples_along p i r way along u)) hit);
+}
+
+-- a man who is met has a number
+pub met_number : (p : Position) (i : ℕ) (r : Ray) (f : Frame) (h : ℕ) → IsHit p i r f h → (m : Man) × (z : Square) × (man_at p h ≡ Some m) × StandsOn m z
+met_number p i r f h is = by (man_at p i) is
+  where
+    from : (o : Option Square) → IsSomeAnd o (λ a. IsHitFrom p a r f h) → (m : Man) × (z : Square) × (man_at p h ≡ Some m) × StandsOn m z
+    from None s = absurd s
+    from (Some a) s = let w = stands_is p h s.to s.hit in (w.0, s.to, w.1, w.2)
+
+    by : (o : Option Man) → IsSomeAnd o (λ m. IsLiveAnd m (λ a. IsHitFrom p a r f h)) → (m : Man) × (z : Square) × (man_at p h ≡ Some m) × StandsOn m z
+    by None s = absurd s
+    by (Some m) s = from (square_of m) s
+
+pub man_low : (p : Position) (h : ℕ) (m : Man) → man_at p h ≡ Some m → 1 ≤ h
+man_low p zero m is = absurd (cc)
+man_low p (suc h) m is = omega arith
+
+pub man_high : (p : Position) (h : ℕ) (m : Man) → man_at p h ≡ Some m → h ≤ length p.men
+man_high p zero m is = absurd (cc)
+man_high p (suc h) m is = let less = slice_get_within p.men h m is in omega (arith, less)

@@ -1,0 +1,42 @@
+use Rattle.std.proofs.Common.{◌≡◌, Some, None, ap, sym, subst, ◌∙◌}
+use Rattle.std.specs.Prelude.{IsTrue, IsSomeAnd, option_copied}
+use Rattle.game_rules.specs.declared.men.Man.{Man}
+use Rattle.game_rules.specs.Rays.{serves_moves}
+use Rattle.rule_formula.specs.Fits.{mask_of}
+use Rattle.rule_formula.proofs.FitLemmas.{mask_one}
+use Rattle.mask_sets.specs.Sets.{set_at}
+use Rattle.game_session.proofs.Firsts.{own_stock, quiet_first_hit, quiet_none_hit, quiet_none_there}
+use Rattle.game_session.proofs.ray_pick.quiet.Goals.{In-Some}
+use Rattle.game_session.proofs.ray_pick.quiet.Goals as goal
+
+-- the set of the position's own mask
+here : (c : In-Some) → set_at c.args.aim.now.sets.now (mask_of c.args.aim.now.position.now) ≡ Some c.in-Some.set.now
+here c =
+    let mask = mask_one c.args.aim.now.position.now c.mask.result c.mask.ensures in
+    ap (set_at c.args.aim.now.sets.now) (sym mask) ∙ sym c.get.ensures ∙ ap option_copied c.in-Some.is
+
+pub returns-in_default-clause-first : goal.returns-in_default-clause-first
+returns-in_default-clause-first c =
+    let mask = mask_one c.args.aim.now.position.now c.mask.result c.mask.ensures in
+    let none : set_at c.args.aim.now.sets.now (mask_of c.args.aim.now.position.now) ≡ None =
+    ap (set_at c.args.aim.now.sets.now) (sym mask) ∙ sym c.get.ensures ∙ ap option_copied c.in_default.is in
+    quiet_none_there c.args.aim.now.position.now c.args.aim.now.sets.now c.requires.aim.next c.args.aim.now.frame c.args.his.man c.args.his.number c.args.his.ray c.requires.mover none
+
+pub least_hit-requires-clause-decides : goal.least_hit-requires-clause-decides
+least_hit-requires-clause-decides c =
+    (c.requires.aim.next.askable c.args.aim.now.position.now (own_stock c.args.aim.now.position.now) c.in-Some.set.now (here (goal.at.least_hit-requires-clause-decides c).In-Some)).integers
+
+pub least_hit-requires-clause-count : goal.least_hit-requires-clause-count
+least_hit-requires-clause-count c =
+    (c.requires.aim.next.askable c.args.aim.now.position.now (own_stock c.args.aim.now.position.now) c.in-Some.set.now (here (goal.at.least_hit-requires-clause-count c).In-Some)).count
+
+pub returns-in-Some-least_hit-clause-first : goal.returns-in-Some-least_hit-clause-first
+returns-in-Some-least_hit-clause-first c =
+    let m = c.requires.mover in
+    let way = c.choice_along.ensures in
+    let serves : IsTrue (serves_moves m.man.kind c.args.his.number) = rw m.is_man at c.requires.serves in
+    quiet_first_hit c.args.aim.now.position.now c.args.aim.now.sets.now c.requires.aim.next c.args.aim.now.frame c.args.his.man c.args.his.number c.args.his.ray m c.in-Some.set.now (here (goal.at.returns-in-Some-least_hit-clause-first c).In-Some) c.args.way.near c.args.way.far c.requires.free c.in-Some-least_hit.distance c.choice_along.result c.in-Some-least_hit.ensures.least way.man way.ray way.distance way.leads serves
+
+pub returns-in-None-clause-first : goal.returns-in-None-clause-first
+returns-in-None-clause-first c =
+    quiet_none_hit c.args.aim.now.position.now c.args.aim.now.sets.now c.requires.aim.next c.args.aim.now.frame c.args.his.man c.args.his.number c.args.his.ray c.requires.mover c.in-Some.set.now (here (goal.at.returns-in-None-clause-first c).In-Some) c.args.way.near c.args.way.far c.requires.free c.in-None.ensures.least

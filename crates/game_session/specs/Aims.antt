@@ -1,0 +1,65 @@
+-- What is asked of a move, and what a man's ray makes of the coordinates.
+use Rattle.std.specs.Prelude.{◌≡◌, ℕ, ◌+◌, ◌≤◌, List, ℤ, slice_set, MatchOption, Option, Some}
+use Rattle.auto_core.specs.Automaton.{Automaton}
+use Rattle.auto_core.specs.Integers.{IsAccepted}
+use Rattle.auto_search.specs.Way.{value_after}
+use Rattle.chess_game.specs.Fault.{StandsAt}
+use Rattle.chess_game.specs.Way.{IsHit}
+use Rattle.chess_game.specs.declared.way.Frame.{Frame}
+use Rattle.game_rules.specs.Game.{InCheck, Position, Sound, StandsOn, Step, man_at}
+use Rattle.game_rules.specs.Rays.{ray_of}
+use Rattle.game_rules.specs.declared.men.Man.{Man}
+use Rattle.game_rules.specs.declared.men.Ray.{Ray}
+use Rattle.game_rules.specs.declared.men.Square.{Square}
+use Rattle.game_session.specs.declared.aim.Aim.{Aim}
+use Rattle.mask_sets.specs.Places.{coordinates_before}
+use Rattle.mask_sets.specs.Sets.{IsAskable, IsIn, Table}
+use Rattle.rule_formula.specs.Fits.{HasStock}
+use Rattle.rule_formula.specs.Placed.{tuple_of}
+
+-- any position of the men of p can be asked for, and the sets hold no position to which a step from p leads that leaves the mover's king attacked
+pub record AreNext (p : Position) (sets : Table) : Type 0 where
+  pub askable : (q : Position) → HasStock p.men q → IsAskable sets q
+  pub legal : (i : ℕ) (z : Square) (q : Position) → Step p i z q → IsIn sets q → InCheck q p.turn → ⊥
+
+-- the position is sound, and its moves may be asked to lead into the sets
+pub record IsAim (aim : Aim) : Type 0 where
+  pub sound : Sound aim.position.now
+  pub next : AreNext aim.position.now aim.sets.now
+
+-- man i is a live man of the side to move, and his ray number n is this one
+pub record IsMover (p : Position) (i n : ℕ) (r : Ray) : Type 0 where
+  pub man : Man
+  pub is_man : man_at p i ≡ Some man
+  pub turn : man.side ≡ p.turn
+  pub square : Square
+  pub stands : StandsOn man square
+  pub is_ray : ray_of man.kind man.side n ≡ Some r
+
+-- the first man whom man i meets on the ray, in the frame, stands on the square
+pub record IsMet (p : Position) (i : ℕ) (r : Ray) (f : Frame) (z : Square) : Type 0 where
+  pub number : ℕ
+  pub hit : IsHit p i r f number
+  pub there : StandsAt p number z
+
+-- the coordinates of the position where this man has gone so far along the ray
+abbrev pub tuple_along : Position → ℕ → Ray → ℕ → List ℤ
+tuple_along p man r t =
+    let x = coordinates_before p man in
+    let y = coordinates_before p man + 1 in
+    slice_set (slice_set (tuple_of p) x (value_after (tuple_of p) x r.dx t)) y (value_after (tuple_of p) y r.dy t)
+
+-- these coordinates are in the set
+abbrev pub IsHitAlong : Automaton → Position → ℕ → Ray → ℕ → Type 0
+IsHitAlong a p man r t = IsAccepted a (tuple_along p man r t)
+
+-- the least number from near to far with a property
+pub record IsLeast (P : ℕ → Type 0) (near far t : ℕ) : Type 0 where
+  pub from : near ≤ t
+  pub to : t ≤ far
+  pub has : P t
+  pub least : (u : ℕ) → near ≤ u → P u → t ≤ u
+
+-- that number, or that there is none
+abbrev pub IsLeastFound : (ℕ → Type 0) → ℕ → ℕ → Option ℕ → Type 0
+IsLeastFound P near far found = MatchOption found ((t : ℕ) → near ≤ t → t ≤ far → P t → ⊥) (IsLeast P near far)

@@ -1,0 +1,86 @@
+//! Moves with their rays.
+ghost use Rattle.std.specs.Prelude.{◌≡◌, ◌≤◌, ◌^◌, ◌+ℤ◌, ◌-ℤ◌, ◌*ℤ◌, pos, unsigned_abs, true, false, FitsSigned, IsSomeAnd};
+ghost use Rattle.std.specs.Int.{w64};
+ghost use Rattle.auto_search.specs.Way.{IsSlope};
+ghost use Rattle.game_rules.specs.Game.{IsLiveAnd, after_steps, man_at};
+ghost use Rattle.game_laws.specs.Answer.{distance as squares_apart};
+ghost use Rattle.chess_game.specs.Way.{IsFree};
+ghost use Rattle.game_session.specs.Choice.{target};
+ghost use Rattle.game_session.specs.Aims.{IsMover};
+
+use crate::aim::ManRay;
+use auto_search::value_along;
+use chess_game::{Frame, Move, Place, Position, Ray};
+
+/// A move, the number of the ray that it goes along, and how far it goes, in steps of the ray.
+#[derive(Clone, Copy, Debug, PartialEq, Eq)]
+pub struct Choice {
+    pub mv: Move,
+    pub ray: u8,
+    pub distance: u128,
+}
+
+/// A coordinate after so many steps.
+fn moved(value: i64, slope: i8, distance: u128) -> i64
+    requires slope { IsSlope slope }
+    requires distance { distance ≤ 2 ^ 64 }
+    requires fits { FitsSigned w64 (value +ℤ (pos distance *ℤ slope)) }
+    ensures { result ≡ value +ℤ (pos distance *ℤ slope) }
+{
+    value_along(value, slope, distance) as i64
+}
+
+/// The move of the man so far along the ray. It goes to a square of the frame, so that its coordinates fit.
+pub(crate) fn choice_along(p: &Position, frame: Frame, his: ManRay, distance: u128) -> Choice
+    requires mover { IsMover p.now his.man his.number his.ray }
+    requires distance { distance ≤ 2 ^ 64 }
+    requires free { IsFree p.now his.man his.ray frame distance }
+    ensures man { result.mv.man ≡ his.man }
+    ensures ray { result.ray ≡ his.number }
+    ensures distance { result.distance ≡ distance }
+    ensures leads { IsSomeAnd (man_at p.now his.man) (λ m. IsLiveAnd m (λ a. target result.mv ≡ after_steps a distance his.ray.dx his.ray.dy)) }
+{
+    let _ = frame;
+    match p.man(his.man).place {
+        Place::At { x, y } => Choice {
+            mv: Move {
+                man: his.man,
+                x: moved(x, his.ray.dx, distance),
+                y: moved(y, his.ray.dy, distance),
+            },
+            ray: his.number,
+            distance,
+        },
+        Place::Gone => unreachable!(),
+    }
+}
+
+/// How far two numbers are apart.
+fn apart(from: i64, to: i64) -> u128
+    ensures { result ≡ unsigned_abs (to -ℤ from) }
+{
+    (to as i128 - from as i128).unsigned_abs()
+}
+
+/// How many steps of a ray lead from one square to another on it.
+fn steps_between(ray: Ray, x: i64, y: i64, to_x: i64, to_y: i64) -> u128
+    ensures far { ray.far ≡ true → result ≡ squares_apart (record { x = x; y = y }) (record { x = to_x; y = to_y }) }
+    ensures near { ray.far ≡ false → result ≡ 1 }
+{
+    if ray.far {
+        apart(x, to_x).max(apart(y, to_y))
+    } else {
+        1
+    }
+}
+
+/// How many steps of the ray the move goes, which leads along it.
+pub(crate) fn steps_of(p: &Position, his: ManRay, mv: Move) -> u128
+    requires mover { IsMover p.now his.man his.number his.ray }
+    ensures { IsSomeAnd (man_at p.now his.man) (λ m. IsLiveAnd m (λ a. (his.ray.far ≡ true → result ≡ squares_apart a (target mv)) × (his.ray.far ≡ false → result ≡ 1))) }
+{
+    match p.man(his.man).place {
+        Place::At { x, y } => steps_between(his.ray, x, y, mv.x, mv.y),
+        Place::Gone => unreachable!(),
+    }
+}

@@ -1,0 +1,99 @@
+//! The first move that leads into sets of positions.
+ghost use Rattle.std.specs.Prelude.{◌≡◌, ◌≢◌, ◌≤◌, IsSomeAnd, length, true, false};
+ghost use Rattle.game_rules.specs.Game.{Sound, man_at};
+ghost use Rattle.mask_sets.specs.Sets.{HaveAtMost, IsIn};
+ghost use Rattle.game_session.specs.Aims.{AreNext, IsAim};
+ghost use Rattle.game_session.specs.Choice.{FirstOf, IsOf, Pick};
+
+use crate::aim::{Aim, ManRay};
+use crate::choice::Choice;
+use crate::ray_pick::along_ray;
+use auto_search::Search;
+use chess_game::{Frame, Man, Place, Position, Side, ray};
+use mask_sets::MaskSets;
+
+/// Of the moves of a live man of the side to move, the first that leads into the sets.
+fn of_man(search: &mut Search, aim: &Aim, man: u8) -> Option<Choice>
+    requires aim { IsAim aim.now }
+    requires few { HaveAtMost search.old aim.now.sets.now }
+    requires mover { IsSomeAnd (man_at aim.now.position.now man) (λ m. (m.side ≡ aim.now.position.now.turn) × (m.place ≢ Place.Gone)) }
+    ensures first { FirstOf (IsOf man) (IsIn aim.now.sets.now) aim.now.frame aim.now.position.now result }
+    ensures kept { search.new ≡ search.old }
+{
+    let him = aim.position.man(man);
+    for number in 0..8 {
+        let Some(way) = ray(him.kind, him.side, number) else {
+            return None;
+        };
+        let his = ManRay {
+            man,
+            number,
+            ray: way,
+        };
+        if let Some(choice) = along_ray(search, aim, his) {
+            return Some(choice);
+        }
+    }
+    None
+}
+
+/// Whether the man is live and of the side.
+fn is_live_of(man: Man, side: Side) -> bool
+    ensures yes { result ≡ true → (man.side ≡ side) × (man.place ≢ Place.Gone) }
+    ensures no { result ≡ false → (man.side ≡ side) × (man.place ≢ Place.Gone) → ⊥ }
+{
+    man.side == side && man.place != Place::Gone
+}
+
+/// The same for any man: one who is captured or of the other side has no move.
+fn of_any(search: &mut Search, aim: &Aim, man: u8) -> Option<Choice>
+    requires aim { IsAim aim.now }
+    requires few { HaveAtMost search.old aim.now.sets.now }
+    requires first { 1 ≤ man }
+    requires last { man ≤ length aim.now.position.now.men }
+    ensures first { FirstOf (IsOf man) (IsIn aim.now.sets.now) aim.now.frame aim.now.position.now result }
+    ensures kept { search.new ≡ search.old }
+{
+    let him = aim.position.man(man);
+    if !is_live_of(him, aim.position.turn()) {
+        return None;
+    }
+    of_man(search, aim, man)
+}
+
+/// The first move of any man.
+fn of_all(search: &mut Search, aim: &Aim) -> Option<Choice>
+    requires aim { IsAim aim.now }
+    requires few { HaveAtMost search.old aim.now.sets.now }
+    ensures pick { Pick (IsIn aim.now.sets.now) aim.now.frame aim.now.position.now result }
+    ensures kept { search.new ≡ search.old }
+{
+    for man in 1..aim.position.count() + 1 {
+        if let Some(choice) = of_any(search, aim, man) {
+            return Some(choice);
+        }
+    }
+    None
+}
+
+/// The first legal move, by man, ray and distance, whose target lies in the frame and that leads into the sets, captures included. It takes no
+/// memory: the search has room for each of the sets.
+pub fn first_move(
+    search: &mut Search,
+    sets: &MaskSets,
+    p: &Position,
+    frame: Frame,
+) -> Option<Choice>
+    requires sound { Sound p.now }
+    requires next { AreNext p.now sets.now }
+    requires few { HaveAtMost search.old sets.now }
+    ensures pick { Pick (IsIn sets.now) frame p.now result }
+    ensures kept { search.new ≡ search.old }
+{
+    let aim = Aim {
+        position: p,
+        frame,
+        sets,
+    };
+    of_all(search, &aim)
+}

@@ -1,0 +1,341 @@
+-- What a session keeps, move by move.
+use Rattle.std.proofs.Common.{◌≡◌, ◌↔◌, ◌⊎◌, inl, inr, ℕ, zero, suc, ◌+◌, ◌-◌, ◌*◌, ◌/◌, ◌%◌, ◌<◌, ◌≤◌, ◌==◌, if◌then◌else◌, List, [], ◌∷◌, length, get_or, Option, Some, None, refl, sym, ap, subst, ◌∙◌, arith}
+use Rattle.std.specs.Prelude.{IsSomeAnd, option_and_then, slice_get}
+use Rattle.std.proofs.lemmas.Option.{same_Some}
+use Rattle.auto_core.specs.Automaton.{Automaton}
+use Rattle.auto_core.specs.Integers.{IsAccepted}
+use Rattle.game_rules.specs.declared.men.Side.{Side}
+use Rattle.game_rules.specs.declared.men.Side.TheVariants.{White, Black}
+use Rattle.game_rules.specs.declared.men.Square.{Square}
+use Rattle.game_rules.specs.Game.{Position, InCheck, Legal, Lost, Mate, Sound, Step, Value, Win, other}
+use Rattle.game_laws.proofs.MoveLemmas.{same_after}
+use Rattle.game_laws.proofs.SoundLemmas.{at_same, other_other}
+use Rattle.chess_game.specs.declared.moves.Move.{Move}
+use Rattle.chess_game.specs.declared.way.Frame.{Frame}
+use Rattle.rule_formula.specs.Fits.{HasStock, mask_of, masks_of}
+use Rattle.rule_formula.specs.Placed.{tuple_of}
+use Rattle.mate_plan.specs.Plan.{turn_at}
+use Rattle.mate_plan.specs.PlanOf.{last_ply}
+use Rattle.winning_sets.specs.Kept.{Kept, moves_left}
+use Rattle.winning_sets.specs.Reach.{Reach}
+use Rattle.winning_sets.specs.Solve.{IsKeptIn, IsSolution, Solution, end_of, kept_at}
+use Rattle.winning_sets.proofs.Answered.{start_kept}
+use Rattle.winning_sets.proofs.KeptParts.{reached_sound, turn-reach, value_lost, value_win}
+use Rattle.winning_sets.proofs.MeaningLaws.{keeps_kept}
+use Rattle.winning_sets.proofs.Places.{sets_at-ply}
+use Rattle.winning_sets.proofs.Tuples.{tuple_count, turn_by}
+use Rattle.game_session.specs.Choice.{IsFirst, Leads, Pick, target}
+use Rattle.game_session.specs.Aims.{AreNext}
+use Rattle.mask_sets.specs.Sets.{HaveAtMost, IsIn, Table, set_at}
+use Rattle.game_session.specs.declared.choice.Choice.{Choice}
+use Rattle.game_session.proofs.Firsts.{own_stock, step_stock}
+use Rattle.rule_formula.proofs.PlacedLemmas.{stock_man-men}
+use Rattle.game_rules.specs.declared.men.Man.{Man}
+use Rattle.white_player.specs.Game.{Game, Goes, HasRoom, IsGame, IsKeptAt, IsLostAfter, IsPicked, LostIn, Plays, WinPick, WinnerGoes, made, made_in, moved_to, one_if_same, start_of}
+
+-- the kept sets of a ply, as they are lent
+abbrev pub table_of : Solution → ℕ → Table
+table_of s ply = record { masks = masks_of s.position; sets = get_or s.kept ply [] }
+
+kept_set : (s : Solution) (ply mask : ℕ) → set_at (table_of s ply) mask ≡ kept_at s ply mask
+kept_set s ply mask = sets_at-ply (masks_of s.position) s.kept ply mask
+
+pub table_is : (s : Solution) (ply next : ℕ) (masks : List ℕ) (sets : List Automaton) (t : Table) → next ≡ suc ply → masks ≡ masks_of s.position → sets ≡ get_or s.kept next [] → t ≡ record { masks = masks; sets = sets } → t ≡ table_of s (suc ply)
+table_is s ply next masks sets t is_next masks_are sets_are is =
+    let Of : List ℕ → List Automaton → Table = λ ms xs. record { masks = ms; sets = xs } in
+    is ∙ (ap (λ ms. Of ms sets) masks_are ∙ (ap (Of (masks_of s.position)) sets_are ∙ ap (λ k. Of (masks_of s.position) (get_or s.kept k [])) is_next))
+
+reach_stock : (p : Position) (ply : ℕ) (q : Position) → Reach p ply q → HasStock p.men q
+reach_stock p zero q is = subst (HasStock p.men) (sym is) (own_stock p)
+reach_stock p (suc ply) q (before, reached, (i, z, legal)) = step_stock p.men before q i z (reach_stock p ply before reached) legal.step.after
+
+-- the stock of a position of the stock is the stock
+stock_trans : (stock : List Man) (p q : Position) → HasStock stock p → HasStock p.men q → HasStock stock q
+stock_trans stock p q one two = record {
+  count = two.count ∙ one.count;
+  men = λ k m n is_m is_n.
+      let w = at_same q p k n (sym two.count) is_n in
+      let a = one.men k m w.0 is_m w.1 in
+      let b = two.men k w.0 n (stock_man-men p k ∙ w.1) is_n in
+      (b.0 ∙ a.0, b.1 ∙ a.1);
+}
+
+module _ (s : Solution) (valid : IsSolution s) where
+  pub kept_sound : (ply : ℕ) (q : Position) → IsKeptAt s ply q → Sound q
+  kept_sound ply q kept = reached_sound s.position valid.sound ply q kept.reached
+
+  pub kept_turn : (ply : ℕ) (q : Position) → IsKeptAt s ply q → q.turn ≡ turn_at s.position.turn ply
+  kept_turn ply q kept = turn-reach s.position q ply kept.reached
+
+  module _ (ply : ℕ) (p : Position) (kept : IsKeptAt s ply p) where
+    abbrev Next : Position → Type 0
+    Next q = IsIn (table_of s (suc ply)) q
+
+    -- a step into the sets of the next ply
+    step_in : (i : ℕ) (z : Square) (q : Position) → Step p i z q → Next q → IsKeptIn s (suc ply) q
+    step_in i z q step is = record {
+      stock = step_stock s.position.men p q i z (reach_stock s.position ply p kept.reached) step.after;
+      turn = step.after.turn ∙ ap other (kept_turn ply p kept);
+      is_in = subst (λ (o : Option Automaton). IsSomeAnd o (λ a. IsAccepted a (tuple_of q))) (kept_set s (suc ply) (mask_of q)) is;
+    }
+
+    pub next_kept : (i : ℕ) (z : Square) (q : Position) → Step p i z q → Next q → IsKeptAt s (suc ply) q
+    next_kept i z q step is = ((keeps_kept s (suc ply) q valid.sound valid.few valid.kept).0 (step_in i z q step is)).1
+
+    pub kept_next : (q : Position) → suc ply ≤ end_of s → IsKeptAt s (suc ply) q → Next q
+    kept_next q within is =
+        let h = (keeps_kept s (suc ply) q valid.sound valid.few valid.kept).1 (within, is) in
+        subst (λ (o : Option Automaton). IsSomeAnd o (λ a. IsAccepted a (tuple_of q))) (sym (kept_set s (suc ply) (mask_of q))) h.is_in
+
+    pub are_next : AreNext p (table_of s (suc ply))
+    are_next = record {
+      askable = λ q stock a is.
+          let at : kept_at s (suc ply) (mask_of q) ≡ Some a = sym (kept_set s (suc ply) (mask_of q)) ∙ is in
+          let formed = valid.kept.formed (suc ply) (mask_of q) a at in
+          let whole = stock_trans s.position.men p q (reach_stock s.position ply p kept.reached) stock in
+          record { integers = formed.integers; count = tuple_count s.position.men q whole ∙ sym (ap length formed.tracks) };
+      legal = λ i z q step is check.
+          let sound = kept_sound (suc ply) q (next_kept i z q step is) in
+          let mover : other q.turn ≡ p.turn = ap other step.after.turn ∙ other_other p.turn in
+          sound.other_safe (subst (InCheck q) (sym mover) check);
+    }
+
+    -- the first move into the sets is the first into what is kept
+    pub pick_kept : suc ply ≤ end_of s → (f : Frame) (o : Option Choice) → Pick Next f p o → Pick (IsKeptAt s (suc ply)) f p o
+    pick_kept within f None none = λ i z q legal inside is. none i z q legal inside (kept_next q within is)
+    pick_kept within f (Some c) h = record {
+      has = tt;
+      position = h.position;
+      leads = record {
+        man = h.leads.man;
+        from = h.leads.from;
+        is_man = h.leads.is_man;
+        stands = h.leads.stands;
+        on = h.leads.on;
+        inside = h.leads.inside;
+        legal = h.leads.legal;
+        is_in = next_kept c.mv.man (target c.mv) h.position h.leads.legal.step h.leads.is_in;
+      };
+      first = λ d q has into before. h.first d q tt (record {
+        man = into.man;
+        from = into.from;
+        is_man = into.is_man;
+        stands = into.stands;
+        on = into.on;
+        inside = into.inside;
+        legal = into.legal;
+        is_in = kept_next q within into.is_in;
+      }) before;
+    }
+
+-- how many moves are made and left
+made_same : (w : Side) (ply : ℕ) → made w w ply ≡ (ply + 1) / 2
+made_same w zero = refl
+made_same w (suc ply) =
+    let so_far = made_same w ply in
+    elim (turn_by w ply) [
+      | inl (even, is) ↦ let one : one_if_same w (turn_at w ply) ≡ 1 = ap (one_if_same w) is ∙ self w in omega (arith, so_far, even, one)
+      | inr (odd, is) ↦ let none : one_if_same w (turn_at w ply) ≡ 0 = ap (one_if_same w) is ∙ not_self w in omega (arith, so_far, odd, none)
+    ]
+  where
+    self : (w : Side) → one_if_same w w ≡ 1
+    self White = refl
+    self Black = refl
+
+    not_self : (w : Side) → one_if_same w (other w) ≡ 0
+    not_self White = refl
+    not_self Black = refl
+
+made_after : (w : Side) (ply : ℕ) → made w (other w) ply ≡ ply / 2
+made_after w zero = refl
+made_after w (suc ply) =
+    let so_far = made_after w ply in
+    elim (turn_by (other w) ply) [
+      | inl (even, is) ↦ let none : one_if_same w (turn_at (other w) ply) ≡ 0 = ap (one_if_same w) is ∙ not_self w in omega (arith, so_far, even, none)
+      | inr (odd, is) ↦ let one : one_if_same w (turn_at (other w) ply) ≡ 1 = ap (one_if_same w) (is ∙ other_other w) ∙ self w in omega (arith, so_far, odd, one)
+    ]
+  where
+    self : (w : Side) → one_if_same w w ≡ 1
+    self White = refl
+    self Black = refl
+
+    not_self : (w : Side) → one_if_same w (other w) ≡ 0
+    not_self White = refl
+    not_self Black = refl
+
+pub left_made : (winner first : Side) (moves ply : ℕ) → ply ≤ last_ply winner first moves → moves_left (last_ply winner first moves) ply + made winner first ply ≡ moves
+left_made White White moves ply low = let m = made_same White ply in omega (arith, low, m)
+left_made Black Black moves ply low = let m = made_same Black ply in omega (arith, low, m)
+left_made White Black moves ply low = let m = made_after White ply in omega (arith, low, m)
+left_made Black White moves ply low = let m = made_after Black ply in omega (arith, low, m)
+
+not_other : (s : Side) → s ≡ other s → ⊥
+not_other White e = cc
+not_other Black e = cc
+
+-- at a ply of the loser another follows, with as many moves left
+loser_ply : (winner first : Side) (moves ply : ℕ) → ply ≤ last_ply winner first moves → turn_at first ply ≡ other winner → (suc ply ≤ last_ply winner first moves) × (moves_left (last_ply winner first moves) (suc ply) ≡ moves_left (last_ply winner first moves) ply)
+loser_ply White White moves ply low is = elim (turn_by White ply) [
+  | inl (even, at) ↦ absurd (let no : White ≡ Black = sym at ∙ is in cc)
+  | inr (odd, at) ↦ (omega (arith, low, odd), omega (arith, low, odd))
+]
+loser_ply Black Black moves ply low is = elim (turn_by Black ply) [
+  | inl (even, at) ↦ absurd (let no : Black ≡ White = sym at ∙ is in cc)
+  | inr (odd, at) ↦ (omega (arith, low, odd), omega (arith, low, odd))
+]
+loser_ply White Black moves ply low is = elim (turn_by Black ply) [
+  | inl (even, at) ↦ (omega (arith, low, even), omega (arith, low, even))
+  | inr (odd, at) ↦ absurd (let no : White ≡ Black = sym at ∙ is in cc)
+]
+loser_ply Black White moves ply low is = elim (turn_by White ply) [
+  | inl (even, at) ↦ (omega (arith, low, even), omega (arith, low, even))
+  | inr (odd, at) ↦ absurd (let no : Black ≡ White = sym at ∙ is in cc)
+]
+
+module _ (g : Game) (valid : IsSolution g.solution) (game : IsGame g) where
+  abbrev winner : Side
+  winner = g.solution.winner
+
+  abbrev left : ℕ
+  left = moves_left (end_of g.solution) g.ply
+
+  left_is : left + made_in g ≡ g.solution.moves
+  left_is = left_made g.solution.winner g.solution.position.turn g.solution.moves g.ply game.ply
+
+  -- with the loser to move he is mated within the moves that are left
+  pub lost_in : g.position.turn ≡ other winner → LostIn g
+  lost_in turn = record { left = left; count = left_is; lost = value_lost winner left g.position turn game.kept.value }
+
+  -- each reply leaves the winner mating in time
+  pub kept_reply : g.position.turn ≡ other winner → (i : ℕ) (z : Square) (q : Position) → Legal g.position i z q → IsGame (moved_to g q)
+  kept_reply turn i z q legal =
+      let at : turn_at g.solution.position.turn g.ply ≡ other winner = sym (kept_turn g.solution valid g.ply g.position game.kept) ∙ turn in
+      let next = loser_ply winner g.solution.position.turn g.solution.moves g.ply game.ply at in
+      let lost : Lost winner left g.position = value_lost winner left g.position turn game.kept.value in
+      let win : Win winner left q = elim (lost.1) [ inl mate ↦ absurd (mate.stuck i z q legal) | inr moves ↦ moves.1 i z q legal ] in
+      record {
+        valid = valid;
+        kept = record { reached = (g.position, game.kept.reached, (i, z, legal)); value = inl (subst (λ k. Win winner k q) (sym next.1) win) };
+        ply = next.0;
+      }
+
+  -- a move of the winner is left where he is to move
+  pub winner_ply : g.position.turn ≡ winner → suc g.ply ≤ end_of g.solution
+  winner_ply turn = by left refl (value_win winner left g.position turn game.kept.value)
+    where
+      by : (n : ℕ) → left ≡ n → Win winner n g.position → suc g.ply ≤ end_of g.solution
+      by zero e win = absurd win
+      by (suc n) e win = omega (arith, e)
+
+  pub loser_ply_next : g.position.turn ≡ other winner → suc g.ply ≤ end_of g.solution
+  loser_ply_next turn =
+      (loser_ply winner g.solution.position.turn g.solution.moves g.ply game.ply (sym (kept_turn g.solution valid g.ply g.position game.kept) ∙ turn)).0
+
+  -- and his pick keeps the game
+  pub kept_pick : g.position.turn ≡ winner → (c : Choice) (q : Position) → WinPick g (Some c) → Legal g.position c.mv.man (target c.mv) q → IsGame (moved_to g q)
+  kept_pick turn c q pick legal =
+      let same : pick.position ≡ q = same_after g.position c.mv.man (target c.mv) pick.position q pick.leads.legal.step.after legal.step.after in
+      record { valid = valid; kept = subst (IsKeptAt g.solution (suc g.ply)) same pick.leads.is_in; ply = winner_ply turn }
+
+pub picked_game : (g after : Game) (c : Choice) → IsSolution g.solution → IsGame g → g.position.turn ≡ g.solution.winner → IsPicked g c after → IsGame after × (after.solution ≡ g.solution) × (after.position.turn ≡ other g.solution.winner) × (made_in after ≡ made_in g + 1)
+picked_game g after c valid game turn picked =
+    let kept = kept_pick g valid game turn c after.position picked.pick picked.legal in
+    let one : one_if_same g.solution.winner (turn_at g.solution.position.turn g.ply) ≡ 1 =
+    ap (one_if_same g.solution.winner) (sym (kept_turn g.solution valid g.ply g.position game.kept) ∙ turn) ∙ self g.solution.winner in (
+      subst IsGame (sym picked.is_after) kept,
+      ap (λ h. h.solution) picked.is_after,
+      picked.legal.step.after.turn ∙ ap other turn,
+      ap made_in picked.is_after ∙ ap (λ k. made_in g + k) one,
+    )
+  where
+    self : (w : Side) → one_if_same w w ≡ 1
+    self White = refl
+    self Black = refl
+
+one_not : (w s : Side) → s ≡ other w → one_if_same w s ≡ 0
+one_not White s e = ap (one_if_same White) e
+one_not Black s e = ap (one_if_same Black) e
+
+none_get : (games : List Game) (k : ℕ) (after : Game) → games ≡ [] → slice_get games k ≡ Some after → ⊥
+none_get [] k after e is = cc
+none_get (x ∷ xs) k after e is = cc
+
+abbrev EachLost : Game → List Game → Type 0
+EachLost g games = (k : ℕ) (after : Game) → slice_get games k ≡ Some after → IsLostAfter g (suc k) after
+
+-- where each game after the loser's replies is lost, so is each one after the winner's move
+winner_lost : (g : Game) (typed : List Move) (games : List Game) → IsGame g → g.position.turn ≡ g.solution.winner → WinnerGoes (λ after later. Goes after typed later) g games
+    → ((next : Game) (later : List Game) → IsGame next → next.position.turn ≡ other next.solution.winner → Goes next typed later → EachLost next later) → EachLost g games
+winner_lost g typed games game turn (inl (none, ended)) go k after is = absurd (none_get games k after ended is)
+winner_lost g typed games game turn (inr (choice, next, later, picked, is_games, goes)) go k after is =
+    let to = picked_game g next choice game.valid game turn picked in
+    let next_turn : next.position.turn ≡ other next.solution.winner = to.2 ∙ ap (λ s. other s.winner) (sym to.1) in
+    let first : IsLostAfter g 1 next = record { same = to.1; made = to.3; lost = lost_in next to.0.valid to.0 next_turn } in
+    by k (ap (λ l. slice_get l k) (sym is_games) ∙ is) first (go next later to.0 next_turn goes)
+  where
+    by : (k : ℕ) → slice_get (next ∷ later) k ≡ Some after → IsLostAfter g 1 next → EachLost next later → IsLostAfter g (suc k) after
+    by zero is first rest = subst (IsLostAfter g 1) (same_Some next after is) first
+    by (suc k) is first rest =
+        let later_one = rest k after is in
+        record { same = later_one.same ∙ first.same; made = (let a = later_one.made in let b = first.made in omega (arith, a, b)); lost = later_one.lost }
+
+goes_lost : (g : Game) (typed : List Move) (games : List Game) → IsGame g → g.position.turn ≡ other g.solution.winner → Goes g typed games → EachLost g games
+goes_lost g [] games game turn goes k after is = absurd (none_get games k after goes is)
+goes_lost g (mv ∷ typed) games game turn (inl (refused, goes)) k after is = goes_lost g typed games game turn goes k after is
+goes_lost g (mv ∷ typed) games game turn (inr (q, legal, goes)) k after is =
+    let reply : IsGame (moved_to g q) = kept_reply g game.valid game turn mv.man (target mv) q legal in
+    let his : q.turn ≡ g.solution.winner = legal.step.after.turn ∙ (ap other turn ∙ other_other g.solution.winner) in
+    let none : one_if_same g.solution.winner (turn_at g.solution.position.turn g.ply) ≡ 0 = one_not g.solution.winner (turn_at g.solution.position.turn g.ply) (sym (kept_turn g.solution game.valid g.ply g.position game.kept) ∙ turn) in
+    let all = winner_lost (moved_to g q) typed games reply his goes (λ next later kept turns on i at there. goes_lost next typed later kept turns on i at there) k after is in
+    record { same = all.same; made = (let count = all.made in omega (arith, count, none)); lost = all.lost }
+
+pub all_lost : (g : Game) (typed : List Move) (games : List Game) → IsGame g → Plays g typed games → EachLost g games
+all_lost g typed games game (inl (turn, goes)) k after is = goes_lost g typed games game turn goes k after is
+all_lost g typed games game (inr (turn, goes)) k after is =
+    winner_lost g typed games game turn goes (λ next later kept turns on i at there. goes_lost next typed later kept turns on i at there) k after is
+
+-- a game has few plies
+pub end_few : (s : Solution) → IsSolution s → end_of s ≤ 41
+end_few s valid = by s.winner s.position.turn s.moves valid.moves
+  where
+    by : (w t : Side) (n : ℕ) → n ≤ 20 → last_ply w t n ≤ 41
+    by White White n h = omega (arith, h)
+    by Black Black n h = omega (arith, h)
+    by White Black n h = omega (arith, h)
+    by Black White n h = omega (arith, h)
+
+-- the sets of the next ply, as they are lent
+module _ (g : Game) (game : IsGame g) (t : Table) (is : t ≡ table_of g.solution (suc g.ply)) where
+  pub lent_next : AreNext g.position t
+  lent_next = subst (AreNext g.position) (sym is) (are_next g.solution game.valid g.ply g.position game.kept)
+
+  pub lent_few : (states : ℕ) → HasRoom states g.solution → HaveAtMost states t
+  lent_few states room = subst (HaveAtMost states) (sym is) (λ mask a at. room (suc g.ply) mask a (sym (kept_set g.solution (suc g.ply) mask) ∙ at))
+
+  pub lent_pick : suc g.ply ≤ end_of g.solution → (o : Option Choice) → Pick (IsIn t) g.frame g.position o → WinPick g o
+  lent_pick within o pick =
+      pick_kept g.solution game.valid g.ply g.position game.kept within g.frame o (subst (λ u. Pick (IsIn u) g.frame g.position o) is pick)
+
+pub game_sound : (g : Game) → IsGame g → Sound g.position
+game_sound g game = kept_sound g.solution game.valid g.ply g.position game.kept
+
+-- the first game
+pub first_game : (s : Solution) (f : Frame) → IsSolution s → Value s.winner s.moves s.position → IsGame (start_of s f)
+first_game s f valid value = record { valid = valid; kept = ((keeps_kept s 0 s.position valid.sound valid.few valid.kept).0 ((start_kept s valid).1 value)).1; ply = omega arith }
+
+pub lost_picked : (g after : Game) (c : Choice) → IsGame g → g.position.turn ≡ g.solution.winner → WinPick g (Some c) → Legal g.position c.mv.man (target c.mv) after.position → after ≡ moved_to g after.position → LostIn after
+lost_picked g after c game turn pick legal is =
+    let to = picked_game g after c game.valid game turn (record { pick = pick; legal = legal; is_after = is }) in
+    lost_in after to.0.valid to.0 (to.2 ∙ ap (λ s. other s.winner) (sym to.1))
+
+pub whole_game : (s : Solution) (f : Frame) (typed : List Move) (games : List Game) → IsSolution s → Value s.winner s.moves s.position → Plays (start_of s f) typed games
+    → (k : ℕ) (after : Game) → slice_get games k ≡ Some after → (suc k ≤ s.moves) × Lost s.winner (s.moves - suc k) after.position
+whole_game s f typed games valid value plays k after is =
+    let all = all_lost (start_of s f) typed games (first_game s f valid value) plays k after is in
+    let moves : after.solution.moves ≡ s.moves = ap (λ t. t.moves) all.same in
+    let made_is : made_in after ≡ 0 + suc k = all.made in
+    let count = all.lost.count in
+    let left_is : all.lost.left ≡ s.moves - suc k = omega (arith, moves, made_is, count) in (
+      omega (arith, moves, made_is, count),
+      subst (λ n. Lost s.winner n after.position) left_is (subst (λ w. Lost w all.lost.left after.position) (ap (λ t. t.winner) all.same) all.lost.lost),
+    )

@@ -1,0 +1,120 @@
+-- A game of the winner: what a session keeps, and what comes of any list of replies.
+use Rattle.std.specs.Prelude.{◌≡◌, ◌⊎◌, ℕ, zero, suc, ◌+◌, ◌-◌, ◌≤◌, List, [], ◌∷◌, length, Option, Some, None, slice_get}
+use Rattle.auto_core.specs.Automaton.{Automaton}
+use Rattle.game_rules.specs.Game.{Position, Legal, Lost, Value, other}
+use Rattle.game_rules.specs.declared.men.Side.{Side}
+use Rattle.game_rules.specs.declared.men.Side.TheVariants.{White, Black}
+use Rattle.chess_game.specs.declared.moves.Move.{Move}
+use Rattle.chess_game.specs.declared.way.Frame.{Frame}
+use Rattle.mate_plan.specs.Plan.{turn_at}
+use Rattle.winning_sets.specs.Kept.{Kept}
+use Rattle.winning_sets.specs.Solve.{IsSolution, Solution, end_of, kept_at}
+use Rattle.game_session.specs.Choice.{OnePick, Pick, target}
+use Rattle.game_session.specs.declared.choice.Choice.{Choice}
+use Rattle.white_player.specs.declared.session.Played.{Played}
+
+-- what a session is seen as: a solved position, a frame, and the position after so many moves
+pub record Game : Type 0 where
+  pub solution : Solution
+  pub frame : Frame
+  pub position : Position
+  pub ply : ℕ
+
+-- the game before the first move
+abbrev pub start_of : Solution → Frame → Game
+start_of s f = record { solution = s; frame = f; position = s.position; ply = 0 }
+
+-- the game after a move to this position
+abbrev pub moved_to : Game → Position → Game
+moved_to g q = record { solution = g.solution; frame = g.frame; position = q; ply = suc g.ply }
+
+-- the position is kept at a ply of a solved position
+abbrev pub IsKeptAt : Solution → ℕ → Position → Type 0
+IsKeptAt s ply q = Kept s.winner s.position s.moves ply q
+
+-- what a session keeps true: the winner still mates in time
+pub record IsGame (g : Game) : Type 0 where
+  pub valid : IsSolution g.solution
+  pub kept : IsKeptAt g.solution g.ply g.position
+  pub ply : g.ply ≤ end_of g.solution
+
+abbrev pub one_if_same : Side → Side → ℕ
+one_if_same White White = 1
+one_if_same Black Black = 1
+one_if_same White Black = 0
+one_if_same Black White = 0
+
+-- how many of the first moves are the winner's
+abbrev pub made : Side → Side → ℕ → ℕ
+made winner first zero = 0
+made winner first (suc ply) = made winner first ply + one_if_same winner (turn_at first ply)
+
+-- the number of the winner's moves that were made in the game
+abbrev pub made_in : Game → ℕ
+made_in g = made g.solution.winner g.solution.position.turn g.ply
+
+-- the winner's first move, by man, ray and distance, to a square of the frame, that leads to a position from which he still mates in time
+abbrev pub WinPick : Game → Option Choice → Type 0
+WinPick g choice = Pick (IsKeptAt g.solution (suc g.ply)) g.frame g.position choice
+
+-- there is one such move at most, and not both one and none
+abbrev pub OneWinPick : Type 0
+OneWinPick = (g : Game) → OnePick (IsKeptAt g.solution (suc g.ply)) g.frame g.position
+
+-- the move is the winner's pick, and has led to this game
+pub record IsPicked (g : Game) (choice : Choice) (after : Game) : Type 0 where
+  pub pick : WinPick g (Some choice)
+  pub legal : Legal g.position choice.mv.man (target choice.mv) after.position
+  pub is_after : after ≡ moved_to g after.position
+
+-- the loser, who is to move, is mated within the moves that the winner has left
+pub record LostIn (g : Game) : Type 0 where
+  pub left : ℕ
+  pub count : left + made_in g ≡ g.solution.moves
+  pub lost : Lost g.solution.winner left g.position
+
+-- the game is one that has gone on from another, by so many moves of the winner, and is lost in time
+pub record IsLostAfter (g : Game) (more : ℕ) (after : Game) : Type 0 where
+  pub same : after.solution ≡ g.solution
+  pub made : made_in after ≡ made_in g + more
+  pub lost : LostIn after
+
+-- with the winner to move: where he has no pick, nothing more is played; else he makes it, and the game goes on
+abbrev pub WinnerGoes : (Game → List Game → Type 0) → Game → List Game → Type 0
+WinnerGoes On g games =
+    (WinPick g None × (games ≡ []))
+    ⊎ ((choice : Choice) × (after : Game) × (later : List Game) × IsPicked g choice after × (games ≡ after ∷ later) × On after later)
+
+-- with the loser to move, these are the games after each of the winner's moves where these replies are typed, in order: one that is not legal
+-- changes nothing, and once the loser is mated none is legal
+abbrev pub Goes : Game → List Move → List Game → Type 0
+Goes g [] games = games ≡ []
+Goes g (mv ∷ typed) games =
+    (((q : Position) → Legal g.position mv.man (target mv) q → ⊥) × Goes g typed games)
+    ⊎ ((q : Position) × Legal g.position mv.man (target mv) q × WinnerGoes (λ after later. Goes after typed later) (moved_to g q) games)
+
+-- the same with either side to move
+abbrev pub Plays : Game → List Move → List Game → Type 0
+Plays g typed games =
+    ((g.position.turn ≡ other g.solution.winner) × Goes g typed games)
+    ⊎ ((g.position.turn ≡ g.solution.winner) × WinnerGoes (λ after later. Goes after typed later) g games)
+
+-- each of them is lost in time
+abbrev pub AllLost : Type 0
+AllLost =
+    (g : Game) (typed : List Move) (games : List Game) → IsGame g → Plays g typed games
+    → (k : ℕ) (after : Game) → slice_get games k ≡ Some after → IsLostAfter g (suc k) after
+
+-- from the start of a game with n moves: after the k-th move of the winner, counted from 0, the loser is mated within n - (k + 1)
+abbrev pub WholeGameIsLost : Type 0
+WholeGameIsLost =
+    (s : Solution) (f : Frame) (typed : List Move) (games : List Game) → IsSolution s → Value s.winner s.moves s.position → Plays (start_of s f) typed games
+    → (k : ℕ) (after : Game) → slice_get games k ≡ Some after → (suc k ≤ s.moves) × Lost s.winner (s.moves - suc k) after.position
+
+-- what is told of the move that was made
+abbrev pub choice_of : Played → Choice
+choice_of played = record { mv = played.mv; ray = played.ray; distance = played.distance }
+
+-- a search has room for each of the kept sets
+abbrev pub HasRoom : ℕ → Solution → Type 0
+HasRoom states s = (ply mask : ℕ) (a : Automaton) → kept_at s ply mask ≡ Some a → length a.accept ≤ states

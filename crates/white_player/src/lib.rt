@@ -1,0 +1,8 @@
+//! A game that the winner plays: his moves lead into the kept sets, and the other side's are typed. `specs/Game` says what a session keeps, which
+//! move is the winner's, and what comes of any list of replies.
+#![tactic(auto)]
+
+pub mod laws;
+mod session;
+
+pub use session::{Played, Session, TooWide};
