@@ -1,2 +1,0 @@
-pub mod LooksLemmas
-pub mod SmallLemmas
