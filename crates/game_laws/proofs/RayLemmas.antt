@@ -8,7 +8,7 @@ use Rattle.game_rules.specs.declared.men.Man.{Man}
 use Rattle.game_rules.specs.declared.men.Ray.{Ray}
 use Rattle.game_rules.specs.declared.men.Side.{Side}
 use Rattle.game_rules.specs.declared.men.Square.{Square}
-use Rattle.game_rules.specs.Game.{Position, Bears, GoesAs, HasReach, Holds, IsEmptySquare, IsLiveAnd, IsOpen, IsSlider, StandsOn, Step, after_steps, forward, other, square_of}
+use Rattle.game_rules.specs.Game.{Position, Bears, GoesAs, HasReach, IsHeldBy, IsEmptySquare, IsLiveAnd, IsOpen, IsSlider, StandsOn, Step, after_steps, forward, other, square_of}
 use Rattle.game_rules.specs.Rays.{IsAt, leap, ray_of, serves_captures, serves_moves}
 use Rattle.game_laws.specs.OnRay.{IsBorneAlong, IsOnOneRay, IsOnRay}
 use Rattle.game_laws.proofs.LineLemmas.{offset_of, square_is, steps_distance, steps_toward_x, steps_toward_y}
@@ -122,12 +122,12 @@ borne_bears p m z h =
     (reach_at m.side m.kind b.number b.ray b.along.0 w.0 z b.is_ray b.serves b.along.1, λ slider. b.clear (slider_far m.side m.kind b.number b.ray b.is_ray slider))
 
 -- a square is not both held and empty
-held_empty : (p : Position) (s : Side) (z : Square) → Holds p s z → IsEmptySquare p z → ⊥
+held_empty : (p : Position) (s : Side) (z : Square) → IsHeldBy p s z → IsEmptySquare p z → ⊥
 held_empty p s z (k, m, within, is, h) none = none k m within (subst (λ n. StandsOn n z) (sym is) h.1)
 
 -- a man goes along one ray, which serves what he does
 module _ (p : Position) (m : Man) (a z : Square) where
-  on_one : (n k : ℕ) (on : IsOnRay m a z n k) → (IsTrue on.ray.far → IsOpen p a z) → (IsEmptySquare p z → IsTrue (serves_moves m.kind n)) → (Holds p (other m.side) z → IsTrue (serves_captures m.kind n)) → IsOnOneRay p m a z
+  on_one : (n k : ℕ) (on : IsOnRay m a z n k) → (IsTrue on.ray.far → IsOpen p a z) → (IsEmptySquare p z → IsTrue (serves_moves m.kind n)) → (IsHeldBy p (other m.side) z → IsTrue (serves_captures m.kind n)) → IsOnOneRay p m a z
   on_one n k on clear move capture =
       record { number = n; distance = k; on = on; only = λ i j also. one_ray m a z n k i j on also; clear = clear; move = move; capture = capture }
 

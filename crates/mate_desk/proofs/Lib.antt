@@ -1,7 +1,6 @@
 pub mod Exact
 pub mod OneReport
 pub mod OneStep
-pub mod PlanOnce
 pub mod Reporting
 pub mod TextSteps
 pub mod Values

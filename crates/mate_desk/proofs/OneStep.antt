@@ -8,7 +8,7 @@ use Rattle.mate_plan.specs.PlanOf.{plan_of}
 use Rattle.mate_plan.specs.declared.names.PartName.{PartName}
 use Rattle.winning_sets.specs.declared.names.StepName.{StepName}
 use Rattle.mate_desk.specs.Report.{ExceedsAt, FitsBudget}
-use Rattle.mate_desk.proofs.PlanOnce.{SameLists, plan_of-alike}
+use Rattle.mate_plan.proofs.PlanOnce.{SameLists, plan_of-alike}
 
 -- the name without the number of moves
 abbrev in_plan : StepName → set_plan.StepName PartName

@@ -24,7 +24,7 @@ use Rattle.mate_plan.specs.Formulas.{bear_trees, image_trees, images_from, name_
 use Rattle.mate_plan.specs.Plan.{choices_into}
 use Rattle.mate_plan.specs.PlanOf.{rules_of}
 
-if_few : {A : Type 0} (b : Bool) (xs : List A) (x : A) (n : ℕ) → length xs ≤ n → length (if b then xs ++ x ∷ [] else xs) ≤ n + 1
+pub if_few : {A : Type 0} (b : Bool) (xs : List A) (x : A) (n : ℕ) → length xs ≤ n → length (if b then xs ++ x ∷ [] else xs) ≤ n + 1
 if_few true xs x n h = let e = length-append xs (x ∷ []) in omega (arith, e, h)
 if_few false xs x n h = omega (arith, h)
 
@@ -43,11 +43,11 @@ one_few : {A : Type 0} (b : Bool) (x : A) (xs : List A) (n : ℕ) → length xs 
 one_few true x xs n h = omega (arith, h)
 one_few false x xs n h = omega (arith, h)
 
-filter_few : {A : Type 0} (c : A → Bool) (xs : List A) → length (filter c xs) ≤ length xs
+pub filter_few : {A : Type 0} (c : A → Bool) (xs : List A) → length (filter c xs) ≤ length xs
 filter_few c [] = omega arith
 filter_few c (x ∷ xs) = one_few (c x) x (filter c xs) (length xs) (filter_few c xs)
 
-flat_few : {A B : Type 0} (f : A → List B) (n : ℕ) (xs : List A) → ((x : A) → length (f x) ≤ n) → length (flat_map f xs) ≤ length xs * n
+pub flat_few : {A B : Type 0} (f : A → List B) (n : ℕ) (xs : List A) → ((x : A) → length (f x) ≤ n) → length (flat_map f xs) ≤ length xs * n
 flat_few f n [] h = omega arith
 flat_few f n (x ∷ xs) h =
     let rest = flat_few f n xs h in

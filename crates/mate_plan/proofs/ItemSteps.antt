@@ -30,7 +30,7 @@ some_both : (fs gs : List Tree) (f : Tree) → 0 < length (fs ++ gs ++ f ∷ [])
 some_both [] gs f = some_last gs f
 some_both (g ∷ fs) gs f = omega arith
 
-step-And : (f g : Tree) → HasStep (tree.And f g)
+pub step-And : (f g : Tree) → HasStep (tree.And f g)
 step-And f g = some_both (steps f) (steps g) (tree.And f g)
 
 step-Ex : (x : Var) (f : Tree) → HasStep (tree.Ex x f)

@@ -14,3 +14,5 @@ pub mod UnionAnswers
 pub mod SafeAnswers
 pub mod StartAnswers
 pub mod Remainders
+pub mod PairLemmas
+pub mod PlanOnce

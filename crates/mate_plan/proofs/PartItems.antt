@@ -50,7 +50,7 @@ set_for tracks sets id m (a, found, is) over = record {
   arity = ap length is.tracks_are ∙ sym over.count;
 }
 
-has_one : (tracks : List Var) (sets : List Automaton) (id : SetId) (f : Tree) → IsNameOn tracks sets (Some id) → NamesOnly id.0 tracks f → HasSets sets f
+pub has_one : (tracks : List Var) (sets : List Automaton) (id : SetId) (f : Tree) → IsNameOn tracks sets (Some id) → NamesOnly id.0 tracks f → HasSets sets f
 has_one tracks sets id f on names =
     All-weaker (IsOver id.0 tracks) (λ m. IsSetFor sets m.0 (length m.1)) (λ m over. set_for tracks sets id m on over) (memberships f) names
 
@@ -59,7 +59,7 @@ has_two tracks others sets source target f on on_target names =
     All-weaker (λ m. IsOver source.0 tracks m ⊎ IsOver target.0 others m) (λ m. IsSetFor sets m.0 (length m.1))
     (λ m over. elim over [ inl a ↦ set_for tracks sets source m on a | inr b ↦ set_for others sets target m on_target b ]) (memberships f) names
 
-is_item : (tracks : List Var) (sets : List Automaton) (f : Tree) → HasStep f → IsModest f → HasSets sets f → free_vars f ≡ tracks → IsItemOn tracks sets f
+pub is_item : (tracks : List Var) (sets : List Automaton) (f : Tree) → HasStep f → IsModest f → HasSets sets f → free_vars f ≡ tracks → IsItemOn tracks sets f
 is_item tracks sets f some modest has over =
     let few = modest.variables in
     let short = modest.steps_are_few in

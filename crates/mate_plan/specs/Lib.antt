@@ -17,3 +17,6 @@ pub mod Plan
 pub mod PlanOf
 pub mod Levels
 pub mod Formulas
+pub mod Twins
+pub mod Claim
+pub mod Won

@@ -3,6 +3,8 @@
 //! `specs/Formulas` the formulas whose sets are united. Each function here answers one level of the plan, from the levels that it is made of.
 #![tactic(auto)]
 
+mod answering;
+mod apart;
 mod formulas;
 mod lending;
 mod level;
@@ -16,6 +18,7 @@ mod tracks;
 mod unions;
 mod winning;
 
+pub use apart::{are_apart, are_safe};
 pub use level::LevelNames;
 pub use losing::lost_level;
 pub use names::{Part, PartName};

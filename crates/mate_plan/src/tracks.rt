@@ -9,7 +9,7 @@ use std::alloc::{AllocError, Global};
 use track_word::Var;
 
 /// Whether man k is in the mask.
-fn is_live(mask: u8, k: u8) -> bool
+pub(crate) fn is_live(mask: u8, k: u8) -> bool
     requires low { 1 ≤ k }
     requires high { k ≤ 8 }
     ensures { result ≡ live_in mask k }

@@ -29,7 +29,7 @@ KeepsKings stock live = (k : ℕ) (m : Man) → stock_man stock k ≡ Some m →
 abbrev pub KeepsGone : List Man → (ℕ → Bool) → Type 0
 KeepsGone stock live = (k : ℕ) (m : Man) → stock_man stock k ≡ Some m → live k ≡ true → m.place ≢ Gone
 
-placed_stock : (stock : List Man) (live : ℕ → Bool) (turn : Side) (g : ℕ → Square) → HasStock stock (placed stock live turn g)
+pub placed_stock : (stock : List Man) (live : ℕ → Bool) (turn : Side) (g : ℕ → Square) → HasStock stock (placed stock live turn g)
 placed_stock stock live turn g =
     record {
       count = length_placed 1 stock live g;
@@ -57,7 +57,7 @@ placed_king p live turn g keeps s had =
           had.only k w.man (sym (stock_man-men p k) ∙ w.is_man) (sym (ap (λ (a : Man). a.side) w.is) ∙ side) (sym (ap (λ (a : Man). a.kind) w.is) ∙ king);
     }
 
-placed_fits : (p : Position) (live : ℕ → Bool) (turn : Side) (g : ℕ → Square) → IsApart (placed p.men live turn g) → ((s : Side) → HasOneKing p s) → KeepsKings p.men live → KeepsGone p.men live → Fits p turn (placed p.men live turn g)
+pub placed_fits : (p : Position) (live : ℕ → Bool) (turn : Side) (g : ℕ → Square) → IsApart (placed p.men live turn g) → ((s : Side) → HasOneKing p s) → KeepsKings p.men live → KeepsGone p.men live → Fits p turn (placed p.men live turn g)
 placed_fits p live turn g apart kings keeps gone =
     record {
       stock = placed_stock p.men live turn g;
@@ -74,7 +74,7 @@ placed_fits p live turn g apart kings keeps gone =
     }
 
 -- the mask of a placed position is the one with the same men
-placed_mask : (stock : List Man) (live : ℕ → Bool) (turn : Side) (g : ℕ → Square) (m : ℕ) → m < 2 ^ length stock → ((k : ℕ) → 0 < k → k ≤ length stock → is_live m k ≡ live k) → m ≡ mask_of (placed stock live turn g)
+pub placed_mask : (stock : List Man) (live : ℕ → Bool) (turn : Side) (g : ℕ → Square) (m : ℕ) → m < 2 ^ length stock → ((k : ℕ) → 0 < k → k ≤ length stock → is_live m k ≡ live k) → m ≡ mask_of (placed stock live turn g)
 placed_mask stock live turn g m small tells = mask_one (placed stock live turn g) m tells_it
   where
     tells_it : IsMaskOf (placed stock live turn g) m

@@ -18,7 +18,7 @@ use Rattle.rule_formula.specs.declared.opt.Opt.{Opt}
 use Rattle.rule_formula.specs.declared.seats.Seat.{Seat}
 use Rattle.rule_formula.specs.Placed.{is_live, without}
 use Rattle.rule_formula.specs.Seats.{new_seat, new_seats, old_seats, own, seats_with, spare, swept, var, vars_to}
-use Rattle.rule_formula.specs.Trees.{ahead, and_all, atoms_as, bear_of, bear_tree, clear, clear_as, difference, ex_swept, image_body, image_of, image_tree, is_other, line, line_atoms, on, on_as, ordered, pre_body, pre_of, pre_tree, ray_at, ray_atoms, safe_of, tracks_of, unless_same}
+use Rattle.rule_formula.specs.Trees.{ahead, and_all, atoms_as, bear_of, bear_tree, clear, clear_as, difference, ex_swept, image_body, image_of, image_tree, is_other, line, line_atoms, on, on_as, ordered, pre_body, pre_of, pre_tree, ray_at, ray_atoms, safe_of, tracks_of, unless_same, twins_tree}
 use Rattle.rule_formula.specs.Meaning.{IsBearer, IsOptionOf, IsPrey}
 use Rattle.rule_formula.proofs.BearLemmas.{IsNumber, stock_number}
 use Rattle.rule_formula.proofs.MoveLemmas.{option_untaken, same_number}
@@ -412,6 +412,21 @@ tracks_are live n f only all =
     same_list 0 0 (free_vars f) (vars_to own live n) (rises_free f) (spans_rise 0 (2 * n) (vars_to own live n) (spans_own live n))
     (λ z is. seated_in live n z (only z ((free_vars-free f z).0 is)))
     (λ z is. (free_vars-free f z).1 (all z (seated own live n z is)))
+
+-- the free variables of twins are those of the live men
+pub twins_tracks : (n mask a b s : ℕ) → 0 < a → a ≤ n → is_live mask a ≡ true → 0 < b → b ≤ n → is_live mask b ≡ true → free_vars (twins_tree n mask a b s) ≡ vars_to own (is_live mask) n
+twins_tracks n mask a b s low_a high_a on_a low_b high_b on_b =
+    let T = IsSeated own (is_live mask) n in
+    let first = own_seat_in (is_live mask) n a low_a high_a on_a in
+    let second = own_seat_in (is_live mask) n b low_b high_b on_b in
+    let among = tree.Among s (vars_to own (is_live mask) n) in
+    let across = difference (own a).x (own b).x Eq (pos 0) in
+    let along = difference (own a).y (own b).y Eq (pos 0) in
+    tracks_are (is_live mask) n (twins_tree n mask a b s)
+    (and_in T (tree.And among across) along
+    (and_in T among across (among_in T s own (is_live mask) n (λ k low high on. own_seat_in (is_live mask) n k low high on)) (difference_in T (own a).x (own b).x Eq (pos 0) first.across second.across))
+    (difference_in T (own a).y (own b).y Eq (pos 0) first.along second.along))
+    (λ z w. inl (inl (seated_in (is_live mask) n z w)))
 
 -- tracks twice are the tracks
 pub tracks_twice : (live : ℕ → Bool) (n s t : ℕ) → free_vars (tree.Or (tree.Among s (vars_to own live n)) (tree.Among t (vars_to own live n))) ≡ vars_to own live n

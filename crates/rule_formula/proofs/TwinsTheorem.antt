@@ -51,7 +51,7 @@ vars_past mask n (suc m) k small e =
     (if_false (is_live mask (suc (m + n))) (vars_to own (is_live mask) (m + n) ++ (own (suc (m + n))).x ∷ (own (suc (m + n))).y ∷ []) (vars_to own (is_live mask) (m + n)) off
     ∙ vars_past mask n m (m + n) small refl)
 
-eight_vars : (mask n : ℕ) → n ≤ 8 → mask < 2 ^ n → vars_to own (is_live mask) 8 ≡ vars_to own (is_live mask) n
+pub eight_vars : (mask n : ℕ) → n ≤ 8 → mask < 2 ^ n → vars_to own (is_live mask) 8 ≡ vars_to own (is_live mask) n
 eight_vars mask n few small = vars_past mask n (8 - n) 8 small (omega (arith, few))
 
 stock_some : (stock : List Man) (k : ℕ) → 0 < k → k ≤ length stock → (m : Man) × (stock_man stock k ≡ Some m)

@@ -14,3 +14,4 @@ pub use Rattle.lin_formula.specs.Tree
 pub use Rattle.lin_formula.specs.TreeOf
 pub use Rattle.lin_formula.specs.Holds
 pub use Rattle.lin_formula.specs.SetOf
+pub mod TwinsMean

@@ -12,3 +12,7 @@ pub mod FewStates
 pub mod BothSets
 pub mod Kept
 pub mod Items
+pub mod Askings
+pub mod Takings
+pub mod Tables
+pub mod Withins

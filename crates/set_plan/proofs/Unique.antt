@@ -2,7 +2,7 @@
 use Rattle.std.proofs.Common.{◌≡◌, ◌⊎◌, ℕ, List, [], ◌∷◌, ◌++◌, Option, Some, None, sym, ◌∙◌, inl, inr, subst, ap}
 use Rattle.lin_formula.specs.Tree.{steps}
 use Rattle.lin_formula.specs.SetOf.{SetOf, SomeEmpty, NoneEmpty}
-use Rattle.set_plan.specs.Program.{Program, Give, Compute, Ask, Question, Empty, Stable, Has, IsYes, IsNo, Takes, Entry}
+use Rattle.set_plan.specs.Program.{Program, Give, Compute, Ask, Question, Empty, Stable, Has, Within, IsYes, IsNo, Takes, Entry}
 use Rattle.set_plan.specs.Past.{numbered, all_steps, PastStep, Past}
 use Rattle.set_plan.specs.Outcome.{Ends, Stops}
 use Rattle.set_plan.specs.declared.stop.StepName.{StepName}
@@ -19,6 +19,7 @@ yes-no : (q : Question) → IsYes q → IsNo q → ⊥
 yes-no (Empty sets) h k = some-none sets h k
 yes-no (Stable a) h k = k h
 yes-no (Has s tuple) h k = k h
+yes-no (Within s t) h k = k h
 
 past-none : {P A : Type 0} (xs : List (Entry P)) (budget : ℕ) (name : StepName P) → xs ≡ [] → Past xs budget (Some name) → A
 past-none {P} xs budget name e past = none_some (subst (λ (l : List (Entry P)). Past l budget (Some name)) e past)

@@ -20,21 +20,25 @@ pub record Entry (P : Type 0) : Type 0 where
   pub at : ℕ
   pub item : Item
 
--- whether one of some sets is empty, whether an automaton decides a set of integers, whether a set has a tuple
+-- whether one of some sets is empty, whether an automaton decides a set of integers, whether a set has a tuple,
+-- whether a set has each tuple of another
 pub data Question : Type 0 where
   Empty : List SetOf → Question
   Stable : Automaton → Question
   Has : SetOf → List ℤ → Question
+  Within : SetOf → SetOf → Question
 
 abbrev pub IsYes : Question → Type 0
 IsYes (Empty sets) = SomeEmpty sets
 IsYes (Stable a) = DecidesIntegers a
 IsYes (Has s tuple) = Member s tuple
+IsYes (Within s t) = (tuple : List ℤ) → Member s tuple → Member t tuple
 
 abbrev pub IsNo : Question → Type 0
 IsNo (Empty sets) = NoneEmpty sets
 IsNo (Stable a) = ¬ DecidesIntegers a
 IsNo (Has s tuple) = ¬ Member s tuple
+IsNo (Within s t) = ¬ ((tuple : List ℤ) → Member s tuple → Member t tuple)
 
 -- gives a value, computes an item and goes on with its set, or goes on by the answer to a question
 pub data Program (P A : Type 0) : Type 0 where

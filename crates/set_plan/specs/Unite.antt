@@ -1,9 +1,9 @@
 -- Unions of lists of items, and differences.
-use Rattle.std.specs.Prelude.{ℕ, zero, suc, ◌+◌, List, [], ◌∷◌, ◌++◌, length, map}
+use Rattle.std.specs.Prelude.{ℕ, zero, suc, ◌+◌, List, [], ◌∷◌, ◌++◌, length, map, Bool, true, false}
 use Rattle.track_word.specs.declared.tracks.Var.{Var}
 use Rattle.lin_formula.specs.Tree.{Tree, Lin, Value, Among, Not, And, Or, Ex, steps}
 use Rattle.lin_formula.specs.SetOf.{SetOf, Nothing}
-use Rattle.set_plan.specs.Program.{Item, Program, Give, Compute, Ask, Empty, bind}
+use Rattle.set_plan.specs.Program.{Item, Program, Give, Compute, Ask, Empty, Within, bind}
 
 -- two symbols
 abbrev pub two : SetOf → SetOf → ℕ → SetOf
@@ -65,3 +65,13 @@ remainder tracks part s t = bind (without tracks part s t) (λ made. Give made.0
 -- one set and the other together, as a part of its own
 abbrev pub together : {P : Type 0} → List Var → P → SetOf → SetOf → Program P SetOf
 together tracks part s t = bind (join tracks part s (t, 1)) (λ made. Give made.0)
+
+-- whether each of the items' sets is empty: they are made one after the other, up to the first that is not, and are one part
+abbrev pub are_empty : {P : Type 0} → P → ℕ → List Item → Program P Bool
+are_empty part at [] = Give true
+are_empty part at (item ∷ items) =
+    bind (make part at item) (λ made. Ask (Empty (made.0 ∷ [])) (are_empty part made.1 items) (Give false))
+
+-- whether one set has each tuple of the other, as a part of its own: it takes the steps of what is left of the other
+abbrev pub is_within : {P : Type 0} → List Var → P → SetOf → SetOf → Program P Bool
+is_within tracks part s t = bind (remainder tracks part s t) (λ rest. Ask (Within s t) (Give true) (Give false))

@@ -3,6 +3,7 @@
 //! A function here answers a program: with its value where no step passes the budget, and else with the first step that does.
 #![tactic(auto)]
 
+mod asking;
 mod empty;
 mod left;
 mod made;
@@ -12,6 +13,7 @@ mod sets;
 mod steps;
 mod stop;
 
+pub use asking::{are_empty, is_within};
 pub use empty::is_empty_set;
 pub use left::{Left, remainder};
 pub use made::Made;

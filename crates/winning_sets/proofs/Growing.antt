@@ -13,7 +13,7 @@ use Rattle.set_plan.proofs.Composition.{none_some}
 use Rattle.mate_plan.specs.Levels.{AreNames, level_from, level_of}
 use Rattle.mate_plan.specs.Plan.{Level, level_with, no_sets}
 use Rattle.winning_sets.specs.Lent.{set_or, sets_or}
-use Rattle.winning_sets.proofs.KeptTakes.{same_some}
+use Rattle.set_plan.proofs.Takings.{same_some}
 use Rattle.winning_sets.proofs.LentLemmas.{Names}
 
 pub grows-trans : (x y z : List Automaton) → Grows x y → Grows y z → Grows x z

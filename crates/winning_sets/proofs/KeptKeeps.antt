@@ -43,7 +43,7 @@ stock_placed stock q h =
     ∙ self_placed q (mask_of q) (mask_tells q)
 
 -- positions of one stock with one side to move, one mask and one tuple are one
-stock_unique : (stock : List Man) (q r : Position) → HasStock stock q → HasStock stock r → q.turn ≡ r.turn → mask_of q ≡ mask_of r → tuple_of q ≡ tuple_of r → q ≡ r
+pub stock_unique : (stock : List Man) (q r : Position) → HasStock stock q → HasStock stock r → q.turn ≡ r.turn → mask_of q ≡ mask_of r → tuple_of q ≡ tuple_of r → q ≡ r
 stock_unique stock q r stock_q stock_r turn mask tuple =
     let live : ℕ → Bool = is_live (mask_of r) in
     let v : Values = values_of (squares_of q) in

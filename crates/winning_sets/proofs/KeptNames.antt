@@ -15,7 +15,7 @@ use Rattle.set_plan.specs.Sets.{IsNameOn, IsSetOn, set_at}
 use Rattle.mate_plan.specs.Levels.{AreNames, level_from, level_of}
 use Rattle.mate_plan.specs.Plan.{Level, level_with, no_sets}
 use Rattle.winning_sets.specs.PlanMeans.{AreDecided, IsDecided}
-use Rattle.winning_sets.proofs.KeptDecided.{table_decided}
+use Rattle.set_plan.proofs.Tables.{table_decided}
 
 module _ (p : Position) (game : GameMeans p) where
   ascending : (mask : ℕ) → IsAscending (mask_tracks p mask)

@@ -1,6 +1,6 @@
 -- What the parts of a plan make of sets of positions, and that they give the sets that are reached and kept.
 use Rattle.std.proofs.Common.{◌/◌, ◌-◌, ◌≡◌, ◌↔◌, ℕ, zero, suc, ◌+◌, ◌*◌, ◌⊎◌, inl, inr, refl, sym, ap, ◌∙◌, subst, arith, add-one, zero-add, true, false, not}
-use Rattle.game_rules.specs.Game.{InCheck, Legal, Lost, Position, Sound, Value, Win, other}
+use Rattle.game_rules.specs.Game.{InCheck, Legal, Lost, Moves, Position, Sound, Value, Win, other}
 use Rattle.game_rules.specs.declared.men.Side.{Side}
 use Rattle.game_rules.specs.declared.men.Side.TheVariants.{White, Black}
 use Rattle.game_rules.specs.declared.men.Square.{Square}
@@ -8,7 +8,7 @@ use Rattle.game_laws.proofs.DecideLemmas.{in_check}
 use Rattle.game_laws.proofs.SoundLemmas.{legal_sound, other_other}
 use Rattle.game_laws.proofs.ValueLemmas.{flat_lost, lost_flat}
 use Rattle.rule_formula.specs.Laws.{StepsTo}
-use Rattle.winning_sets.specs.Reach.{Moves, Reach}
+use Rattle.winning_sets.specs.Reach.{Reach}
 use Rattle.winning_sets.specs.Kept.{Kept, moves_left}
 use Rattle.mate_plan.specs.PlanOf.{last_ply}
 use Rattle.mate_plan.specs.Plan.{is_even, turn_at}
@@ -70,7 +70,7 @@ mover-is : (p q : Position) → StepsTo p q → other q.turn ≡ p.turn
 mover-is p q (i, z, step) = ap other step.after.turn ∙ other_other p.turn
 
 -- a step to a position in which the side that has moved is not in check is a move
-Moves-safe : (p q : Position) → StepsTo p q → (InCheck q (other q.turn) → ⊥) → Moves p q
+pub Moves-safe : (p q : Position) → StepsTo p q → (InCheck q (other q.turn) → ⊥) → Moves p q
 Moves-safe p q h safe =
     let Safely : Side → Type 0 = λ s. InCheck q s → ⊥ in
     (h.0, h.1, record { step = h.2; safe = subst Safely (mover-is p q h) safe })
@@ -78,7 +78,7 @@ Moves-safe p q h safe =
 pub StepsTo-moves : (p q : Position) → Moves p q → StepsTo p q
 StepsTo-moves p q h = (h.0, h.1, h.2.step)
 
-safe-moves : (p q : Position) → Moves p q → InCheck q (other q.turn) → ⊥
+pub safe-moves : (p q : Position) → Moves p q → InCheck q (other q.turn) → ⊥
 safe-moves p q h =
     let Safely : Side → Type 0 = λ s. InCheck q s → ⊥ in
     subst Safely (sym (mover-is p q (StepsTo-moves p q h))) h.2.safe

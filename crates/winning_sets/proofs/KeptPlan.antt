@@ -28,7 +28,7 @@ use Rattle.mate_plan.specs.declared.names.Part.{Part}
 use Rattle.mate_plan.specs.declared.names.Part.TheVariants as kind
 use Rattle.winning_sets.proofs.KeptParts.{Reach-image, StepsTo-moves, kept_end, kept_first, lost-step, reached_sound, two_steps, win-step}
 use Rattle.set_plan.proofs.Composition.{Takes-split, none_some}
-use Rattle.winning_sets.proofs.KeptTakes.{IsOver, remainder_over, Takes-give, any-map, make-members, remainder-members, same_some, together-members, union-members, union_over}
+use Rattle.set_plan.proofs.Takings.{IsOver, remainder_over, Takes-give, any-map, make-members, remainder-members, same_some, together-members, union-members, union_over}
 use Rattle.winning_sets.proofs.KeptSets.{Entries, Stands, bear_have, for_masks-level, game_mask, lost-stands, pre_have, reach_set-stands, reach_set_fitting, reach_set_over, win-stands, in_masks}
 use Rattle.winning_sets.proofs.KeptWithin.{bear_within, pre_within}
 

@@ -24,7 +24,7 @@ use Rattle.mate_plan.specs.declared.names.Part.TheVariants as kind
 use Rattle.mate_plan.specs.declared.names.PartName.{PartName}
 use Rattle.winning_sets.proofs.KeptParts.{Positions, Image, Safe, Pre, Checked, Without, Rest, Escape, Calm, Check, Quiet, LostPart}
 use Rattle.set_plan.proofs.Composition.{Takes-split, none_some}
-use Rattle.winning_sets.proofs.KeptTakes.{HaveTracks, IsOver, Takes-give, any-flat_map, any-map, contains_cases, contains_filter, contains_head, contains_none, contains_rest, have-flat_map, have-map, make-members, remainder-members, remainder_over, together-members, union-members, union_over}
+use Rattle.set_plan.proofs.Takings.{HaveTracks, IsOver, Takes-give, any-flat_map, any-map, contains_cases, contains_filter, contains_head, contains_none, contains_rest, have-flat_map, have-map, make-members, remainder-members, remainder_over, together-members, union-members, union_over}
 
 abbrev pub Entries : Type 0
 Entries = List (Entry PartName)
@@ -131,7 +131,7 @@ module _ (p : Position) (mean : RulesMean p) where
       subst P (other_other side ∙ sym fits.turn) h
 
   -- a union of bear over all bearings on the king of the side to move
-  check-stands : (side : Side) (ply : ℕ) (q : Position) (source s : SetOf) (xs : Entries) (S : Positions) → Fits p side q → Member source (tuple_of q) ↔ S q → Takes (union rules ply (mask_of q) kind.Check (bear_items rules (other side) (mask_of q) source)) xs (Some s) → Member s (tuple_of q) ↔ Checked S q
+  pub check-stands : (side : Side) (ply : ℕ) (q : Position) (source s : SetOf) (xs : Entries) (S : Positions) → Fits p side q → Member source (tuple_of q) ↔ S q → Takes (union rules ply (mask_of q) kind.Check (bear_items rules (other side) (mask_of q) source)) xs (Some s) → Member s (tuple_of q) ↔ Checked S q
   check-stands side ply q source s xs S fits sources t =
       let m = mask_of q in
       let game = mean.game.mask_is side q fits in
@@ -148,7 +148,7 @@ module _ (p : Position) (mean : RulesMean p) where
       )
 
   -- one set without another
-  difference-stands : (ply : ℕ) (k : Part) (q : Position) (s t u : SetOf) (xs : Entries) (S T : Positions) → IsOver (mask_tracks p (mask_of q)) s → Member s (tuple_of q) ↔ S q → Member t (tuple_of q) ↔ T q → Takes (difference rules ply (mask_of q) k s t) xs (Some u) → Member u (tuple_of q) ↔ Without S T q
+  pub difference-stands : (ply : ℕ) (k : Part) (q : Position) (s t u : SetOf) (xs : Entries) (S T : Positions) → IsOver (mask_tracks p (mask_of q)) s → Member s (tuple_of q) ↔ S q → Member t (tuple_of q) ↔ T q → Takes (difference rules ply (mask_of q) k s t) xs (Some u) → Member u (tuple_of q) ↔ Without S T q
   difference-stands ply k q s t u xs S T over in_s in_t takes =
       let m = mask_of q in
       let both = remainder-members (mask_tracks p m) (name ply m k) (free m) s t xs u over takes (tuple_of q) in (

@@ -26,7 +26,7 @@ use Rattle.winning_sets.specs.PlanMeans.{AreLevelsOf, IsLevelOf}
 use Rattle.mask_sets.specs.Sets.{set_of}
 use Rattle.winning_sets.specs.Solve.{AreSets, HasTuplesOf, IsSetAt, sets_at}
 use Rattle.winning_sets.proofs.KeptLevels.{same_has}
-use Rattle.winning_sets.proofs.KeptTakes.{contains_cases, contains_head, contains_none, contains_rest, same_some}
+use Rattle.set_plan.proofs.Takings.{contains_cases, contains_head, contains_none, contains_rest, same_some}
 
 abbrev pub Names : Type 0
 Names = List (Option SetId)

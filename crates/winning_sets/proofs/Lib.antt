@@ -1,9 +1,7 @@
-pub mod KeptTakes
 pub mod KeptParts
 pub mod KeptSets
 pub mod KeptWithin
 pub mod KeptPlan
-pub mod KeptDecided
 pub mod KeptNames
 pub mod KeptKeeps
 pub mod KeptLevels

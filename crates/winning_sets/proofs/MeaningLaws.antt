@@ -13,7 +13,7 @@ use Rattle.rule_formula.proofs.MeanTheorem.{rules_mean}
 use Rattle.rule_formula.proofs.PointTheorem.{point_made}
 use Rattle.mate_plan.specs.Levels.{AreNames, level_of}
 use Rattle.winning_sets.specs.PlanMeans.{AreDecided, FirstIsValue, ForwardIsReach, KeepsIsKept, MovesAreCounted, NoneIsKeptLast, PlanIsKept, TablesAreDecided}
-use Rattle.winning_sets.proofs.KeptDecided.{table_decided}
+use Rattle.set_plan.proofs.Tables.{table_decided}
 use Rattle.winning_sets.proofs.KeptKeeps.{keeps_is_kept}
 use Rattle.winning_sets.proofs.KeptNames.{levels_decided}
 use Rattle.winning_sets.proofs.KeptParts.{kept_end, moves_counted}

@@ -16,7 +16,7 @@ use Rattle.rule_formula.proofs.FitLemmas.{placed_values, tuple_placed, values_of
 use Rattle.rule_formula.proofs.LawTheorem.{squares_of}
 use Rattle.mate_plan.specs.Plan.{turn_at}
 use Rattle.winning_sets.proofs.KeptKeeps.{stock_placed}
-use Rattle.winning_sets.proofs.KeptTakes.{same_some}
+use Rattle.set_plan.proofs.Takings.{same_some}
 
 -- they are as many as its live men have variables
 pub tuple_count : (stock : List Man) (q : Position) → HasStock stock q → length (tuple_of q) ≡ length (tracks_of stock (is_live (mask_of q)))

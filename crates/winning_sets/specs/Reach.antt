@@ -1,11 +1,6 @@
 -- Positions that are reached after so many moves.
 use Rattle.std.specs.Prelude.{◌≡◌, ℕ, zero, suc}
-use Rattle.game_rules.specs.Game.{Position, Legal}
-use Rattle.game_rules.specs.declared.men.Square.{Square}
-
--- some legal move leads from p to q
-abbrev pub Moves : Position → Position → Type 0
-Moves p q = (i : ℕ) × (z : Square) × Legal p i z q
+use Rattle.game_rules.specs.Game.{Position, Moves}
 
 -- exactly so many legal moves lead from p to q
 abbrev pub Reach : Position → ℕ → Position → Type 0

@@ -10,7 +10,6 @@ use Rattle.auto_core.specs.Integers.{DecidesIntegers, IsAccepted}
 use Rattle.auto_core.proofs.Ascents.{place-at}
 use Rattle.formula_auto.proofs.Atoms.{accepted-values}
 use Rattle.formula_auto.proofs.Projections.{apart-ascending}
-use Rattle.game_laws.proofs.DecideLemmas.{number_same}
 
 true_or_not : (b : Bool) → IsTrue b ⊎ (IsTrue b → ⊥)
 true_or_not true = inl refl
@@ -48,6 +47,9 @@ module _ (a : Automaton) (tuple : List ℤ) (ascending : IsAscending a.tracks) (
         | inl yes_it_is ↦ inl (subst (IsAccepted a) values (accepted.0 yes_it_is))
         | inr never ↦ inr (λ h. never (accepted.1 (subst (IsAccepted a) (sym values) h)))
       ]
+
+number_same : (i j : ℕ) → (i ≡ j) ⊎ ((i ≡ j) → ⊥)
+number_same i j = grind arith
 
 pub table_decided : (a : Automaton) → IsAscending a.tracks → DecidesIntegers a → (tuple : List ℤ) → IsAccepted a tuple ⊎ (IsAccepted a tuple → ⊥)
 table_decided a ascending integers tuple =

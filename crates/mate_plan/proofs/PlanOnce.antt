@@ -35,70 +35,70 @@ same-length [] (m ∷ ms) same = absurd same
 same-length (l ∷ ls) [] same = absurd same
 same-length (l ∷ ls) (m ∷ ms) same = ap (λ n. suc n) (same-length ls ms same.1)
 
-none-same : SameLevels no_sets no_sets
+pub none-same : SameLevels no_sets no_sets
 none-same mask = SameSets-self Nothing
 
 if-same : (b : Bool) (s t u v : SetOf) → SameSets s t → SameSets u v → SameSets (if b then s else u) (if b then t else v)
 if-same true s t u v first second = first
 if-same false s t u v first second = second
 
-level_with-same : (l m : Level) (mask : ℕ) (s t : SetOf) → SameLevels l m → SameSets s t → SameLevels (level_with l mask s) (level_with m mask t)
+pub level_with-same : (l m : Level) (mask : ℕ) (s t : SetOf) → SameLevels l m → SameSets s t → SameLevels (level_with l mask s) (level_with m mask t)
 level_with-same l m mask s t levels sets k = if-same (k == mask) s t (l k) (m k) sets (levels k)
 
-two-same : (s t u v : SetOf) → SameSets s t → SameSets u v → (k : ℕ) → SameSets (two s u k) (two t v k)
+pub two-same : (s t u v : SetOf) → SameSets s t → SameSets u v → (k : ℕ) → SameSets (two s u k) (two t v k)
 two-same s t u v first second zero = first
 two-same s t u v first second (suc k) = second
 
-for_masks-alike : (masks : List ℕ) (f g : ℕ → Program SetOf) (l m : Level) → ((mask : ℕ) → Alike SameSets (f mask) (g mask)) → SameLevels l m → Alike SameLevels (for_masks masks f l) (for_masks masks g m)
+pub for_masks-alike : (masks : List ℕ) (f g : ℕ → Program SetOf) (l m : Level) → ((mask : ℕ) → Alike SameSets (f mask) (g mask)) → SameLevels l m → Alike SameLevels (for_masks masks f l) (for_masks masks g m)
 for_masks-alike [] f g l m sets levels = levels
 for_masks-alike (mask ∷ masks) f g l m sets levels =
     bind-alike SameSets SameLevels (f mask) (g mask) (λ s. for_masks masks f (level_with l mask s)) (λ s. for_masks masks g (level_with m mask s)) (sets mask)
     (λ s t same. for_masks-alike masks f g (level_with l mask s) (level_with m mask t) sets (level_with-same l m mask s t levels same))
 
-map-items : {X : Type 0} (f g : X → Item) → ((x : X) → SameItem (f x) (g x)) → (xs : List X) → SameItems (map f xs) (map g xs)
+pub map-items : {X : Type 0} (f g : X → Item) → ((x : X) → SameItem (f x) (g x)) → (xs : List X) → SameItems (map f xs) (map g xs)
 map-items f g same [] = tt
 map-items f g same (x ∷ xs) = (same x, map-items f g same xs)
 
-append-items : (is js ks ls : List Item) → SameItems is js → SameItems ks ls → SameItems (is ++ ks) (js ++ ls)
+pub append-items : (is js ks ls : List Item) → SameItems is js → SameItems ks ls → SameItems (is ++ ks) (js ++ ls)
 append-items [] [] ks ls first second = second
 append-items [] (j ∷ js) ks ls first second = absurd first
 append-items (i ∷ is) [] ks ls first second = absurd first
 append-items (i ∷ is) (j ∷ js) ks ls first second = (first.0, append-items is js ks ls first.1 second)
 
-flat-items : (f g : ℕ → List Item) → ((mask : ℕ) → SameItems (f mask) (g mask)) → (masks : List ℕ) → SameItems (flat_map f masks) (flat_map g masks)
+pub flat-items : (f g : ℕ → List Item) → ((mask : ℕ) → SameItems (f mask) (g mask)) → (masks : List ℕ) → SameItems (flat_map f masks) (flat_map g masks)
 flat-items f g same [] = tt
 flat-items f g same (mask ∷ masks) = append-items (f mask) (g mask) (flat_map f masks) (flat_map g masks) (same mask) (flat-items f g same masks)
 
 module _ (rules : Rules) where
-  union-alike : (ply mask : ℕ) (p : Part) (is js : List Item) → SameItems is js → Alike SameSets (union rules ply mask p is) (union rules ply mask p js)
+  pub union-alike : (ply mask : ℕ) (p : Part) (is js : List Item) → SameItems is js → Alike SameSets (union rules ply mask p is) (union rules ply mask p js)
   union-alike ply mask p is js same =
       bind-alike SameMade SameSets (unite (rules.tracks mask) (name ply mask p) (Nothing, 1) is) (unite (rules.tracks mask) (name ply mask p) (Nothing, 1) js) (λ made. Give made.0) (λ made. Give made.0)
       (unite-alike (rules.tracks mask) (name ply mask p) (Nothing, 1) (Nothing, 1) is js (record { sets = SameSets-self Nothing; at = refl }) same)
       (λ a b made. made.sets)
 
-  difference-alike : (ply mask : ℕ) (p : Part) (s t u v : SetOf) → SameSets s t → SameSets u v → Alike SameSets (difference rules ply mask p s u) (difference rules ply mask p t v)
+  pub difference-alike : (ply mask : ℕ) (p : Part) (s t u v : SetOf) → SameSets s t → SameSets u v → Alike SameSets (difference rules ply mask p s u) (difference rules ply mask p t v)
   difference-alike ply mask p s t u v first second =
       bind-alike SameMade SameSets (without (rules.tracks mask) (name ply mask p) s u) (without (rules.tracks mask) (name ply mask p) t v) (λ made. Give made.0) (λ made. Give made.0)
       (without-alike (rules.tracks mask) (name ply mask p) s t u v first second)
       (λ a b made. made.sets)
 
-  image-same : (side : Side) (to : ℕ) (l m : Level) → SameLevels l m → SameItems (image_items rules side to l) (image_items rules side to m)
+  pub image-same : (side : Side) (to : ℕ) (l m : Level) → SameLevels l m → SameItems (image_items rules side to l) (image_items rules side to m)
   image-same side to l m levels =
       flat-items (λ mask. map (image_item rules mask (l mask)) (choices_into rules side mask to)) (λ mask. map (image_item rules mask (m mask)) (choices_into rules side mask to))
       (λ mask. map-items (image_item rules mask (l mask)) (image_item rules mask (m mask)) (λ o. SameItem-sets (rules.image mask o) (λ _. l mask) (λ _. m mask) (λ k. levels mask)) (choices_into rules side mask to))
       rules.masks
 
-  pre-same : (side : Side) (mask : ℕ) (s t : SetOf) (l m : Level) → SameSets s t → SameLevels l m → SameItems (pre_items rules side mask s l) (pre_items rules side mask t m)
+  pub pre-same : (side : Side) (mask : ℕ) (s t : SetOf) (l m : Level) → SameSets s t → SameLevels l m → SameItems (pre_items rules side mask s l) (pre_items rules side mask t m)
   pre-same side mask s t l m sets levels =
       map-items (pre_item rules mask s l) (pre_item rules mask t m)
       (λ o. SameItem-sets (rules.pre mask o) (two s (l (rules.target mask o))) (two t (m (rules.target mask o))) (two-same s t (l (rules.target mask o)) (m (rules.target mask o)) sets (levels (rules.target mask o))))
       (rules.choices side mask)
 
-  bear-same : (side : Side) (mask : ℕ) (s t : SetOf) → SameSets s t → SameItems (bear_items rules side mask s) (bear_items rules side mask t)
+  pub bear-same : (side : Side) (mask : ℕ) (s t : SetOf) → SameSets s t → SameItems (bear_items rules side mask s) (bear_items rules side mask t)
   bear-same side mask s t sets =
       map-items (bear_item rules mask s) (bear_item rules mask t) (λ b. SameItem-sets (rules.bear mask b) (λ _. s) (λ _. t) (λ k. sets)) (rules.bearings side mask)
 
-  narrow-alike : (ply mask : ℕ) (bearings : List Bearing) (m n : Made) → SameMade m n → Alike SameSets (narrow rules ply mask bearings m) (narrow rules ply mask bearings n)
+  pub narrow-alike : (ply mask : ℕ) (bearings : List Bearing) (m n : Made) → SameMade m n → Alike SameSets (narrow rules ply mask bearings m) (narrow rules ply mask bearings n)
   narrow-alike ply mask [] m n same = same.sets
   narrow-alike ply mask (b ∷ bearings) m n same =
       let At : ℕ → Type 0 = λ k. Alike SameSets (narrow rules ply mask (b ∷ bearings) (m.0, m.1)) (narrow rules ply mask (b ∷ bearings) (n.0, k)) in
@@ -107,13 +107,13 @@ module _ (rules : Rules) where
       (make-alike (name ply mask kind.Safe) m.1 (safe_item rules mask m.0 b) (safe_item rules mask n.0 b) (SameItem-sets (rules.safe mask b) (λ _. m.0) (λ _. n.0) (λ k. same.sets)))
       (λ a c more. narrow-alike ply mask bearings a c more))
 
-  reach_set-alike : (side : Side) (ply : ℕ) (l m : Level) (mask : ℕ) → SameLevels l m → Alike SameSets (reach_set rules side ply l mask) (reach_set rules side ply m mask)
+  pub reach_set-alike : (side : Side) (ply : ℕ) (l m : Level) (mask : ℕ) → SameLevels l m → Alike SameSets (reach_set rules side ply l mask) (reach_set rules side ply m mask)
   reach_set-alike side ply l m mask levels =
       bind-alike SameSets SameSets (union rules ply mask kind.Image (image_items rules side mask l)) (union rules ply mask kind.Image (image_items rules side mask m)) (λ moved. narrow rules ply mask (rules.bearings (other side) mask) (moved, 1)) (λ moved. narrow rules ply mask (rules.bearings (other side) mask) (moved, 1))
       (union-alike ply mask kind.Image (image_items rules side mask l) (image_items rules side mask m) (image-same side mask l m levels))
       (λ s t same. narrow-alike ply mask (rules.bearings (other side) mask) (s, 1) (t, 1) (record { sets = same; at = refl }))
 
-  reach_level-alike : (side : Side) (ply : ℕ) (l m : Level) → SameLevels l m → Alike SameLevels (reach_level rules side ply l) (reach_level rules side ply m)
+  pub reach_level-alike : (side : Side) (ply : ℕ) (l m : Level) → SameLevels l m → Alike SameLevels (reach_level rules side ply l) (reach_level rules side ply m)
   reach_level-alike side ply l m levels =
       for_masks-alike rules.masks (reach_set rules side ply l) (reach_set rules side ply m) no_sets no_sets (λ mask. reach_set-alike side ply l m mask levels) none-same
 
@@ -154,7 +154,7 @@ module _ (rules : Rules) where
       (λ mask. (Empty-alike (r mask) (q mask) (reached mask), SameSets-self Nothing, lost_set-alike side ply mask (r mask) (q mask) r1 q1 l m (reached mask) next rests))
       none-same)
 
-  point_level-alike : (mask : ℕ) → Alike SameLevels (point_level rules mask) (point_level rules mask)
+  pub point_level-alike : (mask : ℕ) → Alike SameLevels (point_level rules mask) (point_level rules mask)
   point_level-alike mask =
       let item : Item = record { formula = rules.point; sets = λ _. Nothing } in
       bind-alike SameMade SameLevels (make (name 0 mask kind.Point) 1 item) (make (name 0 mask kind.Point) 1 item) (λ made. Give (level_with no_sets mask made.0)) (λ made. Give (level_with no_sets mask made.0))

@@ -1,0 +1,3 @@
+pub mod CheckPlan
+pub mod Checked
+pub mod ClaimLaws

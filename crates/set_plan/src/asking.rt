@@ -1,0 +1,66 @@
+//! Questions whose answers take steps.
+ghost use Rattle.std.specs.Prelude.{ℕ, ◌≡◌, ◌<◌, ◌≤◌, ◌^◌, List, length, map, All, Bool, IfSome};
+ghost use Rattle.track_word.specs.declared.tracks.Var.{Var};
+ghost use Rattle.lin_formula.specs.TreeOf.{tree_of};
+ghost use Rattle.set_plan.specs.Outcome.{Answers};
+ghost use Rattle.set_plan.specs.Sets.{IsItemOn, IsSetOn, item_of, lent};
+ghost use Rattle.set_plan.specs.Unite as plan;
+
+use crate::empty::{is_empty_set, is_none_or_empty};
+use crate::left::{Left, remainder};
+use crate::parts::make;
+use crate::stop::PlanError;
+use auto_core::Auto;
+use formula_auto::{Memo, SetTable};
+use lin_formula::Formula;
+use std::alloc::Global;
+use track_word::Var;
+
+/// Whether the sets of all of the formulas are empty. They are made one after the other, up to the first that is not empty, in one part.
+pub fn are_empty<P: Copy>(
+    alloc: Global,
+    memo: &mut Memo,
+    part: P,
+    formulas: &[Formula],
+    sets: &SetTable,
+) -> Result<bool, PlanError<P>>
+    requires items { (tracks : List Var) × All (IsItemOn tracks sets.now) (map tree_of formulas.now) }
+    requires few { length formulas.now < 2 ^ 20 }
+    ensures answers { Answers (plan.are_empty part 1 (map (item_of sets.now) (map tree_of formulas.now))) memo.old.budget (λ (b : Bool). b) result }
+    ensures budget { memo.new.budget ≡ memo.old.budget }
+{
+    let mut at = 1;
+    for f in formulas {
+        let made = make(alloc, memo, part, at, f, sets)?;
+        if !is_none_or_empty(&made.set) {
+            return Ok(false);
+        }
+        at = made.at;
+    }
+    Ok(true)
+}
+
+/// Whether each tuple of the one set is in the other, in a part of its own: it takes the steps of what is left of the one without the other.
+pub fn is_within<P: Copy>(
+    alloc: Global,
+    tracks: &[Var],
+    part: P,
+    one: Option<&Auto>,
+    other: Option<&Auto>,
+    budget: u32,
+) -> Result<bool, PlanError<P>>
+    requires one { IfSome one (λ a. IsSetOn tracks.now a.now) }
+    requires other { IfSome other (λ a. IsSetOn tracks.now a.now) }
+    requires budget { (1 ≤ budget) × (budget ≤ 200000) }
+    ensures answers { Answers (plan.is_within tracks.now part (lent one.entry) (lent other.entry)) budget (λ (b : Bool). b) result }
+{
+    let left = remainder(alloc, tracks, part, one, other, budget)?;
+    let Some(a) = one else {
+        return Ok(true);
+    };
+    let _ = a.tracks();
+    match left {
+        Left::Whole => Ok(is_empty_set(a)),
+        Left::Part(set) => Ok(is_none_or_empty(&set)),
+    }
+}
