@@ -5,7 +5,7 @@ pub mod Mask
 pub mod Offsets
 pub mod Refusal
 pub mod RayTable
-pub mod Fault
+pub mod Unsoundness
 pub mod Way
 pub mod Along
 pub mod Check
