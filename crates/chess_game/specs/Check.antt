@@ -19,8 +19,8 @@ pub record IsCloseCheck (check : Check) : Type 0 where
   pub king : IsClose check.king
 
 -- no man can answer the check from a of the king at k
-abbrev pub IsHeld : Position → Square → Square → Type 0
-IsHeld p a k = (i : ℕ) → HasAnswer p a k i → ⊥
+abbrev pub IsUnanswered : Position → Square → Square → Type 0
+IsUnanswered p a k = (i : ℕ) → HasAnswer p a k i → ⊥
 
 -- he is the king of the side, on this square
 abbrev pub IsKingOn : Side → Square → Man → Type 0

@@ -7,7 +7,7 @@ ghost use Rattle.game_rules.specs.Rays.{ray_of, rays_of};
 ghost use Rattle.game_laws.specs.Answer.{CanGo, HasAnswer, IsCheckFrom, answer_square, answer_steps, cross, distance, off_line, steps_to, toward_x, toward_y};
 ghost use Rattle.chess_game.specs.Along.{IsStepwise};
 ghost use Rattle.chess_game.specs.Near.{IsNarrowPosition, IsNear};
-ghost use Rattle.chess_game.specs.Check.{IsClose, IsCloseCheck, IsCheckerOn, IsHeld, IsKingOn};
+ghost use Rattle.chess_game.specs.Check.{IsClose, IsCloseCheck, IsCheckerOn, IsUnanswered, IsKingOn};
 
 use crate::attack::attacks;
 use crate::board::Board;
@@ -188,10 +188,10 @@ fn has_answer(board: &Board, number: usize, check: Check) -> bool
 }
 
 /// Whether no man can answer the check.
-fn is_held(board: &Board, check: Check) -> bool
+fn is_unanswered(board: &Board, check: Check) -> bool
     requires narrow { IsNarrowPosition board.now }
     requires check { IsCloseCheck check }
-    ensures { IsTrue result ↔ IsHeld board.now check.from check.king }
+    ensures { IsTrue result ↔ IsUnanswered board.now check.from check.king }
 {
     for number in 1..=board.count() as usize {
         if has_answer(board, number, check) {
@@ -253,6 +253,6 @@ pub(crate) fn is_mated(board: &Board) -> bool
 {
     match check_of(board) {
         None => false,
-        Some(check) => is_held(board, check),
+        Some(check) => is_unanswered(board, check),
     }
 }

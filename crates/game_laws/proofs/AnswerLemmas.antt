@@ -21,7 +21,7 @@ use Rattle.game_laws.proofs.CrossLemmas.{IsOpposite, IsSame, cross_off, cross_st
 use Rattle.game_laws.proofs.CheckLemmas.{IsChecked, any_is, not_checker, some_and}
 use Rattle.game_laws.proofs.TableLemmas.{ray_is}
 use Rattle.game_laws.proofs.RayLemmas.{far_slider, step_one, true_or_not}
-use Rattle.game_laws.proofs.MateLemmas.{Answers, answers}
+use Rattle.game_laws.proofs.MateLemmas.{IsAnswerSquare, answers}
 
 -- who stands between two squares is in the way
 in_the_way : (p : Position) (a b : Square) → IsOpen p a b → (i : ℕ) (m : Man) (w : Square) → man_at p i ≡ Some m → StandsOn m w → IsBetween a b w → ⊥
@@ -150,7 +150,7 @@ module _ (p : Position) (c : IsChecked p) (i : ℕ) (z : Square) (q : Position) 
   line_direction : IsDirection (toward_x c.square c.king_square) (toward_y c.square c.king_square)
   line_direction = toward_direction c.square c.king_square (apart_far c.square c.king_square not_king_square (distance c.square c.king_square) refl)
 
-  far_answer : r.far ≡ true → Answers p c z → i ≢ c.king_number → answer_steps r b c.square c.king_square ≡ t
+  far_answer : r.far ≡ true → IsAnswerSquare p c z → i ≢ c.king_number → answer_steps r b c.square c.king_square ≡ t
   far_answer far (inl e) other_man =
       let d = (ray_is l.step.man.side l.step.man.kind one.number r one.on.is_ray).direction far in
       ap (λ f. steps_to f (off_line r.dx r.dy c.square c.king_square) (off_line (b.x -ℤ c.square.x) (b.y -ℤ c.square.y) c.square c.king_square) (distance b c.square)) far

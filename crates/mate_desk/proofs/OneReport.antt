@@ -104,8 +104,8 @@ module _ (one other : Result Order UsageWhy) where
 -- lines are one text
 once_after : (turnout : Turnout) (number : ℕ) (rest : Lines) (one other : Text) (F G : Stage → Type 0) → ((next : Stage) → F next → G next → one ≡ other) → AfterLine turnout number rest one F → AfterLine turnout number rest other G → one ≡ other
 once_after (turnouts.more next) number rest one other F G once a b = once next a b
-once_after (turnouts.whole p) number rest one other F G once a b = a ∙ sym b
-once_after (turnouts.refused why) number rest one other F G once a b = a ∙ sym b
+once_after (turnouts.complete p) number rest one other F G once a b = a ∙ sym b
+once_after (turnouts.wrong why) number rest one other F G once a b = a ∙ sym b
 
 pub once_text : (stage : Stage) (number : ℕ) (lines : Lines) (one other : Text) → ReadsLines stage number lines one → ReadsLines stage number lines other → one ≡ other
 once_text stage number (full line rest) one other a b =
