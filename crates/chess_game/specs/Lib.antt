@@ -9,5 +9,6 @@ pub mod Unsoundness
 pub mod Way
 pub mod Along
 pub mod Check
+pub mod Going
 pub use Rattle.game_rules.specs.Game
 pub use Rattle.game_rules.specs.Rays

@@ -111,11 +111,11 @@ pub fn try_move(p: &Position, mv: Move) -> Result<Position, Illegal>
     }
 }
 
-/// Whether the side to move is mated, on the unbounded board: the steps past the squares that an i64 can name are tried too.
+/// Whether the side to move is mated, on the unbounded board: steps past the squares that an i64 can name are tried too.
 ///
 /// A check is ended by a move of the king, or by another man on the checking man's square or between him and the king,
-/// and each ray of that man leads to one of these squares at most. So at most one move is tried for each ray of each man, 56
-/// in all. A move tried costs a look at each man for each man, as does the search for the checking man.
+/// and each ray of that man leads to one of these squares at most. So at most one move is tried for each ray of each man,
+/// 56 in all. A move tried costs a look at each man for each man, as does the search for the checking man.
 pub fn mated(p: &Position) -> bool
     requires { Sound p.now }
     ensures { IsTrue result ↔ Mate p.now }
