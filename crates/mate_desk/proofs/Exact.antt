@@ -4,7 +4,7 @@ use Rattle.desk_base.specs.Files.{Files}
 use Rattle.desk_base.specs.Lines.{lines_of}
 use Rattle.game_rules.specs.Game.{Position, Sound, Value}
 use Rattle.game_rules.specs.declared.men.Side.TheVariants.{White}
-use Rattle.chess_game.proofs.FaultLemmas.{fault_unsound}
+use Rattle.chess_game.proofs.UnsoundnessLemmas.{unsound_refuted}
 use Rattle.chess_text.specs.declared.reader.Stage.TheVariants.{Header}
 use Rattle.mate_desk.specs.Answer.{Answer, writes, exceeds}
 use Rattle.mate_desk.specs.Outcome.{Report, report_of}
@@ -41,7 +41,7 @@ module _ (files : Files) (n budget : ℕ) (p : Position) where
   }
 
   position_exact : (report : Report) → Sound p → ReportsPosition files (Decide n budget) p report → IsExact n budget p report
-  position_exact report sound (inl (why, fault, is)) = absurd (fault_unsound why p fault sound)
+  position_exact report sound (inl (why, fault, is)) = absurd (unsound_refuted why p fault sound)
   position_exact report sound (inr (also, (answer, right, is))) = let P : Report → Type 0 = λ r. IsExact n budget p r in subst P (sym is) (answer_exact answer right)
 
 pub decides_exactly : DecidesExactly

@@ -7,10 +7,10 @@ use Rattle.game_rules.specs.Game.{Position, Value}
 use Rattle.game_rules.specs.Game as game
 use Rattle.game_rules.specs.declared.men.Side.{Side}
 use Rattle.game_rules.specs.declared.men.Side.TheVariants.{White, Black}
-use Rattle.chess_game.specs.Fault.{IsFirstFault, IsLesserPair, rank}
-use Rattle.chess_game.specs.declared.faults.Unsound.{Unsound}
-use Rattle.chess_game.specs.declared.faults.Unsound.TheVariants.{NoKing, ManyKings, KingGone, SameSquare, OtherInCheck}
-use Rattle.chess_game.proofs.FaultLemmas.{fault_unsound, number_cases}
+use Rattle.chess_game.specs.Unsoundness.{IsFirstUnsoundness, IsLesserPair, rank}
+use Rattle.chess_game.specs.declared.unsoundness.Unsound.{Unsound}
+use Rattle.chess_game.specs.declared.unsoundness.Unsound.TheVariants.{NoKing, ManyKings, KingGone, SameSquare, OtherInCheck}
+use Rattle.chess_game.proofs.UnsoundnessLemmas.{unsound_refuted, number_cases}
 use Rattle.chess_text.specs.PositionText.{Turnout, position_text}
 use Rattle.chess_text.specs.PositionText as turnouts
 use Rattle.chess_text.specs.declared.reader.Stage.{Stage}
@@ -104,8 +104,8 @@ module _ (one other : Result Order UsageWhy) where
 -- lines are one text
 once_after : (turnout : Turnout) (number : ℕ) (rest : Lines) (one other : Text) (F G : Stage → Type 0) → ((next : Stage) → F next → G next → one ≡ other) → AfterLine turnout number rest one F → AfterLine turnout number rest other G → one ≡ other
 once_after (turnouts.more next) number rest one other F G once a b = once next a b
-once_after (turnouts.whole p) number rest one other F G once a b = a ∙ sym b
-once_after (turnouts.refused why) number rest one other F G once a b = a ∙ sym b
+once_after (turnouts.complete p) number rest one other F G once a b = a ∙ sym b
+once_after (turnouts.wrong why) number rest one other F G once a b = a ∙ sym b
 
 pub once_text : (stage : Stage) (number : ℕ) (lines : Lines) (one other : Text) → ReadsLines stage number lines one → ReadsLines stage number lines other → one ≡ other
 once_text stage number (full line rest) one other a b =
@@ -177,14 +177,14 @@ same_rank OtherInCheck (KingGone t) h = absurd (let q = ranks t in omega (arith,
 same_rank OtherInCheck (SameSquare k l) h = absurd (omega (arith, h))
 same_rank OtherInCheck OtherInCheck h = inl refl
 
-once_fault : (p : Position) (e f : Unsound) → IsFirstFault p e → IsFirstFault p f → e ≡ f
+once_fault : (p : Position) (e f : Unsound) → IsFirstUnsoundness p e → IsFirstUnsoundness p f → e ≡ f
 once_fault p e f a b = elim (number_cases (rank e) (rank f)) [
-  | inl less ↦ absurd (b.first e (inl less) a.fault)
-  | inr (inr more) ↦ absurd (a.first f (inl more) b.fault)
+  | inl less ↦ absurd (b.first e (inl less) a.holds)
+  | inr (inr more) ↦ absurd (a.first f (inl more) b.holds)
   | inr (inl same) ↦ elim (same_rank e f same) [
     | inl equal ↦ equal
-    | inr (inl lesser) ↦ absurd (b.first e (inr lesser) a.fault)
-    | inr (inr lesser) ↦ absurd (a.first f (inr lesser) b.fault)
+    | inr (inl lesser) ↦ absurd (b.first e (inr lesser) a.holds)
+    | inr (inr lesser) ↦ absurd (a.first f (inr lesser) b.holds)
   ]
 ]
 
@@ -248,8 +248,8 @@ once_answer Show p (exceeds step) other a b = absurd a
 module _ (files : Files) (one other : Report) where
   once_position : (order : Order) (p : Position) → ReportsPosition files order p one → ReportsPosition files order p other → one ≡ other
   once_position order p (inl (e, a, i)) (inl (f, b, j)) = i ∙ ap (λ why. refusal_as files is.Unsound (unsound_line why) false) (once_fault p e f a b) ∙ sym j
-  once_position order p (inl (e, a, i)) (inr (sound, b)) = absurd (fault_unsound e p a sound)
-  once_position order p (inr (sound, a)) (inl (f, b, j)) = absurd (fault_unsound f p b sound)
+  once_position order p (inl (e, a, i)) (inr (sound, b)) = absurd (unsound_refuted e p a sound)
+  once_position order p (inr (sound, a)) (inl (f, b, j)) = absurd (unsound_refuted f p b sound)
   once_position order p (inr (sound, a)) (inr (also, b)) = a.2 ∙ ap (report_of files) (once_answer order p a.0 b.0 a.1 b.1) ∙ sym b.2
 
   once_whole : (order : Order) (text : Text) → ReportsText files order text one → ReportsText files order text other → one ≡ other

@@ -3,8 +3,8 @@ use Rattle.std.proofs.Common.{◌≡◌, ◌++◌, ℕ, List, [], Ok, Err, IsTru
 use Rattle.desk_base.specs.Files.{Files}
 use Rattle.desk_base.specs.Lines.{lines_of}
 use Rattle.game_rules.specs.Game.{Position, Sound}
-use Rattle.chess_game.specs.Fault.{IsFirstFault}
-use Rattle.chess_game.specs.declared.faults.Unsound.{Unsound}
+use Rattle.chess_game.specs.Unsoundness.{IsFirstUnsoundness}
+use Rattle.chess_game.specs.declared.unsoundness.Unsound.{Unsound}
 use Rattle.mate_desk.specs.Answer.{Answer, writes, exceeds, budget_line}
 use Rattle.mate_desk.specs.Order.{Ordered, usage_line}
 use Rattle.mate_desk.specs.Outcome.{Report, refusal_as, done_with, report_of, RunEnds, CommandEnds}
@@ -46,7 +46,7 @@ module _ (words : List (List ℕ)) (files : Files) where
             let P : List ℕ → Type 0 = λ b. TextAt b (whole p (lines_of (pending ++ after))) in
             subst P (sym read.taken) (read.reads after)
 
-        pub unsound_reported : (why : Unsound) → IsFirstFault p why → Reports words before files (refusal_as files is.Unsound (unsound_line why) false)
+        pub unsound_reported : (why : Unsound) → IsFirstUnsoundness p why → Reports words before files (refusal_as files is.Unsound (unsound_line why) false)
         unsound_reported why fault = text_reported before (whole p (lines_of (pending ++ after))) (refusal_as files is.Unsound (unsound_line why) false) whole_at (inl (why, fault, refl))
 
         module _ (sound : Sound p) where

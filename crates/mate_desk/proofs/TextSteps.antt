@@ -8,7 +8,7 @@ use Rattle.desk_base.specs.declared.line.LineError.TheVariants as fails
 use Rattle.game_rules.specs.Game.{Position}
 use Rattle.chess_text.specs.PositionText.{Feeds, Turnout, with_man}
 use Rattle.chess_text.specs.PositionText as turnouts
-use Rattle.chess_text.specs.Reading.{Reading, ReadsLine, position_of}
+use Rattle.chess_text.specs.Progress.{Progress, ReadsLine, position_of}
 use Rattle.chess_text.specs.declared.man_line.TextWhy.{TextWhy}
 use Rattle.chess_text.specs.declared.reader.Stage.{Stage}
 use Rattle.chess_text.specs.declared.reader.Stage.TheVariants as stages
@@ -55,7 +55,7 @@ fed_more (stages.Men p) next line (inr (inr (inr (a, e, inl (m, is, i))))) =
     (record { nearer = omega (arith, a, length-append p.men (m ∷ [])); few = omega (arith, a, length-append p.men (m ∷ [])) })
 fed_more (stages.Men p) next line (inr (inr (inr (a, e, inr (reason, r, i))))) = absurd (cc)
 
-pub fed_whole : (stage : Stage) (p : Position) (line : List ℕ) → IsFew stage → Feeds stage line (turnouts.whole p) → length p.men ≤ 5
+pub fed_whole : (stage : Stage) (p : Position) (line : List ℕ) → IsFew stage → Feeds stage line (turnouts.complete p) → length p.men ≤ 5
 fed_whole stages.Header p line few (inl (e, i)) = absurd (cc)
 fed_whole stages.Header p line few (inr (e, i)) = absurd (cc)
 fed_whole stages.Turn p line few (inl (s, e, i)) = absurd (cc)
@@ -70,14 +70,14 @@ fed_whole (stages.Men q) p line few (inr (inr (inr (a, e, inl (m, is, i))))) = a
 fed_whole (stages.Men q) p line few (inr (inr (inr (a, e, inr (reason, r, i))))) = absurd (cc)
 
 -- what the reader of a text has answered
-pub answer_whole : (stage : Stage) (line : List ℕ) (fed : Fed) (p : Position) (reader : Reading) → position_of fed ≡ Some p → ReadsLine stage line (Ok fed) reader → Feeds stage line (turnouts.whole p)
+pub answer_whole : (stage : Stage) (line : List ℕ) (fed : Fed) (p : Position) (reader : Progress) → position_of fed ≡ Some p → ReadsLine stage line (Ok fed) reader → Feeds stage line (turnouts.complete p)
 answer_whole stage line More p reader is reads = absurd (cc)
 answer_whole stage line (Whole q) p reader is reads =
     let same : q ≡ p = cc in
-    let P : Position → Type 0 = λ r. Feeds stage line (turnouts.whole r) in
+    let P : Position → Type 0 = λ r. Feeds stage line (turnouts.complete r) in
     subst P same reads.0
 
-pub answer_more : (stage : Stage) (line : List ℕ) (fed : Fed) (reader : Reading) → position_of fed ≡ None → ReadsLine stage line (Ok fed) reader → Feeds stage line (turnouts.more reader.stage) × (reader.answer ≡ None)
+pub answer_more : (stage : Stage) (line : List ℕ) (fed : Fed) (reader : Progress) → position_of fed ≡ None → ReadsLine stage line (Ok fed) reader → Feeds stage line (turnouts.more reader.stage) × (reader.answer ≡ None)
 answer_more stage line More reader is reads = reads
 answer_more stage line (Whole q) reader is reads = absurd (cc)
 
@@ -110,18 +110,18 @@ module _ (stage : Stage) (number : ℕ) (pending before mid after line rest : Li
       text = λ more t r. text_full more t (turnouts.more next) feeds r;
     }
 
-    pub is_whole : (p : Position) → Feeds stage line (turnouts.whole p) → TextRead (Ok p) rest before after
+    pub is_whole : (p : Position) → Feeds stage line (turnouts.complete p) → TextRead (Ok p) rest before after
     is_whole p feeds = record {
       bytes = so_far.bytes ++ took.bytes;
       taken = split took.bytes took.taken;
-      reads = λ more. text_full more (whole p (lines_of (rest ++ more))) (turnouts.whole p) feeds refl;
+      reads = λ more. text_full more (whole p (lines_of (rest ++ more))) (turnouts.complete p) feeds refl;
     }
 
-    pub is_wrong : (why : TextWhy) → Feeds stage line (turnouts.refused why) → TextRead (Err (Refused number (Grammar why))) rest before after
+    pub is_wrong : (why : TextWhy) → Feeds stage line (turnouts.wrong why) → TextRead (Err (Refused number (Grammar why))) rest before after
     is_wrong why feeds = record {
       bytes = so_far.bytes ++ took.bytes;
       taken = split took.bytes took.taken;
-      reads = text_full after (refused number (Grammar why)) (turnouts.refused why) feeds refl;
+      reads = text_full after (refused number (Grammar why)) (turnouts.wrong why) feeds refl;
     }
 
   -- nothing comes after

@@ -9,7 +9,7 @@ pub use Rattle.desk_base.specs.Faults
 pub use Rattle.desk_base.specs.Files
 pub use Rattle.desk_base.specs.Lines
 pub use Rattle.game_rules.specs.Game
-pub use Rattle.chess_game.specs.Fault
+pub use Rattle.chess_game.specs.Unsoundness
 pub use Rattle.chess_text.specs.ManLine
 pub use Rattle.chess_text.specs.PositionText
 pub use Rattle.mate_plan.specs.PlanOf

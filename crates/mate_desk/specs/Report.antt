@@ -5,9 +5,9 @@ use Rattle.desk_base.specs.Files.{Files}
 use Rattle.desk_base.specs.Lines.{Lines}
 use Rattle.game_rules.specs.Game.{Position, InCheck, Least, Sound, Value, square_of}
 use Rattle.game_rules.specs.declared.men.Side.TheVariants.{White}
-use Rattle.chess_game.specs.Fault.{IsFirstFault}
-use Rattle.chess_game.specs.declared.faults.Unsound.{Unsound}
-use Rattle.chess_game.specs.declared.faults.Unsound.TheVariants.{NoKing, ManyKings, KingGone, SameSquare, OtherInCheck}
+use Rattle.chess_game.specs.Unsoundness.{IsFirstUnsoundness}
+use Rattle.chess_game.specs.declared.unsoundness.Unsound.{Unsound}
+use Rattle.chess_game.specs.declared.unsoundness.Unsound.TheVariants.{NoKing, ManyKings, KingGone, SameSquare, OtherInCheck}
 use Rattle.chess_text.specs.ManLine.{side_letter}
 use Rattle.chess_text.specs.PositionText.{position_text}
 use Rattle.mate_plan.specs.PlanOf.{plan_of}
@@ -105,7 +105,7 @@ TakesMemory orders.Show p = Unit {0}
 -- the report on a position, with the files before the run
 abbrev pub ReportsPosition : Files → Order → Position → Report → Type 0
 ReportsPosition files order p report =
-    ((why : Unsound) × IsFirstFault p why × (report ≡ refusal_as files is.Unsound (unsound_line why) false))
+    ((why : Unsound) × IsFirstUnsoundness p why × (report ≡ refusal_as files is.Unsound (unsound_line why) false))
     ⊎ (Sound p × ((answer : Answer) × Answers order p answer × (report ≡ report_of files answer)))
 
 abbrev pub ReportsText : Files → Order → Text → Report → Type 0

@@ -57,7 +57,7 @@ returns-in-Err-soundness-clause-ends g c = λ told.
     let files = g.H.Shelf.files c.args.shelf.now in
     let why = c.in-Err-soundness.why in (
       refusal_as files is.Unsound (unsound_line why) false,
-      unsound_reported words files _ c.in-Ok.ensures.ordered _ _ _ _ (c.in-Ok-read_position.ensures.reads told) why c.in-Err-soundness.ensures.fault,
+      unsound_reported words files _ c.in-Ok.ensures.ordered _ _ _ _ (c.in-Ok-read_position.ensures.reads told) why c.in-Err-soundness.ensures.reason,
       record {
         status = refl;
         written = rw (c.as_slice-in-Err-soundness.ensures, c.unsound_line-line.ensures) at c.refuse-in-Err-soundness.ensures.written;

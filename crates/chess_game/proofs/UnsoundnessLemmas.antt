@@ -1,4 +1,4 @@
--- Sound positions and their faults.
+-- Which positions are sound, and the first reason why one is not.
 use Rattle.std.proofs.Common.{◌≡◌, ◌⊎◌, inl, inr, ℕ, zero, suc, ◌<◌, ◌≤◌, length, Option, Some, None, sym, ap, subst, ◌∙◌, arith, refl}
 use Rattle.std.proofs.lemmas.Option.{slice_get_cases}
 use Rattle.std.specs.Prelude.{IsNone, IsSomeAnd}
@@ -9,9 +9,9 @@ use Rattle.game_rules.specs.declared.men.Place.TheVariants.{At, Gone}
 use Rattle.game_rules.specs.declared.men.Side.{Side}
 use Rattle.game_rules.specs.declared.men.Side.TheVariants.{White, Black}
 use Rattle.game_rules.specs.declared.men.Square.{Square}
-use Rattle.chess_game.specs.Fault.{AreTwins, HasFault, IsFirstFault, IsFirstPair, IsGoneAt, IsKingAt, IsLesserPair, rank}
-use Rattle.chess_game.specs.declared.faults.Unsound.{Unsound}
-use Rattle.chess_game.specs.declared.faults.Unsound.TheVariants.{NoKing, ManyKings, KingGone, SameSquare, OtherInCheck}
+use Rattle.chess_game.specs.Unsoundness.{AreTwins, IsUnsoundFor, IsFirstUnsoundness, IsFirstPair, IsGoneAt, IsKingAt, IsLesserPair, rank}
+use Rattle.chess_game.specs.declared.unsoundness.Unsound.{Unsound}
+use Rattle.chess_game.specs.declared.unsoundness.Unsound.TheVariants.{NoKing, ManyKings, KingGone, SameSquare, OtherInCheck}
 
 -- a man has a number
 pub within : (p : Position) (i : ℕ) (P : Man → Type 0) → IsSomeAnd (man_at p i) P → (0 < i) × (i ≤ length p.men)
@@ -62,18 +62,18 @@ apart_from p none i j m n z is_m is_n s t =
       | inr r ↦ elim r [ inl e ↦ e | inr gt ↦ absurd (none j i gt (z, rw is_n t, rw is_m s)) ]
     ]
 
--- a sound position has no fault
-no_fault : (e : Unsound) (p : Position) → HasFault p e → Sound p → ⊥
-no_fault (NoKing s) p h sound =
+-- for a sound position no reason holds
+refuted : (e : Unsound) (p : Position) → IsUnsoundFor p e → Sound p → ⊥
+refuted (NoKing s) p h sound =
     let one = sound.kings s in h one.number (rw one.is_man one.is_king)
-no_fault (ManyKings s) p (i, j, lt, a, b) sound =
+refuted (ManyKings s) p (i, j, lt, a, b) sound =
     let one = sound.kings s in
     let wa = man_of_some (man_at p i) _ a in
     let wb = man_of_some (man_at p j) _ b in
     let ea : i ≡ one.number = one.only i wa.0 wa.1 wa.2.0 wa.2.1 in
     let eb : j ≡ one.number = one.only j wb.0 wb.1 wb.2.0 wb.2.1 in
     omega arith
-no_fault (KingGone s) p (i, a, gone) sound =
+refuted (KingGone s) p (i, a, gone) sound =
     let one = sound.kings s in
     let wa = man_of_some (man_at p i) _ a in
     let ea : i ≡ one.number = one.only i wa.0 wa.1 wa.2.0 wa.2.1 in
@@ -82,15 +82,15 @@ no_fault (KingGone s) p (i, a, gone) sound =
     let who : wa.0 ≡ one.king = cc in
     let none : wa.0.place ≡ Gone = rw wa.1 at gone in
     one.live (sym (ap (λ m. m.place) who) ∙ none)
-no_fault (SameSquare i j) p (lt, (z, a, b)) sound =
+refuted (SameSquare i j) p (lt, (z, a, b)) sound =
     let wa = man_of_some (man_at p i) _ a in
     let wb = man_of_some (man_at p j) _ b in
     let e : i ≡ j = sound.apart i j wa.0 wb.0 z wa.1 wb.1 wa.2 wb.2 in
     omega arith
-no_fault OtherInCheck p h sound = sound.other_safe h
+refuted OtherInCheck p h sound = sound.other_safe h
 
-pub fault_unsound : (e : Unsound) (p : Position) → IsFirstFault p e → Sound p → ⊥
-fault_unsound e p h sound = no_fault e p h.fault sound
+pub unsound_refuted : (e : Unsound) (p : Position) → IsFirstUnsoundness p e → Sound p → ⊥
+unsound_refuted e p h sound = refuted e p h.holds sound
 
 pub kings_from : (p : Position) → HasOneKing p White → HasOneKing p Black → (s : Side) → HasOneKing p s
 kings_from p w b White = w
@@ -98,17 +98,17 @@ kings_from p w b Black = b
 
 -- no reason before this place in the order holds
 abbrev pub IsClear : Position → ℕ → Type 0
-IsClear p n = (f : Unsound) → rank f < n → HasFault p f → ⊥
+IsClear p n = (f : Unsound) → rank f < n → IsUnsoundFor p f → ⊥
 
 -- the only king of the side is live
-not_many : (p : Position) (s : Side) (i : ℕ) → ((k : ℕ) → k < i → IsKingAt p s k → ⊥) → ((k : ℕ) → i < k → IsKingAt p s k → ⊥) → HasFault p (ManyKings s) → ⊥
+not_many : (p : Position) (s : Side) (i : ℕ) → ((k : ℕ) → k < i → IsKingAt p s k → ⊥) → ((k : ℕ) → i < k → IsKingAt p s k → ⊥) → IsUnsoundFor p (ManyKings s) → ⊥
 not_many p s i first last (a, b, lt, ka, kb) =
     elim (number_cases a i) [
       | inl less ↦ first a less ka
       | inr r ↦ elim r [ inl same ↦ last b (omega arith) kb | inr gt ↦ last a gt ka ]
     ]
 
-not_gone : (p : Position) (s : Side) (i : ℕ) → ((k : ℕ) → k < i → IsKingAt p s k → ⊥) → ((k : ℕ) → i < k → IsKingAt p s k → ⊥) → (IsGoneAt p i → ⊥) → HasFault p (KingGone s) → ⊥
+not_gone : (p : Position) (s : Side) (i : ℕ) → ((k : ℕ) → k < i → IsKingAt p s k → ⊥) → ((k : ℕ) → i < k → IsKingAt p s k → ⊥) → (IsGoneAt p i → ⊥) → IsUnsoundFor p (KingGone s) → ⊥
 not_gone p s i first last live (a, ka, gone) =
     elim (number_cases a i) [
       | inl less ↦ first a less ka
@@ -137,15 +137,15 @@ no_pair (ManyKings s) e ne h = h
 no_pair (KingGone s) e ne h = h
 no_pair OtherInCheck e ne h = h
 
-pub first_fault : (p : Position) (e : Unsound) → (rank e ≡ 6 → ⊥) → IsClear p (rank e) → HasFault p e → IsFirstFault p e
-first_fault p e ne clear h =
+pub first_unsoundness : (p : Position) (e : Unsound) → (rank e ≡ 6 → ⊥) → IsClear p (rank e) → IsUnsoundFor p e → IsFirstUnsoundness p e
+first_unsoundness p e ne clear h =
     record {
-      fault = h;
+      holds = h;
       first = λ f before there.
           elim before [ inl lt ↦ clear f lt there | inr lesser ↦ no_pair f e ne lesser ];
     }
 
-no_lesser : (p : Position) (i j : ℕ) (f : Unsound) → IsFirstPair p (SameSquare i j) → IsLesserPair f (SameSquare i j) → HasFault p f → ⊥
+no_lesser : (p : Position) (i j : ℕ) (f : Unsound) → IsFirstPair p (SameSquare i j) → IsLesserPair f (SameSquare i j) → IsUnsoundFor p f → ⊥
 no_lesser p i j (SameSquare k l) h (inl lt) there = h.2 k l lt there.0 there.1
 no_lesser p i j (SameSquare k l) h (inr w) there =
     h.3 l (subst (λ n. n < l) w.0 there.0) w.1 (subst (λ n. AreTwins p n l) w.0 there.1)
@@ -155,10 +155,10 @@ no_lesser p i j (KingGone s) h lesser there = lesser
 no_lesser p i j OtherInCheck h lesser there = lesser
 
 -- the first two men on one square are the first reason, where no other stands before
-pub first_pair : (p : Position) (e : Unsound) → IsClear p 6 → IsFirstPair p e → IsFirstFault p e
+pub first_pair : (p : Position) (e : Unsound) → IsClear p 6 → IsFirstPair p e → IsFirstUnsoundness p e
 first_pair p (SameSquare i j) clear h =
     record {
-      fault = (h.0, h.1);
+      holds = (h.0, h.1);
       first = λ f before there. elim before [ inl lt ↦ clear f lt there | inr lesser ↦ no_lesser p i j f h lesser there ];
     }
 first_pair p (NoKing s) clear h = absurd h

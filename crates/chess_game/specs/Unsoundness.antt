@@ -6,8 +6,8 @@ use Rattle.game_rules.specs.declared.men.Side.TheVariants.{White, Black}
 use Rattle.game_rules.specs.declared.men.Kind.TheVariants.{King}
 use Rattle.game_rules.specs.declared.men.Place.TheVariants.{Gone}
 use Rattle.game_rules.specs.declared.men.Square.{Square}
-use Rattle.chess_game.specs.declared.faults.Unsound.{Unsound}
-use Rattle.chess_game.specs.declared.faults.Unsound.TheVariants.{NoKing, ManyKings, KingGone, SameSquare, OtherInCheck}
+use Rattle.chess_game.specs.declared.unsoundness.Unsound.{Unsound}
+use Rattle.chess_game.specs.declared.unsoundness.Unsound.TheVariants.{NoKing, ManyKings, KingGone, SameSquare, OtherInCheck}
 
 -- man i is a king of the side, live or captured
 abbrev pub IsKingAt : Position → Side → ℕ → Type 0
@@ -26,12 +26,12 @@ abbrev pub AreTwins : Position → ℕ → ℕ → Type 0
 AreTwins p i j = (z : Square) × StandsAt p i z × StandsAt p j z
 
 -- this reason holds, whether or not another does too
-abbrev pub HasFault : Position → Unsound → Type 0
-HasFault p (NoKing s) = (i : ℕ) → IsKingAt p s i → ⊥
-HasFault p (ManyKings s) = (i : ℕ) × (j : ℕ) × (i < j) × IsKingAt p s i × IsKingAt p s j
-HasFault p (KingGone s) = (i : ℕ) × IsKingAt p s i × IsGoneAt p i
-HasFault p (SameSquare i j) = (i < j) × AreTwins p i j
-HasFault p OtherInCheck = InCheck p (other p.turn)
+abbrev pub IsUnsoundFor : Position → Unsound → Type 0
+IsUnsoundFor p (NoKing s) = (i : ℕ) → IsKingAt p s i → ⊥
+IsUnsoundFor p (ManyKings s) = (i : ℕ) × (j : ℕ) × (i < j) × IsKingAt p s i × IsKingAt p s j
+IsUnsoundFor p (KingGone s) = (i : ℕ) × IsKingAt p s i × IsGoneAt p i
+IsUnsoundFor p (SameSquare i j) = (i < j) × AreTwins p i j
+IsUnsoundFor p OtherInCheck = InCheck p (other p.turn)
 
 -- the place of a reason in the order
 abbrev pub rank : Unsound → ℕ
@@ -54,9 +54,9 @@ abbrev pub IsBefore : Unsound → Unsound → Type 0
 IsBefore f e = (rank f < rank e) ⊎ IsLesserPair f e
 
 -- this is the first reason that holds
-pub record IsFirstFault (p : Position) (e : Unsound) : Type 0 where
-  pub fault : HasFault p e
-  pub first : (f : Unsound) → IsBefore f e → HasFault p f → ⊥
+pub record IsFirstUnsoundness (p : Position) (e : Unsound) : Type 0 where
+  pub holds : IsUnsoundFor p e
+  pub first : (f : Unsound) → IsBefore f e → IsUnsoundFor p f → ⊥
 
 -- this tells of the first two men who stand on one square
 abbrev pub IsFirstPair : Position → Unsound → Type 0

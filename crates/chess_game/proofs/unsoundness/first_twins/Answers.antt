@@ -1,7 +1,7 @@
 use Rattle.std.proofs.Common.{ℕ, ◌<◌, arith, below_more}
-use Rattle.chess_game.specs.Fault.{AreTwins}
-use Rattle.chess_game.proofs.FaultLemmas.{within}
-use Rattle.chess_game.proofs.faults.first_twins.Goals as goal
+use Rattle.chess_game.specs.Unsoundness.{AreTwins}
+use Rattle.chess_game.proofs.UnsoundnessLemmas.{within}
+use Rattle.chess_game.proofs.unsoundness.first_twins.Goals as goal
 
 pub loop-i-preserved : goal.loop-i-preserved
 loop-i-preserved c =

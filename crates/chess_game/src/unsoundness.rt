@@ -3,7 +3,7 @@
 ghost use Rattle.std.specs.Prelude.{◌≡◌, ◌↔◌, ◌<◌, ℕ, IfErr, IfNone, IfOk, IfSome, IsTrue, OnOk};
 ghost use Rattle.game_rules.specs.Game.{Sound};
 ghost use Rattle.game_rules.specs.declared.men.Square.{Square};
-ghost use Rattle.chess_game.specs.Fault.{AreTwins, HasFault, IsFirstFault, IsFirstPair, IsGoneAt, IsKingAt, StandsAt};
+ghost use Rattle.chess_game.specs.Unsoundness.{AreTwins, IsUnsoundFor, IsFirstUnsoundness, IsFirstPair, IsGoneAt, IsKingAt, StandsAt};
 
 use crate::attack::in_check;
 use crate::board::Board;
@@ -136,7 +136,7 @@ fn first_king(board: &Board, side: Side) -> Result<usize, Unsound>
     ensures small { IfOk result (λ i. i < 256) }
     ensures king { IfOk result (IsKingAt board.now side) }
     ensures first { IfOk result (λ i. (k : ℕ) → k < i → IsKingAt board.now side k → ⊥) }
-    ensures none { IfErr result (λ e. (e ≡ Unsound.NoKing side) × HasFault board.now (Unsound.NoKing side)) }
+    ensures none { IfErr result (λ e. (e ≡ Unsound.NoKing side) × IsUnsoundFor board.now (Unsound.NoKing side)) }
 {
     match king_after(board, side, 0) {
         Some(king) => Ok(king),
@@ -149,7 +149,7 @@ fn check_only(board: &Board, side: Side, king: usize) -> Result<(), Unsound>
     requires small { king < 256 }
     requires king { IsKingAt board.now side king }
     ensures only { OnOk result ((k : ℕ) → king < k → IsKingAt board.now side k → ⊥) }
-    ensures many { IfErr result (λ e. (e ≡ Unsound.ManyKings side) × HasFault board.now (Unsound.ManyKings side)) }
+    ensures many { IfErr result (λ e. (e ≡ Unsound.ManyKings side) × IsUnsoundFor board.now (Unsound.ManyKings side)) }
 {
     match king_after(board, side, king) {
         Some(_) => Err(Unsound::ManyKings(side)),
@@ -161,7 +161,7 @@ fn check_only(board: &Board, side: Side, king: usize) -> Result<(), Unsound>
 fn check_live(board: &Board, side: Side, king: usize) -> Result<(), Unsound>
     requires { IsKingAt board.now side king }
     ensures live { OnOk result (IsGoneAt board.now king → ⊥) }
-    ensures gone { IfErr result (λ e. (e ≡ Unsound.KingGone side) × HasFault board.now (Unsound.KingGone side)) }
+    ensures gone { IfErr result (λ e. (e ≡ Unsound.KingGone side) × IsUnsoundFor board.now (Unsound.KingGone side)) }
 {
     if is_gone(board, king) {
         return Err(Unsound::KingGone(side));
@@ -183,7 +183,7 @@ fn check_apart(board: &Board) -> Result<(), Unsound>
 /// Whether the board is sound; and if not, the first reason.
 pub(crate) fn check_board(board: &Board) -> Result<(), Unsound>
     ensures ok { OnOk result (Sound board.now) }
-    ensures fault { IfErr result (IsFirstFault board.now) }
+    ensures reason { IfErr result (IsFirstUnsoundness board.now) }
 {
     let white = first_king(board, Side::White)?;
     let black = first_king(board, Side::Black)?;
