@@ -3,6 +3,8 @@ pub mod Codes
 pub mod Order
 pub mod Outcome
 pub mod Report
+pub mod Run
+pub mod Taken
 pub mod Text
 pub mod TextRead
 pub use Rattle.desk_base.specs.Faults
