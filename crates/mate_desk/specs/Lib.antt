@@ -1,5 +1,6 @@
 pub mod Answer
 pub mod Codes
+pub mod Laws
 pub mod Order
 pub mod Outcome
 pub mod Report
