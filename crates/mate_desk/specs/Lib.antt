@@ -1,8 +1,11 @@
 pub mod Answer
 pub mod Codes
+pub mod Laws
 pub mod Order
 pub mod Outcome
 pub mod Report
+pub mod Run
+pub mod Taken
 pub mod Text
 pub mod TextRead
 pub use Rattle.desk_base.specs.Faults

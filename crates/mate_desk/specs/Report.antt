@@ -1,5 +1,5 @@
 -- What a run reports.
-use Rattle.std.specs.Prelude.{◌≡◌, ◌↔◌, ◌⊎◌, ℕ, ◌<◌, ◌≤◌, List, ◌∷◌, ◌++◌, false, Option, Some, None, Result, Ok, Err, codes, count_by, is_some, unwrap_or}
+use Rattle.std.specs.Prelude.{◌≡◌, ◌↔◌, ◌⊎◌, ℕ, ◌<◌, ◌≤◌, List, [], ◌∷◌, ◌++◌, false, Option, Some, None, Result, Ok, Err, codes, count_by, is_some, unwrap_or}
 use Rattle.std.specs.Fmt.{decimal}
 use Rattle.desk_base.specs.Files.{Files}
 use Rattle.desk_base.specs.Lines.{Lines}
@@ -138,10 +138,24 @@ OneReport =
     → Reports words bytes files other
     → one ≡ other
 
+-- the run is done, and writes one of the two lines and no fault line
+pub record IsAnswered (n : ℕ) (report : Report) : Type 0 where
+  pub status : report.status ≡ is.Done
+  pub text : (report.text ≡ mate_line n) ⊎ (report.text ≡ no_mate_line n)
+  pub fault : report.fault ≡ []
+
+-- the run names the first step that exceeds the budget, and writes nothing else
+pub record IsOverBudget (n budget : ℕ) (p : Position) (report : Report) : Type 0 where
+  pub status : report.status ≡ is.Budget
+  pub text : report.text ≡ []
+  pub step : StepName
+  pub first : ExceedsAt p budget n step
+  pub fault : report.fault ≡ budget_line step
+
 -- What a run of `decide` reports of a sound position: it is done, with the one line exactly where White mates within n moves of his own,
 -- and the other exactly where he does not; or it names the first step that exceeds the budget.
 pub record IsExact (n budget : ℕ) (p : Position) (report : Report) : Type 0 where
-  pub cause : (report.status ≡ is.Done) ⊎ ((report.status ≡ is.Budget) × ((step : StepName) × ExceedsAt p budget n step × (report.fault ≡ budget_line step)))
+  pub cause : IsAnswered n report ⊎ IsOverBudget n budget p report
   pub mate : report.status ≡ is.Done → (report.text ≡ mate_line n) ↔ Value White n p
   pub no_mate : report.status ≡ is.Done → (report.text ≡ no_mate_line n) ↔ (¬ Value White n p)
 

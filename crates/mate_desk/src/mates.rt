@@ -25,8 +25,7 @@ pub fn decide<K: Sink>(alloc: Global, p: &Position, moves: u8, budget: u32, sink
     requires few { length p.now.men ≤ 5 }
     requires moves { moves ≤ most_moves }
     requires budget { IsBudget budget }
-    ensures ends { CommandEnds result (AnswersDecide moves budget p.now) (¬ HasNoMove moves p.now) (IsTrue K.told) (HasRisen (K.faults sink.old) (K.faults sink.new)) (K.written sink.old) (K.written sink.new) }
-    ensures write_fault { result ≡ Status.WriteFault → HasRisen (K.faults sink.old) (K.faults sink.new) }
+    ensures ends { CommandEnds result (AnswersDecide moves budget p.now) (¬ HasNoMove moves p.now) (HasRisen (K.faults sink.old) (K.faults sink.new)) (K.written sink.old) (K.written sink.new) }
     ensures never_falls { K.faults sink.old ≤ K.faults sink.new }
 {
     let mut solver = Solver::new(alloc, p, Side::White, budget);
@@ -45,8 +44,7 @@ pub fn least<K: Sink>(alloc: Global, p: &Position, limit: u8, budget: u32, sink:
     requires few { length p.now.men ≤ 5 }
     requires limit { limit ≤ most_moves }
     requires budget { IsBudget budget }
-    ensures ends { CommandEnds result (AnswersLeast limit budget p.now) (¬ HasNoMove limit p.now) (IsTrue K.told) (HasRisen (K.faults sink.old) (K.faults sink.new)) (K.written sink.old) (K.written sink.new) }
-    ensures write_fault { result ≡ Status.WriteFault → HasRisen (K.faults sink.old) (K.faults sink.new) }
+    ensures ends { CommandEnds result (AnswersLeast limit budget p.now) (¬ HasNoMove limit p.now) (HasRisen (K.faults sink.old) (K.faults sink.new)) (K.written sink.old) (K.written sink.new) }
     ensures never_falls { K.faults sink.old ≤ K.faults sink.new }
 {
     match least_moves(alloc, p, limit, budget) {
