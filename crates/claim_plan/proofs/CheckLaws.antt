@@ -11,9 +11,10 @@ use Rattle.rule_formula.specs.Trees.{point_of}
 use Rattle.rule_formula.proofs.MeanTheorem.{rules_mean}
 use Rattle.rule_formula.proofs.PointTheorem.{point_made}
 use Rattle.mate_plan.specs.Claim.{Claim, IsClaim}
-use Rattle.claim_plan.specs.ClaimLaws.{CheckEndsOnce, CheckFindsFirst, EndsWhereWon, KeptClaimIsWon, NoneFailsWhereWon}
-use Rattle.claim_plan.specs.Checked.{Says, rules_in_order}
-use Rattle.claim_plan.proofs.CheckOnce.{ends-not_stops, stops-once}
+use Rattle.claim_plan.specs.CheckLaws.{CheckEndsOnce, CheckFindsFirst, EndsWhereWon, NoneFailsWhereWon}
+use Rattle.claim_plan.specs.WonLaws.{KeptClaimIsWon}
+use Rattle.claim_plan.specs.Checked.{KeepsRule, rules_in_order}
+use Rattle.claim_plan.proofs.SameClaims.{ends-not_stops, stops-once}
 use Rattle.claim_plan.proofs.Findings.{first_one}
 use Rattle.claim_plan.proofs.KeptClaims.{kept_claim_won}
 use Rattle.claim_plan.proofs.CheckMeans.{none_fails, plan-checks}
@@ -42,7 +43,7 @@ kept_claim_is_won = λ c is kept value. kept_claim_won c is (mean c is) (some_po
 pub check_ends_once : CheckEndsOnce
 check_ends_once = λ c budget is. record {
   one_end = λ a b h k.
-      first_one (Says c) (rules_in_order c) a b (check_finds_first c h.entries a is h.takes) (check_finds_first c k.entries b is k.takes);
+      first_one (KeepsRule c) (rules_in_order c) a b (check_finds_first c h.entries a is h.takes) (check_finds_first c k.entries b is k.takes);
   one_step = stops-once c budget;
   not_both = ends-not_stops c budget;
 }

@@ -16,7 +16,7 @@ use Rattle.winning_sets.proofs.KeptKeeps.{stock_unique}
 use Rattle.winning_sets.proofs.KeptParts.{kept_lost}
 use Rattle.winning_sets.proofs.KeptPlan.{fits_reached}
 use Rattle.mate_plan.specs.Claim.{Claim, IsClaim, IsClaimed, claimed_at}
-use Rattle.claim_plan.specs.ClaimLaws.{IsOfKept, KeptByLoser}
+use Rattle.claim_plan.specs.WonLaws.{IsOfKept, KeptByLoser}
 use Rattle.mate_plan.specs.Won.{IsBegun, IsWonBy, LeadsInto, Won}
 use Rattle.claim_plan.proofs.ClaimLemmas.{claimed_there}
 use Rattle.claim_plan.proofs.WonLemmas.{kept_won}

@@ -11,7 +11,7 @@ use Rattle.winning_sets.specs.Kept.{Kept}
 use Rattle.winning_sets.specs.Reach.{Reach}
 use Rattle.winning_sets.proofs.KeptParts.{kept_lost, reached_sound}
 use Rattle.mate_plan.specs.Claim.{IsLosersPly}
-use Rattle.claim_plan.specs.ClaimLaws.{KeptByLoser}
+use Rattle.claim_plan.specs.WonLaws.{KeptByLoser}
 use Rattle.mate_plan.specs.Won.{IsBegun, IsWonBy, LeadsInto}
 
 -- with the winner to move, the last ply is twice the number of moves; with the loser to move it is one more
