@@ -16,12 +16,15 @@ use Rattle.set_plan.proofs.Combined.{Empty-alike, SameItems, SameMade, bind-alik
 use Rattle.set_plan.proofs.SameSets.{SameItem-sets}
 use Rattle.mate_plan.specs.Plan.{Level, Program, Rules, bear_items, difference, name, point_level, pre_items, reach_level, union}
 use Rattle.mate_plan.specs.PlanOf.{rules_of}
+use Rattle.mate_plan.specs.Questions.{are_answered, are_apart, are_safe, have_moves, have_replies, quiet_set}
 use Rattle.mate_plan.specs.Twins.{twin_item, twin_items, twins_of}
+use Rattle.mate_plan.specs.declared.names.Part.{Part}
 use Rattle.mate_plan.specs.declared.names.Part.TheVariants as kind
 use Rattle.mate_plan.specs.declared.names.PartName.{PartName}
-use Rattle.mate_plan.proofs.PlanOnce.{SameLevels, bear-same, difference-alike, map-items, point_level-alike, pre-same, reach_level-alike, union-alike}
+use Rattle.mate_plan.specs.Once.{SameLevels}
+use Rattle.mate_plan.proofs.PlanOnce.{bear-same, difference-alike, map-items, point_level-alike, pre-same, reach_level-alike, union-alike}
 use Rattle.mate_plan.specs.Claim.{Claim, ClaimedSet, claimed_at, claimed_in, claimed_level, losers_plies}
-use Rattle.claim_plan.specs.CheckPlan.{Finding, and_then, check_claimed, check_first, check_guard, check_left, check_move, check_moving, check_plan, check_ply, check_quiet, check_replies, check_same, check_sets, check_sign, check_stale, check_waiting, for_each, go_on, holds_by, judged, rule_at}
+use Rattle.claim_plan.specs.CheckPlan.{Finding, and_then, check_first, check_left, check_move, check_moving, check_plan, check_ply, check_replies, check_set, check_sets, check_sign, check_stale, check_waiting, for_each, go_on, holds_by, judged, rule_at}
 use Rattle.claim_plan.specs.SameClaims.{AreSameSets}
 use Rattle.claim_plan.specs.declared.names.RuleAt.{RuleAt}
 use Rattle.claim_plan.specs.declared.names.Rule.TheVariants as rule
@@ -91,43 +94,47 @@ sign-alike ply mask None (Some b) same = absurd same
 sign-alike ply mask (Some a) None same = absurd same
 sign-alike ply mask (Some a) (Some b) same = asked-alike (rule_at ply mask rule.Sign) (Stable a) (Stable b) (Stable-alike a b (decides-same a b same))
 
-module _ (rules : Rules) where
-  same-alike : (ply mask : ℕ) (is js : List Item) → SameItems is js → Alike Same (check_same rules ply mask is) (check_same rules ply mask js)
-  same-alike ply mask is js items =
-      let part = name ply mask kind.Same in
-      holds_by-alike (rule_at ply mask rule.Same) (are_empty part 1 is) (are_empty part 1 js) (are_empty-alike part is js 1 1 refl items)
+apart-alike : (p : Position) (ply mask : ℕ) (s t : SetOf) → SameSets s t → Alike Same (are_apart p ply mask s) (are_apart p ply mask t)
+apart-alike p ply mask s t sets =
+    are_empty-alike (name ply mask kind.Same) (twin_items p mask s) (twin_items p mask t) 1 1 refl
+    (map-items (twin_item s) (twin_item t) (λ f. SameItem-sets f (λ _. s) (λ _. t) (λ k. sets)) (twins_of p mask 0))
 
-  guard-alike : (side : Side) (ply mask : ℕ) (s t : SetOf) → SameSets s t → Alike Same (check_guard rules side ply mask s) (check_guard rules side ply mask t)
-  guard-alike side ply mask s t sets =
-      let part = name ply mask kind.Guard in
-      let over = λ (u : SetOf). bear_items rules side mask u in
-      holds_by-alike (rule_at ply mask rule.Guard) (are_empty part 1 (over s)) (are_empty part 1 (over t))
-      (are_empty-alike part (over s) (over t) 1 1 refl (bear-same rules side mask s t sets))
+module _ (rules : Rules) where
+  safe-alike : (side : Side) (ply mask : ℕ) (s t : SetOf) → SameSets s t → Alike Same (are_safe rules side ply mask s) (are_safe rules side ply mask t)
+  safe-alike side ply mask s t sets =
+      are_empty-alike (name ply mask kind.Guard) (bear_items rules side mask s) (bear_items rules side mask t) 1 1 refl (bear-same rules side mask s t sets)
+
+  moves-alike : (side : Side) (ply mask : ℕ) (found missing : Part) (s t : SetOf) (c d : Level) → SameSets s t → SameLevels c d → Alike Same (have_moves rules side ply mask found missing s c) (have_moves rules side ply mask found missing t d)
+  moves-alike side ply mask found missing s t c d sets levels =
+      let items = λ (u : SetOf) (l : Level). pre_items rules side mask u l in
+      let within = λ (u v : SetOf). is_within (rules.tracks mask) (name ply mask missing) u v in
+      bind-alike SameSets Same (union rules ply mask found (items s c)) (union rules ply mask found (items t d)) (within s) (within t)
+      (union-alike rules ply mask found (items s c) (items t d) (pre-same rules side mask s t c d sets levels))
+      (λ u v same. is_within-alike (rules.tracks mask) (name ply mask missing) s t u v sets same)
+
+  quiet-alike : (side : Side) (ply mask : ℕ) (s t : SetOf) → SameSets s t → Alike SameSets (quiet_set rules side ply mask s) (quiet_set rules side ply mask t)
+  quiet-alike side ply mask s t sets =
+      let bears = λ (u : SetOf). bear_items rules (other side) mask u in
+      let rest = λ (u check : SetOf). difference rules ply mask kind.Quiet u check in
+      bind-alike SameSets SameSets (union rules ply mask kind.Check (bears s)) (union rules ply mask kind.Check (bears t)) (rest s) (rest t)
+      (union-alike rules ply mask kind.Check (bears s) (bears t) (bear-same rules (other side) mask s t sets))
+      (λ u v check. difference-alike rules ply mask kind.Quiet s t u v sets check)
 
   left-alike : (side : Side) (ply : ℕ) (r q c d : Level) (mask : ℕ) → SameLevels r q → SameLevels c d → Alike Same (check_left rules side ply r c mask) (check_left rules side ply q d mask)
   left-alike side ply r q c d mask reached claimed =
-      let f = rule_at ply mask rule.Left in
-      let into = λ (l e : Level). pre_items rules side mask (l mask) e in
-      let within = λ (l : Level) (s : SetOf). is_within (rules.tracks mask) (name ply mask kind.Left) (l mask) s in
-      bind-alike SameSets Same (union rules ply mask kind.Answer (into r c)) (union rules ply mask kind.Answer (into q d)) (λ s. holds_by f (within r s)) (λ s. holds_by f (within q s))
-      (union-alike rules ply mask kind.Answer (into r c) (into q d) (pre-same rules side mask (r mask) (q mask) c d (reached mask) claimed))
-      (λ s t same. holds_by-alike f (within r s) (within q t) (is_within-alike (rules.tracks mask) (name ply mask kind.Left) (r mask) (q mask) s t (reached mask) same))
+      holds_by-alike (rule_at ply mask rule.Left) (are_answered rules side ply r c mask) (are_answered rules side ply q d mask)
+      (moves-alike side ply mask kind.Answer kind.Left (r mask) (q mask) c d (reached mask) claimed)
 
-  quiet-alike : (side : Side) (ply : ℕ) (s t : SetOf) (r q : Level) (mask : ℕ) → SameSets s t → SameLevels r q → Alike Same (check_quiet rules side ply s r mask) (check_quiet rules side ply t q mask)
-  quiet-alike side ply s t r q mask claimed reached =
-      let f = rule_at ply mask rule.Stale in
-      let bears = λ (u : SetOf). bear_items rules (other side) mask u in
-      let into = λ (u : SetOf) (l : Level). pre_items rules side mask u l in
-      let within = λ (u v : SetOf). is_within (rules.tracks mask) (name ply mask kind.Stale) u v in
-      bind-alike SameSets Same (union rules ply mask kind.Check (bears s)) (union rules ply mask kind.Check (bears t)) _ _
-      (union-alike rules ply mask kind.Check (bears s) (bears t) (bear-same rules (other side) mask s t claimed))
-      (λ c d check.
-      bind-alike SameSets Same (difference rules ply mask kind.Quiet s c) (difference rules ply mask kind.Quiet t d) _ _ (difference-alike rules ply mask kind.Quiet s t c d claimed check)
-      (λ v w quiet.
-      bind-alike SameSets Same (union rules ply mask kind.Reply (into v r)) (union rules ply mask kind.Reply (into w q)) _ _
-      (union-alike rules ply mask kind.Reply (into v r) (into w q) (pre-same rules side mask v w r q quiet reached))
-      (λ x y reply.
-      holds_by-alike f (within v x) (within w y) (is_within-alike (rules.tracks mask) (name ply mask kind.Stale) v w x y quiet reply))))
+  stale-alike : (side : Side) (ply : ℕ) (c d r q : Level) (mask : ℕ) → SameLevels c d → SameLevels r q → Alike Same (check_stale rules side ply c r mask) (check_stale rules side ply d q mask)
+  stale-alike side ply c d r q mask claimed reached =
+      let moves = λ (l : Level) (u : SetOf). have_moves rules side ply mask kind.Reply kind.Stale u l in
+      holds_by-alike (rule_at ply mask rule.Stale) (have_replies rules side ply c r mask) (have_replies rules side ply d q mask) (
+        Empty-alike (c mask) (d mask) (claimed mask),
+        refl,
+        bind-alike SameSets Same (quiet_set rules side ply mask (c mask)) (quiet_set rules side ply mask (d mask)) (moves r) (moves q)
+        (quiet-alike side ply mask (c mask) (d mask) (claimed mask))
+        (λ u v quiet. moves-alike side ply mask kind.Reply kind.Stale u v r q quiet reached),
+      )
 
   replies-alike : (side : Side) (ply : ℕ) (c d e f : Level) → SameLevels c d → SameLevels e f → Alike Same (check_replies rules side ply c e) (check_replies rules side ply d f)
   replies-alike side ply c d e f claimed claimed2 =
@@ -139,7 +146,7 @@ module _ (rules : Rules) where
       (λ r q reached.
       and_then-alike (for_each rules.masks (left r e)) (for_each rules.masks (left q f)) (for_each rules.masks (stale c r)) (for_each rules.masks (stale d q))
       (for_each-alike (left r e) (left q f) rules.masks (λ m. left-alike (other side) (suc ply) r q e f m reached claimed2))
-      (for_each-alike (stale c r) (stale d q) rules.masks (λ m. (Empty-alike (c m) (d m) (claimed m), refl, quiet-alike side ply (c m) (d m) r q m (claimed m) reached))))
+      (for_each-alike (stale c r) (stale d q) rules.masks (λ m. stale-alike side ply c d r q m claimed reached)))
 
   move-alike : (side : Side) (mask : ℕ) (tuple : List ℤ) (c d : Level) → SameLevels c d → Alike Same (check_move rules side mask tuple c) (check_move rules side mask tuple d)
   move-alike side mask tuple c d claimed =
@@ -167,22 +174,23 @@ module _ (p : Position) (w : Side) (n : ℕ) (xs ys : List ClaimedSet) (same : (
   levels-same : (ply : ℕ) → SameLevels (claimed_level c ply) (claimed_level d ply)
   levels-same ply mask = SameSets-claimed (claimed_in xs ply mask) (claimed_in ys ply mask) (same ply mask)
 
-  claimed-alike : (ply mask : ℕ) (o u : Option Automaton) → AreSameSets o u → Alike Same (check_claimed rules (other w) ply mask (twin_items p mask) o) (check_claimed rules (other w) ply mask (twin_items p mask) u)
-  claimed-alike ply mask o u sets =
-      let members = SameSets-claimed o u sets in
-      let twins = λ (v : Option Automaton). check_same rules ply mask (twin_items p mask (as_set v)) in
-      let bears = λ (v : Option Automaton). check_guard rules (other w) ply mask (as_set v) in
-      and_then-alike (check_sign ply mask o) (check_sign ply mask u) (and_then (twins o) (bears o)) (and_then (twins u) (bears u))
-      (sign-alike ply mask o u sets)
-      (and_then-alike (twins o) (twins u) (bears o) (bears u)
-      (same-alike rules ply mask (twin_items p mask (as_set o)) (twin_items p mask (as_set u))
-      (map-items (twin_item (as_set o)) (twin_item (as_set u)) (λ f. SameItem-sets f (λ _. as_set o) (λ _. as_set u) (λ k. members)) (twins_of p mask 0)))
-      (guard-alike rules (other w) ply mask (as_set o) (as_set u) members))
+  set-alike : (ply mask : ℕ) → Alike Same (check_set c ply mask) (check_set d ply mask)
+  set-alike ply mask =
+      let members = levels-same ply mask in
+      let at = λ (x : Claim). claimed_level x ply mask in
+      let twins = λ (x : Claim). are_apart p ply mask (at x) in
+      let bears = λ (x : Claim). are_safe rules (other w) ply mask (at x) in
+      let sign = λ (x : Claim). check_sign ply mask (claimed_at x ply mask) in
+      let apart = λ (x : Claim). holds_by (rule_at ply mask rule.Same) (twins x) in
+      let guard = λ (x : Claim). holds_by (rule_at ply mask rule.Guard) (bears x) in
+      and_then-alike (sign c) (sign d) (and_then (apart c) (guard c)) (and_then (apart d) (guard d))
+      (sign-alike ply mask (claimed_at c ply mask) (claimed_at d ply mask) (same ply mask))
+      (and_then-alike (apart c) (apart d) (guard c) (guard d)
+      (holds_by-alike (rule_at ply mask rule.Same) (twins c) (twins d) (apart-alike p ply mask (at c) (at d) members))
+      (holds_by-alike (rule_at ply mask rule.Guard) (bears c) (bears d) (safe-alike rules (other w) ply mask (at c) (at d) members)))
 
   sets-alike : (ply : ℕ) → Alike Same (check_sets c ply) (check_sets d ply)
-  sets-alike ply =
-      for_each-alike (λ m. check_claimed rules (other w) ply m (twin_items p m) (claimed_at c ply m)) (λ m. check_claimed rules (other w) ply m (twin_items p m) (claimed_at d ply m)) rules.masks
-      (λ m. claimed-alike ply m (claimed_at c ply m) (claimed_at d ply m) (same ply m))
+  sets-alike ply = for_each-alike (check_set c ply) (check_set d ply) rules.masks (set-alike ply)
 
   moving-alike : (k : ℕ) → Alike Same (check_moving c k) (check_moving d k)
   moving-alike zero = refl

@@ -18,8 +18,6 @@ use Rattle.claim_plan.proofs.SameClaims.{ends-not_stops, stops-once}
 use Rattle.claim_plan.proofs.Findings.{first_one}
 use Rattle.claim_plan.proofs.KeptClaims.{kept_claim_won}
 use Rattle.claim_plan.proofs.CheckMeans.{none_fails, plan-checks}
-use Rattle.mate_plan.proofs.PairLemmas.{pairs-have}
-use Rattle.claim_plan.proofs.TwinsMeans.{pair_mean}
 
 mean : (c : Claim) → IsClaim c → RulesMean c.position
 mean c is = let game : IsGame c.position = record { few = is.few; kings = is.sound.kings } in rules_mean c.position game
@@ -31,8 +29,7 @@ some_point p sound =
 
 pub check_finds_first : CheckFindsFirst
 check_finds_first = λ c entries found is t.
-    plan-checks c is (mean c is) (some_point c.position is.sound)
-    (λ m w game i. pair_mean c.position is.few m w game ((pairs-have c.position m w).0 i)) entries found t
+    plan-checks c is (mean c is) (some_point c.position is.sound) entries found t
 
 pub none_fails_where_won : NoneFailsWhereWon
 none_fails_where_won = λ c found is first. none_fails c is (mean c is) found first

@@ -11,9 +11,8 @@ use Rattle.mate_plan.specs.Plan.{Program}
 use Rattle.mate_plan.specs.PlanOf.{rules_of}
 use Rattle.winning_sets.proofs.KeptSets.{game_mask, in_masks}
 use Rattle.mate_plan.specs.Claim.{Claim, IsClaim, IsClaimed, IsLosersPly, claimed_at, losers_plies}
-use Rattle.rule_formula.specs.TwinsMean.{TwinsMean}
-use Rattle.claim_plan.specs.CheckPlan.{Finding, and_then, check_claimed, check_first, check_plan, check_ply, check_sets, for_each, rule_at}
-use Rattle.mate_plan.specs.Twins.{Two, pairs_in, twin_items}
+use Rattle.claim_plan.specs.CheckPlan.{Finding, and_then, check_first, check_plan, check_ply, check_set, check_sets, for_each, rule_at}
+use Rattle.mate_plan.specs.Twins.{twin_items}
 use Rattle.claim_plan.specs.Checked.{IsFirstFailing, RuleHolds, KeepsRule, reply_rules, rules_in_order, set_rules}
 use Rattle.mate_plan.specs.Won.{IsWonBy, LeadsInto, Won}
 use Rattle.claim_plan.specs.declared.names.RuleAt.{RuleAt}
@@ -110,12 +109,12 @@ module _ (c : Claim) (is : IsClaim c) (mean : RulesMean c.position) where
     λ won. failing_none (KeepsRule c) (rules_in_order c) found (all_of (KeepsRule c) (won_keeps c won) (rules_in_order c)) first,
   )
 
-  module _ (some_point : point_of c.position.men ≡ None → ⊥) (twin : (m : ℕ) (w : Two) → IsGameMask c.position m → Contains (pairs_in c.position m) w → TwinsMean c.position m w.first w.second) where
+  module _ (some_point : point_of c.position.men ≡ None → ⊥) where
     sets-checks : (ply : ℕ) → Checks (KeepsRule c) (set_rules c ply) (check_sets c ply)
     sets-checks ply =
         for_each-checks (KeepsRule c) (λ m. rule_at ply m rule.Sign ∷ rule_at ply m rule.Same ∷ rule_at ply m rule.Guard ∷ [])
-        (λ m. check_claimed (rules_of c.position) (other c.winner) ply m (twin_items c.position m) (claimed_at c ply m)) (masks_of c.position)
-        (λ m i. claimed-checks c is mean twin ply m (game_mask c.position mean m i))
+        (check_set c ply) (masks_of c.position)
+        (λ m i. claimed-checks c is mean ply m (game_mask c.position mean m i))
 
     -- the plan finds the first of the rules that fails
     pub plan-checks : Checks (KeepsRule c) (rules_in_order c) (check_plan c)

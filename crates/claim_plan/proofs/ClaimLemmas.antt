@@ -18,7 +18,7 @@ use Rattle.rule_formula.proofs.PlacedLemmas.{stock_man-men}
 use Rattle.mate_plan.specs.PlanOf.{last_ply}
 use Rattle.winning_sets.specs.Kept.{moves_left}
 use Rattle.winning_sets.specs.Solve.{HasTuplesOf, IsTupleOf}
-use Rattle.winning_sets.proofs.KeptKeeps.{stock_placed}
+use Rattle.rule_formula.proofs.StockLemmas.{stock_placed}
 use Rattle.winning_sets.proofs.KeptParts.{left_half_more}
 use Rattle.mate_plan.specs.Claim.{Claim, IsClaim, IsClaimed, IsLosersPly, claimed_at, claimed_level}
 use Rattle.claim_plan.specs.WonLaws.{ClaimedIsLost, KeptIsWon, SetsHaveClaimedTuples, WonIsValue}

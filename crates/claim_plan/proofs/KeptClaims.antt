@@ -12,7 +12,7 @@ use Rattle.rule_formula.specs.Trees.{point_of}
 use Rattle.mate_plan.specs.Plan.{turn_at}
 use Rattle.winning_sets.specs.Kept.{Kept}
 use Rattle.winning_sets.specs.Solve.{HasTuplesOf, IsTupleOf}
-use Rattle.winning_sets.proofs.KeptKeeps.{stock_unique}
+use Rattle.rule_formula.proofs.StockLemmas.{stock_unique}
 use Rattle.winning_sets.proofs.KeptParts.{kept_lost}
 use Rattle.winning_sets.proofs.KeptPlan.{fits_reached}
 use Rattle.mate_plan.specs.Claim.{Claim, IsClaim, IsClaimed, claimed_at}

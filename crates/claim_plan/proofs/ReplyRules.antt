@@ -1,5 +1,5 @@
 -- The rules of the replies: each one has an answer into what is claimed, and there is one, or check.
-use Rattle.std.proofs.Common.{◌≡◌, ◌↔◌, ◌⊎◌, ℕ, zero, suc, ◌+◌, ◌*◌, List, [], ◌∷◌, ◌++◌, map, Option, Some, None, inl, inr, ℤ, refl, sym, ap, ◌∙◌, subst, arith}
+use Rattle.std.proofs.Common.{◌≡◌, ◌↔◌, ◌⊎◌, ℕ, zero, suc, ◌+◌, ◌*◌, Bool, true, List, [], ◌∷◌, ◌++◌, map, Option, Some, None, inl, inr, ℤ, refl, sym, ap, ◌∙◌, subst, arith}
 use Rattle.std.specs.Prelude.{Contains}
 use Rattle.game_rules.specs.Game.{HasMove, InCheck, IsApart, Moves, Position, Sound, other}
 use Rattle.game_rules.specs.declared.men.Side.{Side}
@@ -17,19 +17,20 @@ use Rattle.set_plan.specs.Unite.{is_within}
 use Rattle.set_plan.proofs.Composition.{Takes-split, none_some}
 use Rattle.mate_plan.specs.Plan.{Level, Program, Rules, bear_items, difference, for_masks, name, no_sets, pre_items, reach_level, reach_set, union}
 use Rattle.mate_plan.specs.PlanOf.{rules_of}
+use Rattle.mate_plan.specs.Questions.{are_answered, have_moves, have_replies, quiet_set}
 use Rattle.mate_plan.specs.declared.names.Part.{Part}
 use Rattle.mate_plan.specs.declared.names.Part.TheVariants as kind
 use Rattle.winning_sets.proofs.KeptParts.{Checked, Image, Moves-safe, Pre, Safe, StepsTo-moves, Without, safe-moves}
 use Rattle.winning_sets.proofs.KeptSets.{Entries, Stands, check-stands, difference-stands, for_masks-level, game_mask, in_masks, pre-stands, reach_set-stands, reach_set_fitting}
 use Rattle.set_plan.proofs.Takings.{Takes-give, remainder-members, remainder_over}
 use Rattle.mate_plan.specs.Claim.{Claim, IsClaim, IsClaimed, claimed_at, claimed_level}
-use Rattle.claim_plan.specs.CheckPlan.{Finding, and_then, check_left, check_replies, check_quiet, check_stale, for_each, holds_by, rule_at}
+use Rattle.claim_plan.specs.CheckPlan.{Finding, and_then, check_left, check_replies, check_stale, for_each, rule_at}
 use Rattle.claim_plan.specs.Checked.{RuleHolds, KeepsRule, reply_rules}
 use Rattle.mate_plan.specs.Won.{LeadsInto}
 use Rattle.claim_plan.specs.declared.names.RuleAt.{RuleAt}
 use Rattle.claim_plan.specs.declared.names.Rule.TheVariants as rule
 use Rattle.claim_plan.proofs.ClaimLemmas.{claimed_fits, claimed_member, claimed_positions, claimed_sound}
-use Rattle.claim_plan.proofs.Findings.{AllHold, Checks, IsTold, and_then-checks, for_each-one, holds_by-told, is_within-tells, one-checks}
+use Rattle.claim_plan.proofs.Findings.{Checks, Tells, and_then-checks, for_each-one, is_within-tells, tells-same, told-checks}
 use Rattle.claim_plan.proofs.SetRules.{claimed_over, claimed_stands}
 
 module _ (c : Claim) (is : IsClaim c) (mean : RulesMean c.position) (apart : (ply m : ℕ) → RuleHolds c rule.Same ply m) (safe : (ply m : ℕ) → RuleHolds c rule.Guard ply m) where
@@ -145,12 +146,15 @@ module _ (c : Claim) (is : IsClaim c) (mean : RulesMean c.position) (apart : (pl
         )
 
     left-checks : (m : ℕ) → Contains (masks_of c.position) m → Checks (KeepsRule c) (rule_at (suc ply) m rule.Left ∷ []) (check_left (rules_of c.position) (other (other c.winner)) (suc ply) reached (claimed_level c (ply + 2)) m)
-    left-checks m i xs found t =
-        let f = rule_at (suc ply) m rule.Left in
-        let (vs, ws, answer, order, first, rest) = Takes-split (union rules (suc ply) m kind.Answer (pre_items rules (other loser) m (reached m) (claimed_level c (ply + 2)))) (λ answer. holds_by f (is_within (mask_tracks p m) (name (suc ply) m kind.Left) (reached m) answer)) xs found t in
-        one-checks (KeepsRule c) ((tuple : List ℤ) → Member (reached m) tuple → Member answer tuple) f found
-        (left_means m answer vs (game_mask p mean m i) first)
-        (holds_by-told ((tuple : List ℤ) → Member (reached m) tuple → Member answer tuple) f (is_within (mask_tracks p m) (name (suc ply) m kind.Left) (reached m) answer) (is_within-tells (mask_tracks p m) (name (suc ply) m kind.Left) (reached m) answer) ws found rest)
+    left-checks m i =
+        let r = rule_at (suc ply) m rule.Left in
+        let part = name (suc ply) m kind.Left in
+        told-checks (KeepsRule c) r (are_answered rules (other loser) (suc ply) reached (claimed_level c (ply + 2)) m)
+        (λ xs b t.
+        let (us, vs, answer, order, first, rest) = Takes-split (union rules (suc ply) m kind.Answer (pre_items rules (other loser) m (reached m) (claimed_level c (ply + 2)))) (λ answer. is_within (mask_tracks p m) part (reached m) answer) xs b t in
+        tells-same ((tuple : List ℤ) → Member (reached m) tuple → Member answer tuple) (KeepsRule c r) b
+        (left_means m answer us (game_mask p mean m i) first)
+        (is_within-tells (mask_tracks p m) part (reached m) answer vs b rest))
 
     -- stale
     module _ (m : ℕ) (game : IsGameMask c.position m) (check quiet reply : SetOf) (es bs cs : Entries)
@@ -206,20 +210,23 @@ module _ (c : Claim) (is : IsClaim c) (mean : RulesMean c.position) (apart : (pl
             ],
       )
 
-    stale-checks : (m : ℕ) → Contains (masks_of c.position) m → Checks (KeepsRule c) (rule_at ply m rule.Stale ∷ []) (check_stale (rules_of c.position) (other c.winner) ply (claimed_level c ply) reached m)
-    stale-checks m i xs found (inl (e, o)) = none_some o
-    stale-checks m i xs found (inr (inl (inl empty, t))) =
-        inr (λ q w. absurd (empty (tuple_of q) (claimed_member c is ply m q w.claimed w.mask_is)), Takes-give None found xs t)
-    stale-checks m i xs found (inr (inl (inr never, t))) = absurd never
-    stale-checks m i xs found (inr (inr (some, t))) =
-        let f = rule_at ply m rule.Stale in
+    replies-tell : (m : ℕ) → Contains (masks_of c.position) m → (xs : Entries) (b : Bool) → Takes (have_replies (rules_of c.position) (other c.winner) ply (claimed_level c ply) reached m) xs (Some b) → Tells (RuleHolds c rule.Stale ply m) b
+    replies-tell m i xs b (inl (e, o)) = none_some o
+    replies-tell m i xs b (inr (inl (inl empty, t))) =
+        inl (λ q w. absurd (empty (tuple_of q) (claimed_member c is ply m q w.claimed w.mask_is)), Takes-give true b xs t)
+    replies-tell m i xs b (inr (inl (inr never, t))) = absurd never
+    replies-tell m i xs b (inr (inr (some, t))) =
         let s = claimed_level c ply m in
-        let (a1, b1, check, o1, t1, r1) = Takes-split (union rules ply m kind.Check (bear_items rules (other loser) m s)) _ xs found t in
-        let (a2, b2, quiet, o2, t2, r2) = Takes-split (difference rules ply m kind.Quiet s check) _ b1 found r1 in
-        let (a3, b3, reply, o3, t3, r3) = Takes-split (union rules ply m kind.Reply (pre_items rules loser m quiet reached)) _ b2 found r2 in
-        one-checks (KeepsRule c) ((tuple : List ℤ) → Member quiet tuple → Member reply tuple) f found
-        (stale_means m (game_mask p mean m i) check quiet reply a1 a2 a3 t1 t2 t3)
-        (holds_by-told ((tuple : List ℤ) → Member quiet tuple → Member reply tuple) f (is_within (mask_tracks p m) (name ply m kind.Stale) quiet reply) (is_within-tells (mask_tracks p m) (name ply m kind.Stale) quiet reply) b3 found r3)
+        let part = name ply m kind.Stale in
+        let (us, vs, quiet, o1, t1, r1) = Takes-split (quiet_set rules loser ply m s) (λ quiet. have_moves rules loser ply m kind.Reply kind.Stale quiet reached) xs b t in
+        let (a1, a2, check, o2, t2, r2) = Takes-split (union rules ply m kind.Check (bear_items rules (other loser) m s)) (λ check. difference rules ply m kind.Quiet s check) us quiet t1 in
+        let (a3, a4, reply, o3, t3, r3) = Takes-split (union rules ply m kind.Reply (pre_items rules loser m quiet reached)) (λ reply. is_within (mask_tracks p m) part quiet reply) vs b r1 in
+        tells-same ((tuple : List ℤ) → Member quiet tuple → Member reply tuple) (RuleHolds c rule.Stale ply m) b
+        (stale_means m (game_mask p mean m i) check quiet reply a1 a2 a3 t2 r2 t3)
+        (is_within-tells (mask_tracks p m) part quiet reply a4 b r3)
+
+    stale-checks : (m : ℕ) → Contains (masks_of c.position) m → Checks (KeepsRule c) (rule_at ply m rule.Stale ∷ []) (check_stale (rules_of c.position) (other c.winner) ply (claimed_level c ply) reached m)
+    stale-checks m i = told-checks (KeepsRule c) (rule_at ply m rule.Stale) (have_replies rules loser ply (claimed_level c ply) reached m) (replies-tell m i)
 
   -- the rules of the replies of one ply
   pub replies-checks : (ply : ℕ) → Checks (KeepsRule c) (reply_rules c ply) (check_replies (rules_of c.position) (other c.winner) ply (claimed_level c ply) (claimed_level c (ply + 2)))

@@ -30,18 +30,18 @@ use Rattle.mate_plan.specs.Plan.{Level, Program, Rules, bear_item, bear_items, n
 use Rattle.mate_plan.specs.PlanOf.{rules_of}
 use Rattle.mate_plan.specs.declared.names.Part.TheVariants as kind
 use Rattle.winning_sets.proofs.KeptSets.{Entries, Stands}
-use Rattle.set_plan.proofs.Takings.{AnyItem, IsOf, IsOver, Takes-give, any-map}
+use Rattle.set_plan.proofs.Takings.{AnyItem, IsOf, IsOver, Takes-give, any-map, contains_map}
 use Rattle.winning_sets.proofs.KeptWithin.{bear_within}
 use Rattle.mate_plan.specs.Claim.{Claim, IsClaim, IsClaimed, IsLosersPly, claimed_at, claimed_level}
-use Rattle.rule_formula.specs.TwinsMean.{TwinsMean}
-use Rattle.claim_plan.specs.CheckPlan.{Finding, and_then, check_claimed, check_sign, holds_by, rule_at}
-use Rattle.mate_plan.specs.Twins.{Two, pairs_in, twin_item, twin_items, twins_of}
+use Rattle.claim_plan.specs.CheckPlan.{Finding, and_then, check_set, check_sign, holds_by, rule_at}
+use Rattle.rule_formula.specs.declared.opt.Pair.{Pair}
+use Rattle.rule_formula.specs.Pairs.{pairs_of}
+use Rattle.mate_plan.specs.Twins.{twin_item, twin_items, twins_of}
 use Rattle.claim_plan.specs.Checked.{IsClaimedWith, KeepsRule, RuleHolds}
 use Rattle.claim_plan.specs.declared.names.RuleAt.{RuleAt}
 use Rattle.claim_plan.specs.declared.names.Rule.TheVariants as rule
 use Rattle.claim_plan.proofs.ClaimLemmas.{claimed_fits, claimed_level-member, claimed_member, claimed_positions}
 use Rattle.claim_plan.proofs.Findings.{AllHold, Checks, NoItem, and_then-checks, are_empty-tells, asked-tells, holds_by-told, one-checks}
-use Rattle.mate_plan.proofs.PairLemmas.{contains_map, pairs-have}
 
 -- who stands somewhere is not gone
 stands_there : (m : Man) (z : Square) → StandsOn m z → m.place ≢ Gone
@@ -91,27 +91,23 @@ module _ (c : Claim) (is : IsClaim c) (mean : RulesMean c.position) where
       (λ h b there. subst DecidesIntegers (same b there) h, λ h. h a e)
       (holds_by-told (DecidesIntegers a) (rule_at ply m rule.Sign) (Ask (Stable a) (Give true) (Give false)) (asked-tells (Stable a) (DecidesIntegers a) (λ h. h) (λ h. h)) xs found t)
 
-module _ (c : Claim) (is : IsClaim c) (mean : RulesMean c.position) (twin : (m : ℕ) (w : Two) → IsGameMask c.position m → Contains (pairs_in c.position m) w → TwinsMean c.position m w.first w.second) where
+module _ (c : Claim) (is : IsClaim c) (mean : RulesMean c.position) where
   -- same
-  abbrev tree_at : ℕ → Two → Tree
+  abbrev tree_at : ℕ → Pair → Tree
   tree_at m w = twins_tree 8 m w.first w.second 0
 
   any_twins : (ply m : ℕ) (game : IsGameMask c.position m) (i j : ℕ) (a b : Man) (z : Square) (q : Position) → IsClaimed c ply q → mask_of q ≡ m → i < j → man_at q i ≡ Some a → man_at q j ≡ Some b → StandsOn a z → StandsOn b z → AnyItem (map (twin_item (claimed_level c ply m)) (twins_of c.position m 0)) (tuple_of q)
   any_twins ply m game i j a b z q h e less is_a is_b on_a on_b =
-      let w : Two = record { first = i; second = j } in
+      let w : Pair = record { first = i; second = j } in
       let (low_i, high_i) = numbered_low q i a is_a in
       let (low_j, high_j) = numbered_low q j b is_b in
       let count = h.stock.count in
       let live_i : is_live m i ≡ true = subst (λ k. is_live k i ≡ true) e (live_in_mask q i a is_a (stands_there a z on_a)) in
       let live_j : is_live m j ≡ true = subst (λ k. is_live k j ≡ true) e (live_in_mask q j b is_b (stands_there b z on_b)) in
-      let in_pairs = (pairs-have c.position m w).1 (record {
-        less = less;
-        first = record { low = low_i; high = omega (arith, high_i, count); live = live_i };
-        second = record { low = low_j; high = omega (arith, high_j, count); live = live_j };
-      }) in
+      let in_pairs = (mean.game.pairs m w).1 (record { order = less; low = low_i; high = omega (arith, high_j, count); first_live = live_i; second_live = live_j }) in
       let twins : AreTwins i j q = record { first = a; second = b; square = z; is_first = is_a; is_second = is_b; first_stands = on_a; second_stands = on_b } in
-      let member = ((twin m w game in_pairs).twins 0 (λ _. claimed_level c ply m) q h.stock e).1 (claimed_member c is ply m q h e, twins) in
-      let in_trees = (contains_map (tree_at m) (pairs_in c.position m) (tree_at m w)).1 (w, in_pairs, refl) in
+      let member = ((mean.pairs m w game in_pairs).twins 0 (λ _. claimed_level c ply m) q h.stock e).1 (claimed_member c is ply m q h e, twins) in
+      let in_trees = (contains_map (tree_at m) (pairs_of c.position.men m) (tree_at m w)).1 (w, in_pairs, refl) in
       (any-map (twin_item (claimed_level c ply m)) (twins_of c.position m 0) (tuple_of q)).1 (tree_at m w, in_trees, member)
 
   same_means : (ply m : ℕ) → IsGameMask c.position m → NoItem (map (twin_item (claimed_level c ply m)) (twins_of c.position m 0)) ↔ RuleHolds c rule.Same ply m
@@ -124,10 +120,10 @@ module _ (c : Claim) (is : IsClaim c) (mean : RulesMean c.position) (twin : (m :
         ],
     λ says tuple h.
         let (f, in_trees, member) = (any-map (twin_item (claimed_level c ply m)) (twins_of c.position m 0) tuple).0 h in
-        let (w, in_pairs, is_tree) = (contains_map (tree_at m) (pairs_in c.position m) f).0 in_trees in
+        let (w, in_pairs, is_tree) = (contains_map (tree_at m) (pairs_of c.position.men m) f).0 in_trees in
         let In : Tree → Type 0 = λ g. IsOf (twin_item (claimed_level c ply m) g) tuple in
         let there = subst In (sym is_tree) member in
-        let means = twin m w game in_pairs in
+        let means = mean.pairs m w game in_pairs in
         let known = claimed_positions c is ply m tuple (means.within 0 (λ _. claimed_level c ply m) tuple there) in
         let q = known.position in
         let claimed = known.is_in in
@@ -136,7 +132,7 @@ module _ (c : Claim) (is : IsClaim c) (mean : RulesMean c.position) (twin : (m :
         let At : List ℤ → Type 0 = λ u. IsOf (twin_item (claimed_level c ply m) (tree_at m w)) u in
         let twins = ((means.twins 0 (λ _. claimed_level c ply m) q claimed.stock mask).0 (subst At (sym is_tuple) there)).1 in
         let one : w.first ≡ w.second = says q (record { claimed = claimed; mask_is = mask }) w.first w.second twins.first twins.second twins.square twins.is_first twins.is_second twins.first_stands twins.second_stands in
-        let less = ((pairs-have c.position m w).0 in_pairs).less in
+        let less = ((mean.game.pairs m w).0 in_pairs).order in
         omega (arith, one, less),
   )
 
@@ -172,7 +168,7 @@ module _ (c : Claim) (is : IsClaim c) (mean : RulesMean c.position) (twin : (m :
       )
 
   -- the rules of one claimed set
-  pub claimed-checks : (ply m : ℕ) → IsGameMask c.position m → Checks (KeepsRule c) (rule_at ply m rule.Sign ∷ rule_at ply m rule.Same ∷ rule_at ply m rule.Guard ∷ []) (check_claimed (rules_of c.position) (other c.winner) ply m (twin_items c.position m) (claimed_at c ply m))
+  pub claimed-checks : (ply m : ℕ) → IsGameMask c.position m → Checks (KeepsRule c) (rule_at ply m rule.Sign ∷ rule_at ply m rule.Same ∷ rule_at ply m rule.Guard ∷ []) (check_set c ply m)
   claimed-checks ply m game =
       let H = KeepsRule c in
       let sign = rule_at ply m rule.Sign in

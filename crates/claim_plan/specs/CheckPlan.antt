@@ -4,14 +4,13 @@ use Rattle.auto_core.specs.Automaton.{Automaton}
 use Rattle.game_rules.specs.Game.{other}
 use Rattle.game_rules.specs.declared.men.Side.{Side}
 use Rattle.game_rules.specs.declared.men.Side.TheVariants.{White, Black}
-use Rattle.lin_formula.specs.SetOf.{SetOf, as_set}
+use Rattle.lin_formula.specs.SetOf.{SetOf}
 use Rattle.rule_formula.specs.Fits.{mask_of}
 use Rattle.rule_formula.specs.Placed.{tuple_of}
-use Rattle.set_plan.specs.Program.{Item, Question, Give, Ask, Empty, Stable, Has, bind, ◌>>=◌}
-use Rattle.set_plan.specs.Unite.{are_empty, is_within}
-use Rattle.mate_plan.specs.Plan.{Level, Program, Rules, bear_items, difference, name, point_level, pre_items, reach_level, union}
+use Rattle.set_plan.specs.Program.{Question, Give, Ask, Stable, Has, bind, ◌>>=◌}
+use Rattle.mate_plan.specs.Plan.{Level, Program, Rules, point_level, pre_items, reach_level, union}
 use Rattle.mate_plan.specs.PlanOf.{rules_of}
-use Rattle.mate_plan.specs.Twins.{twin_items}
+use Rattle.mate_plan.specs.Questions.{are_answered, are_apart, are_safe, have_replies}
 use Rattle.mate_plan.specs.declared.names.Part.TheVariants as kind
 use Rattle.mate_plan.specs.Claim.{Claim, claimed_at, claimed_level, losers_plies}
 use Rattle.claim_plan.specs.declared.names.Rule.{Rule}
@@ -56,40 +55,20 @@ check_sign ply mask None = Give None
 check_sign ply mask (Some a) = holds_if (rule_at ply mask rule.Sign) (Stable a)
 
 module _ (rules : Rules) where
-  -- no two live men are twins in a claimed set: each two of them are a formula over the set, and each has to be empty
-  abbrev pub check_same : ℕ → ℕ → List Item → Program Finding
-  check_same ply mask twins = holds_by (rule_at ply mask rule.Same) (are_empty (name ply mask kind.Same) 1 twins)
-
   -- no man of the loser bears on the winner's king in a claimed set
   abbrev pub check_guard : Side → ℕ → ℕ → SetOf → Program Finding
-  check_guard loser ply mask claimed =
-      holds_by (rule_at ply mask rule.Guard) (are_empty (name ply mask kind.Guard) 1 (bear_items rules loser mask claimed))
-
-  -- what holds of a claimed set by itself
-  abbrev pub check_claimed : Side → ℕ → ℕ → (SetOf → List Item) → Option Automaton → Program Finding
-  check_claimed loser ply mask twins claimed =
-      and_then (check_sign ply mask claimed)
-      (and_then (check_same ply mask (twins (as_set claimed))) (check_guard loser ply mask (as_set claimed)))
+  check_guard loser ply mask claimed = holds_by (rule_at ply mask rule.Guard) (are_safe rules loser ply mask claimed)
 
   -- each position that is reached has an answer into what is claimed at the next ply.
-  -- Where nothing is claimed there no formula is left, so that there is no answer, without a step
+  -- Where nothing is claimed there no formula is left, and there is no answer, without a step
   abbrev pub check_left : Side → ℕ → Level → Level → ℕ → Program Finding
-  check_left winner ply reached claimed1 mask = do
-    answer ← union rules ply mask kind.Answer (pre_items rules winner mask (reached mask) claimed1)
-    holds_by (rule_at ply mask rule.Left) (is_within (rules.tracks mask) (name ply mask kind.Left) (reached mask) answer)
+  check_left winner ply reached claimed1 mask =
+      holds_by (rule_at ply mask rule.Left) (are_answered rules winner ply reached claimed1 mask)
 
-  -- each claimed position without a check has a reply
-  abbrev pub check_quiet : Side → ℕ → SetOf → Level → ℕ → Program Finding
-  check_quiet loser ply claimed reached mask = do
-    check ← union rules ply mask kind.Check (bear_items rules (other loser) mask claimed)
-    quiet ← difference rules ply mask kind.Quiet claimed check
-    reply ← union rules ply mask kind.Reply (pre_items rules loser mask quiet reached)
-    holds_by (rule_at ply mask rule.Stale) (is_within (rules.tracks mask) (name ply mask kind.Stale) quiet reply)
-
-  -- where no position is claimed there is no step, and the rule holds
+  -- each claimed position in which the loser is not in check has a reply; where no position is claimed there is no step
   abbrev pub check_stale : Side → ℕ → Level → Level → ℕ → Program Finding
   check_stale loser ply claimed reached mask =
-      Ask (Empty (claimed mask ∷ [])) (Give None) (check_quiet loser ply (claimed mask) reached mask)
+      holds_by (rule_at ply mask rule.Stale) (have_replies rules loser ply claimed reached mask)
 
   -- what is reached from the claimed positions of a ply, and the rules of these replies: mask by mask for what they lead to,
   -- and then mask by mask for what they lead from
@@ -119,9 +98,18 @@ module _ (c : Claim) where
   abbrev pub plies : List ℕ
   plies = losers_plies c.winner c.position.turn c.moves
 
+  -- no two live men stand on one square in a claimed set
+  abbrev pub check_same : ℕ → ℕ → Program Finding
+  check_same ply mask = holds_by (rule_at ply mask rule.Same) (are_apart c.position ply mask (claimed_level c ply mask))
+
+  -- what each claimed set has to keep by itself
+  abbrev pub check_set : ℕ → ℕ → Program Finding
+  check_set ply mask =
+      and_then (check_sign ply mask (claimed_at c ply mask))
+      (and_then (check_same ply mask) (check_guard rules loser ply mask (claimed_level c ply mask)))
+
   abbrev pub check_sets : ℕ → Program Finding
-  check_sets ply =
-      for_each rules.masks (λ mask. check_claimed rules loser ply mask (twin_items c.position mask) (claimed_at c ply mask))
+  check_sets ply = for_each rules.masks (check_set ply)
 
   -- with the winner to move: without a move nothing is claimed at ply 1, and the rule fails without a step
   abbrev pub check_moving : ℕ → Program Finding
