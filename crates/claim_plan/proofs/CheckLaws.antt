@@ -11,10 +11,9 @@ use Rattle.rule_formula.specs.Trees.{point_of}
 use Rattle.rule_formula.proofs.MeanTheorem.{rules_mean}
 use Rattle.rule_formula.proofs.PointTheorem.{point_made}
 use Rattle.mate_plan.specs.Claim.{Claim, IsClaim}
-use Rattle.claim_plan.specs.CheckLaws.{CheckEndsOnce, CheckFindsFirst, EndsWhereWon, NoneFailsWhereWon}
+use Rattle.claim_plan.specs.CheckLaws.{CheckFindsFirst, EndsWhereWon, NoneFailsWhereWon, OneIsFirst}
 use Rattle.claim_plan.specs.WonLaws.{KeptClaimIsWon}
 use Rattle.claim_plan.specs.Checked.{KeepsRule, rules_in_order}
-use Rattle.claim_plan.proofs.SameClaims.{ends-not_stops, stops-once}
 use Rattle.claim_plan.proofs.Findings.{first_one}
 use Rattle.claim_plan.proofs.KeptClaims.{kept_claim_won}
 use Rattle.claim_plan.proofs.CheckMeans.{none_fails, plan-checks}
@@ -34,16 +33,11 @@ check_finds_first = λ c entries found is t.
 pub none_fails_where_won : NoneFailsWhereWon
 none_fails_where_won = λ c found is first. none_fails c is (mean c is) found first
 
+pub one_is_first : OneIsFirst
+one_is_first = λ c a b h k. first_one (KeepsRule c) (rules_in_order c) a b h k
+
 pub kept_claim_is_won : KeptClaimIsWon
 kept_claim_is_won = λ c is kept value. kept_claim_won c is (mean c is) (some_point c.position is.sound) kept value
-
-pub check_ends_once : CheckEndsOnce
-check_ends_once = λ c budget is. record {
-  one_end = λ a b h k.
-      first_one (KeepsRule c) (rules_in_order c) a b (check_finds_first c h.entries a is h.takes) (check_finds_first c k.entries b is k.takes);
-  one_step = stops-once c budget;
-  not_both = ends-not_stops c budget;
-}
 
 pub ends_where_won : EndsWhereWon
 ends_where_won = λ c budget is. (

@@ -21,9 +21,9 @@ use Rattle.winning_sets.specs.Solve.{HasTuplesOf, IsTupleOf}
 use Rattle.rule_formula.proofs.StockLemmas.{stock_placed}
 use Rattle.winning_sets.proofs.KeptParts.{left_half_more}
 use Rattle.mate_plan.specs.Claim.{Claim, IsClaim, IsClaimed, IsLosersPly, claimed_at, claimed_level}
-use Rattle.claim_plan.specs.WonLaws.{ClaimedIsLost, KeptIsWon, SetsHaveClaimedTuples, WonIsValue}
+use Rattle.claim_plan.specs.WonLaws.{ClaimedIsLost, SetsHaveClaimedTuples, WonIsValue}
 use Rattle.mate_plan.specs.Won.{IsWonBy, Won}
-use Rattle.claim_plan.proofs.WonLemmas.{AreOfGame, claimed_lost, kept_won, won_value}
+use Rattle.claim_plan.proofs.WonLemmas.{AreOfGame, claimed_lost, won_value}
 
 -- a position of the stock with a mask of the game whose men stand apart is one of the game
 pub stock_fits : (p q : Position) → ((s : Side) → HasOneKing p s) → HasStock p.men q → IsGameMask p (mask_of q) → IsApart q → Fits p q.turn q
@@ -134,6 +134,3 @@ claimed_is_lost = λ c ply q is won h.
 
 pub won_is_value : WonIsValue
 won_is_value = λ c is won. won_value c.winner c.position c.moves (IsClaimed c) (of_game c is won) won.positions
-
-pub kept_is_won : KeptIsWon
-kept_is_won = λ winner p moves sound value. kept_won winner p moves sound value

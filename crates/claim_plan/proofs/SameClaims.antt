@@ -11,10 +11,11 @@ use Rattle.set_plan.specs.Outcome.{Ends, Stops}
 use Rattle.set_plan.specs.declared.stop.StepName.{StepName}
 use Rattle.set_plan.proofs.Alike.{Ends-alike, Stops-alike}
 use Rattle.set_plan.proofs.Composition.{none_some}
-use Rattle.set_plan.proofs.Unique.{Ends-not_stops, Stops-one}
+use Rattle.set_plan.proofs.Unique.{Ends-not_stops, Ends-one, Stops-one}
 use Rattle.mate_plan.specs.Claim.{Claim, ClaimedSet, IsClaim, IsClaimed, IsLosersPly, claimed_at, claimed_in}
 use Rattle.mate_plan.specs.Won.{Won}
 use Rattle.mate_plan.specs.declared.names.PartName.{PartName}
+use Rattle.claim_plan.specs.CheckLaws.{CheckEndsOnce}
 use Rattle.claim_plan.specs.CheckPlan.{Finding, check_plan}
 use Rattle.claim_plan.specs.SameClaims.{AreCheckedAlike, AreSameSets, IsSameClaim, IsSameSet, SameClaimsAreCheckedAlike}
 use Rattle.claim_plan.proofs.CheckAlike.{Same, check_plan-alike}
@@ -111,14 +112,11 @@ same_claims_are_checked_alike = λ c d h. at d.position d.winner d.moves d.sets 
         let On : Position → Type 0 = λ q. AreCheckedAlike c (record { position = q; winner = w; moves = n; sets = ys }) in
         subst On h.position (subst At h.winner (with_moves c.position c.winner n c.moves c.sets ys h.moves h.sets))
 
--- where the plan comes to its end within a budget, it does not stop
-pub ends-not_stops : (c : Claim) (budget : ℕ) (found : Finding) (x : StepName PartName) → Ends (check_plan c) budget found → Stops (check_plan c) budget x → ⊥
-ends-not_stops c budget found x h k =
-    Ends-not_stops Same (check_plan c) (check_plan c) budget
-    (check_plan-alike c.position c.winner c.moves c.sets c.sets (λ ply mask. AreSameSets-self (claimed_at c ply mask))) found x h k
-
--- where it stops, it stops at one step
-pub stops-once : (c : Claim) (budget : ℕ) (x y : StepName PartName) → Stops (check_plan c) budget x → Stops (check_plan c) budget y → x ≡ y
-stops-once c budget x y h k =
-    Stops-one Same (check_plan c) (check_plan c) budget
-    (check_plan-alike c.position c.winner c.moves c.sets c.sets (λ ply mask. AreSameSets-self (claimed_at c ply mask))) x y h k
+pub check_ends_once : CheckEndsOnce
+check_ends_once = λ c budget.
+    let self = check_plan-alike c.position c.winner c.moves c.sets c.sets (λ ply mask. AreSameSets-self (claimed_at c ply mask)) in
+    record {
+      one_end = Ends-one Same (check_plan c) (check_plan c) budget self;
+      one_step = Stops-one Same (check_plan c) (check_plan c) budget self;
+      not_both = Ends-not_stops Same (check_plan c) (check_plan c) budget self;
+    }

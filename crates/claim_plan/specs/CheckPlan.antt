@@ -70,8 +70,8 @@ module _ (rules : Rules) where
   check_stale loser ply claimed reached mask =
       holds_by (rule_at ply mask rule.Stale) (have_replies rules loser ply claimed reached mask)
 
-  -- what is reached from the claimed positions of a ply, and the rules of these replies: mask by mask for what they lead to,
-  -- and then mask by mask for what they lead from
+  -- what the replies reach from the claimed positions of a ply, and the rules of these replies:
+  -- mask by mask for what they lead to, and then mask by mask for what they come from
   abbrev pub check_replies : Side → ℕ → Level → Level → Program Finding
   check_replies loser ply claimed claimed2 = do
     reached ← reach_level rules loser (suc ply) claimed

@@ -10,10 +10,11 @@ use Rattle.mate_plan.specs.Won.{IsWonBy, Won}
 use Rattle.winning_sets.specs.Kept.{Kept, moves_left}
 use Rattle.winning_sets.specs.Solve.{HasTuplesOf}
 
--- a claimed set has as its tuples exactly the coordinates of the claimed positions of its ply with the live men of its mask
+-- a claimed set has as its tuples exactly the coordinates of the claimed positions of its ply with its live men
 abbrev pub SetsHaveClaimedTuples : Type 0
 SetsHaveClaimedTuples =
-    (c : Claim) (ply mask : ℕ) (a : Automaton) → IsClaim c → claimed_at c ply mask ≡ Some a → HasTuplesOf (IsClaimed c ply) mask a
+    (c : Claim) (ply mask : ℕ) (a : Automaton) → IsClaim c → claimed_at c ply mask ≡ Some a
+    → HasTuplesOf (IsClaimed c ply) mask a
 
 -- how many of his moves the winner has left after some of so many plies of a claim
 abbrev pub left_at : Claim → ℕ → ℕ
@@ -21,7 +22,9 @@ left_at c ply = moves_left (last_ply c.winner c.position.turn c.moves) ply
 
 -- in a won claim the loser is mated from each claimed position within the moves that the winner has left
 abbrev pub ClaimedIsLost : Type 0
-ClaimedIsLost = (c : Claim) (ply : ℕ) (q : Position) → IsClaim c → Won c → IsClaimed c ply q → Lost c.winner (left_at c ply) q
+ClaimedIsLost =
+    (c : Claim) (ply : ℕ) (q : Position) → IsClaim c → Won c → IsClaimed c ply q
+    → Lost c.winner (left_at c ply) q
 
 -- in a won claim the winner mates in time
 abbrev pub WonIsValue : Type 0
@@ -38,10 +41,14 @@ KeptIsWon =
     (winner : Side) (p : Position) (moves : ℕ) → Sound p → Value winner moves p
     → IsWonBy winner p (KeptByLoser winner p moves)
 
--- the sets of the claim decide sets of integers, and have as their tuples those of what is kept
-pub record IsOfKept (c : Claim) : Type 0 where
-  pub sign : (ply mask : ℕ) (a : Automaton) → claimed_at c ply mask ≡ Some a → DecidesIntegers a
-  pub kept : (ply mask : ℕ) (a : Automaton) → claimed_at c ply mask ≡ Some a → HasTuplesOf (Kept c.winner c.position c.moves ply) mask a
+-- the automaton decides a set of integers, and has as its tuples those of what is kept at the ply with the mask's men
+pub record IsKeptSet (c : Claim) (ply mask : ℕ) (a : Automaton) : Type 0 where
+  pub sign : DecidesIntegers a
+  pub kept : HasTuplesOf (Kept c.winner c.position c.moves ply) mask a
+
+-- each claimed set is the set of what is kept
+abbrev pub IsOfKept : Claim → Type 0
+IsOfKept c = (ply mask : ℕ) (a : Automaton) → claimed_at c ply mask ≡ Some a → IsKeptSet c ply mask a
 
 -- where the winner mates in time, a claim of the sets that are kept is won
 abbrev pub KeptClaimIsWon : Type 0
