@@ -1,16 +1,16 @@
 -- The plans of two claims of the same sets go on alike, and so does the plan of a claim beside itself.
-use Rattle.std.proofs.Common.{◌≡◌, ◌↔◌, ℕ, zero, suc, ◌+◌, Bool, true, false, List, [], ◌∷◌, map, Option, Some, None, ℤ, refl, sym, ap, subst}
+use Rattle.std.proofs.Common.{◌≡◌, ◌↔◌, ℕ, zero, suc, ◌+◌, Bool, true, false, List, [], ◌∷◌, Option, Some, None, ℤ, refl, ap, subst}
 use Rattle.track_word.specs.declared.tracks.Var.{Var}
 use Rattle.auto_core.specs.Automaton.{Automaton}
 use Rattle.game_rules.specs.Game.{Position, other}
 use Rattle.game_rules.specs.declared.men.Side.{Side}
 use Rattle.game_rules.specs.declared.men.Side.TheVariants.{White, Black}
-use Rattle.lin_formula.specs.SetOf.{Member, SetOf, as_set}
+use Rattle.lin_formula.specs.SetOf.{SetOf}
 use Rattle.rule_formula.specs.Fits.{mask_of}
 use Rattle.rule_formula.specs.Placed.{tuple_of}
 use Rattle.set_plan.specs.Program.{IsYes, Item, Question, Ask, Give, Empty, Has, Stable, Within, bind}
 use Rattle.set_plan.specs.Same.{SameSets}
-use Rattle.set_plan.specs.Unite.{Made, are_empty, is_within, make, remainder, without}
+use Rattle.set_plan.specs.Unite.{are_empty, is_within, make, remainder, without}
 use Rattle.set_plan.proofs.Alike.{Alike, SameQuestion}
 use Rattle.set_plan.proofs.Combined.{Empty-alike, SameItems, SameMade, bind-alike, make-alike, without-alike}
 use Rattle.set_plan.proofs.SameSets.{SameItem-sets}
@@ -20,7 +20,6 @@ use Rattle.mate_plan.specs.Questions.{are_answered, are_apart, are_safe, have_mo
 use Rattle.mate_plan.specs.Twins.{twin_item, twin_items, twins_of}
 use Rattle.mate_plan.specs.declared.names.Part.{Part}
 use Rattle.mate_plan.specs.declared.names.Part.TheVariants as kind
-use Rattle.mate_plan.specs.declared.names.PartName.{PartName}
 use Rattle.mate_plan.specs.Once.{SameLevels}
 use Rattle.mate_plan.proofs.PlanOnce.{bear-same, difference-alike, map-items, point_level-alike, pre-same, reach_level-alike, union-alike}
 use Rattle.mate_plan.specs.Claim.{Claim, ClaimedSet, claimed_at, claimed_in, claimed_level, losers_plies}
@@ -132,8 +131,8 @@ module _ (rules : Rules) where
         Empty-alike (c mask) (d mask) (claimed mask),
         refl,
         bind-alike SameSets Same (quiet_set rules side ply mask (c mask)) (quiet_set rules side ply mask (d mask)) (moves r) (moves q)
-        (quiet-alike side ply mask (c mask) (d mask) (claimed mask))
-        (λ u v quiet. moves-alike side ply mask kind.Reply kind.Stale u v r q quiet reached),
+            (quiet-alike side ply mask (c mask) (d mask) (claimed mask))
+            (λ u v quiet. moves-alike side ply mask kind.Reply kind.Stale u v r q quiet reached),
       )
 
   replies-alike : (side : Side) (ply : ℕ) (c d e f : Level) → SameLevels c d → SameLevels e f → Alike Same (check_replies rules side ply c e) (check_replies rules side ply d f)

@@ -1,5 +1,5 @@
 -- The laws of the plan of a claim.
-use Rattle.std.proofs.Common.{◌≡◌, ◌≢◌, ℕ, length, None, refl, subst}
+use Rattle.std.proofs.Common.{◌≡◌, ◌≢◌, None, refl, subst}
 use Rattle.set_plan.specs.Outcome.{Ends}
 use Rattle.claim_plan.specs.CheckPlan.{Finding, check_plan}
 use Rattle.game_rules.specs.Game.{Position, Sound}

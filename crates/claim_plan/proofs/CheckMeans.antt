@@ -1,20 +1,16 @@
 -- What the plan of a claim finds.
-use Rattle.std.proofs.Common.{◌≡◌, ◌↔◌, ℕ, suc, ◌+◌, List, [], ◌∷◌, ◌++◌, map, Option, Some, None, inl, inr, refl, sym, ap, ◌∙◌, subst, arith}
+use Rattle.std.proofs.Common.{◌≡◌, ◌↔◌, ℕ, suc, ◌+◌, List, [], ◌∷◌, map, None, refl, subst, arith}
 use Rattle.std.specs.Prelude.{Contains}
 use Rattle.std.specs.List.{flat_map}
-use Rattle.auto_core.specs.Automaton.{Automaton}
-use Rattle.game_rules.specs.Game.{Moves, Position, other}
+use Rattle.game_rules.specs.Game.{other}
 use Rattle.rule_formula.specs.Fits.{IsGameMask, mask_of, masks_of}
 use Rattle.rule_formula.specs.Mean.{RulesMean}
 use Rattle.rule_formula.specs.Trees.{point_of}
-use Rattle.mate_plan.specs.Plan.{Program}
-use Rattle.mate_plan.specs.PlanOf.{rules_of}
 use Rattle.winning_sets.proofs.KeptSets.{game_mask, in_masks}
-use Rattle.mate_plan.specs.Claim.{Claim, IsClaim, IsClaimed, IsLosersPly, claimed_at, losers_plies}
+use Rattle.mate_plan.specs.Claim.{Claim, IsClaim, IsClaimed, IsLosersPly, losers_plies}
 use Rattle.claim_plan.specs.CheckPlan.{Finding, and_then, check_first, check_plan, check_ply, check_set, check_sets, for_each, rule_at}
-use Rattle.mate_plan.specs.Twins.{twin_items}
 use Rattle.claim_plan.specs.Checked.{IsFirstFailing, RuleHolds, KeepsRule, reply_rules, rules_in_order, set_rules}
-use Rattle.mate_plan.specs.Won.{IsWonBy, LeadsInto, Won}
+use Rattle.mate_plan.specs.Won.{LeadsInto, Won}
 use Rattle.claim_plan.specs.declared.names.RuleAt.{RuleAt}
 use Rattle.claim_plan.specs.declared.names.Rule.{Rule}
 use Rattle.claim_plan.specs.declared.names.Rule.TheVariants as rule

@@ -4,7 +4,7 @@ use Rattle.std.specs.Prelude.{IsSomeAnd}
 use Rattle.track_word.specs.Tracks.{Values, values_at, word_values}
 use Rattle.auto_core.specs.Automaton.{Automaton}
 use Rattle.auto_core.specs.Integers.{IsAccepted}
-use Rattle.game_rules.specs.Game.{HasOneKing, InCheck, IsApart, Lost, Position, Sound, Value, other}
+use Rattle.game_rules.specs.Game.{HasOneKing, InCheck, IsApart, Lost, Position, Sound, other}
 use Rattle.game_rules.specs.declared.men.Side.{Side}
 use Rattle.game_laws.proofs.SoundLemmas.{other_other}
 use Rattle.lin_formula.specs.SetOf.{Member, as_set}
@@ -22,7 +22,7 @@ use Rattle.rule_formula.proofs.StockLemmas.{stock_placed}
 use Rattle.winning_sets.proofs.KeptParts.{left_half_more}
 use Rattle.mate_plan.specs.Claim.{Claim, IsClaim, IsClaimed, IsLosersPly, claimed_at, claimed_level}
 use Rattle.claim_plan.specs.WonLaws.{ClaimedIsLost, SetsHaveClaimedTuples, WonIsValue}
-use Rattle.mate_plan.specs.Won.{IsWonBy, Won}
+use Rattle.mate_plan.specs.Won.{Won}
 use Rattle.claim_plan.proofs.WonLemmas.{AreOfGame, claimed_lost, won_value}
 
 -- a position of the stock with a mask of the game whose men stand apart is one of the game

@@ -1,25 +1,24 @@
 -- The rule of the start.
-use Rattle.std.proofs.Common.{◌≡◌, ◌↔◌, ℕ, zero, suc, ◌+◌, ◌*◌, List, [], ◌∷◌, length, Option, Some, None, ◌==◌, if◌then◌else◌, Bool, true, false, inl, inr, ℤ, pos, refl, sym, ap, ◌∙◌, subst, arith}
-use Rattle.game_rules.specs.Game.{Position, Sound, other}
+use Rattle.std.proofs.Common.{◌≡◌, ◌↔◌, ℕ, zero, suc, List, [], ◌∷◌, Option, Some, None, ◌==◌, if◌then◌else◌, Bool, true, false, inl, inr, ℤ, pos, refl, sym, ap, ◌∙◌, subst, arith}
+use Rattle.game_rules.specs.Game.{Position, other}
 use Rattle.game_rules.specs.declared.men.Side.{Side}
 use Rattle.game_rules.specs.declared.men.Side.TheVariants.{White, Black}
 use Rattle.lin_formula.specs.Tree.{Tree}
 use Rattle.lin_formula.specs.Tree as tree
 use Rattle.lin_formula.specs.SetOf.{Member, SetOf, Nothing, Where}
 use Rattle.rule_formula.specs.Fits.{Fits, mask_of}
-use Rattle.rule_formula.specs.Laws.{StepsTo}
 use Rattle.rule_formula.specs.Mean.{RulesMean}
 use Rattle.rule_formula.specs.Placed.{tuple_of}
 use Rattle.rule_formula.specs.Seats.{var}
 use Rattle.rule_formula.specs.Trees.{point_of}
 use Rattle.set_plan.specs.Program.{Ask, Give, Has, Item, Takes, bind}
 use Rattle.set_plan.specs.Unite.{make}
-use Rattle.set_plan.proofs.Composition.{Takes-split, none_some}
+use Rattle.set_plan.proofs.Composition.{Takes-split}
 use Rattle.std.proofs.lemmas.Bool.{eq-eqb}
-use Rattle.mate_plan.specs.Plan.{Level, Rules, level_with, name, no_sets, point_level, pre_items, union}
-use Rattle.mate_plan.specs.PlanOf.{formula_or, last_ply, rules_of}
+use Rattle.mate_plan.specs.Plan.{Level, level_with, name, no_sets, point_level, pre_items, union}
+use Rattle.mate_plan.specs.PlanOf.{formula_or, rules_of}
 use Rattle.mate_plan.specs.declared.names.Part.TheVariants as kind
-use Rattle.winning_sets.proofs.KeptParts.{Pre, StepsTo-moves}
+use Rattle.winning_sets.proofs.KeptParts.{StepsTo-moves}
 use Rattle.winning_sets.proofs.KeptSets.{Entries, pre-stands}
 use Rattle.set_plan.proofs.Takings.{Takes-give, make-members}
 use Rattle.mate_plan.specs.Claim.{Claim, IsClaim, IsClaimed, claimed_level}

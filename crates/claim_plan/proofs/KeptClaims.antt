@@ -15,14 +15,12 @@ use Rattle.mate_plan.specs.Plan.{turn_at}
 use Rattle.mate_plan.specs.PlanOf.{last_ply}
 use Rattle.winning_sets.specs.Kept.{Kept}
 use Rattle.winning_sets.specs.Reach.{Reach}
-use Rattle.winning_sets.specs.Solve.{HasTuplesOf, IsTupleOf}
 use Rattle.rule_formula.proofs.StockLemmas.{stock_unique}
 use Rattle.winning_sets.proofs.KeptParts.{kept_lost, reached_sound}
 use Rattle.winning_sets.proofs.KeptPlan.{fits_reached}
 use Rattle.mate_plan.specs.Claim.{Claim, IsClaim, IsClaimed, claimed_at}
 use Rattle.claim_plan.specs.WonLaws.{IsOfKept, KeptByLoser, KeptIsWon}
 use Rattle.mate_plan.specs.Won.{IsBegun, IsWonBy, LeadsInto, Won}
-use Rattle.claim_plan.proofs.ClaimLemmas.{claimed_there}
 use Rattle.claim_plan.proofs.WonLemmas.{last_loser, last_winner}
 
 module _ (winner : Side) (p : Position) (moves : ℕ) (sound : Sound p) where

@@ -1,33 +1,28 @@
 -- The rules of the replies: each one has an answer into what is claimed, and there is one, or check.
-use Rattle.std.proofs.Common.{◌≡◌, ◌↔◌, ◌⊎◌, ℕ, zero, suc, ◌+◌, ◌*◌, Bool, true, List, [], ◌∷◌, ◌++◌, map, Option, Some, None, inl, inr, ℤ, refl, sym, ap, ◌∙◌, subst, arith}
+use Rattle.std.proofs.Common.{◌≡◌, ◌↔◌, ℕ, suc, ◌+◌, Bool, true, List, [], ◌∷◌, map, Some, inl, inr, ℤ, refl, sym, ap, ◌∙◌, subst, arith}
 use Rattle.std.specs.Prelude.{Contains}
-use Rattle.game_rules.specs.Game.{HasMove, InCheck, IsApart, Moves, Position, Sound, other}
+use Rattle.game_rules.specs.Game.{InCheck, Moves, Position, Sound, other}
 use Rattle.game_rules.specs.declared.men.Side.{Side}
-use Rattle.game_rules.specs.declared.men.Square.{Square}
 use Rattle.game_laws.proofs.DecideLemmas.{in_check}
 use Rattle.game_laws.proofs.SoundLemmas.{other_other}
-use Rattle.lin_formula.specs.Tree.{Among, Or, free_vars}
-use Rattle.lin_formula.specs.SetOf.{Member, SetOf, Nothing}
+use Rattle.lin_formula.specs.SetOf.{Member, SetOf}
 use Rattle.rule_formula.specs.Fits.{Fits, IsGameMask, mask_of, masks_of}
 use Rattle.rule_formula.specs.Laws.{StepsTo}
 use Rattle.rule_formula.specs.Mean.{HoldsFitting, RulesMean, mask_tracks}
 use Rattle.rule_formula.specs.Placed.{tuple_of}
-use Rattle.set_plan.specs.Program.{Give, Takes}
+use Rattle.set_plan.specs.Program.{Takes}
 use Rattle.set_plan.specs.Unite.{is_within}
 use Rattle.set_plan.proofs.Composition.{Takes-split, none_some}
-use Rattle.mate_plan.specs.Plan.{Level, Program, Rules, bear_items, difference, for_masks, name, no_sets, pre_items, reach_level, reach_set, union}
+use Rattle.mate_plan.specs.Plan.{Level, Program, Rules, bear_items, difference, name, no_sets, pre_items, reach_level, reach_set, union}
 use Rattle.mate_plan.specs.PlanOf.{rules_of}
 use Rattle.mate_plan.specs.Questions.{are_answered, have_moves, have_replies, quiet_set}
-use Rattle.mate_plan.specs.declared.names.Part.{Part}
 use Rattle.mate_plan.specs.declared.names.Part.TheVariants as kind
 use Rattle.winning_sets.proofs.KeptParts.{Checked, Image, Moves-safe, Pre, Safe, StepsTo-moves, Without, safe-moves}
 use Rattle.winning_sets.proofs.KeptSets.{Entries, Stands, check-stands, difference-stands, for_masks-level, game_mask, in_masks, pre-stands, reach_set-stands, reach_set_fitting}
-use Rattle.set_plan.proofs.Takings.{Takes-give, remainder-members, remainder_over}
-use Rattle.mate_plan.specs.Claim.{Claim, IsClaim, IsClaimed, claimed_at, claimed_level}
-use Rattle.claim_plan.specs.CheckPlan.{Finding, and_then, check_left, check_replies, check_stale, for_each, rule_at}
+use Rattle.set_plan.proofs.Takings.{Takes-give, remainder-members}
+use Rattle.mate_plan.specs.Claim.{Claim, IsClaim, IsClaimed, claimed_level}
+use Rattle.claim_plan.specs.CheckPlan.{and_then, check_left, check_replies, check_stale, for_each, rule_at}
 use Rattle.claim_plan.specs.Checked.{RuleHolds, KeepsRule, reply_rules}
-use Rattle.mate_plan.specs.Won.{LeadsInto}
-use Rattle.claim_plan.specs.declared.names.RuleAt.{RuleAt}
 use Rattle.claim_plan.specs.declared.names.Rule.TheVariants as rule
 use Rattle.claim_plan.proofs.ClaimLemmas.{claimed_fits, claimed_member, claimed_positions, claimed_sound}
 use Rattle.claim_plan.proofs.Findings.{Checks, Tells, and_then-checks, for_each-one, is_within-tells, tells-same, told-checks}

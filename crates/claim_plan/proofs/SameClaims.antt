@@ -1,18 +1,16 @@
 -- Two claims of the same sets.
-use Rattle.std.proofs.Common.{◌≡◌, ◌≢◌, ◌↔◌, ℕ, List, Option, Some, None, refl, sym, ◌∙◌, subst}
+use Rattle.std.proofs.Common.{◌≡◌, ◌↔◌, ℕ, List, Option, Some, None, refl, sym, ◌∙◌, subst}
 use Rattle.auto_core.specs.Automaton.{Automaton}
-use Rattle.auto_core.specs.Integers.{DecidesIntegers}
 use Rattle.game_rules.specs.Game.{Position}
 use Rattle.game_rules.specs.declared.men.Side.{Side}
-use Rattle.rule_formula.specs.Fits.{IsGameMask, mask_of}
-use Rattle.rule_formula.specs.Mean.{mask_tracks}
+use Rattle.rule_formula.specs.Fits.{mask_of}
 use Rattle.rule_formula.specs.Placed.{tuple_of}
 use Rattle.set_plan.specs.Outcome.{Ends, Stops}
 use Rattle.set_plan.specs.declared.stop.StepName.{StepName}
 use Rattle.set_plan.proofs.Alike.{Ends-alike, Stops-alike}
 use Rattle.set_plan.proofs.Composition.{none_some}
 use Rattle.set_plan.proofs.Unique.{Ends-not_stops, Ends-one, Stops-one}
-use Rattle.mate_plan.specs.Claim.{Claim, ClaimedSet, IsClaim, IsClaimed, IsLosersPly, claimed_at, claimed_in}
+use Rattle.mate_plan.specs.Claim.{Claim, ClaimedSet, IsClaim, IsClaimed, claimed_at, claimed_in}
 use Rattle.mate_plan.specs.Won.{Won}
 use Rattle.mate_plan.specs.declared.names.PartName.{PartName}
 use Rattle.claim_plan.specs.CheckLaws.{CheckEndsOnce}

@@ -5,9 +5,8 @@ use Rattle.track_word.specs.Tracks.{values_at, word_values}
 use Rattle.track_word.specs.Word.{IsWord}
 use Rattle.auto_core.specs.Automaton.{Automaton}
 use Rattle.auto_core.specs.Integers.{DecidesIntegers, IsAccepted}
-use Rattle.auto_reduce.specs.Tables.{AcceptSameWords}
 use Rattle.auto_reduce.proofs.Stables.{DecidesIntegers-words}
-use Rattle.lin_formula.specs.SetOf.{Member, as_set}
+use Rattle.lin_formula.specs.SetOf.{as_set}
 use Rattle.set_plan.specs.Same.{SameSets}
 use Rattle.claim_plan.specs.SameClaims.{AreSameSets, IsSameSet}
 

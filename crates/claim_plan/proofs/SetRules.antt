@@ -1,11 +1,11 @@
 -- The rules of the claimed sets: no heed of repeated first letters, men apart, the winner not in check.
-use Rattle.std.proofs.Common.{◌≡◌, ◌≢◌, ◌↔◌, ◌⊎◌, ℕ, zero, suc, ◌+◌, ◌*◌, ◌<◌, ◌≤◌, Bool, true, false, List, [], ◌∷◌, ◌++◌, length, map, Option, Some, None, inl, inr, ℤ, refl, sym, ap, ◌∙◌, subst, arith}
-use Rattle.std.specs.Prelude.{Contains, IsSomeAnd}
+use Rattle.std.proofs.Common.{◌≡◌, ◌≢◌, ◌↔◌, ◌⊎◌, ℕ, zero, suc, ◌<◌, ◌≤◌, true, false, List, [], ◌∷◌, length, map, Option, Some, None, inl, inr, ℤ, refl, sym, ap, ◌∙◌, subst, arith}
+use Rattle.std.specs.Prelude.{Contains}
 use Rattle.std.proofs.lemmas.Option.{slice_get_within}
 use Rattle.track_word.specs.Tracks.{Values, values_at, word_values}
 use Rattle.auto_core.specs.Automaton.{Automaton}
-use Rattle.auto_core.specs.Integers.{DecidesIntegers, IsAccepted}
-use Rattle.game_rules.specs.Game.{InCheck, IsApart, Position, Sound, StandsOn, man_at, other, place_square}
+use Rattle.auto_core.specs.Integers.{DecidesIntegers}
+use Rattle.game_rules.specs.Game.{InCheck, Position, StandsOn, man_at, other, place_square}
 use Rattle.game_rules.specs.declared.men.Man.{Man}
 use Rattle.game_rules.specs.declared.men.Place.TheVariants.{Gone}
 use Rattle.game_rules.specs.declared.men.Side.{Side}
@@ -15,33 +15,30 @@ use Rattle.lin_formula.specs.Tree.{Tree}
 use Rattle.lin_formula.specs.SetOf.{Member, SetOf, as_set}
 use Rattle.rule_formula.specs.declared.opt.Bearing.{Bearing}
 use Rattle.rule_formula.specs.Bearings.{bearings_of}
-use Rattle.rule_formula.specs.Fits.{Fits, HasStock, IsGameMask, mask_of, masks_of}
-use Rattle.rule_formula.specs.Mean.{BearsOnKing, HoldsFitting, RulesMean, mask_tracks}
+use Rattle.rule_formula.specs.Fits.{Fits, IsGameMask, mask_of}
+use Rattle.rule_formula.specs.Mean.{RulesMean, mask_tracks}
 use Rattle.rule_formula.specs.Meaning.{AreTwins}
-use Rattle.rule_formula.specs.Placed.{is_live, placed, tuple_of}
-use Rattle.rule_formula.specs.Seats.{squares}
-use Rattle.rule_formula.specs.Trees.{tracks_of, twins_tree}
-use Rattle.rule_formula.proofs.FitLemmas.{tuple_placed}
-use Rattle.rule_formula.proofs.GameTheorem.{live_in_mask, placed_mask, placed_stock}
-use Rattle.set_plan.specs.Program.{Item, Ask, Give, Stable, Takes}
+use Rattle.rule_formula.specs.Placed.{is_live, tuple_of}
+use Rattle.rule_formula.specs.Trees.{twins_tree}
+use Rattle.rule_formula.proofs.GameTheorem.{live_in_mask}
+use Rattle.set_plan.specs.Program.{Ask, Give, Stable}
 use Rattle.set_plan.specs.Unite.{are_empty}
 use Rattle.set_plan.proofs.Composition.{none_some}
-use Rattle.mate_plan.specs.Plan.{Level, Program, Rules, bear_item, bear_items, name}
+use Rattle.mate_plan.specs.Plan.{Rules, bear_item, bear_items, name}
 use Rattle.mate_plan.specs.PlanOf.{rules_of}
 use Rattle.mate_plan.specs.declared.names.Part.TheVariants as kind
-use Rattle.winning_sets.proofs.KeptSets.{Entries, Stands}
+use Rattle.winning_sets.proofs.KeptSets.{Stands}
 use Rattle.set_plan.proofs.Takings.{AnyItem, IsOf, IsOver, Takes-give, any-map, contains_map}
 use Rattle.winning_sets.proofs.KeptWithin.{bear_within}
-use Rattle.mate_plan.specs.Claim.{Claim, IsClaim, IsClaimed, IsLosersPly, claimed_at, claimed_level}
-use Rattle.claim_plan.specs.CheckPlan.{Finding, and_then, check_set, check_sign, holds_by, rule_at}
+use Rattle.mate_plan.specs.Claim.{Claim, IsClaim, IsClaimed, claimed_at, claimed_level}
+use Rattle.claim_plan.specs.CheckPlan.{and_then, check_set, check_sign, holds_by, rule_at}
 use Rattle.rule_formula.specs.declared.opt.Pair.{Pair}
 use Rattle.rule_formula.specs.Pairs.{pairs_of}
-use Rattle.mate_plan.specs.Twins.{twin_item, twin_items, twins_of}
+use Rattle.mate_plan.specs.Twins.{twin_item, twins_of}
 use Rattle.claim_plan.specs.Checked.{IsClaimedWith, KeepsRule, RuleHolds}
-use Rattle.claim_plan.specs.declared.names.RuleAt.{RuleAt}
 use Rattle.claim_plan.specs.declared.names.Rule.TheVariants as rule
 use Rattle.claim_plan.proofs.ClaimLemmas.{claimed_fits, claimed_level-member, claimed_member, claimed_positions}
-use Rattle.claim_plan.proofs.Findings.{AllHold, Checks, NoItem, and_then-checks, are_empty-tells, asked-tells, holds_by-told, one-checks}
+use Rattle.claim_plan.proofs.Findings.{Checks, NoItem, and_then-checks, are_empty-tells, asked-tells, holds_by-told, one-checks}
 
 -- who stands somewhere is not gone
 stands_there : (m : Man) (z : Square) → StandsOn m z → m.place ≢ Gone
