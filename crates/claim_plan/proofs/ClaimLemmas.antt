@@ -21,9 +21,9 @@ use Rattle.winning_sets.specs.Solve.{HasTuplesOf, IsTupleOf}
 use Rattle.rule_formula.proofs.StockLemmas.{stock_placed}
 use Rattle.winning_sets.proofs.KeptParts.{left_half_more}
 use Rattle.mate_plan.specs.Claim.{Claim, IsClaim, IsClaimed, IsLosersPly, claimed_at, claimed_level}
-use Rattle.claim_plan.specs.WonLaws.{ClaimedIsLost, SetsHaveClaimedTuples, WonIsValue}
+use Rattle.claim_plan.specs.WonLaws.{AreOfGame, ClaimedAreOfGame, ClaimedIsLost, SetsHaveClaimedTuples, WonIsValue}
 use Rattle.mate_plan.specs.Won.{Won}
-use Rattle.claim_plan.proofs.WonLemmas.{AreOfGame, claimed_lost, won_value}
+use Rattle.claim_plan.proofs.WonLemmas.{claimed_lost, won_value}
 
 -- a position of the stock with a mask of the game whose men stand apart is one of the game
 pub stock_fits : (p q : Position) → ((s : Side) → HasOneKing p s) → HasStock p.men q → IsGameMask p (mask_of q) → IsApart q → Fits p q.turn q
@@ -124,6 +124,9 @@ module _ (c : Claim) (is : IsClaim c) where
 
 pub sets_have_claimed_tuples : SetsHaveClaimedTuples
 sets_have_claimed_tuples = λ c ply mask a is e. claimed_tuples c is ply mask a e
+
+pub claimed_are_of_game : ClaimedAreOfGame
+claimed_are_of_game = λ c is won. of_game c is won
 
 pub claimed_is_lost : ClaimedIsLost
 claimed_is_lost = λ c ply q is won h.

@@ -7,6 +7,7 @@ use Rattle.game_laws.proofs.SoundLemmas.{other_other}
 use Rattle.game_laws.proofs.ValueLemmas.{flat_lost}
 use Rattle.mate_plan.specs.PlanOf.{last_ply}
 use Rattle.mate_plan.specs.Claim.{IsLosersPly}
+use Rattle.claim_plan.specs.WonLaws.{AreOfGame}
 use Rattle.mate_plan.specs.Won.{IsBegun, IsWonBy, LeadsInto}
 
 -- with the winner to move, the last ply is twice the number of moves; with the loser to move it is one more
@@ -21,12 +22,6 @@ last_loser White White n is = cc
 last_loser Black Black n is = cc
 last_loser White Black n is = refl
 last_loser Black White n is = refl
-
--- positions of the loser's plies of a game
-pub record AreOfGame (winner : Side) (p : Position) (moves : ℕ) (C : ℕ → Position → Type 0) : Type 0 where
-  pub plies : (ply : ℕ) (q : Position) → C ply q → IsLosersPly winner p moves ply
-  pub turn : (ply : ℕ) (q : Position) → C ply q → q.turn ≡ other winner
-  pub sound : (ply : ℕ) (q : Position) → C ply q → Sound q
 
 module _ (winner : Side) (p : Position) (moves : ℕ) (C : ℕ → Position → Type 0) (are : AreOfGame winner p moves C) (won : IsWonBy winner p C) where
   abbrev last : ℕ
