@@ -11,7 +11,7 @@ use Rattle.game_rules.specs.declared.men.Man.{Man}
 use Rattle.game_rules.specs.declared.men.Place.TheVariants.{Gone}
 use Rattle.game_rules.specs.declared.men.Ray.{Ray}
 use Rattle.game_rules.specs.declared.men.Square.{Square}
-use Rattle.game_rules.specs.Game.{Position, Holds, IsAfter, IsEmptySquare, IsLiveAnd, Legal, Sound, StandsOn, Step, after_steps, man_at, other, square_of}
+use Rattle.game_rules.specs.Game.{Position, IsHeldBy, IsAfter, IsEmptySquare, IsLiveAnd, Legal, Sound, StandsOn, Step, after_steps, man_at, other, square_of}
 use Rattle.game_rules.specs.Rays.{IsAt, serves_moves}
 use Rattle.game_laws.specs.Answer.{distance}
 use Rattle.game_laws.specs.OnRay.{IsOnRay}
@@ -207,7 +207,7 @@ module _ (p : Position) (table : Table) (next : AreNext p table) (f : Frame) (j 
               omega (arith, close, same, right);
         }
       where
-        held : IsEmptySquare p (target mv) ⊎ Holds p (other p.turn) (target mv) → Holds p (other p.turn) (target mv)
+        held : IsEmptySquare p (target mv) ⊎ IsHeldBy p (other p.turn) (target mv) → IsHeldBy p (other p.turn) (target mv)
         held (inl none) = absurd (hit_held (subst (IsEmptySquare p) (sym hit_to) none))
         held (inr h) = h
 

@@ -9,7 +9,7 @@ use Rattle.game_rules.specs.declared.men.Kind.TheVariants.{King, Queen, Rook, Bi
 use Rattle.game_rules.specs.declared.men.Man.{Man}
 use Rattle.game_rules.specs.declared.men.Ray.{Ray}
 use Rattle.game_rules.specs.declared.men.Square.{Square}
-use Rattle.game_rules.specs.Game.{Position, Bears, GoesAs, Holds, IsApart, IsBetween, IsEmptySquare, IsLiveAnd, IsOpen, StandsOn, Step, after_steps, forward, man_at, other, square_of}
+use Rattle.game_rules.specs.Game.{Position, Bears, GoesAs, IsHeldBy, IsApart, IsBetween, IsEmptySquare, IsLiveAnd, IsOpen, StandsOn, Step, after_steps, forward, man_at, other, square_of}
 use Rattle.game_rules.specs.Rays.{IsAt, leap, ray_of, serves_captures, serves_moves}
 use Rattle.game_laws.specs.OnRay.{IsBorneAlong, IsOnOneRay, IsOnRay}
 use Rattle.game_laws.proofs.CheckLemmas.{any_is, one_square, some_and}
@@ -143,7 +143,7 @@ module _ (p : Position) (i : ℕ) (z : Square) (q : Position) (step : Step p i z
   pub serves_quiet : IsEmptySquare p z → IsTrue (serves_moves m.kind n)
   serves_quiet none = subst (λ k. IsTrue (serves_moves m.kind k)) number_is (one.move none)
 
-  pub serves_taking : Holds p (other m.side) z → IsTrue (serves_captures m.kind n)
+  pub serves_taking : IsHeldBy p (other m.side) z → IsTrue (serves_captures m.kind n)
   serves_taking held = subst (λ k. IsTrue (serves_captures m.kind k)) number_is (one.capture held)
 
   -- nobody stands before
@@ -188,7 +188,7 @@ module _ (p : Position) (i : ℕ) (z : Square) (q : Position) (step : Step p i z
     some_man (Some d) s = (d, refl, s)
 
   -- a target is empty or held by the other side
-  pub empty_or_held : IsEmptySquare p z ⊎ Holds p (other p.turn) z
+  pub empty_or_held : IsEmptySquare p z ⊎ IsHeldBy p (other p.turn) z
   empty_or_held =
       elim (any_or_none p z) [
         | inl none ↦ inl none

@@ -1,6 +1,6 @@
 -- Moves in the order of the rays, and the first of them that leads into a set.
 use Rattle.std.specs.Prelude.{◌≡◌, ◌⊎◌, ℕ, ◌<◌, Option, Some, None}
-use Rattle.game_rules.specs.Game.{Position, IsEmptySquare, Holds, Legal, StandsOn, man_at, other}
+use Rattle.game_rules.specs.Game.{Position, IsEmptySquare, IsHeldBy, Legal, StandsOn, man_at, other}
 use Rattle.game_rules.specs.declared.men.Man.{Man}
 use Rattle.game_rules.specs.declared.men.Square.{Square}
 use Rattle.game_laws.specs.OnRay.{IsOnRay}
@@ -57,7 +57,7 @@ abbrev pub IsQuiet : Position → ℕ → ℕ → Choice → Type 0
 IsQuiet p man ray c = (c.mv.man ≡ man) × (c.ray ≡ ray) × IsEmptySquare p (target c.mv)
 
 abbrev pub IsCapture : Position → ℕ → ℕ → Choice → Type 0
-IsCapture p man ray c = (c.mv.man ≡ man) × (c.ray ≡ ray) × Holds p (other p.turn) (target c.mv)
+IsCapture p man ray c = (c.mv.man ≡ man) × (c.ray ≡ ray) × IsHeldBy p (other p.turn) (target c.mv)
 
 -- there is one first move at most, and not both one and none
 abbrev pub OnePick : (Position → Type 0) → Frame → Position → Type 0

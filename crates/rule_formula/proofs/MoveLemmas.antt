@@ -10,7 +10,7 @@ use Rattle.game_rules.specs.declared.men.Side.TheVariants.{White, Black}
 use Rattle.game_rules.specs.declared.men.Man.{Man}
 use Rattle.game_rules.specs.declared.men.Place.TheVariants.{Gone, At}
 use Rattle.game_rules.specs.declared.men.Square.{Square}
-use Rattle.game_rules.specs.Game.{Bears, Goes, GoesAs, Holds, IsAfter, IsEmptySquare, IsLeftBy, IsSlider, Position, StandsOn, forward, man_at, other, place_square, IsApart}
+use Rattle.game_rules.specs.Game.{Bears, Goes, GoesAs, IsHeldBy, IsAfter, IsEmptySquare, IsLeftBy, IsSlider, Position, StandsOn, forward, man_at, other, place_square, IsApart}
 use Rattle.game_rules.specs.declared.men.Ray.{Ray}
 use Rattle.game_rules.specs.Rays.{leap, serves_captures, serves_moves}
 use Rattle.rule_formula.proofs.RayLemmas.{LiesOn, is_along, lies_on, IsSteps, IsWithin, along_moves, one_step, steps_same}
@@ -56,7 +56,7 @@ pub place_gone : (b : Bool) (z : Square) → b ≡ false → place_at b z ≡ Go
 place_gone true z e = absurd (cc)
 place_gone false z e = refl
 
-goes_as : (k : Kind) (p : Position) (m : Man) (z : Square) → Bears p m z → Holds p (other m.side) z → GoesAs k p m z
+goes_as : (k : Kind) (p : Position) (m : Man) (z : Square) → Bears p m z → IsHeldBy p (other m.side) z → GoesAs k p m z
 goes_as King p m z b h = b
 goes_as Queen p m z b h = b
 goes_as Rook p m z b h = b
@@ -150,7 +150,7 @@ takes_there stock mask i n zero man r o f g w = empty_there stock mask i n man r
 takes_there stock mask i n (suc t) man r o f g w =
     (man_placed (is_live mask) f (suc t) o.prey.0, placed_man stock (is_live mask) man.side f (suc t) o.prey.0 o.prey.1, prey_stands stock mask i n t man r o f g w)
 
-no_own_there : (stock : List Man) (mask i n t : ℕ) (man : Man) (r : Ray) → IsOption stock mask i n t man r → (f g : ℕ → Square) → IsMove stock (is_live mask) i r t f g → Holds (placed stock (is_live mask) man.side f) man.side (g i) → ⊥
+no_own_there : (stock : List Man) (mask i n t : ℕ) (man : Man) (r : Ray) → IsOption stock mask i n t man r → (f g : ℕ → Square) → IsMove stock (is_live mask) i r t f g → IsHeldBy (placed stock (is_live mask) man.side f) man.side (g i) → ⊥
 no_own_there stock mask i n t man r o f g w h =
     let p : Position = placed stock (is_live mask) man.side f in
     let (k, q, is, (side, stands)) = from_any p (λ m. (m.side ≡ man.side) × StandsOn m (g i)) h in
