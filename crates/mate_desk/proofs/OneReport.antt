@@ -17,16 +17,19 @@ use Rattle.chess_text.specs.declared.reader.Stage.{Stage}
 use Rattle.chess_text.specs.declared.reader.Stage.TheVariants.{Header}
 use Rattle.chess_text.proofs.PositionLemmas.{feeds_once}
 use Rattle.winning_sets.specs.declared.names.StepName.{StepName}
-use Rattle.mate_desk.specs.Order.{ReadsNumber, FromNumber, WithNumber, MovesOrdered, ReadsMoves, ShowOrdered, Ordered, order_for, most_moves, most_budget, default_budget}
+use Rattle.mate_desk.specs.Order.{ReadsNumber, FromNumber, WithNumber, MovesOrdered, ReadsMoves, ShowOrdered, Ordered, OrderedBehind, order_for, most_moves, most_budget, default_budget}
 use Rattle.mate_desk.specs.Answer.{Answer, writes, exceeds}
 use Rattle.mate_desk.specs.Outcome.{Report, refusal_as, report_of}
 use Rattle.mate_desk.specs.Report.{unsound_line, IsVerdict, IsCheckLine, Answers, AnswersDecide, AnswersLeast, ExceedsAt, FitsBudget, least_line, live_line, ReportsPosition, ReportsText, ReportsOrder, OneReport}
 use Rattle.mate_desk.specs.Text.{Text, whole, refused, AfterLine, ReadsLines}
+use Rattle.mate_desk.specs.declared.order.Command.{Command}
+use Rattle.mate_desk.specs.declared.order.Command.TheVariants as commands
 use Rattle.mate_desk.specs.declared.order.Order.{Order}
 use Rattle.mate_desk.specs.declared.order.Order.TheVariants.{Decide, Least, Show}
 use Rattle.mate_desk.specs.declared.order.UsageWhy.{UsageWhy}
 use Rattle.mate_desk.specs.declared.order.UsageWhy.TheVariants.{NoCommand, Unknown, Count, Number, Limit}
 use Rattle.mate_desk.specs.declared.status.Status.TheVariants as is
+use Rattle.mate_desk.proofs.Commands.{once_command}
 use Rattle.mate_desk.proofs.OneStep.{exceeds_once, fits_exceeds}
 
 -- a word is one number, or none for one reason
@@ -82,24 +85,17 @@ module _ (one other : Result Order UsageWhy) where
   once_show [] a b = a ∙ sym b
   once_show (word ∷ words) a b = a ∙ sym b
 
+  once_behind : (command : Option Command) (words : List (List ℕ)) → OrderedBehind command words one → OrderedBehind command words other → one ≡ other
+  once_behind (Some commands.Decide) words a b = once_ordered (λ moves budget. Decide moves budget) words a b
+  once_behind (Some commands.Least) words a b = once_ordered (λ limit budget. Least limit budget) words a b
+  once_behind (Some commands.Show) words a b = once_show words a b
+  once_behind None words a b = a ∙ sym b
+
   pub once_words : (words : List (List ℕ)) → Ordered words one → Ordered words other → one ≡ other
   once_words [] a b = a ∙ sym b
-  once_words (command ∷ words) (inl (is', a)) (inl (so, b)) = once_ordered (λ moves budget. Decide moves budget) words a b
-  once_words (command ∷ words) (inl (is', a)) (inr (inl (so, b))) = absurd (cc)
-  once_words (command ∷ words) (inl (is', a)) (inr (inr (inl (so, b)))) = absurd (cc)
-  once_words (command ∷ words) (inl (is', a)) (inr (inr (inr (d, l, h, b)))) = absurd (d is')
-  once_words (command ∷ words) (inr (inl (is', a))) (inl (so, b)) = absurd (cc)
-  once_words (command ∷ words) (inr (inl (is', a))) (inr (inl (so, b))) = once_ordered (λ limit budget. Least limit budget) words a b
-  once_words (command ∷ words) (inr (inl (is', a))) (inr (inr (inl (so, b)))) = absurd (cc)
-  once_words (command ∷ words) (inr (inl (is', a))) (inr (inr (inr (d, l, h, b)))) = absurd (l is')
-  once_words (command ∷ words) (inr (inr (inl (is', a)))) (inl (so, b)) = absurd (cc)
-  once_words (command ∷ words) (inr (inr (inl (is', a)))) (inr (inl (so, b))) = absurd (cc)
-  once_words (command ∷ words) (inr (inr (inl (is', a)))) (inr (inr (inl (so, b)))) = once_show words a b
-  once_words (command ∷ words) (inr (inr (inl (is', a)))) (inr (inr (inr (d, l, h, b)))) = absurd (h is')
-  once_words (command ∷ words) (inr (inr (inr (d, l, h, a)))) (inl (so, b)) = absurd (d so)
-  once_words (command ∷ words) (inr (inr (inr (d, l, h, a)))) (inr (inl (so, b))) = absurd (l so)
-  once_words (command ∷ words) (inr (inr (inr (d, l, h, a)))) (inr (inr (inl (so, b)))) = absurd (h so)
-  once_words (command ∷ words) (inr (inr (inr (d, l, h, a)))) (inr (inr (inr (e, m, k, b)))) = a ∙ sym b
+  once_words (word ∷ words) a b =
+      let P : Option Command → Type 0 = λ command. OrderedBehind command words other in
+      once_behind a.0 words a.2 (subst P (sym (once_command word a.0 b.0 a.1 b.1)) b.2)
 
 -- lines are one text
 once_after : (turnout : Turnout) (number : ℕ) (rest : Lines) (one other : Text) (F G : Stage → Type 0) → ((next : Stage) → F next → G next → one ≡ other) → AfterLine turnout number rest one F → AfterLine turnout number rest other G → one ≡ other

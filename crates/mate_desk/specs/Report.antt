@@ -91,15 +91,15 @@ Answers (orders.Least limit budget) p answer = AnswersLeast limit budget p answe
 Answers orders.Show p (writes text) = IsShown p text
 Answers orders.Show p (exceeds step) = ⊥
 
--- White is to move, and has no move of his own
-pub record HasNoMove (moves : ℕ) (p : Position) : Type 0 where
+-- White is to move, and has no move of his own left to make
+pub record HasNothingToPlay (moves : ℕ) (p : Position) : Type 0 where
   pub none : moves ≡ 0
   pub turn : p.turn ≡ White
 
 -- the answer to the order takes memory
 abbrev pub TakesMemory : Order → Position → Type 0
-TakesMemory (orders.Decide moves budget) p = ¬ HasNoMove moves p
-TakesMemory (orders.Least limit budget) p = ¬ HasNoMove limit p
+TakesMemory (orders.Decide moves budget) p = ¬ HasNothingToPlay moves p
+TakesMemory (orders.Least limit budget) p = ¬ HasNothingToPlay limit p
 TakesMemory orders.Show p = Unit {0}
 
 -- the report on a position, with the files before the run
