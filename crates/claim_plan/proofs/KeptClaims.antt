@@ -19,7 +19,7 @@ use Rattle.rule_formula.proofs.StockLemmas.{stock_unique}
 use Rattle.winning_sets.proofs.KeptParts.{kept_lost, reached_sound}
 use Rattle.winning_sets.proofs.KeptPlan.{fits_reached}
 use Rattle.mate_plan.specs.Claim.{Claim, IsClaim, IsClaimed, claimed_at}
-use Rattle.claim_plan.specs.WonLaws.{IsOfKept, KeptByLoser, KeptIsWon}
+use Rattle.claim_plan.specs.WonLaws.{AreOfGame, IsOfKept, KeptAreOfGame, KeptByLoser, KeptIsWon}
 use Rattle.mate_plan.specs.Won.{IsBegun, IsWonBy, LeadsInto, Won}
 use Rattle.claim_plan.proofs.WonLemmas.{last_loser, last_winner}
 
@@ -34,6 +34,13 @@ module _ (winner : Side) (p : Position) (moves : ℕ) (sound : Sound p) where
   losing_kept ply left before q reached lost = record {
     losers = record { left = left; before = before };
     kept = (kept_lost winner p moves ply left before q).1 (reached, lost);
+  }
+
+  pub kept_of_game : AreOfGame winner p moves (KeptByLoser winner p moves)
+  kept_of_game = record {
+    plies = λ ply q h. h.losers;
+    turn = λ ply q h. (kept_losing ply q h).1.0;
+    sound = λ ply q h. reached_sound p sound ply q (kept_losing ply q h).0;
   }
 
   -- what is kept at the plies of the loser is won
@@ -121,6 +128,9 @@ module _ (c : Claim) (is : IsClaim c) (mean : RulesMean c.position) (some_point 
     sign = λ ply mask a e. (kept ply mask a e).sign;
     positions = won_same c.winner c.position (KeptByLoser c.winner c.position c.moves) (IsClaimed c) claimed_kept (kept_won c.winner c.position c.moves is.sound value);
   }
+
+pub kept_are_of_game : KeptAreOfGame
+kept_are_of_game = λ winner p moves sound. kept_of_game winner p moves sound
 
 pub kept_is_won : KeptIsWon
 kept_is_won = λ winner p moves sound value. kept_won winner p moves sound value

@@ -1,12 +1,12 @@
--- Sets of positions that are won: from each of them the loser is mated in time.
+-- Sets of positions that are won, one for each ply of the loser: from each position the loser is mated in time. The two lemmas
+-- at the end speak of any such sets, which a law can't; other crates may cite them.
 use Rattle.std.proofs.Common.{◌≡◌, ℕ, zero, suc, ◌+◌, ◌*◌, inl, inr, refl, ap, ◌∙◌, arith}
-use Rattle.game_rules.specs.Game.{Lost, Position, Sound, Value, Win, other}
+use Rattle.game_rules.specs.Game.{Lost, Position, Value, Win, other}
 use Rattle.game_rules.specs.declared.men.Side.{Side}
 use Rattle.game_rules.specs.declared.men.Side.TheVariants.{White, Black}
 use Rattle.game_laws.proofs.SoundLemmas.{other_other}
 use Rattle.game_laws.proofs.ValueLemmas.{flat_lost}
 use Rattle.mate_plan.specs.PlanOf.{last_ply}
-use Rattle.mate_plan.specs.Claim.{IsLosersPly}
 use Rattle.claim_plan.specs.WonLaws.{AreOfGame}
 use Rattle.mate_plan.specs.Won.{IsBegun, IsWonBy, LeadsInto}
 

@@ -45,6 +45,10 @@ pub record KeptByLoser (winner : Side) (p : Position) (moves ply : ℕ) (q : Pos
   pub losers : IsLosersPly winner p moves ply
   pub kept : Kept winner p moves ply q
 
+-- what is kept there is sound, with the loser to move
+abbrev pub KeptAreOfGame : Type 0
+KeptAreOfGame = (winner : Side) (p : Position) (moves : ℕ) → Sound p → AreOfGame winner p moves (KeptByLoser winner p moves)
+
 -- where the winner mates in time, what is kept at the plies of the loser is won
 abbrev pub KeptIsWon : Type 0
 KeptIsWon =
