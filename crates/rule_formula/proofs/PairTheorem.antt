@@ -1,5 +1,5 @@
 -- The list of pairs has each two live men, and nothing else; and what the formula of a pair means. mate_plan cites pairs_few.
-use Rattle.std.proofs.Common.{◌≡◌, ◌⊎◌, ◌↔◌, ℕ, zero, suc, ◌+◌, ◌*◌, ◌<◌, ◌≤◌, nat_lt, Bool, true, false, ◌&&◌, List, [], ◌∷◌, ◌++◌, length, ℤ, inl, inr, refl, subst, sym, ap, ◌∙◌, arith, length-append}
+use Rattle.std.proofs.Common.{◌≡◌, ◌↔◌, ℕ, zero, suc, ◌*◌, ◌<◌, ◌≤◌, Bool, true, false, List, [], ◌∷◌, ◌++◌, length, inl, inr, refl, subst, sym, ap, ◌∙◌, arith, length-append}
 use Rattle.std.specs.Prelude.{if◌then◌else◌}
 use Rattle.std.specs.List.{Contains}
 use Rattle.std.proofs.lemmas.Bool.Decides.{nat_tests}
@@ -7,7 +7,7 @@ use Rattle.track_word.specs.Tracks.{Values, values_at}
 use Rattle.game_rules.specs.declared.men.Man.{Man}
 use Rattle.game_rules.specs.Game.{Position}
 use Rattle.lin_formula.specs.Tree.{Tree, free_vars}
-use Rattle.lin_formula.specs.SetOf.{Member, SetOf, members}
+use Rattle.lin_formula.specs.SetOf.{Member, members}
 use Rattle.rule_formula.specs.declared.opt.Pair.{Pair}
 use Rattle.rule_formula.specs.Fits.{HasStock, IsGameMask, mask_of}
 use Rattle.rule_formula.specs.Mean.{PairsMean}

@@ -1,5 +1,5 @@
 -- A position is told by its stock, the side to move, its mask and its coordinates. Other crates cite stock_placed and stock_unique.
-use Rattle.std.proofs.Common.{◌≡◌, ℕ, suc, Bool, List, [], ◌∷◌, length, refl, sym, ap, ◌∙◌, arith}
+use Rattle.std.proofs.Common.{◌≡◌, ℕ, suc, Bool, List, [], ◌∷◌, refl, sym, ap, ◌∙◌, arith}
 use Rattle.track_word.specs.Tracks.{Values, values_at}
 use Rattle.game_rules.specs.Game.{Position}
 use Rattle.game_rules.specs.declared.men.Man.{Man}

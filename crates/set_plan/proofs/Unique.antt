@@ -1,5 +1,5 @@
 -- A program has one end, and one first step past a budget. The crates above cite the three lemmas of the end.
-use Rattle.std.proofs.Common.{◌≡◌, ◌⊎◌, ℕ, List, [], ◌∷◌, ◌++◌, Option, Some, None, sym, ◌∙◌, inl, inr, subst, ap}
+use Rattle.std.proofs.Common.{◌≡◌, ℕ, List, [], ◌∷◌, ◌++◌, Option, Some, None, sym, inl, inr, subst}
 use Rattle.lin_formula.specs.Tree.{steps}
 use Rattle.lin_formula.specs.SetOf.{SetOf, SomeEmpty, NoneEmpty}
 use Rattle.set_plan.specs.Program.{Program, Give, Compute, Ask, Question, Empty, Stable, Has, Within, IsYes, IsNo, Takes, Entry}
