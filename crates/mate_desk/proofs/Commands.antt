@@ -1,5 +1,5 @@
 -- A word names one command, or none.
-use Rattle.std.proofs.Common.{◌≡◌, ℕ, List, Option, Some, None, Bool, if◌then◌else◌, refl, sym, ap, ◌∙◌, codes}
+use Rattle.std.proofs.Common.{◌≡◌, ℕ, List, Option, Some, None, if◌then◌else◌, refl, sym, ap, ◌∙◌, codes}
 use Rattle.std.specs.Prelude.{bytes_eq}
 use Rattle.mate_desk.specs.Order.{IsCommand, name_of}
 use Rattle.mate_desk.specs.declared.order.Command.{Command}

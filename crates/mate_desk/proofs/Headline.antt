@@ -4,16 +4,14 @@ use Rattle.std.specs.Io.KnownBytes.{Appends, Consumes}
 use Rattle.std.proofs.lemmas.List.{append-nil, append_cancel_left, take_all}
 use Rattle.desk_base.specs.Files.{Files}
 use Rattle.desk_base.specs.Lines.{lines_of}
-use Rattle.game_rules.specs.Game.{Position, Sound, Value}
-use Rattle.game_rules.specs.declared.men.Side.TheVariants.{White}
+use Rattle.game_rules.specs.Game.{Position, Sound}
 use Rattle.chess_game.proofs.UnsoundnessLemmas.{unsound_refuted}
 use Rattle.chess_text.specs.PositionText.{position_text}
 use Rattle.chess_text.specs.declared.reader.Stage.TheVariants.{Header}
 use Rattle.mate_desk.specs.Answer.{Answer, writes, exceeds}
-use Rattle.mate_desk.specs.Laws.{DecideWrites, HasRun, LeastWrites, WritesLeast, WritesVerdict}
-use Rattle.mate_desk.specs.Outcome.{Report, Seen, Writes, WriteFailed, report_of}
-use Rattle.mate_desk.specs.Report.{AnswersLeast, IsAnswered, IsExact, IsOverBudget, Reports, ReportsOrder, ReportsPosition, ReportsText, mate_line, no_mate_line, least_line}
-use Rattle.mate_desk.specs.Run.{Given, RunEnds}
+use Rattle.mate_desk.specs.Laws.{DecideWrites, HasRun, LeastWrites}
+use Rattle.mate_desk.specs.Outcome.{Report, Seen, report_of}
+use Rattle.mate_desk.specs.Report.{AnswersLeast, IsAnswered, IsOverBudget, ReportsOrder, ReportsPosition, ReportsText, mate_line, no_mate_line}
 use Rattle.mate_desk.specs.Text.{Text, TextAt, whole}
 use Rattle.mate_desk.specs.declared.order.Order.{Order}
 use Rattle.mate_desk.specs.declared.order.Order.TheVariants as orders

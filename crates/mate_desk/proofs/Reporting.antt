@@ -11,10 +11,10 @@ use Rattle.chess_game.specs.Unsoundness.{IsFirstUnsoundness}
 use Rattle.chess_game.specs.declared.unsoundness.Unsound.{Unsound}
 use Rattle.mate_desk.specs.Answer.{writes, exceeds, budget_line}
 use Rattle.mate_desk.specs.Order.{Ordered, usage_line}
-use Rattle.mate_desk.specs.Outcome.{Report, Seen, Writes, WriteFailed, Leaves, KeepsFiles, refusal_as, done_with, report_of, CommandEnds}
-use Rattle.mate_desk.specs.Report.{unsound_line, Answers, TakesMemory, MayLackMemory}
+use Rattle.mate_desk.specs.Outcome.{Seen, Writes, WriteFailed, Leaves, KeepsFiles, refusal_as, done_with, CommandEnds}
+use Rattle.mate_desk.specs.Report.{unsound_line, Answers, TakesMemory}
 use Rattle.mate_desk.specs.Run.{Given, RunEnds}
-use Rattle.mate_desk.specs.Text.{TextAt, whole, refused, is_end, refusal_line}
+use Rattle.mate_desk.specs.Text.{whole, refused, is_end, refusal_line}
 use Rattle.mate_desk.specs.TextRead.{TextRead}
 use Rattle.mate_desk.specs.declared.order.Order.{Order}
 use Rattle.mate_desk.specs.declared.order.UsageWhy.{UsageWhy}

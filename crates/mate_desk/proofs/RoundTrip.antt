@@ -24,7 +24,7 @@ use Rattle.chess_text.specs.declared.reader.Stage.{Stage}
 use Rattle.chess_text.specs.declared.reader.Stage.TheVariants.{Header}
 use Rattle.chess_text.proofs.PositionLemmas.{spelled_is_accepted}
 use Rattle.mate_desk.specs.Laws.{TextIsRead}
-use Rattle.mate_desk.specs.Text.{TextAt, ReadsLines, whole}
+use Rattle.mate_desk.specs.Text.{ReadsLines, whole}
 
 -- bytes of which none is LF, at most so many
 record IsShort (bytes : List ℕ) (most : ℕ) : Type 0 where

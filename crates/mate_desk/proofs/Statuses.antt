@@ -1,12 +1,11 @@
 -- What the status of a run says of its words.
-use Rattle.std.proofs.Common.{◌≡◌, ◌≢◌, ◌↔◌, ℕ, List, [], ◌++◌, length, Result, Ok, Err, false, IsTrue, inl, inr, refl, sym, ◌∙◌, ap, subst, arith}
+use Rattle.std.proofs.Common.{◌≡◌, ◌≢◌, ◌↔◌, ℕ, List, [], length, Result, Ok, Err, false, inl, inr, sym, ◌∙◌, ap, subst, arith}
 use Rattle.desk_base.specs.Files.{Files}
 use Rattle.game_rules.specs.Game.{Position}
 use Rattle.mate_desk.specs.Answer.{Answer, writes, exceeds}
 use Rattle.mate_desk.specs.Order.{Ordered, usage_line}
-use Rattle.mate_desk.specs.Outcome.{Report, Seen, DoesReport, refusal_as, report_of}
+use Rattle.mate_desk.specs.Outcome.{Report, refusal_as, report_of}
 use Rattle.mate_desk.specs.Report.{Reports, ReportsOrder, ReportsPosition, ReportsText}
-use Rattle.mate_desk.specs.Run.{RunEnds}
 use Rattle.mate_desk.specs.Text.{Text, whole, refused}
 use Rattle.mate_desk.specs.Laws.{FaultsAreCounted, MemoryLast, UsageExactly}
 use Rattle.mate_desk.specs.declared.order.Order.{Order}

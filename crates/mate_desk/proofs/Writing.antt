@@ -1,5 +1,5 @@
 -- What was written of a fault line and of a text.
-use Rattle.std.proofs.Common.{◌≡◌, ℕ, List, [], ◌++◌, length, Option, Result, Ok, Err, OnOk, OnErr, inl, inr, sym, subst, arith}
+use Rattle.std.proofs.Common.{◌≡◌, ℕ, List, [], length, Option, Result, Ok, Err, OnOk, OnErr, inl, inr, sym, subst, arith}
 use Rattle.std.specs.Io.KnownBytes.{Appends}
 use Rattle.std.proofs.lemmas.List.{take_all, append-nil}
 use Rattle.desk_base.specs.Moves.{AppendsFront}

@@ -36,6 +36,12 @@ fn main(rt: HostRuntime) -> ExitCode {
     let mut source = StdSource::new(rt.stdin());
     let mut sink = StdSink::new(io::writer(&rt));
     let mut shelf = BareShelf::new();
-    let status = perform(words_of(&rt), &mut source, &mut sink, &mut shelf, rt.alloc());
+    let status = perform(
+        words_of(&rt),
+        &mut source,
+        &mut sink,
+        &mut shelf,
+        rt.alloc(),
+    );
     exit_of(status)
 }

@@ -32,14 +32,13 @@ pub fn perform<S: Source, K: Sink, H: Shelf>(
     shelf: &mut H,
     alloc: Global,
 ) -> Status
-    ensures {
-        let old : Seen = record {
-          left = S.left source.old;
-          written = K.written sink.old;
-          files = H.files shelf.old;
-          read_faults = S.faults source.old;
-          write_faults = K.faults sink.old;
-        } in
+    ensures { let old : Seen = record {
+      left = S.left source.old;
+      written = K.written sink.old;
+      files = H.files shelf.old;
+      read_faults = S.faults source.old;
+      write_faults = K.faults sink.old;
+    } in
         let new : Seen = record {
           left = S.left source.new;
           written = K.written sink.new;
@@ -87,14 +86,13 @@ pub fn perform_in_memory<'a>(
     output: Vec<u8>,
     alloc: Global,
 ) -> Ran<'a>
-    ensures {
-        let old : Seen = record {
-          left = Some input.now;
-          written = Some output.items;
-          files = Some no_files;
-          read_faults = 0;
-          write_faults = 0;
-        } in
+    ensures { let old : Seen = record {
+      left = Some input.now;
+      written = Some output.items;
+      files = Some no_files;
+      read_faults = 0;
+      write_faults = 0;
+    } in
         let new : Seen = record {
           left = Some result.rest.now;
           written = Some result.output.items;
