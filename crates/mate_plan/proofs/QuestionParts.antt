@@ -1,5 +1,5 @@
 -- The parts of the question whether replies are there.
-use Rattle.std.proofs.Common.{◌≡◌, ℕ, Bool, true, [], ◌∷◌, Result, Ok, Err, inl, refl, subst}
+use Rattle.std.proofs.Common.{◌≡◌, ℕ, Bool, true, [], ◌∷◌, Result, Ok, Err, inl, subst}
 use Rattle.game_rules.specs.declared.men.Side.{Side}
 use Rattle.lin_formula.specs.SetOf.{IsEmpty, SetOf}
 use Rattle.set_plan.specs.Outcome.{Answers, Ends, IsPlanError}

@@ -1,20 +1,13 @@
 -- A position of the stock is in the kept sets exactly where it is kept.
-use Rattle.std.proofs.Common.{◌≡◌, ◌↔◌, ℕ, suc, ◌≤◌, Bool, List, [], ◌∷◌, length, Option, Some, None, refl, sym, ap, ◌∙◌, subst, arith}
+use Rattle.std.proofs.Common.{◌≡◌, ◌↔◌, ℕ, ◌≤◌, length, Option, Some, None, refl, sym, ◌∙◌, subst}
 use Rattle.std.specs.Prelude.{IsSomeAnd}
-use Rattle.track_word.specs.Tracks.{Values, values_at}
 use Rattle.auto_core.specs.Automaton.{Automaton}
 use Rattle.auto_core.specs.Integers.{IsAccepted}
 use Rattle.game_rules.specs.Game.{Position, Sound}
-use Rattle.game_rules.specs.declared.men.Man.{Man}
-use Rattle.game_rules.specs.declared.men.Place.{Place}
-use Rattle.game_rules.specs.declared.men.Side.{Side}
-use Rattle.game_rules.specs.declared.men.Square.{Square}
-use Rattle.rule_formula.specs.Fits.{Fits, HasStock, mask_of}
+use Rattle.rule_formula.specs.Fits.{Fits, mask_of}
 use Rattle.rule_formula.specs.Mean.{RulesMean}
-use Rattle.rule_formula.specs.Placed.{is_live, men_from, place_at, placed, tuple_of}
-use Rattle.rule_formula.specs.Seats.{squares}
-use Rattle.rule_formula.specs.Trees.{point_of, tracks_of}
-use Rattle.rule_formula.proofs.FitLemmas.{AreAlike, alike_of, mask_tells, placed_unique, placed_values, tuple_placed, values_of}
+use Rattle.rule_formula.specs.Placed.{tuple_of}
+use Rattle.rule_formula.specs.Trees.{point_of}
 use Rattle.rule_formula.proofs.StockLemmas.{stock_unique}
 use Rattle.winning_sets.specs.Kept.{Kept}
 use Rattle.mate_plan.specs.Plan.{turn_at}
