@@ -1,5 +1,5 @@
 -- Claims that have a file.
-use Rattle.std.specs.Prelude.{◌≡◌, ℕ, ◌≤◌, length, map}
+use Rattle.std.specs.Prelude.{◌≡◌, ◌≤◌, length, map}
 use Rattle.std.specs.List.{All}
 use Rattle.auto_core.specs.Automaton.{IsAutomaton}
 use Rattle.game_rules.specs.Game.{Position, Sound}

@@ -10,7 +10,7 @@ use Rattle.rule_formula.specs.Fits.{masks_of}
 use Rattle.rule_formula.specs.Mean.{mask_tracks}
 use Rattle.mate_plan.specs.Claim.{Claim, ClaimedSet, losers_plies}
 use Rattle.strategy_file.specs.declared.refusal.ByteWhy.TheVariants as why
-use Rattle.strategy_file.specs.Layout.{Refusal, Byte, Layout, Give, bind, ◌>>=◌, one, between, each, Reads, Ends}
+use Rattle.strategy_file.specs.Layout.{Refusal, Byte, Layout, Give, ◌>>=◌, one, between, each, Reads, Ends}
 use Rattle.strategy_file.specs.Men.{Start, start_layout}
 use Rattle.strategy_file.specs.Tables.{Table, table_of, table_layout}
 

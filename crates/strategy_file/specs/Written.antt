@@ -1,5 +1,5 @@
 -- The bytes that are written for a claim.
-use Rattle.std.specs.Prelude.{ℕ, ◌<◌, Bool, true, false, List, [], ◌∷◌, ◌++◌, length, codes, ℤ}
+use Rattle.std.specs.Prelude.{ℕ, Bool, true, false, List, [], ◌∷◌, ◌++◌, length, codes, ℤ}
 use Rattle.std.specs.Int.{w32, w64, to_be_bytes, cast_unsigned}
 use Rattle.std.specs.List.{flat_map, range_with_len}
 use Rattle.auto_core.specs.Automaton.{Automaton, first_state, next_state, is_final, width}
