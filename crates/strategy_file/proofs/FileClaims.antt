@@ -1,16 +1,14 @@
 -- What has a file is a claim.
-use Rattle.std.proofs.Common.{◌≡◌, ◌≢◌, ℕ, zero, suc, ◌≤◌, Bool, true, false, ◌&&◌, ◌==◌, cond, List, [], ◌∷◌, map, length, Option, Some, None, All, inl, inr, refl, sym, ap, ◌∙◌, subst, arith}
+use Rattle.std.proofs.Common.{◌≡◌, ◌≢◌, ℕ, Bool, true, false, ◌&&◌, ◌==◌, List, [], ◌∷◌, map, Option, Some, None, inl, inr, refl, sym, ap, ◌∙◌, subst, arith}
 use Rattle.std.specs.Prelude.{Contains, if◌then◌else◌}
 use Rattle.std.proofs.lemmas.Bool.{eqb-true, eq-eqb, and_from, and_parts}
 use Rattle.std.proofs.lemmas.List.Elements.{All-contains}
 use Rattle.auto_core.specs.Automaton.{Automaton}
-use Rattle.game_rules.specs.Game.{Position}
 use Rattle.game_rules.specs.declared.men.Side.{Side}
-use Rattle.game_rules.specs.declared.men.Side.TheVariants.{White}
 use Rattle.rule_formula.specs.Fits.{IsGameMask}
 use Rattle.rule_formula.specs.Mean.{mask_tracks}
 use Rattle.set_plan.proofs.Takings.{contains_cases, contains_head, contains_none, contains_rest}
-use Rattle.mate_plan.specs.Claim.{Claim, ClaimedSet, IsClaim, IsLosersPly, claimed_at, claimed_in}
+use Rattle.mate_plan.specs.Claim.{Claim, ClaimedSet, IsClaim, IsLosersPly, claimed_in}
 use Rattle.strategy_file.specs.Fitting.{HasFile, IsFormed}
 use Rattle.strategy_file.specs.Laws.{FilesAreClaims}
 use Rattle.strategy_file.specs.StrategyFile.{places_of}

@@ -1,5 +1,5 @@
 -- How many bytes are written.
-use Rattle.std.proofs.Common.{◌≡◌, ℕ, zero, suc, ◌+◌, ◌*◌, ◌^◌, ◌<◌, ◌≤◌, List, [], ◌∷◌, ◌++◌, map, length, take, drop, get_or, Some, refl, ap, sym, ◌∙◌, arith, add-one, drop-cons, lit<}
+use Rattle.std.proofs.Common.{◌≡◌, ℕ, zero, suc, ◌+◌, ◌*◌, ◌^◌, ◌<◌, ◌≤◌, List, ◌∷◌, ◌++◌, length, drop, Some, refl, ap, sym, ◌∙◌, arith, add-one, drop-cons, lit<}
 use Rattle.std.specs.Prelude.{slice_get}
 use Rattle.std.proofs.lemmas.List.Concat.{flat_map-cons}
 use Rattle.std.proofs.lemmas.Option.{get_or_from_slice_get, slice_get_within}
@@ -9,11 +9,9 @@ use Rattle.std.proofs.Math.Nat.{pow-le-pow_right, mul-le-mul_left}
 use Rattle.std.specs.List.{flat_map, range_with_len}
 use Rattle.std.specs.Int.{w32, to_be_bytes}
 use Rattle.std.proofs.lemmas.List.{length-append}
-use Rattle.auto_core.specs.Automaton.{Automaton, first_state, next_state, is_final, width}
+use Rattle.auto_core.specs.Automaton.{Automaton, first_state, next_state, width}
 use Rattle.mate_plan.specs.Claim.{Claim, ClaimedSet}
-use Rattle.strategy_file.specs.declared.claim.ClaimedSet.{ClaimedSet as SetHere}
-use Rattle.strategy_file.specs.Claims.{set_of}
-use Rattle.strategy_file.specs.Written.{written, start_bytes, man_bytes, row_bytes, state_bytes, table_bytes, set_bytes, flag_byte}
+use Rattle.strategy_file.specs.Written.{written, start_bytes, man_bytes, row_bytes, state_bytes, table_bytes, set_bytes}
 
 -- as many bytes for each number of a range
 range_length : (f : ℕ → List ℕ) (m : ℕ) → ((k : ℕ) → length (f k) ≡ m) → (a n : ℕ) → length (flat_map f (range_with_len a n)) ≡ n * m

@@ -1,5 +1,5 @@
 -- The claim of a solved position has a file, and the position has one file.
-use Rattle.std.proofs.Common.{◌≡◌, ◌≢◌, ◌↔◌, ℕ, zero, suc, ◌+◌, ◌<◌, ◌≤◌, Bool, List, [], ◌∷◌, ◌++◌, map, length, Option, Some, None, All, inl, inr, refl, sym, ap, ◌∙◌, subst, arith}
+use Rattle.std.proofs.Common.{◌≡◌, ◌↔◌, ℕ, zero, suc, ◌≤◌, Bool, List, [], ◌∷◌, ◌++◌, map, length, Option, Some, None, All, refl, sym, ap, ◌∙◌, subst, arith}
 use Rattle.std.specs.Prelude.{Contains, IsSome, IsSomeAnd}
 use Rattle.std.specs.List.{flat_map}
 use Rattle.std.proofs.lemmas.List.Concat.{flat_map-cons}
@@ -7,7 +7,7 @@ use Rattle.std.proofs.lemmas.List.Elements.{All-head, All-tail, All-weaker}
 use Rattle.std.proofs.lemmas.Option.{slice_get_within}
 use Rattle.track_word.specs.declared.tracks.Var.{Var}
 use Rattle.track_word.specs.Word.{IsWord}
-use Rattle.auto_core.specs.Automaton.{Automaton, Accepts, width}
+use Rattle.auto_core.specs.Automaton.{Automaton, Accepts}
 use Rattle.auto_reduce.specs.Tables.{AcceptSameWords, HaveEqualTables}
 use Rattle.auto_reduce.proofs.SameTables.{equal_tables}
 use Rattle.game_rules.specs.Game.{HasOneKing, Position, man_at}
@@ -15,15 +15,14 @@ use Rattle.game_rules.specs.declared.men.Man.{Man}
 use Rattle.game_rules.specs.declared.men.Side.{Side}
 use Rattle.game_rules.specs.declared.men.Side.TheVariants.{White, Black}
 use Rattle.chess_game.specs.Near.{IsNarrowPosition}
-use Rattle.rule_formula.specs.Mean.{mask_tracks}
 use Rattle.mate_plan.specs.Claim.{Claim, ClaimedSet}
 use Rattle.winning_sets.specs.Solve.{IsSolution, Solution, kept_at}
 use Rattle.strategy_file.specs.Fitting.{HasFile, IsFormed}
 use Rattle.strategy_file.specs.Laws.{OneFile}
-use Rattle.strategy_file.specs.SolvedFile.{IsClaimOf, IsFileOf, IsFileRefusal, IsOfKeptSet}
+use Rattle.strategy_file.specs.SolvedFile.{IsClaimOf, IsFileRefusal, IsOfKeptSet}
 use Rattle.strategy_file.specs.StrategyFile.{places_of}
 use Rattle.strategy_file.specs.WriteRefusal.{IsWriteRefusal}
-use Rattle.strategy_file.specs.Written.{row_bytes, set_bytes, start_bytes, state_bytes, table_bytes, written}
+use Rattle.strategy_file.specs.Written.{set_bytes, start_bytes, state_bytes, table_bytes, written}
 use Rattle.strategy_file.specs.declared.writing.WriteFileError.{WriteFileError}
 use Rattle.strategy_file.specs.declared.writing.WriteFileError.TheVariants.{TooLarge, Memory}
 use Rattle.strategy_file.proofs.FileClaims.{place_of}

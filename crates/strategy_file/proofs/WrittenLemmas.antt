@@ -1,12 +1,12 @@
 -- What is written for a claim is read as that claim.
-use Rattle.std.proofs.Common.{◌≡◌, ℕ, zero, suc, ◌+◌, ◌≤◌, ◌<◌, List, [], ◌∷◌, ◌++◌, map, length, Result, Ok, refl, sym, ap, subst, ◌∙◌, append_assoc, arith, inl, inr, All}
+use Rattle.std.proofs.Common.{◌≡◌, ℕ, ◌+◌, ◌≤◌, List, [], ◌∷◌, ◌++◌, map, length, Ok, refl, sym, ap, subst, ◌∙◌, arith, inr, All}
 use Rattle.std.proofs.Common.{codes}
 use Rattle.std.specs.Int.{w8, w32, from_be_bytes}
 use Rattle.std.specs.List.{flat_map, AllByRecursion}
 use Rattle.std.proofs.lemmas.List.{append-nil}
 use Rattle.std.proofs.lemmas.List.Concat.{flat_map-cons}
 use Rattle.std.proofs.lemmas.List.Elements.{All-head, All-tail, recursion_from_All}
-use Rattle.auto_core.specs.Automaton.{Automaton, IsAutomaton}
+use Rattle.auto_core.specs.Automaton.{IsAutomaton}
 use Rattle.game_rules.specs.Game.{Position}
 use Rattle.game_rules.specs.declared.men.Side.TheVariants.{White}
 use Rattle.game_rules.specs.declared.men.Man.{Man}
@@ -14,14 +14,14 @@ use Rattle.rule_formula.specs.Mean.{mask_tracks}
 use Rattle.mate_plan.specs.Claim.{Claim, ClaimedSet}
 use Rattle.strategy_file.specs.declared.refusal.ByteWhy.TheVariants as why
 use Rattle.strategy_file.specs.Layout.{Layout, Give, bind, one, between, repeated, each, Ends}
-use Rattle.strategy_file.specs.Reading.{Left, taken}
+use Rattle.strategy_file.specs.Reading.{taken}
 use Rattle.std.specs.Option.{ForSome}
 use Rattle.game_rules.specs.Game.{place_square}
 use Rattle.game_rules.specs.declared.men.Place.{Place}
 use Rattle.game_rules.specs.declared.men.Place.TheVariants.{Gone, At}
 use Rattle.chess_game.specs.Near.{IsNarrow, IsNarrowMan}
 use Rattle.strategy_file.specs.Fitting.{HasFile, IsFormed}
-use Rattle.strategy_file.specs.Men.{Start, start_layout, start_with, man_layout, side_of}
+use Rattle.strategy_file.specs.Men.{Start, start_layout, start_with, man_layout}
 use Rattle.strategy_file.specs.Tables.{table_layout, table_of}
 use Rattle.strategy_file.specs.StrategyFile.{Chart, Charts, chart_of, charts_of, charts_with, chart_with, chart_layout, charts_layout, places_of, File, GoesOn}
 use Rattle.strategy_file.specs.Written.{written, start_bytes, man_bytes, set_bytes, table_bytes, side_byte}

@@ -1,5 +1,5 @@
 -- Claims that have a file.
-use Rattle.std.specs.Prelude.{◌≡◌, ℕ, ◌≤◌, length, map}
+use Rattle.std.specs.Prelude.{◌≡◌, ◌≤◌, length, map}
 use Rattle.std.specs.List.{All}
 use Rattle.auto_core.specs.Automaton.{IsAutomaton}
 use Rattle.game_rules.specs.Game.{Position, Sound}
@@ -15,8 +15,8 @@ pub record IsFormed (p : Position) (s : ClaimedSet) : Type 0 where
   pub valid : IsAutomaton s.set
   pub few : length s.set.accept ≤ 200000
 
--- The claim has a file of version 1: White is to mate within at most 20 moves, from a sound position of two to five men whose coordinates
--- are numbers of 64 bits; and there is a set for each ply of Black and each mask, in order.
+-- The claim has a file of version 1: White is to mate within at most 20 moves, from a sound position of two to five
+-- men whose coordinates are numbers of 64 bits; and there is a set for each ply of Black and each mask, in order.
 pub record HasFile (c : Claim) : Type 0 where
   pub white : c.winner ≡ White
   pub sound : Sound c.position

@@ -11,8 +11,8 @@ use Rattle.strategy_file.specs.Written.{most_bytes, written}
 use Rattle.strategy_file.specs.declared.writing.WriteFileError.{WriteFileError}
 use Rattle.strategy_file.specs.declared.writing.WriteFileError.TheVariants.{TooLarge, Memory}
 
--- The set accepts the words that the kept set of its ply and mask accepts. It has no state too many, and its states are numbered in the
--- order in which a breadth-first walk in ascending letters meets them.
+-- The set accepts the words that the kept set of its ply and mask accepts. It has no state too many, and its states
+-- are numbered in the order in which a breadth-first walk in ascending letters meets them.
 pub record IsOfKeptSet (s : Solution) (c : ClaimedSet) : Type 0 where
   pub kept : Automaton
   pub is_there : kept_at s c.ply c.mask ≡ Some kept

@@ -10,7 +10,7 @@ use Rattle.rule_formula.specs.Fits.{masks_of}
 use Rattle.rule_formula.specs.Mean.{mask_tracks}
 use Rattle.mate_plan.specs.Claim.{Claim, ClaimedSet, losers_plies}
 use Rattle.strategy_file.specs.declared.refusal.ByteWhy.TheVariants as why
-use Rattle.strategy_file.specs.Layout.{Refusal, Byte, Layout, Give, bind, ◌>>=◌, one, between, each, Reads, Ends}
+use Rattle.strategy_file.specs.Layout.{Refusal, Byte, Layout, Give, ◌>>=◌, one, between, each, Reads, Ends}
 use Rattle.strategy_file.specs.Men.{Start, start_layout}
 use Rattle.strategy_file.specs.Tables.{Table, table_of, table_layout}
 
@@ -43,9 +43,13 @@ chart_layout p place = do
   table ← table_layout (length (mask_tracks p place.1))
   Give (chart_with p place table)
 
+-- each of the plies with each of the masks
+abbrev pub places_with : List ℕ → List ℕ → List (ℕ × ℕ)
+places_with plies masks = flat_map (λ ply. map (λ mask. (ply, mask)) masks) plies
+
 -- the plies of the loser, ascending, and at each of them the masks, ascending
 abbrev pub places_of : Side → Position → ℕ → List (ℕ × ℕ)
-places_of winner p moves = flat_map (λ ply. map (λ mask. (ply, mask)) (masks_of p)) (losers_plies winner p.turn moves)
+places_of winner p moves = places_with (losers_plies winner p.turn moves) (masks_of p)
 
 abbrev pub charts_with : Start → List Chart → Charts
 charts_with start sets = record { position = start.position; winner = White; moves = start.moves; sets = sets }

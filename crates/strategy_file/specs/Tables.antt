@@ -4,7 +4,7 @@ use Rattle.std.specs.Int.{w8, w32}
 use Rattle.std.specs.List.{flat_map}
 use Rattle.auto_core.specs.Automaton.{Automaton}
 use Rattle.strategy_file.specs.declared.refusal.ByteWhy.TheVariants as why
-use Rattle.strategy_file.specs.Layout.{Layout, Give, bind, ◌>>=◌, one, between, repeated}
+use Rattle.strategy_file.specs.Layout.{Layout, Give, ◌>>=◌, one, between, repeated}
 
 -- what a file has of an automaton: a state for each sign letter, and for each state a flag and a state for each letter
 pub record Table : Type 0 where

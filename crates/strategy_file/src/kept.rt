@@ -53,7 +53,8 @@ fn kept_sets(
     Ok(sets)
 }
 
-/// The set that is kept at a ply and a mask. It is reduced again, since how the states of a solved position's sets are numbered is not said.
+/// The set that is kept at a ply and a mask. It is reduced again, since how the states of a solved position's sets
+/// are numbered is not said.
 fn kept_set(alloc: Global, solved: &Solved, ply: u8, mask: u8) -> Result<ClaimedSet, AllocError>
     requires { IsSome (kept_at solved.now ply mask) }
     ensures ply { IfOk result (λ s. s.ply ≡ ply) }

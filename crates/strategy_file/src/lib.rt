@@ -1,7 +1,7 @@
 //! The bytes of a strategy file: what a claim is written as, and exactly which bytes are read as a claim.
 //!
-//! `specs/Layout` says how bytes are read field by field, `specs/StrategyFile` has the fields of a file in order, and `specs/SolvedFile` says
-//! which claim is written for a solved position.
+//! `specs/Layout` says how bytes are read field by field, `specs/StrategyFile` has the fields of a file in order, and
+//! `specs/SolvedFile` says which claim is written for a solved position.
 #![tactic(auto)]
 
 mod charts;
