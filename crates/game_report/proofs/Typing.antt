@@ -10,7 +10,7 @@ use Rattle.chess_text.specs.declared.replies.MoveWhy.{MoveWhy}
 use Rattle.chess_text.specs.declared.replies.MoveWhy.TheVariants as why
 use Rattle.chess_text.specs.declared.replies.Typed.{Typed}
 use Rattle.chess_text.specs.declared.replies.Typed.TheVariants as typed
-use Rattle.chess_text.proofs.Blanks.{fields_are, no_two_fields}
+use Rattle.chess_text.proofs.Blanks.{fields_are, no_blank_within, no_two_fields}
 use Rattle.game_report.specs.Report.{IsTyped}
 
 same_bytes : (xs ys : List ℕ) → Decided (xs ≡ ys)
@@ -49,11 +49,11 @@ some_byte : (text : List ℕ) → Decided (text ≢ [])
 some_byte [] = inr (λ h. h refl)
 some_byte (x ∷ xs) = inl (λ e. cc)
 
+blank_in : (text : List ℕ) → IsSplit text → HasNoBlank text → ⊥
+blank_in text h k = no_blank_within h.first h.second (subst HasNoBlank h.joined k)
+
 field_of : (text : List ℕ) → IsSplit text ⊎ HasNoBlank text → Decided (IsField text)
-field_of text (inl h) = inr (λ k. fields_none h k.no_blank)
-  where
-    fields_none : IsSplit text → HasNoBlank text → ⊥
-    fields_none h k = ?
+field_of text (inl h) = inr (λ k. blank_in text h k.no_blank)
 field_of text (inr h) = map_decided (text ≢ []) (IsField text) (λ some. record { some = some; no_blank = h }) (λ k. k.some) (some_byte text)
 
 is_field : (text : List ℕ) → Decided (IsField text)
@@ -79,3 +79,79 @@ is_number text =
         → ((n : ℕ) × (n < 2 ^ 63) × (text ≡ signed_decimal (pos n))) ⊎ ((n : ℕ) × (n < 2 ^ 63) × (text ≡ signed_decimal (negsuc n)))
     by (pos n) fits is = inl (n, omega (arith, fits), is)
     by (negsuc n) fits is = inr (n, omega (arith, fits), is)
+
+fields_of : (text : List ℕ) → IsSplit text ⊎ HasNoBlank text → Decided (HasTwoFields text)
+fields_of text (inl h) =
+    map_decided (IsField h.first × IsField h.second) (HasTwoFields text)
+    (λ k. record { first = h.first; second = h.second; is_first = k.0; is_second = k.1; joined = h.joined })
+    (fields_are text h.first h.second h.joined h.no_blank) (both _ _ (is_field h.first) (is_field h.second))
+fields_of text (inr h) = inr (no_two_fields text h)
+
+-- a number from 1 to 8 has this digit
+abbrev IsDigit : ℕ → Type 0
+IsDigit d = (man : ℕ) × (man < 9) × ((1 ≤ man) × (d ≡ man_digit man))
+
+is_digit : (d : ℕ) → Decided (IsDigit d)
+is_digit d = below (λ man. (1 ≤ man) × (d ≡ man_digit man)) (λ man. both _ _ (less 0 man) (number_same d (man_digit man))) 9
+
+module _ (d b : ℕ) (rest : List ℕ) where
+  abbrev Front : Type 0
+  Front = (b ≡ 32) × (IsDigit d × HasTwoFields rest)
+
+  of_front : Front → HasDigit HasTwoFields (d ∷ b ∷ rest)
+  of_front h =
+      let man = h.1.0.0 in
+      let low = h.1.0.1 in
+      record {
+        man = man;
+        first = h.1.0.2.0;
+        last = omega (arith, low);
+        rest = rest;
+        front = ap (λ x. x ∷ b ∷ rest) h.1.0.2.1 ∙ ap (λ x. man_digit man ∷ x ∷ rest) h.0;
+        shape = h.1.1;
+      }
+
+  front_of : HasDigit HasTwoFields (d ∷ b ∷ rest) → Front
+  front_of h =
+      let is = h.front in
+      let blank : b ≡ 32 = cc in
+      let digit : d ≡ man_digit h.man = cc in
+      let more : rest ≡ h.rest = cc in
+      let high = h.last in
+      (blank, ((h.man, omega (arith, high), (h.first, digit)), subst HasTwoFields (sym more) h.shape))
+
+has_digit : (line : List ℕ) → Decided (HasDigit HasTwoFields line)
+has_digit [] = inr (λ h. let is = h.front in cc)
+has_digit (d ∷ []) = inr (λ h. let is = h.front in cc)
+has_digit (d ∷ b ∷ rest) =
+    map_decided (Front d b rest) (HasDigit HasTwoFields (d ∷ b ∷ rest)) (of_front d b rest) (front_of d b rest)
+    (both _ _ (number_same b 32) (both _ _ (is_digit d) (fields_of rest (split rest))))
+
+abbrev Found : List ℕ → Type 0
+Found line = (reply : Option Typed) × IsTyped line reply
+
+no_number_in : (line : List ℕ) (h : HasDigit HasTwoFields line) → (IsNumber h.shape.first → ⊥) ⊎ (IsNumber h.shape.second → ⊥) → Found line
+no_number_in line h none =
+    let t = h.shape in
+    let fault : HasNoNumber h.rest =
+    record { first = t.first; second = t.second; is_first = t.is_first; is_second = t.is_second; joined = t.joined; no_number = none } in
+    (None, (why.Number, record { man = h.man; first = h.first; last = h.last; rest = h.rest; front = h.front; shape = fault }))
+
+numbers_in : (line : List ℕ) (h : HasDigit HasTwoFields line) → Decided (IsNumber h.shape.first) → Decided (IsNumber h.shape.second) → Found line
+numbers_in line h (inr none) d = no_number_in line h (inl none)
+numbers_in line h (inl x) (inr none) = no_number_in line h (inr none)
+numbers_in line h (inl x) (inl y) =
+    let mv : Move = record { man = h.man; x = x.number; y = y.number } in
+    let pair : h.rest ≡ pair_text x.number y.number =
+    h.shape.joined ∙ (ap (λ a. two_fields a h.shape.second) x.spelled ∙ ap (two_fields (signed_decimal x.number)) y.spelled) in
+    (
+      Some (typed.Move mv),
+      (h.front ∙ ap (λ rest. man_digit h.man ∷ 32 ∷ rest) pair, record { first = h.first; last = h.last; right = x.fits; up = y.fits }),
+    )
+
+past_quit : (line : List ℕ) → (line ≡ codes "quit" → ⊥) → Decided (HasDigit HasTwoFields line) → Found line
+past_quit line other (inr none) = (None, (why.Shape, λ h. elim h [ inl is ↦ other is | inr digit ↦ none digit ]))
+past_quit line other (inl h) = numbers_in line h (is_number h.shape.first) (is_number h.shape.second)
+
+pub some_typed : (line : List ℕ) → Found line
+some_typed line = elim (same_bytes line (codes "quit")) [ inl is ↦ (Some typed.Quit, is) | inr other ↦ past_quit line other (has_digit line) ]

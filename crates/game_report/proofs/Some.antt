@@ -1,0 +1,134 @@
+-- There is a report.
+use Rattle.std.proofs.Common.{◌≡◌, ◌⊎◌, inl, inr, ℕ, zero, suc, ◌+◌, ◌≤◌, ◌==◌, List, [], ◌∷◌, Bool, true, false, get_or, Option, Some, None, refl, sym, ap, subst, ◌∙◌, codes}
+use Rattle.std.specs.Prelude.{IsSomeAnd}
+use Rattle.track_word.specs.Tracks.{IsAscending}
+use Rattle.auto_core.specs.Automaton.{Automaton}
+use Rattle.auto_core.specs.Integers.{IsAccepted}
+use Rattle.desk_base.specs.Lines.{Lines, full, ended, cut, long}
+use Rattle.game_rules.specs.declared.men.Square.{Square}
+use Rattle.game_rules.specs.Game.{Position, InCheck, Legal, Mate, Sound, other}
+use Rattle.game_laws.specs.Answer.{CanGo}
+use Rattle.game_laws.proofs.DecideLemmas.{Decided, can_go, in_check, map_decided, side_same}
+use Rattle.game_laws.proofs.MateLemmas.{mate_or_move}
+use Rattle.game_laws.proofs.SoundLemmas.{other_other, side_or_other}
+use Rattle.chess_game.specs.declared.moves.Move.{Move}
+use Rattle.chess_text.specs.declared.replies.Typed.{Typed}
+use Rattle.chess_text.specs.declared.replies.Typed.TheVariants as typed
+use Rattle.mask_sets.specs.Sets.{IsIn, Table, set_at}
+use Rattle.rule_formula.specs.Fits.{mask_of, masks_of}
+use Rattle.rule_formula.specs.Placed.{tuple_of}
+use Rattle.set_plan.proofs.Tables.{table_decided}
+use Rattle.winning_sets.specs.Solve.{IsSolution, Solution, end_of, kept_at}
+use Rattle.winning_sets.proofs.Empties.{tracks_ascend}
+use Rattle.winning_sets.proofs.Places.{sets_at-ply}
+use Rattle.game_session.specs.Choice.{Pick, target}
+use Rattle.game_session.specs.declared.choice.Choice.{Choice}
+use Rattle.white_player.specs.Game.{Game, IsGame, IsKeptAt, moved_to}
+use Rattle.white_player.proofs.Games.{game_sound, kept_next, kept_reply, next_kept, winner_ply}
+use Rattle.game_report.specs.Laws.{seen}
+use Rattle.game_report.specs.Report.{AtLine, AtLines, AtLoser, AtTyped, AtWinner, IsReport, KeptPick, Match, Report, Unless, all_squares, cut_at, ends, long_at, many, mated, moved, most_lines, no_line, plays, quit, wide, writes}
+use Rattle.game_report.proofs.Picking.{some_pick}
+use Rattle.game_report.proofs.Typing.{some_typed}
+
+-- it is known whether a sound position is mate; this belongs in game_laws
+pub mate_or_not : (p : Position) → Sound p → Decided (Mate p)
+mate_or_not p sound = by (in_check p p.turn)
+  where
+    by : Decided (InCheck p p.turn) → Decided (Mate p)
+    by (inl check) = elim (mate_or_move p sound check) [ inl mate ↦ inl mate | inr go ↦ inr (λ mate. mate.stuck go.0 go.1 go.2 go.3) ]
+    by (inr safe) = inr (λ mate. safe mate.check)
+
+-- it is known which positions after a move are kept
+module _ (s : Solution) (valid : IsSolution s) (ply : ℕ) (p : Position) (kept : IsKeptAt s ply p) (within : suc ply ≤ end_of s) where
+  abbrev next_table : Table
+  next_table = record { masks = masks_of s.position; sets = get_or s.kept (suc ply) [] }
+
+  accepted_or_not : (q : Position) (o : Option Automaton) → set_at next_table (mask_of q) ≡ o → Decided (IsSomeAnd o (λ a. IsAccepted a (tuple_of q)))
+  accepted_or_not q None e = inr (λ h. h)
+  accepted_or_not q (Some a) e =
+      let at : kept_at s (suc ply) (mask_of q) ≡ Some a = sym (sets_at-ply (masks_of s.position) s.kept (suc ply) (mask_of q)) ∙ e in
+      let formed = valid.kept.formed (suc ply) (mask_of q) a at in
+      table_decided a (subst IsAscending (sym formed.tracks) (tracks_ascend s.position.men (mask_of q))) formed.integers (tuple_of q)
+
+  kept_or_not : (i : ℕ) (z : Square) (q : Position) → Legal p i z q → Decided (IsKeptAt s (suc ply) q)
+  kept_or_not i z q legal =
+      map_decided (IsIn next_table q) (IsKeptAt s (suc ply) q) (next_kept s valid ply p kept i z q legal.step) (kept_next s valid ply p kept q within)
+      (accepted_or_not q (set_at next_table (mask_of q)) refl)
+
+  pub some_kept : (o : Option Choice) × Pick (IsKeptAt s (suc ply)) all_squares p o
+  some_kept = some_pick (IsKeptAt s (suc ply)) all_squares p kept_or_not
+
+-- with the winner to move he has a pick, or there is none
+pub some_kept_pick : (g : Game) → IsGame g → g.position.turn ≡ g.solution.winner → (o : Option Choice) × KeptPick (seen g) o
+some_kept_pick g game turn = some_kept g.solution game.valid g.ply g.position game.kept (winner_ply g game.valid game turn)
+
+abbrev Goes : (Match → Report → Type 0) → Game → Type 0
+Goes On g = (report : Report) × On (seen g) report
+
+module _ (On : Match → Report → Type 0) (go : (g : Game) → IsGame g → g.position.turn ≡ other g.solution.winner → (Mate g.position → ⊥) → Goes On g) where
+  at_loser : (left : Lines) (g : Game) → IsGame g → g.position.turn ≡ other g.solution.winner → Goes (AtLoser On left) g
+  at_loser left g game turn = by (mate_or_not g.position (game_sound g game))
+    where
+      by : Decided (Mate g.position) → Goes (AtLoser On left) g
+      by (inl mate) = (ends mated (codes "mate\n") left, inl (mate, refl))
+      by (inr none) = let on = go g game turn none in (on.0, inr (none, on.1))
+
+  at_winner : (left : Lines) (g : Game) → IsGame g → g.position.turn ≡ g.solution.winner → Goes (AtWinner On left) g
+  at_winner left g game turn = by (some_kept_pick g game turn)
+    where
+      by : ((o : Option Choice) × KeptPick (seen g) o) → Goes (AtWinner On left) g
+      by (None, none) = (ends wide [] left, inl (none, refl))
+      by (Some c, pick) =
+          let q = pick.position in
+          let legal = pick.leads.legal in
+          let next : IsGame (moved_to g q) = record { valid = game.valid; kept = pick.leads.is_in; ply = winner_ply g game.valid game turn } in
+          let later = at_loser left (moved_to g q) next (legal.step.after.turn ∙ ap other turn) in
+          (plays c.mv (moved (seen g) q) later.0, inr (c, q, later.0, pick, legal, later.1, refl))
+
+  at_typed : (left : Lines) (g : Game) → IsGame g → g.position.turn ≡ other g.solution.winner → (Mate g.position → ⊥) → (reply : Option Typed)
+      → (report : Report) × AtTyped On left (seen g) report reply
+  at_typed left g game turn none None = let on = go g game turn none in (writes (codes "unreadable\n") on.0, (on.0, on.1, refl))
+  at_typed left g game turn none (Some typed.Quit) = (ends quit [] left, refl)
+  at_typed left g game turn none (Some (typed.Move mv)) = by (can_go g.position mv.man (target mv))
+    where
+      by : Decided (CanGo g.position mv.man (target mv)) → (report : Report) × AtTyped On left (seen g) report (Some (typed.Move mv))
+      by (inr stuck) =
+          let on = go g game turn none in
+          (writes (codes "illegal\n") on.0, inl (on.0, λ q legal. stuck (q, legal), on.1, refl))
+      by (inl (q, legal)) =
+          let next = kept_reply g game.valid game turn mv.man (target mv) q legal in
+          let his : q.turn ≡ g.solution.winner = legal.step.after.turn ∙ (ap other turn ∙ other_other g.solution.winner) in
+          let later = at_winner left (moved_to g q) next his in
+          (later.0, inr (q, legal, later.1))
+
+  at_line : (line : List ℕ) (left : Lines) (g : Game) → IsGame g → g.position.turn ≡ other g.solution.winner → (Mate g.position → ⊥) → Goes (AtLine On line left) g
+  at_line line left g game turn none =
+      let reply = some_typed line in
+      let on = at_typed left g game turn none reply.0 in
+      (on.0, (reply.0, reply.1, on.1))
+
+unless : (stop : Bool) (left : Lines) (P : Report → Type 0) → ((report : Report) × P report) → (report : Report) × Unless stop left report (P report)
+unless true left P h = (ends many [] left, refl)
+unless false left P h = h
+
+at_lines : (before read : ℕ) (lines : Lines) (g : Game) → IsGame g → g.position.turn ≡ other g.solution.winner → (Mate g.position → ⊥) → Goes (AtLines before read lines) g
+at_lines before read (full line rest) g game turn none =
+    unless (read == most_lines) (full line rest) (λ report. AtLine (λ next later. AtLines before (read + 1) rest next later) line rest (seen g) report)
+    (at_line (λ next later. AtLines before (read + 1) rest next later) (λ next on his not_mate. at_lines before (read + 1) rest next on his not_mate) line rest g game turn none)
+at_lines before read ended g game turn none =
+    unless (read == most_lines) ended (λ report. report ≡ ends no_line [] ended) (ends no_line [] ended, refl)
+at_lines before read (cut front) g game turn none =
+    unless (read == most_lines) (cut front) (λ report. report ≡ ends (cut_at (before + read + 1)) [] (cut front)) (ends (cut_at (before + read + 1)) [] (cut front), refl)
+at_lines before read long g game turn none =
+    unless (read == most_lines) long (λ report. report ≡ ends (long_at (before + read + 1)) [] long) (ends (long_at (before + read + 1)) [] long, refl)
+
+pub some_report : (before : ℕ) (lines : Lines) (g : Game) → IsGame g → (report : Report) × IsReport before lines (seen g) report
+some_report before lines g game = by (side_or_other g.position.turn g.solution.winner)
+  where
+    by : (g.position.turn ≡ g.solution.winner) ⊎ (g.position.turn ≡ other g.solution.winner) → (report : Report) × IsReport before lines (seen g) report
+    by (inl turn) =
+        let on = at_winner (λ next later. AtLines before 0 lines next later) (λ next game his none. at_lines before 0 lines next game his none) lines g game turn in
+        (on.0, inl (turn, on.1))
+    by (inr turn) =
+        let on = at_loser (λ next later. AtLines before 0 lines next later) (λ next game his none. at_lines before 0 lines next game his none) lines g game turn in
+        (on.0, inr (turn, on.1))
