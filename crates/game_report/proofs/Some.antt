@@ -24,7 +24,7 @@ use Rattle.winning_sets.proofs.Places.{sets_at-ply}
 use Rattle.game_session.specs.Choice.{Pick, target}
 use Rattle.game_session.specs.declared.choice.Choice.{Choice}
 use Rattle.white_player.specs.Game.{Game, IsGame, IsKeptAt, moved_to}
-use Rattle.white_player.proofs.Games.{game_sound, kept_next, kept_reply, next_kept, winner_ply}
+use Rattle.white_player.proofs.Games.{game_sound, kept_next, kept_reply, next_kept, table_of, winner_ply}
 use Rattle.game_report.specs.Laws.{seen}
 use Rattle.game_report.specs.Report.{AtLine, AtLines, AtLoser, AtTyped, AtWinner, IsReport, KeptPick, Match, Report, Unless, all_squares, cut_at, ends, long_at, many, mated, moved, most_lines, no_line, plays, quit, wide, writes}
 use Rattle.game_report.proofs.Picking.{some_pick}
@@ -40,10 +40,7 @@ mate_or_not p sound = by (in_check p p.turn)
 
 -- it is known which positions after a move are kept
 module _ (s : Solution) (valid : IsSolution s) (ply : ℕ) (p : Position) (kept : IsKeptAt s ply p) (within : suc ply ≤ end_of s) where
-  abbrev next_table : Table
-  next_table = record { masks = masks_of s.position; sets = get_or s.kept (suc ply) [] }
-
-  accepted_or_not : (q : Position) (o : Option Automaton) → set_at next_table (mask_of q) ≡ o → Decided (IsSomeAnd o (λ a. IsAccepted a (tuple_of q)))
+  accepted_or_not : (q : Position) (o : Option Automaton) → set_at (table_of s (suc ply)) (mask_of q) ≡ o → Decided (IsSomeAnd o (λ a. IsAccepted a (tuple_of q)))
   accepted_or_not q None e = inr (λ h. h)
   accepted_or_not q (Some a) e =
       let at : kept_at s (suc ply) (mask_of q) ≡ Some a = sym (sets_at-ply (masks_of s.position) s.kept (suc ply) (mask_of q)) ∙ e in
@@ -52,8 +49,8 @@ module _ (s : Solution) (valid : IsSolution s) (ply : ℕ) (p : Position) (kept 
 
   kept_or_not : (i : ℕ) (z : Square) (q : Position) → Legal p i z q → Decided (IsKeptAt s (suc ply) q)
   kept_or_not i z q legal =
-      map_decided (IsIn next_table q) (IsKeptAt s (suc ply) q) (next_kept s valid ply p kept i z q legal.step) (kept_next s valid ply p kept q within)
-      (accepted_or_not q (set_at next_table (mask_of q)) refl)
+      map_decided (IsIn (table_of s (suc ply)) q) (IsKeptAt s (suc ply) q) (next_kept s valid ply p kept i z q legal.step) (kept_next s valid ply p kept q within)
+      (accepted_or_not q (set_at (table_of s (suc ply)) (mask_of q)) refl)
 
   pub some_kept : (o : Option Choice) × Pick (IsKeptAt s (suc ply)) all_squares p o
   some_kept = some_pick (IsKeptAt s (suc ply)) all_squares p kept_or_not
