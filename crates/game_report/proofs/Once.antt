@@ -63,15 +63,15 @@ unless false left a b A B same h k = same h k
 at_lines : (before read : ℕ) (lines : Lines) (g : Match) (a b : Report) → AtLines before read lines g a → AtLines before read lines g b → a ≡ b
 at_lines before read (full line rest) g a b h k =
     unless (read == most_lines) (full line rest) a b _ _
-    (at_line (λ next later. AtLines before (read + 1) rest next later) (λ next c d. at_lines before (read + 1) rest next c d) line rest g a b) h k
+    (at_line (AtLines before (read + 1) rest) (λ next c d. at_lines before (read + 1) rest next c d) line rest g a b) h k
 at_lines before read ended g a b h k = unless (read == most_lines) ended a b _ _ (λ x y. x ∙ sym y) h k
 at_lines before read (cut front) g a b h k = unless (read == most_lines) (cut front) a b _ _ (λ x y. x ∙ sym y) h k
 at_lines before read long g a b h k = unless (read == most_lines) long a b _ _ (λ x y. x ∙ sym y) h k
 
 pub one_report : (before : ℕ) (lines : Lines) (g : Match) (a b : Report) → IsReport before lines g a → IsReport before lines g b → a ≡ b
 one_report before lines g a b (inl h) (inl k) =
-    at_winner (λ next later. AtLines before 0 lines next later) (λ next c d. at_lines before 0 lines next c d) lines g a b h.1 k.1
+    at_winner (AtLines before 0 lines) (λ next c d. at_lines before 0 lines next c d) lines g a b h.1 k.1
 one_report before lines g a b (inl h) (inr k) = absurd (other_differs g.winner (sym h.0 ∙ k.0))
 one_report before lines g a b (inr h) (inl k) = absurd (other_differs g.winner (sym k.0 ∙ h.0))
 one_report before lines g a b (inr h) (inr k) =
-    at_loser (λ next later. AtLines before 0 lines next later) (λ next c d. at_lines before 0 lines next c d) lines g a b h.1 k.1
+    at_loser (AtLines before 0 lines) (λ next c d. at_lines before 0 lines next c d) lines g a b h.1 k.1

@@ -66,7 +66,7 @@ module _ (s : Solution) where
   lines_come : (before read : ℕ) (lines : Lines) (p : Position) (ply : ℕ) (r : Report) → AtLines before read lines (seen (at p ply)) r → Comes (at p ply) r
   lines_come before read (full line rest) p ply r h =
       unless (Comes (at p ply)) (read == most_lines) (full line rest) r _ (none_comes p ply r)
-      (line_comes (λ next later. AtLines before (read + 1) rest next later) (λ q n x. lines_come before (read + 1) rest q n x) line rest p ply r) h
+      (line_comes (AtLines before (read + 1) rest) (λ q n x. lines_come before (read + 1) rest q n x) line rest p ply r) h
   lines_come before read ended p ply r h =
       unless (Comes (at p ply)) (read == most_lines) ended r _ (none_comes p ply r) (λ is. none_comes p ply r (ap (λ x. x.games) is)) h
   lines_come before read (cut front) p ply r h =
@@ -79,10 +79,10 @@ module _ (s : Solution) where
 
   pub report_played : (before : ℕ) (lines : Lines) (r : Report) → IsReport before lines (first_seen s) r → Played r
   report_played before lines r (inl (turn, goes)) =
-      let h = winner_comes (λ next later. AtLines before 0 lines next later) (λ q n x. lines_come before 0 lines q n x) lines s.position 0 r goes in
+      let h = winner_comes (AtLines before 0 lines) (λ q n x. lines_come before 0 lines q n x) lines s.position 0 r goes in
       (h.0, h.1, inr (turn, h.2), h.3)
   report_played before lines r (inr (turn, goes)) =
-      let h = loser_comes (λ next later. AtLines before 0 lines next later) (λ q n x. lines_come before 0 lines q n x) lines s.position 0 r goes in
+      let h = loser_comes (AtLines before 0 lines) (λ q n x. lines_come before 0 lines q n x) lines s.position 0 r goes in
       (h.0, h.1, inl (turn, h.2), h.3)
 
   get_seen : (games : List Game) (k : ℕ) (after : Match) → slice_get (map seen games) k ≡ Some after → (g : Game) × (slice_get games k ≡ Some g) × (seen g ≡ after)
@@ -185,7 +185,7 @@ module _ (s : Solution) where
   lines_time before read (full line rest) p ply r loses none h =
       let low = moves_to_make p ply loses none in
       unless (IsInTime (at s p ply)) (read == most_lines) (full line rest) r _ (λ is. none_yet (at s p ply) r is low)
-      (line_time (λ next later. AtLines before (read + 1) rest next later) (λ q n x his more on. lines_time before (read + 1) rest q n x his more on) line rest p ply r loses none) h
+      (line_time (AtLines before (read + 1) rest) (λ q n x his more on. lines_time before (read + 1) rest q n x his more on) line rest p ply r loses none) h
   lines_time before read ended p ply r loses none h =
       let low = moves_to_make p ply loses none in
       unless (IsInTime (at s p ply)) (read == most_lines) ended r _ (λ is. none_yet (at s p ply) r is low) (λ is. none_yet (at s p ply) r (ap (λ x. x.games) is) low) h
@@ -205,8 +205,8 @@ module _ (s : Solution) where
     pub report_in_time : (before : ℕ) (lines : Lines) (r : Report) → IsReport before lines (first_seen s) r
         → (length r.games ≤ s.moves) × ((r.ending ≡ mated) ⊎ (length r.games < s.moves))
     report_in_time before lines r (inl (turn, goes)) =
-        from_start r (winner_time (λ next later. AtLines before 0 lines next later) (λ q n x his more on. lines_time before 0 lines q n x his more on) lines s.position 0 r
+        from_start r (winner_time (AtLines before 0 lines) (λ q n x his more on. lines_time before 0 lines q n x his more on) lines s.position 0 r
         (first_game s all_squares valid value) turn goes)
     report_in_time before lines r (inr (turn, goes)) =
-        from_start r (loser_time (λ next later. AtLines before 0 lines next later) (λ q n x his more on. lines_time before 0 lines q n x his more on) lines s.position 0 r
+        from_start r (loser_time (AtLines before 0 lines) (λ q n x his more on. lines_time before 0 lines q n x his more on) lines s.position 0 r
         (first_game s all_squares valid value, turn) goes)

@@ -26,7 +26,7 @@ use Rattle.game_session.specs.declared.choice.Choice.{Choice}
 use Rattle.white_player.specs.Game.{Game, IsGame, IsKeptAt, moved_to}
 use Rattle.white_player.proofs.Games.{game_sound, kept_next, kept_reply, next_kept, table_of, winner_ply}
 use Rattle.game_report.specs.Laws.{seen}
-use Rattle.game_report.specs.Report.{AtLine, AtLines, AtLoser, AtTyped, AtWinner, IsReport, KeptPick, Match, Report, Unless, all_squares, cut_at, ends, long_at, many, mated, moved, most_lines, no_line, plays, quit, wide, writes}
+use Rattle.game_report.specs.Report.{AtLine, AtLines, AtLoser, AtTurn, AtTyped, AtWinner, IsReport, KeptPick, Match, Report, Unless, all_squares, cut_at, ends, long_at, many, mated, moved, most_lines, no_line, plays, quit, wide, writes}
 use Rattle.game_report.proofs.Picking.{some_pick}
 use Rattle.game_report.proofs.Typing.{some_typed}
 
@@ -108,10 +108,10 @@ unless : (stop : Bool) (left : Lines) (P : Report → Type 0) → ((report : Rep
 unless true left P h = (ends many [] left, refl)
 unless false left P h = h
 
-at_lines : (before read : ℕ) (lines : Lines) (g : Game) → IsGame g → g.position.turn ≡ other g.solution.winner → (Mate g.position → ⊥) → Goes (AtLines before read lines) g
+pub at_lines : (before read : ℕ) (lines : Lines) (g : Game) → IsGame g → g.position.turn ≡ other g.solution.winner → (Mate g.position → ⊥) → Goes (AtLines before read lines) g
 at_lines before read (full line rest) g game turn none =
-    unless (read == most_lines) (full line rest) (λ report. AtLine (λ next later. AtLines before (read + 1) rest next later) line rest (seen g) report)
-    (at_line (λ next later. AtLines before (read + 1) rest next later) (λ next on his not_mate. at_lines before (read + 1) rest next on his not_mate) line rest g game turn none)
+    unless (read == most_lines) (full line rest) (λ report. AtLine (AtLines before (read + 1) rest) line rest (seen g) report)
+    (at_line (AtLines before (read + 1) rest) (λ next on his not_mate. at_lines before (read + 1) rest next on his not_mate) line rest g game turn none)
 at_lines before read ended g game turn none =
     unless (read == most_lines) ended (λ report. report ≡ ends no_line [] ended) (ends no_line [] ended, refl)
 at_lines before read (cut front) g game turn none =
@@ -119,13 +119,15 @@ at_lines before read (cut front) g game turn none =
 at_lines before read long g game turn none =
     unless (read == most_lines) long (λ report. report ≡ ends (long_at (before + read + 1)) [] long) (ends (long_at (before + read + 1)) [] long, refl)
 
+pub at_turn : (before read : ℕ) (lines : Lines) (g : Game) → IsGame g → g.position.turn ≡ other g.solution.winner → Goes (AtTurn before read lines) g
+at_turn before read lines g game turn =
+    at_loser (AtLines before read lines) (λ next on his none. at_lines before read lines next on his none) lines g game turn
+
 pub some_report : (before : ℕ) (lines : Lines) (g : Game) → IsGame g → (report : Report) × IsReport before lines (seen g) report
 some_report before lines g game = by (side_or_other g.position.turn g.solution.winner)
   where
     by : (g.position.turn ≡ g.solution.winner) ⊎ (g.position.turn ≡ other g.solution.winner) → (report : Report) × IsReport before lines (seen g) report
     by (inl turn) =
-        let on = at_winner (λ next later. AtLines before 0 lines next later) (λ next game his none. at_lines before 0 lines next game his none) lines g game turn in
+        let on = at_winner (AtLines before 0 lines) (λ next on his none. at_lines before 0 lines next on his none) lines g game turn in
         (on.0, inl (turn, on.1))
-    by (inr turn) =
-        let on = at_loser (λ next later. AtLines before 0 lines next later) (λ next game his none. at_lines before 0 lines next game his none) lines g game turn in
-        (on.0, inr (turn, on.1))
+    by (inr turn) = let on = at_turn before 0 lines g game turn in (on.0, inr (turn, on.1))

@@ -1,11 +1,11 @@
 -- The laws of the reports of games.
-use Rattle.std.specs.Prelude.{◌≡◌, ◌⊎◌, ℕ, suc, ◌-◌, ◌<◌, ◌≤◌, List, length, map, Some, slice_get}
+use Rattle.std.specs.Prelude.{◌≡◌, ◌⊎◌, ℕ, suc, ◌-◌, ◌<◌, ◌≤◌, List, [], ◌∷◌, length, map, Some, slice_get}
 use Rattle.desk_base.specs.Lines.{Lines}
-use Rattle.game_rules.specs.Game.{Lost, Value}
+use Rattle.game_rules.specs.Game.{Lost, Mate, Value, other}
 use Rattle.chess_game.specs.declared.moves.Move.{Move}
 use Rattle.winning_sets.specs.Solve.{IsSolution, Solution}
 use Rattle.white_player.specs.Game.{Game, IsGame, Plays, start_of}
-use Rattle.game_report.specs.Report.{IsReport, Match, Report, all_squares, mated}
+use Rattle.game_report.specs.Report.{AtLines, AtTurn, IsReport, Match, Report, all_squares, mated}
 
 -- what a report tells of the game of a session
 abbrev pub seen : Game → Match
@@ -23,11 +23,29 @@ OneReport = (before : ℕ) (lines : Lines) (g : Match) (one two : Report) → Is
 abbrev pub SomeReport : Type 0
 SomeReport = (before : ℕ) (lines : Lines) (g : Game) → IsGame g → (report : Report) × IsReport before lines (seen g) report
 
+-- so it is in the middle of a game, where the loser is to move and it isn't known whether he is mated, and where it is known that he is not
+abbrev pub SomeLater : Type 0
+SomeLater =
+    (before read : ℕ) (lines : Lines) (g : Game) → IsGame g → g.position.turn ≡ other g.solution.winner
+    → ((later : Report) × AtTurn before read lines (seen g) later)
+    × ((Mate g.position → ⊥) → (later : Report) × AtLines before read lines (seen g) later)
+
 -- the games of a report are those that come of some moves that are typed
 abbrev pub ReportIsPlayed : Type 0
 ReportIsPlayed =
     (before : ℕ) (lines : Lines) (s : Solution) (report : Report) → IsReport before lines (first_seen s) report
     → (typed : List Move) × (games : List Game) × Plays (start_of s all_squares) typed games × (report.games ≡ map seen games)
+
+-- the last game of a list, and this one where the list is empty
+abbrev pub last_game : Match → List Match → Match
+last_game g [] = g
+last_game g (next ∷ games) = last_game next games
+
+-- a report that ends by mate ends with the loser mated
+abbrev pub MatedIsMate : Type 0
+MatedIsMate =
+    (before : ℕ) (lines : Lines) (g : Match) (report : Report) → IsReport before lines g report → report.ending ≡ mated
+    → Mate (last_game g report.games).position
 
 -- after the k-th move of the winner, counted from 0, of a report of n, the loser is mated within n - (k + 1)
 abbrev pub ReportIsLost : Type 0

@@ -142,8 +142,12 @@ AtLines before read (cut front) g report =
     Unless (read == most_lines) (cut front) report (report ≡ ends (cut_at (before + read + 1)) [] (cut front))
 AtLines before read long g report = Unless (read == most_lines) long report (report ≡ ends (long_at (before + read + 1)) [] long)
 
+-- the report of a game with the loser to move, where so many lines stood before those of the game, and so many of the game were read
+abbrev pub AtTurn : ℕ → ℕ → Lines → Match → Report → Type 0
+AtTurn before read lines g report = AtLoser (AtLines before read lines) lines g report
+
 -- the report of a game with either side to move, where so many lines of the input stood before these
 abbrev pub IsReport : ℕ → Lines → Match → Report → Type 0
 IsReport before lines g report =
-    ((g.position.turn ≡ g.winner) × AtWinner (λ next later. AtLines before 0 lines next later) lines g report)
-    ⊎ ((g.position.turn ≡ other g.winner) × AtLoser (λ next later. AtLines before 0 lines next later) lines g report)
+    ((g.position.turn ≡ g.winner) × AtWinner (AtLines before 0 lines) lines g report)
+    ⊎ ((g.position.turn ≡ other g.winner) × AtTurn before 0 lines g report)

@@ -1,14 +1,17 @@
 //! Laws of the definitions, each the contract of a function that does nothing.
-ghost use Rattle.game_report.specs.Laws.{MatedInTime, OneReport, ReportIsLost, ReportIsPlayed, SomeReport};
+ghost use Rattle.std.specs.Prelude.{◌≡◌};
+ghost use Rattle.game_report.specs.Laws.{MatedInTime, MatedIsMate, OneReport, ReportIsLost, ReportIsPlayed, SomeLater, SomeReport};
+ghost use Rattle.game_report.specs.Report.{all_squares};
 
 /// Of a game and the same lines there is one report at most.
 pub fn one_report()
     ensures { OneReport }
 {}
 
-/// Each game of a session has a report, whatever the lines are.
+/// Each game of a session has a report, whatever the lines are, from its start and from its middle.
 pub fn some_report()
-    ensures { SomeReport }
+    ensures whole { SomeReport }
+    ensures later { SomeLater }
 {}
 
 /// The games of a report are those of a session in which the moves of its lines are typed: each of the winner's moves is his pick, and legal.
@@ -24,4 +27,14 @@ pub fn report_is_lost()
 /// There, he makes at most n moves in a report, and fewer where it ends otherwise than by mate.
 pub fn mated_in_time()
     ensures { MatedInTime }
+{}
+
+/// A report that ends by mate has the other side mated after the winner's last move, or from the start where he made none.
+pub fn mated_is_mate()
+    ensures { MatedIsMate }
+{}
+
+/// The squares of a report are those of `Frame::whole`.
+pub fn all_squares_are_the_whole_frame()
+    ensures { all_squares ≡ record { x_low = i64.MIN; x_high = i64.MAX; y_low = i64.MIN; y_high = i64.MAX } }
 {}
