@@ -1,5 +1,5 @@
 -- The least number with a property that is decided, where numbers with it are bounded. It belongs beside `below` in game_laws.
-use Rattle.std.proofs.Common.{◌≡◌, ◌⊎◌, inl, inr, ℕ, zero, suc, ◌<◌, subst, arith}
+use Rattle.std.proofs.Common.{◌⊎◌, inl, inr, ℕ, zero, suc, ◌<◌, subst, arith}
 use Rattle.game_laws.proofs.DecideLemmas.{Decided, number_same}
 
 -- the least number with the property

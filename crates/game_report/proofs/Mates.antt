@@ -1,5 +1,5 @@
 -- A report that ends by mate ends at a mate.
-use Rattle.std.proofs.Common.{◌≡◌, ◌⊎◌, inl, inr, ℕ, ◌+◌, ◌==◌, List, [], ◌∷◌, Bool, true, false, Option, Some, None, sym, ap, subst, ◌∙◌}
+use Rattle.std.proofs.Common.{◌≡◌, inl, inr, ℕ, ◌+◌, ◌==◌, List, Bool, true, false, Option, Some, None, sym, ap, subst, ◌∙◌}
 use Rattle.desk_base.specs.Lines.{Lines, full, ended, cut, long}
 use Rattle.game_rules.specs.Game.{Mate}
 use Rattle.chess_text.specs.declared.replies.Typed.{Typed}

@@ -1,8 +1,8 @@
 -- There is one report.
-use Rattle.std.proofs.Common.{◌≡◌, ◌⊎◌, inl, inr, ℕ, suc, ◌+◌, ◌==◌, List, [], ◌∷◌, ◌++◌, Bool, true, false, Option, Some, None, refl, sym, ap, subst, ◌∙◌, arith, codes}
+use Rattle.std.proofs.Common.{◌≡◌, inl, inr, ℕ, suc, ◌+◌, ◌==◌, List, Bool, true, false, Option, Some, None, refl, sym, ap, subst, ◌∙◌, codes}
 use Rattle.std.proofs.lemmas.Option.{same_Some}
 use Rattle.desk_base.specs.Lines.{Lines, full, ended, cut, long}
-use Rattle.game_rules.specs.Game.{Position, Legal, Mate, other}
+use Rattle.game_rules.specs.Game.{Legal}
 use Rattle.game_laws.proofs.MoveLemmas.{same_after}
 use Rattle.game_laws.proofs.SoundLemmas.{other_differs}
 use Rattle.chess_game.specs.declared.moves.Move.{Move}
@@ -13,7 +13,7 @@ use Rattle.winning_sets.specs.Kept.{Kept}
 use Rattle.game_session.proofs.Once.{pick_once}
 use Rattle.game_session.specs.Choice.{target}
 use Rattle.game_session.specs.declared.choice.Choice.{Choice}
-use Rattle.game_report.specs.Report.{AtLine, AtLines, AtLoser, AtTyped, AtWinner, IsReport, IsTyped, KeptPick, Match, Report, Unless, all_squares, moved, most_lines, plays, writes}
+use Rattle.game_report.specs.Report.{AtLine, AtLines, AtLoser, AtTyped, AtWinner, IsReport, IsTyped, Match, Report, Unless, all_squares, moved, most_lines, plays, writes}
 
 typed_once : (line : List ℕ) (a b : Option Typed) → IsTyped line a → IsTyped line b → a ≡ b
 typed_once line None None h k = refl

@@ -11,7 +11,7 @@ use Rattle.game_rules.specs.declared.men.Side.{Side}
 use Rattle.game_rules.specs.declared.men.Square.{Square}
 use Rattle.game_rules.specs.Game.{Position, IsDirection, Legal, StandsOn, after_steps, man_at, square_of}
 use Rattle.game_rules.specs.Rays.{IsAt, ray_of, rays_of}
-use Rattle.game_laws.specs.OnRay.{IsOnOneRay, IsOnRay}
+use Rattle.game_laws.specs.OnRay.{IsOnOneRay}
 use Rattle.game_laws.proofs.CheckLemmas.{one_square, some_and}
 use Rattle.game_laws.proofs.DecideLemmas.{Decided, both, can_go, less, map_decided, number_same}
 use Rattle.game_laws.proofs.LineLemmas.{far_steps}
@@ -20,7 +20,7 @@ use Rattle.game_laws.proofs.RayLemmas.{step_one, true_or_not}
 use Rattle.chess_game.specs.Way.{IsInside}
 use Rattle.chess_game.specs.declared.way.Frame.{Frame}
 use Rattle.chess_game.proofs.AnswerBounds.{ray_stepwise}
-use Rattle.game_session.specs.Choice.{IsBefore, IsFirst, Leads, Pick, target}
+use Rattle.game_session.specs.Choice.{IsBefore, Leads, Pick, target}
 use Rattle.game_session.specs.declared.choice.Choice.{Choice}
 use Rattle.game_session.proofs.Firsts.{man_high}
 use Rattle.game_report.proofs.Least.{IsFirstWith, first_with, some_with}
@@ -173,18 +173,18 @@ module _ (Set : Position → Type 0) (f : Frame) (p : Position) (decided : (i : 
 
   on_ray : (i n : ℕ) (m : Man) (a : Square) → man_at p i ≡ Some m → StandsOn m a → (o : Option Ray) → ray_of m.kind m.side n ≡ o → Nearest i n
   on_ray i n m a is stands None e = inr (λ t led.
-    let man = same_Some led.leads.man m (sym led.leads.is_man ∙ (ap (man_at p) led.man ∙ is)) in
-    let no : None ≡ Some led.leads.on.ray =
-    sym e ∙ (ap (λ (k : Man). ray_of k.kind k.side n) (sym man)
-    ∙ subst (λ k. ray_of led.leads.man.kind led.leads.man.side k ≡ Some led.leads.on.ray) led.ray led.leads.on.is_ray) in
-    cc)
+      let man = same_Some led.leads.man m (sym led.leads.is_man ∙ (ap (man_at p) led.man ∙ is)) in
+      let no : None ≡ Some led.leads.on.ray =
+      sym e ∙ (ap (λ (k : Man). ray_of k.kind k.side n) (sym man)
+      ∙ subst (λ k. ray_of led.leads.man.kind led.leads.man.side k ≡ Some led.leads.on.ray) led.ray led.leads.on.is_ray) in
+      cc)
   on_ray i n m a is stands (Some r) e = nearest_on i n m a r is stands e
 
   of_man : (i n : ℕ) (m : Man) → man_at p i ≡ Some m → (o : Option Square) → square_of m ≡ o → Nearest i n
   of_man i n m is None e = inr (λ t led.
-    let man = same_Some led.leads.man m (sym led.leads.is_man ∙ (ap (man_at p) led.man ∙ is)) in
-    let no : None ≡ Some led.leads.from = sym e ∙ (ap square_of (sym man) ∙ led.leads.stands) in
-    cc)
+      let man = same_Some led.leads.man m (sym led.leads.is_man ∙ (ap (man_at p) led.man ∙ is)) in
+      let no : None ≡ Some led.leads.from = sym e ∙ (ap square_of (sym man) ∙ led.leads.stands) in
+      cc)
   of_man i n m is (Some a) e = on_ray i n m a is e (ray_of m.kind m.side n) refl
 
   at_number : (i n : ℕ) (o : Option Man) → man_at p i ≡ o → Nearest i n

@@ -1,11 +1,11 @@
 -- The games of a report are games that are played, and lost in time.
-use Rattle.std.proofs.Common.{◌≡◌, ◌⊎◌, inl, inr, ℕ, zero, suc, ◌+◌, ◌-◌, ◌<◌, ◌≤◌, ◌==◌, List, [], ◌∷◌, Bool, true, false, length, map, Option, Some, None, refl, sym, ap, subst, ◌∙◌, arith, codes}
+use Rattle.std.proofs.Common.{◌≡◌, ◌⊎◌, inl, inr, ℕ, zero, suc, ◌+◌, ◌-◌, ◌<◌, ◌≤◌, ◌==◌, List, [], ◌∷◌, Bool, true, false, length, map, Option, Some, None, refl, sym, ap, subst, ◌∙◌, arith}
 use Rattle.std.specs.Prelude.{slice_get}
 use Rattle.std.proofs.lemmas.Option.{same_Some}
 use Rattle.desk_base.specs.Lines.{Lines, full, ended, cut, long}
 use Rattle.game_rules.specs.declared.men.Side.{Side}
 use Rattle.game_rules.specs.declared.men.Side.TheVariants.{White, Black}
-use Rattle.game_rules.specs.Game.{Position, Legal, Lost, Mate, Value, Win, other}
+use Rattle.game_rules.specs.Game.{Position, Lost, Mate, Value, Win, other}
 use Rattle.game_laws.proofs.SoundLemmas.{other_other}
 use Rattle.chess_game.specs.declared.moves.Move.{Move}
 use Rattle.chess_text.specs.declared.replies.Typed.{Typed}
@@ -15,8 +15,7 @@ use Rattle.winning_sets.specs.Kept.{moves_left}
 use Rattle.winning_sets.specs.Solve.{IsSolution, Solution, end_of}
 use Rattle.winning_sets.proofs.KeptParts.{value_win}
 use Rattle.game_session.specs.Choice.{target}
-use Rattle.game_session.specs.declared.choice.Choice.{Choice}
-use Rattle.white_player.specs.Game.{Game, Goes, IsGame, IsPicked, LostIn, Plays, WinnerGoes, made_in, moved_to, one_if_same, start_of}
+use Rattle.white_player.specs.Game.{Game, Goes, IsGame, IsPicked, Plays, WinnerGoes, made_in, one_if_same, start_of}
 use Rattle.white_player.proofs.Games.{first_game, kept_reply, kept_turn, left_made, lost_in, picked_game, whole_game}
 use Rattle.game_report.specs.Laws.{first_seen, seen}
 use Rattle.game_report.specs.Report.{AtLine, AtLines, AtLoser, AtTyped, AtWinner, IsReport, Match, Report, Unless, all_squares, most_lines, mated}

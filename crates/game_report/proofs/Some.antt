@@ -1,5 +1,5 @@
 -- There is a report.
-use Rattle.std.proofs.Common.{◌≡◌, ◌⊎◌, inl, inr, ℕ, zero, suc, ◌+◌, ◌≤◌, ◌==◌, List, [], ◌∷◌, Bool, true, false, get_or, Option, Some, None, refl, sym, ap, subst, ◌∙◌, codes}
+use Rattle.std.proofs.Common.{◌≡◌, ◌⊎◌, inl, inr, ℕ, suc, ◌+◌, ◌≤◌, ◌==◌, List, [], Bool, true, false, Option, Some, None, refl, sym, ap, subst, ◌∙◌, codes}
 use Rattle.std.specs.Prelude.{IsSomeAnd}
 use Rattle.track_word.specs.Tracks.{IsAscending}
 use Rattle.auto_core.specs.Automaton.{Automaton}
@@ -8,13 +8,13 @@ use Rattle.desk_base.specs.Lines.{Lines, full, ended, cut, long}
 use Rattle.game_rules.specs.declared.men.Square.{Square}
 use Rattle.game_rules.specs.Game.{Position, InCheck, Legal, Mate, Sound, other}
 use Rattle.game_laws.specs.Answer.{CanGo}
-use Rattle.game_laws.proofs.DecideLemmas.{Decided, can_go, in_check, map_decided, side_same}
+use Rattle.game_laws.proofs.DecideLemmas.{Decided, can_go, in_check, map_decided}
 use Rattle.game_laws.proofs.MateLemmas.{mate_or_move}
 use Rattle.game_laws.proofs.SoundLemmas.{other_other, side_or_other}
 use Rattle.chess_game.specs.declared.moves.Move.{Move}
 use Rattle.chess_text.specs.declared.replies.Typed.{Typed}
 use Rattle.chess_text.specs.declared.replies.Typed.TheVariants as typed
-use Rattle.mask_sets.specs.Sets.{IsIn, Table, set_at}
+use Rattle.mask_sets.specs.Sets.{IsIn, set_at}
 use Rattle.rule_formula.specs.Fits.{mask_of, masks_of}
 use Rattle.rule_formula.specs.Placed.{tuple_of}
 use Rattle.set_plan.proofs.Tables.{table_decided}

@@ -1,12 +1,11 @@
 -- Each line is a reply, or is refused as one. It belongs in chess_text.
-use Rattle.std.proofs.Common.{◌≡◌, ◌≢◌, ◌⊎◌, inl, inr, ℕ, zero, suc, ◌+◌, ◌-◌, ◌^◌, ◌<◌, ◌≤◌, List, [], ◌∷◌, ◌++◌, ℤ, pos, negsuc, FitsSigned, Option, Some, None, refl, sym, ap, subst, ◌∙◌, arith, codes}
+use Rattle.std.proofs.Common.{◌≡◌, ◌≢◌, ◌⊎◌, inl, inr, ℕ, zero, suc, ◌^◌, ◌<◌, ◌≤◌, List, [], ◌∷◌, ℤ, pos, negsuc, FitsSigned, Option, Some, None, refl, sym, ap, subst, ◌∙◌, arith, codes}
 use Rattle.std.specs.Int.{w64}
 use Rattle.std.specs.Fmt.{signed_decimal}
 use Rattle.game_laws.proofs.DecideLemmas.{Decided, below, both, either, less, map_decided, number_same}
 use Rattle.chess_game.specs.declared.moves.Move.{Move}
 use Rattle.chess_text.specs.Fields.{HasNoBlank, HasNoNumber, HasTwoFields, IsField, IsNumber, pair_text, two_fields}
-use Rattle.chess_text.specs.Replies.{HasDigit, IsReply, IsReplyRefusal, man_digit}
-use Rattle.chess_text.specs.declared.replies.MoveWhy.{MoveWhy}
+use Rattle.chess_text.specs.Replies.{HasDigit, man_digit}
 use Rattle.chess_text.specs.declared.replies.MoveWhy.TheVariants as why
 use Rattle.chess_text.specs.declared.replies.Typed.{Typed}
 use Rattle.chess_text.specs.declared.replies.Typed.TheVariants as typed
@@ -143,8 +142,7 @@ numbers_in line h (inl x) (inr none) = no_number_in line h (inr none)
 numbers_in line h (inl x) (inl y) =
     let mv : Move = record { man = h.man; x = x.number; y = y.number } in
     let pair : h.rest ≡ pair_text x.number y.number =
-    h.shape.joined ∙ (ap (λ a. two_fields a h.shape.second) x.spelled ∙ ap (two_fields (signed_decimal x.number)) y.spelled) in
-    (
+    h.shape.joined ∙ (ap (λ a. two_fields a h.shape.second) x.spelled ∙ ap (two_fields (signed_decimal x.number)) y.spelled) in (
       Some (typed.Move mv),
       (h.front ∙ ap (λ rest. man_digit h.man ∷ 32 ∷ rest) pair, record { first = h.first; last = h.last; right = x.fits; up = y.fits }),
     )

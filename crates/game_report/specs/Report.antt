@@ -106,8 +106,8 @@ abbrev pub AtWinner : (Match → Report → Type 0) → Lines → Match → Repo
 AtWinner On left g report =
     (KeptPick g None × (report ≡ ends wide [] left))
     ⊎ ((choice : Choice) × (q : Position) × (later : Report)
-       × KeptPick g (Some choice) × Legal g.position choice.mv.man (target choice.mv) q × AtLoser On left (moved g q) later
-       × (report ≡ plays choice.mv (moved g q) later))
+    × KeptPick g (Some choice) × Legal g.position choice.mv.man (target choice.mv) q × AtLoser On left (moved g q) later
+    × (report ≡ plays choice.mv (moved g q) later))
 
 -- the line is this reply, or, where there is none, no reply
 abbrev pub IsTyped : List ℕ → Option Typed → Type 0
@@ -120,8 +120,8 @@ AtTyped On left g report None = (later : Report) × On g later × (report ≡ wr
 AtTyped On left g report (Some typed.Quit) = report ≡ ends quit [] left
 AtTyped On left g report (Some (typed.Move mv)) =
     ((later : Report)
-     × ((q : Position) → Legal g.position mv.man (target mv) q → ⊥) × On g later
-     × (report ≡ writes (codes "illegal\n") later))
+    × ((q : Position) → Legal g.position mv.man (target mv) q → ⊥) × On g later
+    × (report ≡ writes (codes "illegal\n") later))
     ⊎ ((q : Position) × Legal g.position mv.man (target mv) q × AtWinner On left (moved g q) report)
 
 abbrev pub AtLine : (Match → Report → Type 0) → List ℕ → Lines → Match → Report → Type 0
