@@ -2,7 +2,7 @@ pub mod OffsetLemmas
 pub mod WayLemmas
 pub mod MoveLemmas
 pub mod RefusalLemmas
-pub mod FaultLemmas
+pub mod UnsoundnessLemmas
 pub mod MaskLemmas
 pub mod AnswerBounds
 pub mod MatedLemmas

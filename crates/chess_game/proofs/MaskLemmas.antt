@@ -7,7 +7,7 @@ use Rattle.std.proofs.lemmas.Nat.Bits.{bit_at_above}
 use Rattle.game_rules.specs.declared.men.Man.{Man}
 use Rattle.game_rules.specs.declared.men.Place.TheVariants.{Gone}
 use Rattle.chess_game.specs.Mask.{IsMaskBelow}
-use Rattle.chess_game.proofs.FaultLemmas.{number_cases}
+use Rattle.chess_game.proofs.UnsoundnessLemmas.{number_cases}
 
 -- a bit is below each power past its place
 pub bit_below : (k n : ℕ) → k < 8 → k < n → 1 * 2 ^ k % 256 < 2 ^ n

@@ -14,6 +14,7 @@ use Rattle.game_rules.specs.Game.{Position, Attacked, HasOneKing, InCheck, IsLiv
 use Rattle.game_rules.specs.declared.men.Ray.{Ray}
 use Rattle.game_rules.specs.Rays.{rays_of}
 use Rattle.game_laws.specs.Answer.{CanGo, HasAnswer, answer_square}
+use Rattle.game_laws.proofs.AnswerLemmas.{same_stand}
 use Rattle.game_laws.proofs.CheckLemmas.{any_is}
 use Rattle.game_laws.proofs.SoundLemmas.{any_at}
 use Rattle.chess_game.specs.Check.{IsClose, IsKingOn}
@@ -55,9 +56,6 @@ module _ (p : Position) (sound : Sound p) where
       let same : there.1 ≡ here.1 = is_one there.0 there.1 there.2 there.3.0 there.3.1 ∙ sym (is_one here.0 here.1 here.2 here.3.0 here.3.1) in
       let attacked : IsLiveAnd here.1 (Attacked p (other p.turn)) = subst (λ m. IsLiveAnd m (Attacked p (other p.turn))) same there.3.2 in
       same_stand (square_of here.1) z (Attacked p (other p.turn)) here.3.2 attacked
-    where
-      same_stand : (o : Option Square) (a : Square) (P : Square → Type 0) → o ≡ Some a → IsSomeAnd o P → P a
-      same_stand o a P e h = let k : IsSomeAnd (Some a) P = subst (λ o. IsSomeAnd o P) e h in k
 
 -- man i, who stands at b, has the answers of his rays
 pub answers_at : (p : Position) (a k : Square) (i : ℕ) (m : Man) (b : Square) → man_at p i ≡ Some m → StandsOn m b → HasAnswer p a k i ↔ Any (λ r. CanGo p i (answer_square a k b r)) (rays_of m.kind m.side)

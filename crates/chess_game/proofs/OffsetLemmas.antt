@@ -1,47 +1,18 @@
 -- Lemmas on offsets and on equal steps.
-use Rattle.std.proofs.Common.{◌≡◌, ◌⊎◌, inl, inr, ℕ, ◌<◌, ◌≤◌, max, ℤ, pos, negsuc, ◌+ℤ◌, ◌*ℤ◌, unsigned_abs, ◌-ℤ◌, ap, subst, sym, ◌∙◌, arith}
+use Rattle.std.proofs.Common.{◌≡◌, ℕ, ◌<◌, ◌≤◌, max, ℤ, pos, ◌+ℤ◌, ◌*ℤ◌, unsigned_abs, ◌-ℤ◌, ap, subst, sym, ◌∙◌, arith}
 use Rattle.std.specs.Int.{int_signum}
 use Rattle.std.proofs.lemmas.Int.{ints}
 use Rattle.game_rules.specs.Game.{IsBetween, IsDirection, after_steps}
 use Rattle.game_rules.specs.declared.men.Square.{Square}
+use Rattle.game_laws.proofs.LineLemmas.{far_steps, sign_steps, square_is}
 use Rattle.chess_game.specs.Offsets.{IsPart, IsTimes}
 
-pub square_is : (a : Square) (x y : ℤ) → a.x ≡ x → a.y ≡ y → a ≡ record { x = x; y = y }
-square_is a x y ex ey = ap (λ b. record { x = b; y = a.y }) ex ∙ ap (λ b. record { x = x; y = b }) ey
-
-pub unit_cases : (d : ℤ) → unsigned_abs d ≤ 1 → (d ≡ negsuc 0) ⊎ ((d ≡ pos 0) ⊎ (d ≡ pos 1))
-unit_cases d h = grind (arith, ints)
-
--- how far a multiple of a step of at most one is
-pub abs_multiple : (t : ℕ) (d o : ℤ) → unsigned_abs d ≤ 1 → o ≡ pos t *ℤ d → ((unsigned_abs d ≡ 0) × (unsigned_abs o ≡ 0)) ⊎ ((unsigned_abs d ≡ 1) × (unsigned_abs o ≡ t))
-abs_multiple t d o small is =
-    elim (unit_cases d small) [
-      | inl e ↦ let f : o ≡ pos t *ℤ negsuc 0 = subst (λ u. o ≡ pos t *ℤ u) e is in grind (arith, ints)
-      | inr e ↦ elim e [
-        | inl e ↦ let f : o ≡ pos t *ℤ pos 0 = subst (λ u. o ≡ pos t *ℤ u) e is in grind (arith, ints)
-        | inr e ↦ let f : o ≡ pos t *ℤ pos 1 = subst (λ u. o ≡ pos t *ℤ u) e is in grind (arith, ints)
-      ]
-    ]
-
 -- which way a multiple of a step leads
-pub signum_multiple : (t : ℕ) (d o : ℤ) → 0 < t → unsigned_abs d ≤ 1 → o ≡ pos t *ℤ d → int_signum o ≡ d
-signum_multiple t d o some small is =
-    elim (unit_cases d small) [
-      | inl e ↦ let f : o ≡ pos t *ℤ negsuc 0 = subst (λ u. o ≡ pos t *ℤ u) e is in grind (arith, ints)
-      | inr e ↦ elim e [
-        | inl e ↦ let f : o ≡ pos t *ℤ pos 0 = subst (λ u. o ≡ pos t *ℤ u) e is in grind (arith, ints)
-        | inr e ↦ let f : o ≡ pos t *ℤ pos 1 = subst (λ u. o ≡ pos t *ℤ u) e is in grind (arith, ints)
-      ]
-    ]
-
-pub multiple_far : (t : ℕ) (dx dy ox oy : ℤ) → max (unsigned_abs dx) (unsigned_abs dy) ≡ 1 → ox ≡ pos t *ℤ dx → oy ≡ pos t *ℤ dy → max (unsigned_abs ox) (unsigned_abs oy) ≡ t
-multiple_far t dx dy ox oy unit x y =
-    let hx = abs_multiple t dx ox (omega arith) x in
-    let hy = abs_multiple t dy oy (omega arith) y in
-    grind arith
+signum_multiple : (t : ℕ) (d o : ℤ) → 0 < t → unsigned_abs d ≤ 1 → o ≡ pos t *ℤ d → int_signum o ≡ d
+signum_multiple t d o some small is = ap int_signum is ∙ sign_steps d small t some
 
 pub times_is : (dx dy ox oy : ℤ) (t : ℕ) → IsDirection dx dy → IsTimes dx dy ox oy t → t ≡ max (unsigned_abs ox) (unsigned_abs oy)
-times_is dx dy ox oy t unit is = sym (multiple_far t dx dy ox oy unit is.right is.up)
+times_is dx dy ox oy t unit is = sym (rw (is.right, is.up) (far_steps dx dy unit t))
 
 pub no_times : (dx dy ox oy : ℤ) (m t : ℕ) → IsTimes dx dy ox oy t → IsDirection dx dy → m ≡ max (unsigned_abs ox) (unsigned_abs oy) → (IsTimes dx dy ox oy m → ⊥) → ⊥
 no_times dx dy ox oy m t h unit is off =

@@ -1,22 +1,17 @@
 -- A refused move is not legal.
 use Rattle.std.proofs.Common.{◌≡◌, inl, inr, ℕ, ◌<◌, length, Option, Some, None, sym, subst, ◌∙◌, arith}
 use Rattle.std.specs.Prelude.{IsNone, IsSomeAnd}
-use Rattle.game_rules.specs.Game.{Position, GoesAs, InCheck, IsAfter, Legal, other, square_of}
+use Rattle.game_rules.specs.Game.{Position, GoesAs, InCheck, IsAfter, Legal, square_of}
 use Rattle.game_rules.specs.declared.men.Kind.{Kind}
 use Rattle.game_rules.specs.declared.men.Kind.TheVariants.{King, Queen, Rook, Bishop, Knight, Pawn}
 use Rattle.game_rules.specs.declared.men.Man.{Man}
-use Rattle.game_rules.specs.declared.men.Side.{Side}
-use Rattle.game_rules.specs.declared.men.Side.TheVariants.{White, Black}
 use Rattle.game_rules.specs.declared.men.Square.{Square}
 use Rattle.chess_game.specs.Near.{IsNarrow, IsNarrowMan, IsNarrowPosition}
 use Rattle.chess_game.specs.Refusal.{IsRefusal}
 use Rattle.chess_game.specs.declared.moves.Illegal.{Illegal}
 use Rattle.chess_game.specs.declared.moves.Illegal.TheVariants.{NoSuchMan, NotYours, Captured, OwnMan, NotReached, KingLeft}
-use Rattle.chess_game.proofs.MoveLemmas.{after_each, same_after}
-
-pub other_differs : (s : Side) → s ≡ other s → ⊥
-other_differs White e = cc
-other_differs Black e = cc
+use Rattle.game_laws.proofs.MoveLemmas.{after_each, same_after}
+use Rattle.game_laws.proofs.SoundLemmas.{other_differs}
 
 pub some_not_none : (o : Option Square) (P : Square → Type 0) → IsSomeAnd o P → IsNone o → ⊥
 some_not_none None P h n = h

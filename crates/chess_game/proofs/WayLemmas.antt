@@ -1,5 +1,5 @@
 -- Lemmas on rays and frames.
-use Rattle.std.proofs.Common.{◌≡◌, ◌≢◌, ◌⊎◌, inl, inr, ℕ, zero, suc, ◌<◌, ◌≤◌, ◌+◌, Bool, true, false, List, length, get_or, add-one, ℤ, pos, negsuc, ◌+ℤ◌, ◌-ℤ◌, ◌*ℤ◌, neg_ℤ, unsigned_abs, Option, Some, None, refl, sym, ap, ◌∙◌, subst, arith}
+use Rattle.std.proofs.Common.{◌≡◌, ◌≢◌, ◌⊎◌, inl, inr, ℕ, zero, suc, ◌<◌, ◌≤◌, ◌+◌, true, false, List, length, get_or, add-one, ℤ, pos, negsuc, ◌+ℤ◌, ◌-ℤ◌, ◌*ℤ◌, neg_ℤ, unsigned_abs, Option, Some, None, refl, sym, ap, ◌∙◌, subst, arith}
 use Rattle.std.specs.Prelude.{◌↔◌, IfNone, IfSome, IsSomeAnd, slice_get}
 use Rattle.std.proofs.lemmas.Int.{ints}
 use Rattle.std.proofs.lemmas.Option.{get_or_from_slice_get, slice_get_within, slice_get-get_or}
@@ -8,7 +8,9 @@ use Rattle.game_rules.specs.Rays.{IsAt}
 use Rattle.game_rules.specs.declared.men.Man.{Man}
 use Rattle.game_rules.specs.declared.men.Ray.{Ray}
 use Rattle.game_rules.specs.declared.men.Square.{Square}
-use Rattle.chess_game.specs.Fault.{StandsAt}
+use Rattle.game_laws.proofs.LineLemmas.{square_is}
+use Rattle.game_laws.proofs.RayLemmas.{true_or_not}
+use Rattle.chess_game.specs.Unsoundness.{StandsAt}
 use Rattle.chess_game.specs.Along.{IsIn, IsNearest, IsNearestMan, IsReach, IsStepwise, IsWithin, IsWithinAfter, StandsOff}
 use Rattle.chess_game.specs.Offsets.{IsTimes}
 use Rattle.chess_game.specs.Way.{IsFree, IsFreeFrom, IsHitFrom, IsInside}
@@ -16,8 +18,8 @@ use Rattle.chess_game.specs.declared.way.Axis.{Axis}
 use Rattle.chess_game.specs.declared.way.Frame.{Frame}
 use Rattle.chess_game.specs.declared.way.Hit.{Hit}
 use Rattle.chess_game.specs.declared.way.Span.{Span}
-use Rattle.chess_game.proofs.FaultLemmas.{man_of_some, number_cases}
-use Rattle.chess_game.proofs.OffsetLemmas.{square_is, times_from, times_is, times_to}
+use Rattle.chess_game.proofs.UnsoundnessLemmas.{man_of_some, number_cases}
+use Rattle.chess_game.proofs.OffsetLemmas.{times_from, times_is, times_to}
 
 -- no step
 pub level : (t : ℕ) (x : Axis) → x.step ≡ pos 0 → IsWithin x x.at t ↔ IsWithinAfter x t
@@ -123,12 +125,8 @@ near_reach r a f t near = (
   λ h. (h.0.one near, h.1),
 )
 
-true_or_false : (b : Bool) → (b ≡ true) ⊎ (b ≡ false)
-true_or_false true = inl refl
-true_or_false false = inr refl
-
 far_or_not : (r : Ray) → (r.far ≡ true) ⊎ (r.far ≡ false)
-far_or_not r = true_or_false r.far
+far_or_not r = true_or_not r.far
 
 square_of_some : (o : Option Square) (P : Square → Type 0) → IsSomeAnd o P → (z : Square) × (o ≡ Some z) × P z
 square_of_some None P h = absurd h

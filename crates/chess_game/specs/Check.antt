@@ -1,12 +1,15 @@
 -- A check, and the rays along which it may be answered.
 use Rattle.std.specs.Prelude.{◌≡◌, ◌≤◌, ◌^◌, ℕ, unsigned_abs}
-use Rattle.game_rules.specs.Game.{Position, Bears, StandsOn, other}
+use Rattle.std.specs.List.{Any}
+use Rattle.game_rules.specs.Game.{Position, Attacked, Bears, IsLiveAnd, StandsOn, other}
 use Rattle.game_rules.specs.declared.men.Kind.TheVariants.{King}
 use Rattle.game_rules.specs.declared.men.Man.{Man}
+use Rattle.game_rules.specs.declared.men.Ray.{Ray}
 use Rattle.game_rules.specs.declared.men.Side.{Side}
 use Rattle.game_rules.specs.declared.men.Square.{Square}
-use Rattle.game_laws.specs.Answer.{HasAnswer}
+use Rattle.game_laws.specs.Answer.{CanGo, HasAnswer, IsCheckFrom, answer_square}
 use Rattle.chess_game.specs.declared.answers.Check.{Check}
+use Rattle.chess_game.specs.declared.answers.Standing.{Standing}
 
 -- a square no farther from the middle of the board than those that an i64 can name
 pub record IsClose (z : Square) : Type 0 where
@@ -18,9 +21,17 @@ pub record IsCloseCheck (check : Check) : Type 0 where
   pub from : IsClose check.from
   pub king : IsClose check.king
 
+-- this is the check in which the side to move is
+abbrev pub IsCheckOf : Position → Check → Type 0
+IsCheckOf p check = IsCloseCheck check × IsCheckFrom p check.from check.king
+
+-- the man who stands there can answer the check along the ray
+abbrev pub AnswersAlong : Position → Check → Standing → Ray → Type 0
+AnswersAlong p check man r = CanGo p man.number (answer_square check.from check.king man.square r)
+
 -- no man can answer the check from a of the king at k
-abbrev pub IsHeld : Position → Square → Square → Type 0
-IsHeld p a k = (i : ℕ) → HasAnswer p a k i → ⊥
+abbrev pub IsUnanswered : Position → Square → Square → Type 0
+IsUnanswered p a k = (i : ℕ) → HasAnswer p a k i → ⊥
 
 -- he is the king of the side, on this square
 abbrev pub IsKingOn : Side → Square → Man → Type 0
@@ -29,3 +40,11 @@ IsKingOn s k m = (m.side ≡ s) × (m.kind ≡ King) × StandsOn m k
 -- he is of the side that is not to move, on the square a, and bears on the square k
 abbrev pub IsCheckerOn : Position → Square → Square → Man → Type 0
 IsCheckerOn p k a m = (m.side ≡ other p.turn) × StandsOn m a × Bears p m k
+
+-- on the square a stands a man of the side that is not to move, who bears on the square k
+abbrev pub IsCheckedFrom : Position → Square → Square → Type 0
+IsCheckedFrom p k a = Any (IsCheckerOn p k a) p.men
+
+-- he is the king of the side, and attacked by the other
+abbrev pub IsAttackedKing : Position → Side → Man → Type 0
+IsAttackedKing p s m = (m.side ≡ s) × (m.kind ≡ King) × IsLiveAnd m (Attacked p (other s))

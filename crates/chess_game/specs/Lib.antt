@@ -5,9 +5,10 @@ pub mod Mask
 pub mod Offsets
 pub mod Refusal
 pub mod RayTable
-pub mod Fault
+pub mod Unsoundness
 pub mod Way
 pub mod Along
 pub mod Check
+pub mod Going
 pub use Rattle.game_rules.specs.Game
 pub use Rattle.game_rules.specs.Rays

@@ -6,7 +6,7 @@ use Rattle.game_rules.specs.declared.men.Man.{Man}
 use Rattle.game_rules.specs.declared.men.Ray.{Ray}
 use Rattle.game_rules.specs.declared.men.Square.{Square}
 use Rattle.chess_game.specs.declared.way.Frame.{Frame}
-use Rattle.chess_game.specs.Fault.{StandsAt}
+use Rattle.chess_game.specs.Unsoundness.{StandsAt}
 
 -- the ray is one of those of the man's kind
 abbrev pub IsRayOf : Man → Ray → Type 0

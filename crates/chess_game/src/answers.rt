@@ -4,10 +4,10 @@ ghost use Rattle.std.specs.Prelude.{◌≡◌, ◌↔◌, ◌≤◌, ◌<◌, �
 ghost use Rattle.std.specs.List.{Any};
 ghost use Rattle.game_rules.specs.Game.{Attacked, InCheck, Mate, Sound, other};
 ghost use Rattle.game_rules.specs.Rays.{ray_of, rays_of};
-ghost use Rattle.game_laws.specs.Answer.{CanGo, HasAnswer, IsCheckFrom, answer_square, answer_steps, cross, distance, off_line, steps_to, toward_x, toward_y};
+ghost use Rattle.game_laws.specs.Answer.{HasAnswer, answer_square, answer_steps, cross, distance, off_line, steps_to, toward_x, toward_y};
 ghost use Rattle.chess_game.specs.Along.{IsStepwise};
 ghost use Rattle.chess_game.specs.Near.{IsNarrowPosition, IsNear};
-ghost use Rattle.chess_game.specs.Check.{IsClose, IsCloseCheck, IsCheckerOn, IsHeld, IsKingOn};
+ghost use Rattle.chess_game.specs.Check.{AnswersAlong, IsCheckOf, IsCheckedFrom, IsClose, IsCloseCheck, IsKingOn, IsUnanswered};
 
 use crate::attack::attacks;
 use crate::board::Board;
@@ -22,6 +22,13 @@ use game_rules::{Kind, Ray, Side, Square};
 pub(crate) struct Check {
     pub(crate) from: Square,
     pub(crate) king: Square,
+}
+
+/// A live man's number, and the square where he stands.
+#[derive(Clone, Copy, Debug, PartialEq, Eq)]
+pub(crate) struct Standing {
+    pub(crate) number: usize,
+    pub(crate) square: Square,
 }
 
 /// The most rays that a man has.
@@ -66,7 +73,8 @@ fn off_by(offset: Offset, direction: Offset) -> u128
     scaled(offset.x, direction.y).abs_diff(scaled(offset.y, direction.x))
 }
 
-/// After how many steps a ray meets a line that it leads to by `each`, from `off` away; `direct` of them where it goes along it.
+/// After how many steps a ray meets a line that it leads to by `each`, from `off` away; after `direct` of them where it goes
+/// along it.
 fn steps_until(far: bool, each: u128, off: u128, direct: u128) -> u128
     ensures { result ≡ steps_to far each off direct }
 {
@@ -127,45 +135,44 @@ fn square_to_answer(check: Check, from: Square, ray: Ray) -> Square
     }
 }
 
-/// Whether the man at the square can answer the check along the ray.
-fn answers_along(board: &Board, number: usize, check: Check, from: Square, ray: Ray) -> bool
+/// Whether the man can answer the check along the ray.
+fn answers_along(board: &Board, check: Check, standing: Standing, ray: Ray) -> bool
     requires check { IsCloseCheck check }
-    requires from { IsClose from }
+    requires from { IsClose standing.square }
     requires ray { IsStepwise ray }
-    ensures { IsTrue result ↔ CanGo board.now number (answer_square check.from check.king from ray) }
+    ensures { IsTrue result ↔ AnswersAlong board.now check standing ray }
 {
-    let to = square_to_answer(check, from, ray);
-    can_go(board, number, to)
+    let to = square_to_answer(check, standing.square, ray);
+    can_go(board, standing.number, to)
 }
 
-/// Whether the man, who stands at the square, can answer the check along his ray of this number, if he has one.
+/// Whether the man can answer the check along his ray of this number, if he has one.
 #[tactic(auto, using(crate::proofs::AnswerBounds::ray_stepwise))]
 fn answers_along_nth(
     board: &Board,
-    number: usize,
     check: Check,
     man: &Piece,
-    from: Square,
+    standing: Standing,
     index: u8,
 ) -> bool
     requires check { IsCloseCheck check }
-    requires from { IsClose from }
-    ensures { IsTrue result ↔ IsSomeAnd (ray_of man.now.kind man.now.side index) (λ r. CanGo board.now number (answer_square check.from check.king from r)) }
+    requires from { IsClose standing.square }
+    ensures { IsTrue result ↔ IsSomeAnd (ray_of man.now.kind man.now.side index) (AnswersAlong board.now check standing) }
 {
     match ray(man.kind(), man.side(), index) {
         None => false,
-        Some(ray) => answers_along(board, number, check, from, ray),
+        Some(ray) => answers_along(board, check, standing, ray),
     }
 }
 
-/// Whether the man, who stands at the square, can answer the check along one of his rays.
-fn answers_along_one(board: &Board, number: usize, check: Check, man: &Piece, from: Square) -> bool
+/// Whether the man can answer the check along one of his rays.
+fn answers_along_one(board: &Board, check: Check, man: &Piece, standing: Standing) -> bool
     requires check { IsCloseCheck check }
-    requires from { IsClose from }
-    ensures { IsTrue result ↔ Any (λ r. CanGo board.now number (answer_square check.from check.king from r)) (rays_of man.now.kind man.now.side) }
+    requires from { IsClose standing.square }
+    ensures { IsTrue result ↔ Any (AnswersAlong board.now check standing) (rays_of man.now.kind man.now.side) }
 {
     for index in 0..MOST_RAYS {
-        if answers_along_nth(board, number, check, man, from, index) {
+        if answers_along_nth(board, check, man, standing, index) {
             return true;
         }
     }
@@ -183,15 +190,15 @@ fn has_answer(board: &Board, number: usize, check: Check) -> bool
     };
     match man.square() {
         None => false,
-        Some(square) => answers_along_one(board, number, check, &man, square),
+        Some(square) => answers_along_one(board, check, &man, Standing { number, square }),
     }
 }
 
 /// Whether no man can answer the check.
-fn is_held(board: &Board, check: Check) -> bool
+fn is_unanswered(board: &Board, check: Check) -> bool
     requires narrow { IsNarrowPosition board.now }
     requires check { IsCloseCheck check }
-    ensures { IsTrue result ↔ IsHeld board.now check.from check.king }
+    ensures { IsTrue result ↔ IsUnanswered board.now check.from check.king }
 {
     for number in 1..=board.count() as usize {
         if has_answer(board, number, check) {
@@ -224,7 +231,7 @@ fn king_square(board: &Board) -> Option<Square>
 /// The square of the first man who bears on the king of the side to move.
 fn checker_square(board: &Board, king: Square) -> Option<Square>
     requires { IsNear king }
-    ensures { MatchOption result (Attacked board.now (other board.now.turn) king → ⊥) (λ a. Any (IsCheckerOn board.now king a) board.now.men) }
+    ensures { MatchOption result (Attacked board.now (other board.now.turn) king → ⊥) (IsCheckedFrom board.now king) }
 {
     for man in board.men() {
         if attacks(board, man, board.turn().other(), king) {
@@ -238,7 +245,7 @@ fn checker_square(board: &Board, king: Square) -> Option<Square>
 fn check_of(board: &Board) -> Option<Check>
     requires narrow { IsNarrowPosition board.now }
     requires sound { Sound board.now }
-    ensures { MatchOption result (InCheck board.now board.now.turn → ⊥) (λ c. IsCloseCheck c × IsCheckFrom board.now c.from c.king) }
+    ensures { MatchOption result (InCheck board.now board.now.turn → ⊥) (IsCheckOf board.now) }
 {
     let king = king_square(board)?;
     let from = checker_square(board, king)?;
@@ -253,6 +260,6 @@ pub(crate) fn is_mated(board: &Board) -> bool
 {
     match check_of(board) {
         None => false,
-        Some(check) => is_held(board, check),
+        Some(check) => is_unanswered(board, check),
     }
 }

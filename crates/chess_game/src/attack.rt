@@ -2,6 +2,7 @@
 
 ghost use Rattle.std.specs.Prelude.{◌≡◌, ◌↔◌, IsTrue};
 ghost use Rattle.game_rules.specs.Game.{Attacked, Bears, InCheck, other, IsBetween, IsLiveAnd, IsOpen};
+ghost use Rattle.chess_game.specs.Check.{IsAttackedKing};
 ghost use Rattle.chess_game.specs.Near.{IsNear};
 
 use crate::board::Board;
@@ -60,7 +61,7 @@ pub(crate) fn is_attacked(p: &Board, by: Side, square: Square) -> bool
 
 /// Whether the man is the king of the side, and attacked by the other side.
 fn is_king_attacked(board: &Board, man: &Piece, side: Side) -> bool
-    ensures { IsTrue result ↔ ((man.now.side ≡ side) × (man.now.kind ≡ Kind.King) × IsLiveAnd man.now (Attacked board.now (other side))) }
+    ensures { IsTrue result ↔ IsAttackedKing board.now side man.now }
 {
     if man.side() != side || man.kind() != Kind::King {
         return false;

@@ -4,6 +4,7 @@ ghost use Rattle.std.specs.Int.{bit_at};
 ghost use Rattle.std.specs.Prelude.{◌≡◌, ◌≢◌, ◌↔◌, ◌+◌, ◌^◌, ◌<◌, ◌≤◌, ℕ, length, slice_get, slice_index_or, Some};
 ghost use Rattle.game_rules.specs.Game.{IsAfter, IsLeftBy, IsMaskOf, man_at};
 ghost use Rattle.game_rules.specs.declared.men.Man.{Man};
+ghost use Rattle.chess_game.specs.Going.{AreLeftBut, GoesTo};
 ghost use Rattle.chess_game.specs.Mask.{IsMaskBelow};
 ghost use Rattle.chess_game.specs.Near.{IsNarrowMan, IsNarrowPosition, IsNear};
 ghost use Rattle.std.specs.List.{All};
@@ -178,8 +179,8 @@ fn go(men: &mut [Piece], index: usize, to: Square)
     requires within { index < length men.old }
     requires near { IsNear to }
     ensures same_count { length men.new ≡ length men.old }
-    ensures mover { (d : Man) → slice_index_or men.new index d ≡ record (slice_index_or men.old index d) { place = Place.At to.x to.y } }
-    ensures others { (k : ℕ) (d : Man) → k < length men.old → k ≢ index → IsLeftBy to (slice_index_or men.old k d) (slice_index_or men.new k d) }
+    ensures mover { GoesTo to index men.old men.new }
+    ensures others { AreLeftBut to index men.old men.new }
 {
     let mover = men[index];
     for man in men.iter_mut() {

@@ -7,17 +7,17 @@
 mod answers;
 mod attack;
 mod board;
-mod faults;
 mod geometry;
 mod moves;
 mod piece;
 mod position;
 mod rays;
+mod unsoundness;
 mod way;
 
-pub use faults::Unsound;
 pub use game_rules::{Kind, Man, Place, Ray, Side};
 pub use moves::{Illegal, Move};
 pub use position::{Position, attacked, free_way, in_check, mated, soundness, try_move};
 pub use rays::ray;
+pub use unsoundness::Unsound;
 pub use way::{Frame, Way};

@@ -2,7 +2,7 @@
 
 ghost use Rattle.std.specs.Prelude.{◌≡◌, ◌≢◌, ◌↔◌, ◌≤◌, ◌^◌, ℕ, length, IfErr, IfNone, IfOk, IfSome, IsOk, IsSome, IsSomeAnd, IsTrue, OnErr, Some};
 ghost use Rattle.game_rules.specs.Game.{Attacked, InCheck, IsMaskOf, Legal, Mate, Sound, man_at};
-ghost use Rattle.chess_game.specs.Fault.{IsFirstFault, StandsAt};
+ghost use Rattle.chess_game.specs.Unsoundness.{IsFirstUnsoundness, StandsAt};
 ghost use Rattle.chess_game.specs.Near.{IsNarrow};
 ghost use Rattle.chess_game.specs.Way.{IsFree, IsHit, IsRayOf};
 ghost use Rattle.chess_game.specs.Refusal.{IsRefusal};
@@ -10,9 +10,9 @@ ghost use Rattle.chess_game.specs.Refusal.{IsRefusal};
 use crate::answers::is_mated;
 use crate::attack::{self, is_attacked};
 use crate::board::Board;
-use crate::faults::{Unsound, check_board};
 use crate::moves::{Illegal, Move, try_step};
 use crate::piece::square_at;
+use crate::unsoundness::{Unsound, check_board};
 use crate::way::{Frame, Way, way_from};
 use game_rules::{Man, Place, Ray, Side, Square};
 use std::marker::Model;
@@ -111,11 +111,11 @@ pub fn try_move(p: &Position, mv: Move) -> Result<Position, Illegal>
     }
 }
 
-/// Whether the side to move is mated, on the unbounded board: the steps past the squares that an i64 can name are tried too.
+/// Whether the side to move is mated, on the unbounded board: steps past the squares that an i64 can name are tried too.
 ///
 /// A check is ended by a move of the king, or by another man on the checking man's square or between him and the king,
-/// and each ray of that man leads to one of these squares at most. So at most one move is tried for each ray of each man, 56
-/// in all. A move tried costs a look at each man for each man, as does the search for the checking man.
+/// and each ray of that man leads to one of these squares at most. So at most one move is tried for each ray of each man,
+/// 56 in all. A move tried costs a look at each man for each man, as does the search for the checking man.
 pub fn mated(p: &Position) -> bool
     requires { Sound p.now }
     ensures { IsTrue result ↔ Mate p.now }
@@ -124,10 +124,10 @@ pub fn mated(p: &Position) -> bool
 }
 
 /// Whether the position is sound; and if not, the first reason.
-#[tactic(auto, using(crate::proofs::FaultLemmas::fault_unsound))]
+#[tactic(auto, using(crate::proofs::UnsoundnessLemmas::unsound_refuted))]
 pub fn soundness(p: &Position) -> Result<(), Unsound>
     ensures ok { IsOk result ↔ Sound p.now }
-    ensures fault { IfErr result (IsFirstFault p.now) }
+    ensures reason { IfErr result (IsFirstUnsoundness p.now) }
 {
     check_board(&p.board)
 }

@@ -8,7 +8,7 @@ use Rattle.game_rules.specs.declared.men.Side.{Side}
 use Rattle.game_rules.specs.declared.men.Man.{Man}
 use Rattle.chess_text.specs.Laws.{AcceptedIsSpelled, FeedsOnce, SpelledIsAccepted}
 use Rattle.chess_text.specs.ManLine.{man_text, side_letter, turn_text}
-use Rattle.chess_text.specs.PositionText.{Completes, Feeds, FeedsMan, FeedsMen, FitsPlace, IsManLine, IsWritable, Turnout, end_line, header, more, refused, whole, with_man}
+use Rattle.chess_text.specs.PositionText.{Completes, Feeds, FeedsMan, FeedsMen, FitsPlace, IsManLine, IsWritable, Turnout, end_line, header, more, wrong, complete, with_man}
 use Rattle.chess_text.specs.declared.reader.Stage.{Stage}
 use Rattle.chess_text.specs.declared.reader.Stage.TheVariants as stage
 use Rattle.chess_text.proofs.Spellings.{man_no_refusal, one_refusal, same_man, same_side}
@@ -21,7 +21,7 @@ man_once : (p : Position) (line : List ℕ) (one other : Turnout) → FeedsMan p
 man_once p line one other (inl (m, hm, im)) (inl (n, hn, in')) = im ∙ ap (λ k. more (stage.Men (with_man p k))) (same_man line m n hm hn) ∙ sym in'
 man_once p line one other (inl (m, hm, im)) (inr (reason, r, ir)) = absurd (man_no_refusal line m reason hm r)
 man_once p line one other (inr (reason, r, ir)) (inl (n, hn, in')) = absurd (man_no_refusal line n reason hn r)
-man_once p line one other (inr (reason, r, ir)) (inr (again, a, ia)) = ir ∙ ap refused (one_refusal line reason again r a) ∙ sym ia
+man_once p line one other (inr (reason, r, ir)) (inr (again, a, ia)) = ir ∙ ap wrong (one_refusal line reason again r a) ∙ sym ia
 
 men_once : (p : Position) (line : List ℕ) (one other : Turnout) → FeedsMen p line one → FeedsMen p line other → one ≡ other
 men_once p line one other (inl (a, e, i)) (inl (b, f, j)) = i ∙ sym j
@@ -66,7 +66,7 @@ record Finishes (p : Position) (lines : List (List ℕ)) (q : Position) : Type 0
   high : length q.men ≤ 5
   fit : All (λ m. FitsPlace m.place) rest
 
-finishes_end : (p : Position) (line : List ℕ) (q : Position) → length p.men ≤ 5 → FeedsMen p line (whole q) → Finishes p (line ∷ []) q
+finishes_end : (p : Position) (line : List ℕ) (q : Position) → length p.men ≤ 5 → FeedsMen p line (complete q) → Finishes p (line ∷ []) q
 finishes_end p line q high (inl (a, e, i)) = absurd cc
 finishes_end p line q high (inr (inl (low, e, i))) =
     let same : p ≡ q = cc in
@@ -183,7 +183,7 @@ completes_men : (rest : List Man) (p q : Position) → q.men ≡ p.men ++ rest �
 completes_men [] p q men turn low high fit =
     let same : q.men ≡ p.men = men ∙ append-nil p.men in
     let is : q ≡ p = λ i. record { men = same i; turn = turn i } in
-    inr (inl (subst (λ k. 2 ≤ length k.men) is low, refl, ap whole is))
+    inr (inl (subst (λ k. 2 ≤ length k.men) is low, refl, ap complete is))
 completes_men (m ∷ rest) p q men turn low high fit =
     let longer : length q.men ≡ length p.men + length (m ∷ rest) = ap length men ∙ length-append p.men (m ∷ rest) in
     let room : length p.men < 5 = omega arith in

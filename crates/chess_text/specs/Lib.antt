@@ -3,5 +3,5 @@ pub mod Gathering
 pub mod Laws
 pub mod ManLine
 pub mod PositionText
-pub mod Reading
+pub mod Progress
 pub mod Replies

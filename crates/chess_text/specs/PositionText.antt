@@ -50,17 +50,17 @@ pub record IsWritable (p : Position) : Type 0 where
   pub high : length p.men ≤ most_men
   pub fit : All (λ m. FitsPlace m.place) p.men
 
--- What a line makes of a text: it goes on at a stage, or the text is whole, or the line may not stand there.
+-- What a line makes of a text: it goes on at a stage, or the text is complete, or the line may not stand there.
 pub data Turnout : Type 0 where
   more : Stage → Turnout
-  whole : Position → Turnout
-  refused : TextWhy → Turnout
+  complete : Position → Turnout
+  wrong : TextWhy → Turnout
 
 -- the turnout of an answer, and the stage after it
 abbrev pub turnout : Result (Option Position) TextWhy → Stage → Turnout
 turnout (Ok None) next = more next
-turnout (Ok (Some p)) next = whole p
-turnout (Err reason) next = refused reason
+turnout (Ok (Some p)) next = complete p
+turnout (Err reason) next = wrong reason
 
 -- the position so far, with one more man
 abbrev pub with_man : Position → Man → Position
@@ -70,26 +70,26 @@ with_man p m = record { men = p.men ++ m ∷ []; turn = p.turn }
 abbrev pub FeedsMan : Position → List ℕ → Turnout → Type 0
 FeedsMan p line turnout =
     ((m : Man) × IsManLine line m × (turnout ≡ more (stage.Men (with_man p m))))
-    ⊎ ((reason : TextWhy) × IsManRefusal line reason × (turnout ≡ refused reason))
+    ⊎ ((reason : TextWhy) × IsManRefusal line reason × (turnout ≡ wrong reason))
 
 -- what a line makes of the position so far
 abbrev pub FeedsMen : Position → List ℕ → Turnout → Type 0
 FeedsMen p line turnout =
-    ((length p.men < 2) × (line ≡ end_line) × (turnout ≡ refused why.TooFew))
-    ⊎ ((2 ≤ length p.men) × (line ≡ end_line) × (turnout ≡ whole p))
-    ⊎ ((length p.men ≡ most_men) × (line ≢ end_line) × (turnout ≡ refused why.TooMany))
+    ((length p.men < 2) × (line ≡ end_line) × (turnout ≡ wrong why.TooFew))
+    ⊎ ((2 ≤ length p.men) × (line ≡ end_line) × (turnout ≡ complete p))
+    ⊎ ((length p.men ≡ most_men) × (line ≢ end_line) × (turnout ≡ wrong why.TooMany))
     ⊎ ((length p.men < most_men) × (line ≢ end_line) × FeedsMan p line turnout)
 
 -- what a line makes of a text at a stage
 abbrev pub Feeds : Stage → List ℕ → Turnout → Type 0
-Feeds stage.Header line turnout = ((line ≡ header) × (turnout ≡ more stage.Turn)) ⊎ ((line ≢ header) × (turnout ≡ refused why.Header))
+Feeds stage.Header line turnout = ((line ≡ header) × (turnout ≡ more stage.Turn)) ⊎ ((line ≢ header) × (turnout ≡ wrong why.Header))
 Feeds stage.Turn line turnout =
     ((s : Side) × (line ≡ turn_text s) × (turnout ≡ more (stage.Men (record { men = []; turn = s }))))
-    ⊎ (((s : Side) → line ≢ turn_text s) × (turnout ≡ refused why.Turn))
+    ⊎ (((s : Side) → line ≢ turn_text s) × (turnout ≡ wrong why.Turn))
 Feeds (stage.Men p) line turnout = FeedsMen p line turnout
 
--- the lines make a whole text, the last of them its end
+-- the lines make a complete text, the last of them its end
 abbrev pub Completes : Stage → List (List ℕ) → Position → Type 0
 Completes s [] p = ⊥
-Completes s (line ∷ []) p = Feeds s line (whole p)
+Completes s (line ∷ []) p = Feeds s line (complete p)
 Completes s (line ∷ lines) p = (next : Stage) × Feeds s line (more next) × Completes next lines p

@@ -2,7 +2,7 @@
 
 ghost use Rattle.std.specs.Prelude.{◌≡◌, ◌↔◌, ◌+◌, ◌<◌, ◌≤◌, [], ◌∷◌, ◌++◌, length, take, IfSome, IfNone, None, Some, IsTrue};
 ghost use Rattle.chess_text.specs.PositionText.{Feeds, FeedsMen, turnout, with_man};
-ghost use Rattle.chess_text.specs.Reading.{ReadsLine, fed_of, line_due, position_of};
+ghost use Rattle.chess_text.specs.Progress.{ReadsLine, fed_of, line_due, position_of};
 
 use crate::man_line::{TextWhy, read_man_line, read_turn_line};
 use chess_game::{Kind, Man, Place, Position, Side};
@@ -156,9 +156,9 @@ pub struct PositionReader {
 }
 
 impl Model for PositionReader {
-    ghost use Rattle.chess_text.specs.Reading.{Reading};
+    ghost use Rattle.chess_text.specs.Progress.{Progress};
 
-    ghost Value = { Reading };
+    ghost Value = { Progress };
 
     ghost view = { λ r. record { stage = r.stage; answer = r.answer } };
 }

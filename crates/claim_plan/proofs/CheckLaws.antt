@@ -1,51 +1,32 @@
 -- The laws of the plan of a claim.
-use Rattle.std.proofs.Common.{◌≡◌, ◌≢◌, ℕ, length, None, refl, subst}
+use Rattle.std.proofs.Common.{None, refl, subst}
 use Rattle.set_plan.specs.Outcome.{Ends}
 use Rattle.claim_plan.specs.CheckPlan.{Finding, check_plan}
-use Rattle.game_rules.specs.Game.{Position, Sound}
-use Rattle.game_rules.specs.declared.men.Place.TheVariants.{Gone}
-use Rattle.game_rules.specs.declared.men.Side.TheVariants.{White}
-use Rattle.game_laws.proofs.SoundLemmas.{any_at}
-use Rattle.rule_formula.specs.Mean.{IsGame, RulesMean}
-use Rattle.rule_formula.specs.Trees.{point_of}
-use Rattle.rule_formula.proofs.MeanTheorem.{rules_mean}
-use Rattle.rule_formula.proofs.PointTheorem.{point_made}
+use Rattle.rule_formula.specs.Mean.{RulesMean}
+use Rattle.winning_sets.proofs.MeaningLaws.{mean, some_point}
 use Rattle.mate_plan.specs.Claim.{Claim, IsClaim}
-use Rattle.claim_plan.specs.ClaimLaws.{CheckEndsOnce, CheckFindsFirst, EndsWhereWon, KeptClaimIsWon, NoneFailsWhereWon}
-use Rattle.claim_plan.specs.Checked.{Says, rules_in_order}
-use Rattle.claim_plan.proofs.CheckOnce.{ends-not_stops, stops-once}
+use Rattle.claim_plan.specs.CheckLaws.{CheckFindsFirst, EndsWhereWon, NoneFailsWhereWon, OneIsFirst}
+use Rattle.claim_plan.specs.WonLaws.{KeptClaimIsWon}
+use Rattle.claim_plan.specs.Checked.{KeepsRule, rules_in_order}
 use Rattle.claim_plan.proofs.Findings.{first_one}
 use Rattle.claim_plan.proofs.KeptClaims.{kept_claim_won}
 use Rattle.claim_plan.proofs.CheckMeans.{none_fails, plan-checks}
-use Rattle.mate_plan.proofs.PairLemmas.{pairs-have}
-use Rattle.claim_plan.proofs.TwinsMeans.{pair_mean}
 
-mean : (c : Claim) → IsClaim c → RulesMean c.position
-mean c is = let game : IsGame c.position = record { few = is.few; kings = is.sound.kings } in rules_mean c.position game
-
-some_point : (p : Position) → Sound p → point_of p.men ≡ None → ⊥
-some_point p sound =
-    let king = sound.kings White in
-    point_made p (any_at p (λ m. m.place ≢ Gone) king.number king.king king.is_man king.live)
+mean_of : (c : Claim) → IsClaim c → RulesMean c.position
+mean_of c is = mean c.position is.sound is.few
 
 pub check_finds_first : CheckFindsFirst
 check_finds_first = λ c entries found is t.
-    plan-checks c is (mean c is) (some_point c.position is.sound)
-    (λ m w game i. pair_mean c.position is.few m w game ((pairs-have c.position m w).0 i)) entries found t
+    plan-checks c is (mean_of c is) (some_point c.position is.sound) entries found t
 
 pub none_fails_where_won : NoneFailsWhereWon
-none_fails_where_won = λ c found is first. none_fails c is (mean c is) found first
+none_fails_where_won = λ c found is first. none_fails c is (mean_of c is) found first
+
+pub one_is_first : OneIsFirst
+one_is_first = λ c a b h k. first_one (KeepsRule c) (rules_in_order c) a b h k
 
 pub kept_claim_is_won : KeptClaimIsWon
-kept_claim_is_won = λ c is kept value. kept_claim_won c is (mean c is) (some_point c.position is.sound) kept value
-
-pub check_ends_once : CheckEndsOnce
-check_ends_once = λ c budget is. record {
-  one_end = λ a b h k.
-      first_one (Says c) (rules_in_order c) a b (check_finds_first c h.entries a is h.takes) (check_finds_first c k.entries b is k.takes);
-  one_step = stops-once c budget;
-  not_both = ends-not_stops c budget;
-}
+kept_claim_is_won = λ c is kept value. kept_claim_won c is (mean_of c is) (some_point c.position is.sound) kept value
 
 pub ends_where_won : EndsWhereWon
 ends_where_won = λ c budget is. (

@@ -1,22 +1,17 @@
 -- What the plan of a claim finds.
-use Rattle.std.proofs.Common.{◌≡◌, ◌↔◌, ℕ, suc, ◌+◌, List, [], ◌∷◌, ◌++◌, map, Option, Some, None, inl, inr, refl, sym, ap, ◌∙◌, subst, arith}
+use Rattle.std.proofs.Common.{◌≡◌, ◌↔◌, ℕ, suc, ◌+◌, List, [], ◌∷◌, map, None, refl, subst, arith}
 use Rattle.std.specs.Prelude.{Contains}
 use Rattle.std.specs.List.{flat_map}
-use Rattle.auto_core.specs.Automaton.{Automaton}
-use Rattle.game_rules.specs.Game.{Moves, Position, other}
+use Rattle.game_rules.specs.Game.{other}
 use Rattle.rule_formula.specs.Fits.{IsGameMask, mask_of, masks_of}
 use Rattle.rule_formula.specs.Mean.{RulesMean}
 use Rattle.rule_formula.specs.Trees.{point_of}
-use Rattle.mate_plan.specs.Plan.{Program}
-use Rattle.mate_plan.specs.PlanOf.{rules_of}
 use Rattle.winning_sets.proofs.KeptSets.{game_mask, in_masks}
-use Rattle.mate_plan.specs.Claim.{Claim, IsClaim, IsClaimed, IsLosersPly, claimed_at, losers_plies}
-use Rattle.rule_formula.specs.TwinsMean.{TwinsMean}
-use Rattle.claim_plan.specs.CheckPlan.{Finding, and_then, check_claimed, check_first, check_plan, check_ply, check_sets, for_each, place}
-use Rattle.mate_plan.specs.Twins.{Two, pairs_in, twin_items}
-use Rattle.claim_plan.specs.Checked.{IsFirstFailing, RuleHolds, Says, reply_rules, rules_in_order, set_rules}
-use Rattle.mate_plan.specs.Won.{IsWonBy, LeadsInto, Won}
-use Rattle.claim_plan.specs.declared.names.Failure.{Failure}
+use Rattle.mate_plan.specs.Claim.{Claim, IsClaim, IsClaimed, IsLosersPly, losers_plies}
+use Rattle.claim_plan.specs.CheckPlan.{Finding, and_then, check_first, check_plan, check_ply, check_set, check_sets, for_each, rule_at}
+use Rattle.claim_plan.specs.Checked.{IsFirstFailing, RuleHolds, KeepsRule, reply_rules, rules_in_order, set_rules}
+use Rattle.mate_plan.specs.Won.{LeadsInto, Won}
+use Rattle.claim_plan.specs.declared.names.RuleAt.{RuleAt}
 use Rattle.claim_plan.specs.declared.names.Rule.{Rule}
 use Rattle.claim_plan.specs.declared.names.Rule.TheVariants as rule
 use Rattle.claim_plan.proofs.ClaimLemmas.{claimed_there}
@@ -26,20 +21,21 @@ use Rattle.claim_plan.proofs.PlaceLemmas.{plies-have}
 use Rattle.claim_plan.proofs.ReplyRules.{replied_fits, replies-checks}
 use Rattle.claim_plan.proofs.SetRules.{claimed-checks}
 
--- in a won claim each rule holds at each place
+-- in a won claim each rule is kept at each ply and mask
 won_rule : (c : Claim) → Won c → (r : Rule) (ply m : ℕ) → RuleHolds c r ply m
 won_rule c won rule.Sign ply m = λ a e. won.sign ply m a e
-won_rule c won rule.Same ply m = λ q h e. won.positions.same ply q h
-won_rule c won rule.Guard ply m = λ q h e. won.positions.guard ply q h
+won_rule c won rule.Same ply m = λ q w. won.positions.same ply q w.claimed
+won_rule c won rule.Guard ply m = λ q w. won.positions.guard ply q w.claimed
 won_rule c won rule.First ply m = won.positions.first
-won_rule c won rule.Left ply m = λ before q r one h moves e.
-    let two : before + 2 ≡ suc ply = omega (arith, one) in
+won_rule c won rule.Left ply m = λ r w.
+    let one = w.next in
+    let two : w.before + 2 ≡ suc ply = omega (arith, one) in
     let P : ℕ → Type 0 = λ k. LeadsInto (IsClaimed c k) r in
-    subst P two (won.positions.left before q r h moves)
-won_rule c won rule.Stale ply m = λ q h e. won.positions.stale ply q h
+    subst P two (won.positions.left w.before w.from r w.claimed w.moves)
+won_rule c won rule.Stale ply m = λ q w. won.positions.stale ply q w.claimed
 
-pub won_says : (c : Claim) → Won c → (f : Failure) → Says c f
-won_says c won f = won_rule c won f.rule f.ply f.mask
+pub won_keeps : (c : Claim) → Won c → (f : RuleAt) → KeepsRule c f
+won_keeps c won f = won_rule c won f.rule f.ply f.mask
 
 module _ (c : Claim) (is : IsClaim c) (mean : RulesMean c.position) where
   abbrev plies : List ℕ
@@ -48,82 +44,82 @@ module _ (c : Claim) (is : IsClaim c) (mean : RulesMean c.position) where
   in_masks_of : (m : ℕ) → IsGameMask c.position m → Contains (masks_of c.position) m
   in_masks_of m game = (mean.game.masks m).1 game
 
-  module _ (all : AllHold (Says c) (flat_map (set_rules c) (losers_plies c.winner c.position.turn c.moves))) where
-    set_rules-hold : (ply m : ℕ) → IsLosersPly c.winner c.position c.moves ply → IsGameMask c.position m → AllHold (Says c) (place ply m rule.Sign ∷ place ply m rule.Same ∷ place ply m rule.Guard ∷ [])
+  module _ (all : AllHold (KeepsRule c) (flat_map (set_rules c) (losers_plies c.winner c.position.turn c.moves))) where
+    set_rules-hold : (ply m : ℕ) → IsLosersPly c.winner c.position c.moves ply → IsGameMask c.position m → AllHold (KeepsRule c) (rule_at ply m rule.Sign ∷ rule_at ply m rule.Same ∷ rule_at ply m rule.Guard ∷ [])
     set_rules-hold ply m losers game =
-        let at_ply = all_at (Says c) (set_rules c) plies all ply (plies-have c.winner c.position c.moves ply losers) in
-        all_at (Says c) (λ k. place ply k rule.Sign ∷ place ply k rule.Same ∷ place ply k rule.Guard ∷ []) (masks_of c.position) at_ply m (in_masks_of m game)
+        let at_ply = all_at (KeepsRule c) (set_rules c) plies all ply (plies-have c.winner c.position c.moves ply losers) in
+        all_at (KeepsRule c) (λ k. rule_at ply k rule.Sign ∷ rule_at ply k rule.Same ∷ rule_at ply k rule.Guard ∷ []) (masks_of c.position) at_ply m (in_masks_of m game)
 
     pub apart : (ply m : ℕ) → RuleHolds c rule.Same ply m
-    apart ply m q h e =
-        let (losers, game) = claimed_there c is ply q h in
-        (set_rules-hold ply (mask_of q) losers game).1.0 q h refl
+    apart ply m q w =
+        let (losers, game) = claimed_there c is ply q w.claimed in
+        (set_rules-hold ply (mask_of q) losers game).1.0 q (record { claimed = w.claimed; mask_is = refl })
 
     pub safe : (ply m : ℕ) → RuleHolds c rule.Guard ply m
-    safe ply m q h e =
-        let (losers, game) = claimed_there c is ply q h in
-        (set_rules-hold ply (mask_of q) losers game).1.1.0 q h refl
+    safe ply m q w =
+        let (losers, game) = claimed_there c is ply q w.claimed in
+        (set_rules-hold ply (mask_of q) losers game).1.1.0 q (record { claimed = w.claimed; mask_is = refl })
 
     pub signed : (ply m : ℕ) → RuleHolds c rule.Sign ply m
     signed ply m a e =
         let (losers, game) = is.only ply m a e in
         (set_rules-hold ply m losers game).0 a e
 
-  abbrev sets : List Failure
+  abbrev sets : List RuleAt
   sets = flat_map (set_rules c) plies
 
-  abbrev start : Failure
-  start = place 0 (mask_of c.position) rule.First
+  abbrev start : RuleAt
+  start = rule_at 0 (mask_of c.position) rule.First
 
   -- a claim of which each rule holds is won
-  says_won : AllHold (Says c) (rules_in_order c) → Won c
-  says_won all =
-      let (front, rest) = all_append (Says c) sets (start ∷ flat_map (reply_rules c) plies) all in
+  keeping_won : AllHold (KeepsRule c) (rules_in_order c) → Won c
+  keeping_won all =
+      let (front, rest) = all_append (KeepsRule c) sets (start ∷ flat_map (reply_rules c) plies) all in
       let replies = λ (ply : ℕ) (losers : IsLosersPly c.winner c.position c.moves ply).
-      all_append (Says c) (map (λ m. place (suc ply) m rule.Left) (masks_of c.position)) (map (λ m. place ply m rule.Stale) (masks_of c.position))
-      (all_at (Says c) (reply_rules c) plies rest.1 ply (plies-have c.winner c.position c.moves ply losers)) in
+      all_append (KeepsRule c) (map (λ m. rule_at (suc ply) m rule.Left) (masks_of c.position)) (map (λ m. rule_at ply m rule.Stale) (masks_of c.position))
+      (all_at (KeepsRule c) (reply_rules c) plies rest.1 ply (plies-have c.winner c.position c.moves ply losers)) in
       record {
         sign = λ ply m a e. signed front ply m a e;
         positions = record {
-          same = λ ply q h. apart front ply (mask_of q) q h refl;
-          guard = λ ply q h. safe front ply (mask_of q) q h refl;
+          same = λ ply q h. apart front ply (mask_of q) q (record { claimed = h; mask_is = refl });
+          guard = λ ply q h. safe front ply (mask_of q) q (record { claimed = h; mask_is = refl });
           first = rest.0;
           left = λ ply q r h moves.
               let (losers, game) = claimed_there c is ply q h in
               let fits = replied_fits c is mean (apart front) (safe front) ply q r h moves in
               let i = in_masks c.position mean (other (other c.winner)) r fits in
-              let says = all_in (Says c) (λ m. place (suc ply) m rule.Left) (masks_of c.position) (replies ply losers).0 (mask_of r) i in
+              let says = all_in (KeepsRule c) (λ m. rule_at (suc ply) m rule.Left) (masks_of c.position) (replies ply losers).0 (mask_of r) i in
               let two : suc (suc ply) ≡ ply + 2 = omega arith in
               let P : ℕ → Type 0 = λ k. LeadsInto (IsClaimed c k) r in
-              subst P two (says ply q r refl h moves refl);
+              subst P two (says r (record { before = ply; next = refl; from = q; claimed = h; moves = moves; mask_is = refl }));
           stale = λ ply q h.
               let (losers, game) = claimed_there c is ply q h in
-              all_in (Says c) (λ m. place ply m rule.Stale) (masks_of c.position) (replies ply losers).1 (mask_of q) (in_masks_of (mask_of q) game) q h refl;
+              all_in (KeepsRule c) (λ m. rule_at ply m rule.Stale) (masks_of c.position) (replies ply losers).1 (mask_of q) (in_masks_of (mask_of q) game) q (record { claimed = h; mask_is = refl });
         };
       }
 
   -- none of the rules fails exactly where the claim is won
-  pub none_fails : (found : Finding) → IsFirstFailing (Says c) (rules_in_order c) found → (found ≡ None) ↔ Won c
+  pub none_fails : (found : Finding) → IsFirstFailing (KeepsRule c) (rules_in_order c) found → (found ≡ None) ↔ Won c
   none_fails found first = (
-    λ e. says_won (none_failing (Says c) (rules_in_order c) (subst (λ (o : Finding). IsFirstFailing (Says c) (rules_in_order c) o) e first)),
-    λ won. failing_none (Says c) (rules_in_order c) found (all_of (Says c) (won_says c won) (rules_in_order c)) first,
+    λ e. keeping_won (none_failing (KeepsRule c) (rules_in_order c) (subst (λ (o : Finding). IsFirstFailing (KeepsRule c) (rules_in_order c) o) e first)),
+    λ won. failing_none (KeepsRule c) (rules_in_order c) found (all_of (KeepsRule c) (won_keeps c won) (rules_in_order c)) first,
   )
 
-  module _ (some_point : point_of c.position.men ≡ None → ⊥) (twin : (m : ℕ) (w : Two) → IsGameMask c.position m → Contains (pairs_in c.position m) w → TwinsMean c.position m w.first w.second) where
-    sets-checks : (ply : ℕ) → Checks (Says c) (set_rules c ply) (check_sets c ply)
+  module _ (some_point : point_of c.position.men ≡ None → ⊥) where
+    sets-checks : (ply : ℕ) → Checks (KeepsRule c) (set_rules c ply) (check_sets c ply)
     sets-checks ply =
-        for_each-checks (Says c) (λ m. place ply m rule.Sign ∷ place ply m rule.Same ∷ place ply m rule.Guard ∷ [])
-        (λ m. check_claimed (rules_of c.position) (other c.winner) ply m (twin_items c.position m) (claimed_at c ply m)) (masks_of c.position)
-        (λ m i. claimed-checks c is mean twin ply m (game_mask c.position mean m i))
+        for_each-checks (KeepsRule c) (λ m. rule_at ply m rule.Sign ∷ rule_at ply m rule.Same ∷ rule_at ply m rule.Guard ∷ [])
+        (check_set c ply) (masks_of c.position)
+        (λ m i. claimed-checks c is mean ply m (game_mask c.position mean m i))
 
     -- the plan finds the first of the rules that fails
-    pub plan-checks : Checks (Says c) (rules_in_order c) (check_plan c)
+    pub plan-checks : Checks (KeepsRule c) (rules_in_order c) (check_plan c)
     plan-checks =
         let later = flat_map (reply_rules c) plies in
         let first = check_first c c.winner c.position.turn in
         let replies = for_each plies (check_ply c) in
-        and_then-checks (Says c) sets (start ∷ later) (for_each plies (check_sets c)) (and_then first replies)
-        (for_each-checks (Says c) (set_rules c) (check_sets c) plies (λ ply i. sets-checks ply))
-        (λ all. and_then-checks (Says c) (start ∷ []) later first replies
+        and_then-checks (KeepsRule c) sets (start ∷ later) (for_each plies (check_sets c)) (and_then first replies)
+        (for_each-checks (KeepsRule c) (set_rules c) (check_sets c) plies (λ ply i. sets-checks ply))
+        (λ all. and_then-checks (KeepsRule c) (start ∷ []) later first replies
         (first-checks c is mean some_point (apart all) (safe all))
-        (λ begun. for_each-checks (Says c) (reply_rules c) (check_ply c) plies (λ ply i. replies-checks c is mean (apart all) (safe all) ply)))
+        (λ begun. for_each-checks (KeepsRule c) (reply_rules c) (check_ply c) plies (λ ply i. replies-checks c is mean (apart all) (safe all) ply)))

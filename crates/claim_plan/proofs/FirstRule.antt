@@ -1,32 +1,31 @@
 -- The rule of the start.
-use Rattle.std.proofs.Common.{◌≡◌, ◌↔◌, ℕ, zero, suc, ◌+◌, ◌*◌, List, [], ◌∷◌, length, Option, Some, None, ◌==◌, if◌then◌else◌, Bool, true, false, inl, inr, ℤ, pos, refl, sym, ap, ◌∙◌, subst, arith}
-use Rattle.game_rules.specs.Game.{Position, Sound, other}
+use Rattle.std.proofs.Common.{◌≡◌, ◌↔◌, ℕ, zero, suc, List, [], ◌∷◌, Option, Some, None, ◌==◌, if◌then◌else◌, Bool, true, false, inl, inr, ℤ, pos, refl, sym, ap, ◌∙◌, subst, arith}
+use Rattle.game_rules.specs.Game.{Position, other}
 use Rattle.game_rules.specs.declared.men.Side.{Side}
 use Rattle.game_rules.specs.declared.men.Side.TheVariants.{White, Black}
 use Rattle.lin_formula.specs.Tree.{Tree}
 use Rattle.lin_formula.specs.Tree as tree
 use Rattle.lin_formula.specs.SetOf.{Member, SetOf, Nothing, Where}
 use Rattle.rule_formula.specs.Fits.{Fits, mask_of}
-use Rattle.rule_formula.specs.Laws.{StepsTo}
 use Rattle.rule_formula.specs.Mean.{RulesMean}
 use Rattle.rule_formula.specs.Placed.{tuple_of}
 use Rattle.rule_formula.specs.Seats.{var}
 use Rattle.rule_formula.specs.Trees.{point_of}
 use Rattle.set_plan.specs.Program.{Ask, Give, Has, Item, Takes, bind}
 use Rattle.set_plan.specs.Unite.{make}
-use Rattle.set_plan.proofs.Composition.{Takes-split, none_some}
+use Rattle.set_plan.proofs.Composition.{Takes-split}
 use Rattle.std.proofs.lemmas.Bool.{eq-eqb}
-use Rattle.mate_plan.specs.Plan.{Level, Rules, level_with, name, no_sets, point_level, pre_items, union}
-use Rattle.mate_plan.specs.PlanOf.{formula_or, last_ply, rules_of}
+use Rattle.mate_plan.specs.Plan.{Level, level_with, name, no_sets, point_level, pre_items, union}
+use Rattle.mate_plan.specs.PlanOf.{formula_or, rules_of}
 use Rattle.mate_plan.specs.declared.names.Part.TheVariants as kind
-use Rattle.winning_sets.proofs.KeptParts.{Pre, StepsTo-moves}
+use Rattle.winning_sets.proofs.KeptParts.{StepsTo-moves}
 use Rattle.winning_sets.proofs.KeptSets.{Entries, pre-stands}
 use Rattle.set_plan.proofs.Takings.{Takes-give, make-members}
 use Rattle.mate_plan.specs.Claim.{Claim, IsClaim, IsClaimed, claimed_level}
-use Rattle.claim_plan.specs.CheckPlan.{Finding, check_first, check_moves, check_starting, holds_if, place}
-use Rattle.claim_plan.specs.Checked.{RuleHolds, Says}
+use Rattle.claim_plan.specs.CheckPlan.{Finding, check_first, check_moving, check_waiting, holds_if, rule_at}
+use Rattle.claim_plan.specs.Checked.{RuleHolds, KeepsRule}
 use Rattle.mate_plan.specs.Won.{IsBegun}
-use Rattle.claim_plan.specs.declared.names.Failure.{Failure}
+use Rattle.claim_plan.specs.declared.names.RuleAt.{RuleAt}
 use Rattle.claim_plan.specs.declared.names.Rule.TheVariants as rule
 use Rattle.claim_plan.proofs.ClaimLemmas.{claimed_there}
 use Rattle.claim_plan.proofs.Findings.{Checks, IsTold, asked-tells, holds_by-told, one-checks}
@@ -38,10 +37,10 @@ module _ (c : Claim) (is : IsClaim c) (mean : RulesMean c.position) (some_point 
   abbrev p : Position
   p = c.position
 
-  abbrev f : Failure
-  f = place 0 (mask_of c.position) rule.First
+  abbrev f : RuleAt
+  f = rule_at 0 (mask_of c.position) rule.First
 
-  has-told : (s : SetOf) (xs : Entries) (found : Finding) → Takes (holds_if (Has s (tuple_of c.position)) (place 0 (mask_of c.position) rule.First)) xs (Some found) → IsTold (Member s (tuple_of c.position)) (place 0 (mask_of c.position) rule.First) found
+  has-told : (s : SetOf) (xs : Entries) (found : Finding) → Takes (holds_if (rule_at 0 (mask_of c.position) rule.First) (Has s (tuple_of c.position))) xs (Some found) → IsTold (Member s (tuple_of c.position)) (rule_at 0 (mask_of c.position) rule.First) found
   has-told s xs found t =
       holds_by-told (Member s (tuple_of p)) f (Ask (Has s (tuple_of p)) (Give true) (Give false)) (asked-tells (Has s (tuple_of p)) (Member s (tuple_of p)) (λ h. h) (λ h. h)) xs found t
 
@@ -98,7 +97,7 @@ module _ (c : Claim) (is : IsClaim c) (mean : RulesMean c.position) (some_point 
         ],
       )
 
-  moves-checks : (n : ℕ) → c.moves ≡ n → c.position.turn ≡ c.winner → Checks (Says c) (place 0 (mask_of c.position) rule.First ∷ []) (check_moves c n)
+  moves-checks : (n : ℕ) → c.moves ≡ n → c.position.turn ≡ c.winner → Checks (KeepsRule c) (rule_at 0 (mask_of c.position) rule.First ∷ []) (check_moving c n)
   moves-checks zero none turn xs found t =
       let given : found ≡ Some f = Takes-give (Some f) found xs t in
       inl (
@@ -110,27 +109,27 @@ module _ (c : Claim) (is : IsClaim c) (mean : RulesMean c.position) (some_point 
       )
   moves-checks (suc n) some turn xs found t =
       let into_one = λ (s : SetOf). union (rules_of p) 0 (mask_of p) kind.First (pre_items (rules_of p) c.winner (mask_of p) s (claimed_level c 1)) in
-      let asked = λ (s : SetOf). holds_if (Has s (tuple_of p)) f in
+      let asked = λ (s : SetOf). holds_if f (Has s (tuple_of p)) in
       let (us, vs, start, o1, first, rest) = Takes-split (point_level (rules_of p) (mask_of p)) (λ start. bind (into_one (start (mask_of p))) asked) xs found t in
       let (ws, zs, into, o2, second, last) = Takes-split (into_one (start (mask_of p))) asked vs found rest in
-      one-checks (Says c) (Member into (tuple_of p)) f found
+      one-checks (KeepsRule c) (Member into (tuple_of p)) f found
       (move_means (start (mask_of p)) into ws turn (start_has start us first) second)
       (has-told into zs found last)
 
-  starting-checks : c.position.turn ≡ other c.winner → Checks (Says c) (place 0 (mask_of c.position) rule.First ∷ []) (check_starting c)
+  starting-checks : c.position.turn ≡ other c.winner → Checks (KeepsRule c) (rule_at 0 (mask_of c.position) rule.First ∷ []) (check_waiting c)
   starting-checks turn xs found t =
       let Side_fits : Side → Type 0 = λ s. Fits p s p in
       let fits = subst Side_fits turn (mean.game.begins is.sound) in
       let stands = claimed_stands c is mean 0 p fits in
-      one-checks (Says c) (Member (claimed_level c 0 (mask_of p)) (tuple_of p)) f found
+      one-checks (KeepsRule c) (Member (claimed_level c 0 (mask_of p)) (tuple_of p)) f found
       (λ h. inr (turn, stands.0 h), λ h. elim h [ inl (his, (q, moves, is_in)) ↦ absurd (not_moved q turn is_in) | inr (his, is_in) ↦ stands.1 is_in ])
       (has-told (claimed_level c 0 (mask_of p)) xs found t)
 
-  first_at : (w s : Side) → c.winner ≡ w → c.position.turn ≡ s → Checks (Says c) (place 0 (mask_of c.position) rule.First ∷ []) (check_first c w s)
+  first_at : (w s : Side) → c.winner ≡ w → c.position.turn ≡ s → Checks (KeepsRule c) (rule_at 0 (mask_of c.position) rule.First ∷ []) (check_first c w s)
   first_at White White is_w is_s = moves-checks c.moves refl (is_s ∙ sym is_w)
   first_at Black Black is_w is_s = moves-checks c.moves refl (is_s ∙ sym is_w)
   first_at White Black is_w is_s = starting-checks (is_s ∙ sym (ap other is_w))
   first_at Black White is_w is_s = starting-checks (is_s ∙ sym (ap other is_w))
 
-  pub first-checks : Checks (Says c) (place 0 (mask_of c.position) rule.First ∷ []) (check_first c c.winner c.position.turn)
+  pub first-checks : Checks (KeepsRule c) (rule_at 0 (mask_of c.position) rule.First ∷ []) (check_first c c.winner c.position.turn)
   first-checks = first_at c.winner c.position.turn refl refl

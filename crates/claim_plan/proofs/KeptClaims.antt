@@ -1,25 +1,80 @@
--- A claim of the sets that are kept.
-use Rattle.std.proofs.Common.{◌≡◌, ◌↔◌, ℕ, ◌+◌, ◌≤◌, length, Option, Some, None, inl, inr, refl, sym, ap, ◌∙◌, subst}
+-- What is kept at the plies of the loser is won, and so is a claim of it.
+use Rattle.std.proofs.Common.{◌≡◌, ◌↔◌, ℕ, zero, suc, ◌+◌, ◌*◌, Option, Some, None, inl, inr, refl, sym, ap, ◌∙◌, subst, arith}
 use Rattle.std.specs.Prelude.{IsSomeAnd}
 use Rattle.auto_core.specs.Automaton.{Automaton}
 use Rattle.auto_core.specs.Integers.{IsAccepted}
-use Rattle.game_rules.specs.Game.{Moves, Position, Value, other}
+use Rattle.game_rules.specs.Game.{InCheck, Lost, Moves, Position, Sound, Value, Win, other}
 use Rattle.game_rules.specs.declared.men.Side.{Side}
+use Rattle.game_laws.proofs.SoundLemmas.{other_other}
+use Rattle.game_laws.proofs.ValueLemmas.{lost_flat}
 use Rattle.rule_formula.specs.Fits.{mask_of}
 use Rattle.rule_formula.specs.Mean.{RulesMean}
 use Rattle.rule_formula.specs.Placed.{tuple_of}
 use Rattle.rule_formula.specs.Trees.{point_of}
 use Rattle.mate_plan.specs.Plan.{turn_at}
+use Rattle.mate_plan.specs.PlanOf.{last_ply}
 use Rattle.winning_sets.specs.Kept.{Kept}
-use Rattle.winning_sets.specs.Solve.{HasTuplesOf, IsTupleOf}
-use Rattle.winning_sets.proofs.KeptKeeps.{stock_unique}
-use Rattle.winning_sets.proofs.KeptParts.{kept_lost}
+use Rattle.winning_sets.specs.Reach.{Reach}
+use Rattle.rule_formula.proofs.StockLemmas.{stock_unique}
+use Rattle.winning_sets.proofs.KeptParts.{kept_lost, reached_sound}
 use Rattle.winning_sets.proofs.KeptPlan.{fits_reached}
 use Rattle.mate_plan.specs.Claim.{Claim, IsClaim, IsClaimed, claimed_at}
-use Rattle.claim_plan.specs.ClaimLaws.{IsOfKept, KeptByLoser}
+use Rattle.claim_plan.specs.WonLaws.{AreOfGame, IsOfKept, KeptAreOfGame, KeptByLoser, KeptIsWon}
 use Rattle.mate_plan.specs.Won.{IsBegun, IsWonBy, LeadsInto, Won}
-use Rattle.claim_plan.proofs.ClaimLemmas.{claimed_there}
-use Rattle.claim_plan.proofs.WonLemmas.{kept_won}
+use Rattle.claim_plan.proofs.WonLemmas.{last_loser, last_winner}
+
+module _ (winner : Side) (p : Position) (moves : ℕ) (sound : Sound p) where
+  abbrev C : ℕ → Position → Type 0
+  C = KeptByLoser winner p moves
+
+  kept_losing : (ply : ℕ) (q : Position) (h : KeptByLoser winner p moves ply q) → Reach p ply q × Lost winner h.losers.left q
+  kept_losing ply q h = (kept_lost winner p moves ply h.losers.left h.losers.before q).0 h.kept
+
+  losing_kept : (ply left : ℕ) → ply + (2 * left + 1) ≡ last_ply winner p.turn moves → (q : Position) → Reach p ply q → Lost winner left q → KeptByLoser winner p moves ply q
+  losing_kept ply left before q reached lost = record {
+    losers = record { left = left; before = before };
+    kept = (kept_lost winner p moves ply left before q).1 (reached, lost);
+  }
+
+  pub kept_of_game : AreOfGame winner p moves (KeptByLoser winner p moves)
+  kept_of_game = record {
+    plies = λ ply q h. h.losers;
+    turn = λ ply q h. (kept_losing ply q h).1.0;
+    sound = λ ply q h. reached_sound p sound ply q (kept_losing ply q h).0;
+  }
+
+  -- what is kept at the plies of the loser is won
+  pub kept_won : Value winner moves p → IsWonBy winner p (KeptByLoser winner p moves)
+  kept_won value = record {
+    same = λ ply q h. (reached_sound p sound ply q (kept_losing ply q h).0).apart;
+    guard = λ ply q h.
+        let (reached, lost) = kept_losing ply q h in
+        let his : other q.turn ≡ winner = ap other lost.0 ∙ other_other winner in
+        let P : Side → Type 0 = λ s. InCheck q s → ⊥ in
+        subst P his (reached_sound p sound ply q reached).other_safe;
+    first = begun moves value refl;
+    left = λ ply q r h step. answered ply q r h.losers.left h.losers.before (kept_losing ply q h) step;
+    stale = λ ply q h. (lost_flat winner (Win winner h.losers.left) q (kept_losing ply q h).1).1;
+  }
+    where
+      begun : (n : ℕ) → Value winner n p → n ≡ moves → IsBegun winner p (KeptByLoser winner p moves)
+      begun zero (inl win) is = absurd win
+      begun (suc k) (inl (turn, (i, z, q, legal, lost))) is =
+          let e = last_winner winner p.turn moves turn in
+          inl (turn, (q, (i, z, legal), losing_kept 1 k (omega (arith, e, is)) q (p, refl, (i, z, legal)) lost))
+      begun n (inr lost) is =
+          let e = last_loser winner p.turn moves lost.0 in
+          inr (lost.0, losing_kept 0 n (omega (arith, e, is)) p refl lost)
+
+      answered : (ply : ℕ) (q r : Position) (left : ℕ) → ply + (2 * left + 1) ≡ last_ply winner p.turn moves → Reach p ply q × Lost winner left q → Moves q r → LeadsInto (KeptByLoser winner p moves (ply + 2)) r
+      answered ply q r left before (reached, lost) (i, z, legal) = from left before ((lost_flat winner (Win winner left) q lost).2 i z r legal)
+        where
+          from : (left : ℕ) → ply + (2 * left + 1) ≡ last_ply winner p.turn moves → Win winner left r → LeadsInto (KeptByLoser winner p moves (ply + 2)) r
+          from zero before win = absurd win
+          from (suc k) before (turn, (j, y, s, next, lost)) =
+              let two : suc (suc ply) ≡ ply + 2 = omega arith in
+              let reached_two : Reach p (ply + 2) s = subst (λ (n : ℕ). Reach p n s) two (r, (q, reached, (i, z, legal)), (j, y, next)) in
+              (s, (j, y, next), losing_kept (ply + 2) k (omega (arith, before)) s reached_two lost)
 
 -- the same positions are won
 module _ (winner : Side) (p : Position) (C D : ℕ → Position → Type 0) (same : (ply : ℕ) (q : Position) → C ply q ↔ D ply q) where
@@ -49,7 +104,7 @@ module _ (c : Claim) (is : IsClaim c) (mean : RulesMean c.position) (some_point 
   from_set ply q None e h there = absurd there
   from_set ply q (Some a) e h there =
       let losers = (is.only ply (mask_of q) a e).0 in
-      let w = ((kept.kept ply (mask_of q) a e).same (tuple_of q)).0 there in
+      let w = ((kept ply (mask_of q) a e).kept.same (tuple_of q)).0 there in
       let at_ply : KeptByLoser c.winner c.position c.moves ply w.position = record { losers = losers; kept = w.is_in } in
       let fits = fits_reached c.position is.sound is.few mean some_point ply w.position w.is_in.reached in
       let one : w.position ≡ q = stock_unique c.position.men w.position q fits.stock h.stock (turn_of ply w.position at_ply ∙ sym h.turn) w.mask_is w.tuple_is in
@@ -57,7 +112,7 @@ module _ (c : Claim) (is : IsClaim c) (mean : RulesMean c.position) (some_point 
 
   to_set : (ply : ℕ) (q : Position) (o : Option Automaton) → claimed_at c ply (mask_of q) ≡ o → (o ≡ None → ⊥) → IsKept ply q → IsSomeAnd o (λ a. IsAccepted a (tuple_of q))
   to_set ply q None e some h = absurd (some refl)
-  to_set ply q (Some a) e some h = ((kept.kept ply (mask_of q) a e).same (tuple_of q)).1 (record { position = q; is_in = h; mask_is = refl; tuple_is = refl })
+  to_set ply q (Some a) e some h = ((kept ply (mask_of q) a e).kept.same (tuple_of q)).1 (record { position = q; is_in = h; mask_is = refl; tuple_is = refl })
 
   claimed_kept : (ply : ℕ) (q : Position) → KeptByLoser c.winner c.position c.moves ply q ↔ IsClaimed c ply q
   claimed_kept ply q = (
@@ -70,6 +125,12 @@ module _ (c : Claim) (is : IsClaim c) (mean : RulesMean c.position) (some_point 
 
   pub kept_claim_won : Value c.winner c.moves c.position → Won c
   kept_claim_won value = record {
-    sign = kept.sign;
+    sign = λ ply mask a e. (kept ply mask a e).sign;
     positions = won_same c.winner c.position (KeptByLoser c.winner c.position c.moves) (IsClaimed c) claimed_kept (kept_won c.winner c.position c.moves is.sound value);
   }
+
+pub kept_are_of_game : KeptAreOfGame
+kept_are_of_game = λ winner p moves sound. kept_of_game winner p moves sound
+
+pub kept_is_won : KeptIsWon
+kept_is_won = λ winner p moves sound value. kept_won winner p moves sound value

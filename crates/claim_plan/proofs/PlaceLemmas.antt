@@ -1,15 +1,11 @@
 -- The plies, the masks and the pairs of men that a plan goes through.
-use Rattle.std.proofs.Common.{◌≡◌, ◌↔◌, ◌⊎◌, ℕ, zero, suc, ◌+◌, ◌-◌, ◌*◌, ◌<◌, ◌≤◌, if◌then◌else◌, nat_lt, Bool, true, false, List, [], ◌∷◌, ◌++◌, length, map, filter, Some, inl, inr, refl, sym, ap, ◌∙◌, subst, arith}
+use Rattle.std.proofs.Common.{◌≡◌, ℕ, zero, suc, ◌+◌, ◌-◌, ◌*◌, ◌<◌, subst, arith}
 use Rattle.std.specs.Prelude.{Contains}
-use Rattle.std.specs.List.{flat_map}
-use Rattle.std.proofs.lemmas.Bool.Decides.{nat_tests}
-use Rattle.std.proofs.lemmas.List.Elements.{Contains-append_cases, Contains-append_left, Contains-append_right}
-use Rattle.game_rules.specs.Game.{Position, other}
+use Rattle.game_rules.specs.Game.{Position}
 use Rattle.game_rules.specs.declared.men.Side.{Side}
 use Rattle.game_rules.specs.declared.men.Side.TheVariants.{White, Black}
-use Rattle.rule_formula.specs.Placed.{is_live}
 use Rattle.mate_plan.specs.PlanOf.{last_ply}
-use Rattle.set_plan.proofs.Takings.{contains_cases, contains_filter, contains_head, contains_none, contains_rest}
+use Rattle.set_plan.proofs.Takings.{contains_head, contains_rest}
 use Rattle.mate_plan.specs.Claim.{IsLosersPly, every_second, losers_plies}
 
 every_second-has : (start count k : ℕ) → k < count → Contains (every_second start count) (start + 2 * k)

@@ -1,36 +1,32 @@
 -- The rules of the replies: each one has an answer into what is claimed, and there is one, or check.
-use Rattle.std.proofs.Common.{◌≡◌, ◌↔◌, ◌⊎◌, ℕ, zero, suc, ◌+◌, ◌*◌, List, [], ◌∷◌, ◌++◌, map, Option, Some, None, inl, inr, ℤ, refl, sym, ap, ◌∙◌, subst, arith}
+use Rattle.std.proofs.Common.{◌≡◌, ◌↔◌, ℕ, suc, ◌+◌, Bool, true, List, [], ◌∷◌, map, Some, inl, inr, ℤ, refl, sym, ap, ◌∙◌, subst, arith}
 use Rattle.std.specs.Prelude.{Contains}
-use Rattle.game_rules.specs.Game.{HasMove, InCheck, IsApart, Moves, Position, Sound, other}
+use Rattle.game_rules.specs.Game.{InCheck, Moves, Position, Sound, other}
 use Rattle.game_rules.specs.declared.men.Side.{Side}
-use Rattle.game_rules.specs.declared.men.Square.{Square}
 use Rattle.game_laws.proofs.DecideLemmas.{in_check}
 use Rattle.game_laws.proofs.SoundLemmas.{other_other}
-use Rattle.lin_formula.specs.Tree.{Among, Or, free_vars}
-use Rattle.lin_formula.specs.SetOf.{Member, SetOf, Nothing}
+use Rattle.lin_formula.specs.SetOf.{Member, SetOf}
 use Rattle.rule_formula.specs.Fits.{Fits, IsGameMask, mask_of, masks_of}
 use Rattle.rule_formula.specs.Laws.{StepsTo}
 use Rattle.rule_formula.specs.Mean.{HoldsFitting, RulesMean, mask_tracks}
 use Rattle.rule_formula.specs.Placed.{tuple_of}
-use Rattle.set_plan.specs.Program.{Give, Takes}
+use Rattle.set_plan.specs.Program.{Takes}
 use Rattle.set_plan.specs.Unite.{is_within}
 use Rattle.set_plan.proofs.Composition.{Takes-split, none_some}
-use Rattle.mate_plan.specs.Plan.{Level, Program, Rules, bear_items, difference, for_masks, name, no_sets, pre_items, reach_level, reach_set, union}
+use Rattle.mate_plan.specs.Plan.{Level, Program, Rules, bear_items, difference, name, no_sets, pre_items, reach_level, reach_set, union}
 use Rattle.mate_plan.specs.PlanOf.{rules_of}
-use Rattle.mate_plan.specs.declared.names.Part.{Part}
+use Rattle.mate_plan.specs.Questions.{are_answered, have_moves, have_replies, quiet_set}
 use Rattle.mate_plan.specs.declared.names.Part.TheVariants as kind
 use Rattle.winning_sets.proofs.KeptParts.{Checked, Image, Moves-safe, Pre, Safe, StepsTo-moves, Without, safe-moves}
 use Rattle.winning_sets.proofs.KeptSets.{Entries, Stands, check-stands, difference-stands, for_masks-level, game_mask, in_masks, pre-stands, reach_set-stands, reach_set_fitting}
-use Rattle.set_plan.proofs.Takings.{Takes-give, remainder-members, remainder_over}
-use Rattle.mate_plan.specs.Claim.{Claim, IsClaim, IsClaimed, claimed_at, claimed_level}
-use Rattle.claim_plan.specs.CheckPlan.{Finding, and_then, check_left, check_replies, check_some, check_stale, for_each, holds_by, place}
-use Rattle.claim_plan.specs.Checked.{RuleHolds, Says, reply_rules}
-use Rattle.mate_plan.specs.Won.{LeadsInto}
-use Rattle.claim_plan.specs.declared.names.Failure.{Failure}
+use Rattle.set_plan.proofs.Takings.{Takes-give, remainder-members}
+use Rattle.mate_plan.specs.Claim.{Claim, IsClaim, IsClaimed, claimed_level}
+use Rattle.claim_plan.specs.CheckPlan.{and_then, check_left, check_replies, check_stale, for_each, rule_at}
+use Rattle.claim_plan.specs.Checked.{RuleHolds, KeepsRule, reply_rules}
 use Rattle.claim_plan.specs.declared.names.Rule.TheVariants as rule
-use Rattle.claim_plan.proofs.ClaimLemmas.{claimed_fits, claimed_sound}
-use Rattle.claim_plan.proofs.Findings.{AllHold, Checks, IsTold, and_then-checks, for_each-one, holds_by-told, is_within-tells, one-checks}
-use Rattle.claim_plan.proofs.SetRules.{claimed_member, claimed_over, claimed_positions, claimed_stands}
+use Rattle.claim_plan.proofs.ClaimLemmas.{claimed_fits, claimed_member, claimed_positions, claimed_sound}
+use Rattle.claim_plan.proofs.Findings.{Checks, Tells, and_then-checks, for_each-one, is_within-tells, tells-same, told-checks}
+use Rattle.claim_plan.proofs.SetRules.{claimed_over, claimed_stands}
 
 module _ (c : Claim) (is : IsClaim c) (mean : RulesMean c.position) (apart : (ply m : ℕ) → RuleHolds c rule.Same ply m) (safe : (ply m : ℕ) → RuleHolds c rule.Guard ply m) where
   abbrev p : Position
@@ -43,15 +39,19 @@ module _ (c : Claim) (is : IsClaim c) (mean : RulesMean c.position) (apart : (pl
   loser = other c.winner
 
   fits_of : (ply : ℕ) (q : Position) → IsClaimed c ply q → Fits c.position (other c.winner) q
-  fits_of ply q h = claimed_fits c is ply q h (apart ply (mask_of q) q h refl)
+  fits_of ply q h = claimed_fits c is ply q h (apart ply (mask_of q) q (record { claimed = h; mask_is = refl }))
 
   sound_of : (ply : ℕ) (q : Position) → IsClaimed c ply q → Sound q
-  sound_of ply q h = claimed_sound c is ply q h (apart ply (mask_of q) q h refl) (safe ply (mask_of q) q h refl)
+  sound_of ply q h = claimed_sound c is ply q h (apart ply (mask_of q) q (record { claimed = h; mask_is = refl })) (safe ply (mask_of q) q (record { claimed = h; mask_is = refl }))
 
   -- each tuple of a claimed set is that of a position that fits
   fitting : (ply m : ℕ) → HoldsFitting c.position (other c.winner) m (claimed_level c ply m)
   fitting ply m tuple h =
-      let (q, claimed, mask, same) = claimed_positions c is mean ply m tuple h in
+      let known = claimed_positions c is ply m tuple h in
+      let q = known.position in
+      let claimed = known.is_in in
+      let mask = known.mask_is in
+      let same = known.tuple_is in
       (q, fits_of ply q claimed, mask, same)
 
   -- what is reached by a reply from the claimed positions of a ply
@@ -79,7 +79,7 @@ module _ (c : Claim) (is : IsClaim c) (mean : RulesMean c.position) (apart : (pl
   answer_moves ply r s h step =
       let P : Side → Type 0 = λ t. InCheck s t → ⊥ in
       let his : other s.turn ≡ c.winner = ap other h.turn ∙ other_other c.winner in
-      Moves-safe r s step (subst P (sym his) (safe ply (mask_of s) s h refl))
+      Moves-safe r s step (subst P (sym his) (safe ply (mask_of s) s (record { claimed = h; mask_is = refl })))
 
   -- what is claimed, as it stands for the side that moves after the winner
   claimed_later : (ply : ℕ) → Stands c.position (other (other (other c.winner))) (claimed_level c ply) (IsClaimed c ply)
@@ -118,13 +118,14 @@ module _ (c : Claim) (is : IsClaim c) (mean : RulesMean c.position) (apart : (pl
         pre-stands p mean (other loser) (suc ply) kind.Answer r (reached (mask_of r)) answer (claimed_level c (ply + 2)) vs (Safe (Image (IsClaimed c ply))) (IsClaimed c (ply + 2)) fits (replied_sound r) (reached_stands r fits) (claimed_later (ply + 2)) (subst Into (sym e) t) in
         let two : ply + 2 ≡ suc (suc ply) = omega arith in
         let At : ℕ → Position → Type 0 = λ k s. IsClaimed c k s in (
-          λ within before q r one h moves e.
-              let same : ply ≡ before = omega (arith, one) in
-              let claimed : IsClaimed c ply q = let P : ℕ → Type 0 = λ k. IsClaimed c k q in subst P (sym same) h in
-              let fits = replied_fits ply q r claimed moves in
+          λ within r w.
+              let one = w.next in
+              let same : ply ≡ w.before = omega (arith, one) in
+              let claimed : IsClaimed c ply w.from = let P : ℕ → Type 0 = λ k. IsClaimed c k w.from in subst P (sym same) w.claimed in
+              let fits = replied_fits ply w.from r claimed w.moves in
               let In : ℕ → Type 0 = λ k. Member (reached k) (tuple_of r) in
-              let member = subst In e ((reached_stands r fits).1 (replied_to ply q r claimed moves)) in
-              let pre = (stands r fits e).0 (within (tuple_of r) member) in
+              let member = subst In w.mask_is ((reached_stands r fits).1 (replied_to ply w.from r claimed w.moves)) in
+              let pre = (stands r fits w.mask_is).0 (within (tuple_of r) member) in
               let P : ℕ → Type 0 = λ k. IsClaimed c k pre.next in
               (pre.next, answer_moves (ply + 2) r pre.next pre.leads pre.step, subst P two pre.leads),
           λ says tuple h.
@@ -133,19 +134,22 @@ module _ (c : Claim) (is : IsClaim c) (mean : RulesMean c.position) (apart : (pl
               let here : Member (reached m) (tuple_of r) = subst (Member (reached m)) (sym is_tuple) h in
               let replied = (reached_stands r fits).0 (subst In (sym mask) here) in
               let (q, claimed, moves) = replied_from ply r replied in
-              let (s, next, there) = says ply q r refl claimed moves mask in
+              let (s, next, there) = says r (record { before = ply; next = refl; from = q; claimed = claimed; moves = moves; mask_is = mask }) in
               let P : ℕ → Type 0 = λ k. IsClaimed c k s in
               let member = (stands r fits mask).1 (record { is_in = replied; next = s; step = StepsTo-moves r s next; leads = subst P (sym two) there }) in
               subst (Member answer) is_tuple member,
         )
 
-    left-checks : (m : ℕ) → Contains (masks_of c.position) m → Checks (Says c) (place (suc ply) m rule.Left ∷ []) (check_left (rules_of c.position) (other (other c.winner)) (suc ply) reached (claimed_level c (ply + 2)) m)
-    left-checks m i xs found t =
-        let f = place (suc ply) m rule.Left in
-        let (vs, ws, answer, order, first, rest) = Takes-split (union rules (suc ply) m kind.Answer (pre_items rules (other loser) m (reached m) (claimed_level c (ply + 2)))) (λ answer. holds_by f (is_within (mask_tracks p m) (name (suc ply) m kind.Left) (reached m) answer)) xs found t in
-        one-checks (Says c) ((tuple : List ℤ) → Member (reached m) tuple → Member answer tuple) f found
-        (left_means m answer vs (game_mask p mean m i) first)
-        (holds_by-told ((tuple : List ℤ) → Member (reached m) tuple → Member answer tuple) f (is_within (mask_tracks p m) (name (suc ply) m kind.Left) (reached m) answer) (is_within-tells (mask_tracks p m) (name (suc ply) m kind.Left) (reached m) answer) ws found rest)
+    left-checks : (m : ℕ) → Contains (masks_of c.position) m → Checks (KeepsRule c) (rule_at (suc ply) m rule.Left ∷ []) (check_left (rules_of c.position) (other (other c.winner)) (suc ply) reached (claimed_level c (ply + 2)) m)
+    left-checks m i =
+        let r = rule_at (suc ply) m rule.Left in
+        let part = name (suc ply) m kind.Left in
+        told-checks (KeepsRule c) r (are_answered rules (other loser) (suc ply) reached (claimed_level c (ply + 2)) m)
+        (λ xs b t.
+        let (us, vs, answer, order, first, rest) = Takes-split (union rules (suc ply) m kind.Answer (pre_items rules (other loser) m (reached m) (claimed_level c (ply + 2)))) (λ answer. is_within (mask_tracks p m) part (reached m) answer) xs b t in
+        tells-same ((tuple : List ℤ) → Member (reached m) tuple → Member answer tuple) (KeepsRule c r) b
+        (left_means m answer us (game_mask p mean m i) first)
+        (is_within-tells (mask_tracks p m) part (reached m) answer vs b rest))
 
     -- stale
     module _ (m : ℕ) (game : IsGameMask c.position m) (check quiet reply : SetOf) (es bs cs : Entries)
@@ -172,7 +176,9 @@ module _ (c : Claim) (is : IsClaim c) (mean : RulesMean c.position) (apart : (pl
 
       stale_means : ((tuple : List ℤ) → Member quiet tuple → Member reply tuple) ↔ RuleHolds c rule.Stale ply m
       stale_means = (
-        λ within q h e.
+        λ within q w.
+            let h = w.claimed in
+            let e = w.mask_is in
             let fits = fits_of ply q h in
             elim (in_check q q.turn) [
               | inl check ↦ inl check
@@ -184,10 +190,14 @@ module _ (c : Claim) (is : IsClaim c) (mean : RulesMean c.position) (apart : (pl
             ],
         λ says tuple h.
             let of_both = remainder-members (mask_tracks p m) (name ply m kind.Quiet) (mean.game.tracks m 0 1) (claimed_level c ply m) check bs quiet (claimed_over c is mean ply m) quiets tuple in
-            let (q, claimed, mask, is_tuple) = claimed_positions c is mean ply m tuple (of_both.0 h).0 in
+            let known = claimed_positions c is ply m tuple (of_both.0 h).0 in
+            let q = known.position in
+            let claimed = known.is_in in
+            let mask = known.mask_is in
+            let is_tuple = known.tuple_is in
             let fits = fits_of ply q claimed in
             let quietly = (quiet_at q fits mask).0 (subst (Member quiet) (sym is_tuple) h) in
-            elim (says q claimed mask) [
+            elim (says q (record { claimed = claimed; mask_is = mask })) [
               | inl check ↦ absurd (quietly.not_in (record { is_in = claimed; check = check }))
               | inr (i, z, r, legal) ↦
                   let moves : Moves q r = (i, z, legal) in
@@ -195,28 +205,31 @@ module _ (c : Claim) (is : IsClaim c) (mean : RulesMean c.position) (apart : (pl
             ],
       )
 
-    stale-checks : (m : ℕ) → Contains (masks_of c.position) m → Checks (Says c) (place ply m rule.Stale ∷ []) (check_stale (rules_of c.position) (other c.winner) ply (claimed_level c ply) reached m)
-    stale-checks m i xs found (inl (e, o)) = none_some o
-    stale-checks m i xs found (inr (inl (inl empty, t))) =
-        inr (λ q h e. absurd (empty (tuple_of q) (claimed_member c is mean ply m q h e)), Takes-give None found xs t)
-    stale-checks m i xs found (inr (inl (inr never, t))) = absurd never
-    stale-checks m i xs found (inr (inr (some, t))) =
-        let f = place ply m rule.Stale in
+    replies-tell : (m : ℕ) → Contains (masks_of c.position) m → (xs : Entries) (b : Bool) → Takes (have_replies (rules_of c.position) (other c.winner) ply (claimed_level c ply) reached m) xs (Some b) → Tells (RuleHolds c rule.Stale ply m) b
+    replies-tell m i xs b (inl (e, o)) = none_some o
+    replies-tell m i xs b (inr (inl (inl empty, t))) =
+        inl (λ q w. absurd (empty (tuple_of q) (claimed_member c is ply m q w.claimed w.mask_is)), Takes-give true b xs t)
+    replies-tell m i xs b (inr (inl (inr never, t))) = absurd never
+    replies-tell m i xs b (inr (inr (some, t))) =
         let s = claimed_level c ply m in
-        let (a1, b1, check, o1, t1, r1) = Takes-split (union rules ply m kind.Check (bear_items rules (other loser) m s)) _ xs found t in
-        let (a2, b2, quiet, o2, t2, r2) = Takes-split (difference rules ply m kind.Quiet s check) _ b1 found r1 in
-        let (a3, b3, reply, o3, t3, r3) = Takes-split (union rules ply m kind.Reply (pre_items rules loser m quiet reached)) _ b2 found r2 in
-        one-checks (Says c) ((tuple : List ℤ) → Member quiet tuple → Member reply tuple) f found
-        (stale_means m (game_mask p mean m i) check quiet reply a1 a2 a3 t1 t2 t3)
-        (holds_by-told ((tuple : List ℤ) → Member quiet tuple → Member reply tuple) f (is_within (mask_tracks p m) (name ply m kind.Stale) quiet reply) (is_within-tells (mask_tracks p m) (name ply m kind.Stale) quiet reply) b3 found r3)
+        let part = name ply m kind.Stale in
+        let (us, vs, quiet, o1, t1, r1) = Takes-split (quiet_set rules loser ply m s) (λ quiet. have_moves rules loser ply m kind.Reply kind.Stale quiet reached) xs b t in
+        let (a1, a2, check, o2, t2, r2) = Takes-split (union rules ply m kind.Check (bear_items rules (other loser) m s)) (λ check. difference rules ply m kind.Quiet s check) us quiet t1 in
+        let (a3, a4, reply, o3, t3, r3) = Takes-split (union rules ply m kind.Reply (pre_items rules loser m quiet reached)) (λ reply. is_within (mask_tracks p m) part quiet reply) vs b r1 in
+        tells-same ((tuple : List ℤ) → Member quiet tuple → Member reply tuple) (RuleHolds c rule.Stale ply m) b
+        (stale_means m (game_mask p mean m i) check quiet reply a1 a2 a3 t2 r2 t3)
+        (is_within-tells (mask_tracks p m) part quiet reply a4 b r3)
+
+    stale-checks : (m : ℕ) → Contains (masks_of c.position) m → Checks (KeepsRule c) (rule_at ply m rule.Stale ∷ []) (check_stale (rules_of c.position) (other c.winner) ply (claimed_level c ply) reached m)
+    stale-checks m i = told-checks (KeepsRule c) (rule_at ply m rule.Stale) (have_replies rules loser ply (claimed_level c ply) reached m) (replies-tell m i)
 
   -- the rules of the replies of one ply
-  pub replies-checks : (ply : ℕ) → Checks (Says c) (reply_rules c ply) (check_replies (rules_of c.position) (other c.winner) ply (claimed_level c ply) (claimed_level c (ply + 2)))
+  pub replies-checks : (ply : ℕ) → Checks (KeepsRule c) (reply_rules c ply) (check_replies (rules_of c.position) (other c.winner) ply (claimed_level c ply) (claimed_level c (ply + 2)))
   replies-checks ply xs found t =
       let lefts = λ (reached : Level). for_each (masks_of p) (check_left rules (other loser) (suc ply) reached (claimed_level c (ply + 2))) in
       let stales = λ (reached : Level). for_each (masks_of p) (check_stale rules loser ply (claimed_level c ply) reached) in
       let (us, vs, reached, order, first, rest) = Takes-split (reach_level rules loser (suc ply) (claimed_level c ply)) (λ reached. and_then (lefts reached) (stales reached)) xs found t in
-      and_then-checks (Says c) (map (λ m. place (suc ply) m rule.Left) (masks_of p)) (map (λ m. place ply m rule.Stale) (masks_of p)) (lefts reached) (stales reached)
-      (for_each-one (Says c) (λ m. place (suc ply) m rule.Left) (check_left rules (other loser) (suc ply) reached (claimed_level c (ply + 2))) (masks_of p) (left-checks ply reached us first))
-      (λ all. for_each-one (Says c) (λ m. place ply m rule.Stale) (check_stale rules loser ply (claimed_level c ply) reached) (masks_of p) (stale-checks ply reached us first))
+      and_then-checks (KeepsRule c) (map (λ m. rule_at (suc ply) m rule.Left) (masks_of p)) (map (λ m. rule_at ply m rule.Stale) (masks_of p)) (lefts reached) (stales reached)
+      (for_each-one (KeepsRule c) (λ m. rule_at (suc ply) m rule.Left) (check_left rules (other loser) (suc ply) reached (claimed_level c (ply + 2))) (masks_of p) (left-checks ply reached us first))
+      (λ all. for_each-one (KeepsRule c) (λ m. rule_at ply m rule.Stale) (check_stale rules loser ply (claimed_level c ply) reached) (masks_of p) (stale-checks ply reached us first))
       vs found rest

@@ -1,36 +1,33 @@
--- The plan by which a claim is checked.
-use Rattle.std.specs.Prelude.{◌≡◌, ℕ, zero, suc, ◌+◌, if◌then◌else◌, List, [], ◌∷◌, ◌++◌, length, map, filter, Option, Some, None, ℤ, Bool, true, false}
+-- The plan by which a claim is checked: a program that gives the first rule that fails, or none.
+use Rattle.std.specs.Prelude.{ℕ, zero, suc, ◌+◌, List, [], ◌∷◌, Option, Some, None, ℤ, Bool, true, false}
 use Rattle.auto_core.specs.Automaton.{Automaton}
-use Rattle.game_rules.specs.Game.{Position, other}
+use Rattle.game_rules.specs.Game.{other}
 use Rattle.game_rules.specs.declared.men.Side.{Side}
 use Rattle.game_rules.specs.declared.men.Side.TheVariants.{White, Black}
-use Rattle.lin_formula.specs.SetOf.{SetOf, Nothing, as_set}
+use Rattle.lin_formula.specs.SetOf.{SetOf}
 use Rattle.rule_formula.specs.Fits.{mask_of}
 use Rattle.rule_formula.specs.Placed.{tuple_of}
-use Rattle.set_plan.specs.Program.{Item, Question, Give, Ask, Empty, Stable, Has, bind, ◌>>=◌}
-use Rattle.set_plan.specs.Unite.{are_empty, is_within}
-use Rattle.mate_plan.specs.Plan.{Level, Program, Rules, bear_items, difference, name, point_level, pre_items, reach_level, union}
+use Rattle.set_plan.specs.Program.{Question, Give, Ask, Stable, Has, bind, ◌>>=◌}
+use Rattle.mate_plan.specs.Plan.{Level, Program, Rules, point_level, pre_items, reach_level, union}
 use Rattle.mate_plan.specs.PlanOf.{rules_of}
-use Rattle.mate_plan.specs.Twins.{twin_items}
-use Rattle.mate_plan.specs.declared.names.Part.{Part}
+use Rattle.mate_plan.specs.Questions.{are_answered, are_apart, are_safe, have_replies}
 use Rattle.mate_plan.specs.declared.names.Part.TheVariants as kind
-use Rattle.mate_plan.specs.declared.names.PartName.{PartName}
 use Rattle.mate_plan.specs.Claim.{Claim, claimed_at, claimed_level, losers_plies}
 use Rattle.claim_plan.specs.declared.names.Rule.{Rule}
 use Rattle.claim_plan.specs.declared.names.Rule.TheVariants as rule
-use Rattle.claim_plan.specs.declared.names.Failure.{Failure}
+use Rattle.claim_plan.specs.declared.names.RuleAt.{RuleAt}
 
--- the rule that fails, or none
+-- the rule that fails, with its ply and its mask, or none
 abbrev pub Finding : Type 0
-Finding = Option Failure
+Finding = Option RuleAt
 
-abbrev pub place : ℕ → ℕ → Rule → Failure
-place ply mask r = record { ply = ply; mask = mask; rule = r }
+abbrev pub rule_at : ℕ → ℕ → Rule → RuleAt
+rule_at ply mask r = record { ply = ply; mask = mask; rule = r }
 
--- goes on where nothing was found
+-- what follows is gone through only where nothing was found
 abbrev pub go_on : Program Finding → Finding → Program Finding
 go_on next None = next
-go_on next (Some failure) = Give (Some failure)
+go_on next (Some failed) = Give (Some failed)
 
 abbrev pub and_then : Program Finding → Program Finding → Program Finding
 and_then first next = bind first (go_on next)
@@ -40,57 +37,53 @@ for_each [] f = Give None
 for_each (x ∷ xs) f = and_then (f x) (for_each xs f)
 
 -- nothing is found where the rule holds
-abbrev pub judged : Failure → Bool → Finding
-judged failure true = None
-judged failure false = Some failure
+abbrev pub judged : RuleAt → Bool → Finding
+judged r true = None
+judged r false = Some r
 
--- the rule holds where the program gives yes, or where the answer is yes
-abbrev pub holds_by : Failure → Program Bool → Program Finding
-holds_by failure m = bind m (λ holds. Give (judged failure holds))
+-- the rule holds where the program gives true
+abbrev pub holds_by : RuleAt → Program Bool → Program Finding
+holds_by r program = bind program (λ holds. Give (judged r holds))
 
-abbrev pub holds_if : Question → Failure → Program Finding
-holds_if question failure = holds_by failure (Ask question (Give true) (Give false))
+-- the rule holds where the answer is yes
+abbrev pub holds_if : RuleAt → Question → Program Finding
+holds_if r question = holds_by r (Ask question (Give true) (Give false))
 
+-- a claimed set decides a set of integers: without a step
 abbrev pub check_sign : ℕ → ℕ → Option Automaton → Program Finding
 check_sign ply mask None = Give None
-check_sign ply mask (Some a) = holds_if (Stable a) (place ply mask rule.Sign)
+check_sign ply mask (Some a) = holds_if (rule_at ply mask rule.Sign) (Stable a)
 
 module _ (rules : Rules) where
-  -- the claimed set is one of positions in which no two men of the mask are twins, and the winner is not in check
-  abbrev pub check_claimed : Side → ℕ → ℕ → (SetOf → List Item) → Option Automaton → Program Finding
-  check_claimed loser ply mask twins claimed =
-      and_then (check_sign ply mask claimed)
-      (and_then (holds_by (place ply mask rule.Same) (are_empty (name ply mask kind.Same) 1 (twins (as_set claimed))))
-      (holds_by (place ply mask rule.Guard) (are_empty (name ply mask kind.Guard) 1 (bear_items rules loser mask (as_set claimed)))))
+  -- no man of the loser bears on the winner's king in a claimed set
+  abbrev pub check_guard : Side → ℕ → ℕ → SetOf → Program Finding
+  check_guard loser ply mask claimed = holds_by (rule_at ply mask rule.Guard) (are_safe rules loser ply mask claimed)
 
-  -- each position that is reached has an answer into what is claimed two plies later
+  -- each position that is reached has an answer into what is claimed at the next ply.
+  -- Where nothing is claimed there no formula is left, and there is no answer, without a step
   abbrev pub check_left : Side → ℕ → Level → Level → ℕ → Program Finding
-  check_left winner ply reached claimed2 mask = do
-    answer ← union rules ply mask kind.Answer (pre_items rules winner mask (reached mask) claimed2)
-    holds_by (place ply mask rule.Left) (is_within (rules.tracks mask) (name ply mask kind.Left) (reached mask) answer)
+  check_left winner ply reached claimed1 mask =
+      holds_by (rule_at ply mask rule.Left) (are_answered rules winner ply reached claimed1 mask)
 
-  -- in each claimed position the loser is in check or has a reply
-  abbrev pub check_some : Side → ℕ → SetOf → Level → ℕ → Program Finding
-  check_some loser ply claimed reached mask = do
-    check ← union rules ply mask kind.Check (bear_items rules (other loser) mask claimed)
-    quiet ← difference rules ply mask kind.Quiet claimed check
-    reply ← union rules ply mask kind.Reply (pre_items rules loser mask quiet reached)
-    holds_by (place ply mask rule.Stale) (is_within (rules.tracks mask) (name ply mask kind.Stale) quiet reply)
-
+  -- each claimed position in which the loser is not in check has a reply; where no position is claimed there is no step
   abbrev pub check_stale : Side → ℕ → Level → Level → ℕ → Program Finding
-  check_stale loser ply claimed reached mask = Ask (Empty (claimed mask ∷ [])) (Give None) (check_some loser ply (claimed mask) reached mask)
+  check_stale loser ply claimed reached mask =
+      holds_by (rule_at ply mask rule.Stale) (have_replies rules loser ply claimed reached mask)
 
+  -- what the replies reach from the claimed positions of a ply, and the rules of these replies:
+  -- mask by mask for what they lead to, and then mask by mask for what they come from
   abbrev pub check_replies : Side → ℕ → Level → Level → Program Finding
   check_replies loser ply claimed claimed2 = do
     reached ← reach_level rules loser (suc ply) claimed
-    and_then (for_each rules.masks (check_left (other loser) (suc ply) reached claimed2)) (for_each rules.masks (check_stale loser ply claimed reached))
+    and_then (for_each rules.masks (check_left (other loser) (suc ply) reached claimed2))
+        (for_each rules.masks (check_stale loser ply claimed reached))
 
-  -- from the position of these coordinates a move of the winner leads into what is claimed at ply 1
+  -- from the position with these coordinates a move of the winner leads into what is claimed at ply 1
   abbrev pub check_move : Side → ℕ → List ℤ → Level → Program Finding
   check_move winner mask tuple claimed1 = do
     start ← point_level rules mask
     first ← union rules 0 mask kind.First (pre_items rules winner mask (start mask) claimed1)
-    holds_if (Has first tuple) (place 0 mask rule.First)
+    holds_if (rule_at 0 mask rule.First) (Has first tuple)
 
 module _ (c : Claim) where
   abbrev pub rules : Rules
@@ -105,26 +98,40 @@ module _ (c : Claim) where
   abbrev pub plies : List ℕ
   plies = losers_plies c.winner c.position.turn c.moves
 
+  -- no two live men stand on one square in a claimed set
+  abbrev pub check_same : ℕ → ℕ → Program Finding
+  check_same ply mask = holds_by (rule_at ply mask rule.Same) (are_apart c.position ply mask (claimed_level c ply mask))
+
+  -- what each claimed set has to keep by itself
+  abbrev pub check_set : ℕ → ℕ → Program Finding
+  check_set ply mask =
+      and_then (check_sign ply mask (claimed_at c ply mask))
+      (and_then (check_same ply mask) (check_guard rules loser ply mask (claimed_level c ply mask)))
+
   abbrev pub check_sets : ℕ → Program Finding
-  check_sets ply = for_each rules.masks (λ mask. check_claimed rules loser ply mask (twin_items c.position mask) (claimed_at c ply mask))
+  check_sets ply = for_each rules.masks (check_set ply)
 
-  -- without a move nothing is claimed at ply 1, and the rule fails without a step
-  abbrev pub check_moves : ℕ → Program Finding
-  check_moves zero = Give (Some (place 0 first_mask rule.First))
-  check_moves (suc moves) = check_move rules c.winner first_mask (tuple_of c.position) (claimed_level c 1)
+  -- with the winner to move: without a move nothing is claimed at ply 1, and the rule fails without a step
+  abbrev pub check_moving : ℕ → Program Finding
+  check_moving zero = Give (Some (rule_at 0 first_mask rule.First))
+  check_moving (suc moves) = check_move rules c.winner first_mask (tuple_of c.position) (claimed_level c 1)
 
-  abbrev pub check_starting : Program Finding
-  check_starting = holds_if (Has (claimed_level c 0 first_mask) (tuple_of c.position)) (place 0 first_mask rule.First)
+  -- with the loser to move: the position is claimed itself, which takes no step
+  abbrev pub check_waiting : Program Finding
+  check_waiting = holds_if (rule_at 0 first_mask rule.First) (Has (claimed_level c 0 first_mask) (tuple_of c.position))
 
+  -- by the winner and by the side that moves first
   abbrev pub check_first : Side → Side → Program Finding
-  check_first White White = check_moves c.moves
-  check_first Black Black = check_moves c.moves
-  check_first White Black = check_starting
-  check_first Black White = check_starting
+  check_first White White = check_moving c.moves
+  check_first Black Black = check_moving c.moves
+  check_first White Black = check_waiting
+  check_first Black White = check_waiting
 
   abbrev pub check_ply : ℕ → Program Finding
   check_ply ply = check_replies rules loser ply (claimed_level c ply) (claimed_level c (ply + 2))
 
-  -- the plan: what is claimed at each ply of the loser, the start, and the replies at each ply of the loser
+  -- the plan: the sets that are claimed at each ply of the loser, the start, and the replies at each ply of the loser
   abbrev pub check_plan : Program Finding
-  check_plan = and_then (for_each plies check_sets) (and_then (check_first c.winner c.position.turn) (for_each plies check_ply))
+  check_plan =
+      and_then (for_each plies check_sets)
+      (and_then (check_first c.winner c.position.turn) (for_each plies check_ply))

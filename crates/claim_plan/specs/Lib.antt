@@ -1,3 +1,5 @@
 pub mod CheckPlan
 pub mod Checked
-pub mod ClaimLaws
+pub mod CheckLaws
+pub mod WonLaws
+pub mod SameClaims

@@ -1,4 +1,4 @@
-ghost use Rattle.std.specs.Prelude.{◌≡◌, ℕ, ◌+◌, ◌-◌, ◌^◌, ◌≤◌, min, true, length, IfOk, IfSome};
+ghost use Rattle.std.specs.Prelude.{◌≡◌, ℕ, ◌+◌, ◌-◌, ◌^◌, ◌≤◌, min, Some, length, IfOk, IfSome};
 ghost use Rattle.std.specs.FinMap as map;
 ghost use Rattle.desk_base.specs.Faults.{HasRisen};
 ghost use Rattle.desk_base.specs.Files.{contents, no_files};
@@ -35,9 +35,7 @@ impl BareShelf {
 }
 
 impl Shelf for BareShelf {
-    ghost told = { true };
-
-    ghost files = { λ _. no_files };
+    ghost files = { λ _. Some no_files };
 
     ghost faults = { λ s. s };
 

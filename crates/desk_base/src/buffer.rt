@@ -1,5 +1,7 @@
-ghost use Rattle.std.specs.Prelude.{◌≡◌, ℕ, ◌+◌, ◌<◌, ◌≤◌, List, [], ◌++◌, length, take, drop, IsTrue, IfOk, OnErr};
+ghost use Rattle.std.specs.Prelude.{◌≡◌, ℕ, ◌+◌, ◌<◌, ◌≤◌, List, [], length, take, drop, IfOk, OnOk, OnErr};
+ghost use Rattle.std.specs.Io.KnownBytes.{IsAtEnd, Keeps};
 ghost use Rattle.desk_base.specs.Faults.{HasRisen};
+ghost use Rattle.desk_base.specs.Moves.{Grows};
 
 use crate::line::LINE_LIMIT;
 use crate::source::{Failed, Source};
@@ -58,9 +60,9 @@ impl Buffer {
         ensures most { IfOk result (λ k. length self.new ≡ length self.old + k) }
         ensures within { length self.new ≤ 256 }
         ensures front { take (length self.old) self.new ≡ self.old }
-        ensures taken { IfOk result (λ k. IsTrue S.told → (S.left source.old ≡ take k (S.left source.old) ++ S.left source.new) × (self.new ≡ self.old ++ take k (S.left source.old))) }
-        ensures end { result ≡ Ok 0 → (self.new ≡ self.old) × (IsTrue S.told → (S.left source.old ≡ []) × (S.left source.new ≡ [])) }
-        ensures err { OnErr result ((self.new ≡ self.old) × (IsTrue S.told → S.left source.new ≡ S.left source.old)) }
+        ensures taken { OnOk result (Grows self.old self.new (S.left source.old) (S.left source.new)) }
+        ensures end { result ≡ Ok 0 → (self.new ≡ self.old) × IsAtEnd (S.left source.new) }
+        ensures err { OnErr result ((self.new ≡ self.old) × Keeps (S.left source.old) (S.left source.new)) }
         ensures failed { OnErr result (HasRisen (S.faults source.old) (S.faults source.new)) }
         ensures never_falls { S.faults source.old ≤ S.faults source.new }
     {

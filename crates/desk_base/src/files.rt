@@ -1,6 +1,6 @@
-ghost use Rattle.std.specs.Prelude.{◌≡◌, ◌≢◌, ℕ, ◌<◌, ◌≤◌, Bool, List, length, IsTrue, IfOk, OnOk, IsErrOf, IfSome, IsSomeAnd};
+ghost use Rattle.std.specs.Prelude.{◌≡◌, ◌≢◌, ℕ, ◌<◌, ◌≤◌, List, Option, length, IfOk, OnOk, IsErrOf, IfSome, IsSomeAnd};
 ghost use Rattle.std.specs.FinMap as map;
-ghost use Rattle.desk_base.specs.Files.{Files, contents};
+ghost use Rattle.desk_base.specs.Files.{Files, Go, contents};
 ghost use Rattle.desk_base.specs.Faults.{HasRisen};
 
 use std::alloc::Global;
@@ -33,11 +33,8 @@ pub enum KeepError {
 
 /// A store of files by name.
 pub trait Shelf {
-    /// Whether contracts see the files.
-    ghost told: { Bool };
-
-    /// The files, by the bytes of their names.
-    ghost files: { Self → Files };
+    /// The files, by the bytes of their names; `None` where the store does not tell them.
+    ghost files: { Self → Option Files };
 
     /// How often it has failed. The count never falls, and stands still at 2^64 - 1.
     ghost faults: { Self → ℕ };
@@ -49,19 +46,19 @@ pub trait Shelf {
         name: &str,
         limit: usize,
     ) -> Result<Option<Vec<u8>>, FetchError>
-        ensures found { IfOk result (λ file. IsTrue told → contents file ≡ map.get (files self.old) name.now) }
+        ensures found { IfOk result (λ file. IfSome (files self.old) (λ kept. contents file ≡ map.get kept name.now)) }
         ensures short { IfOk result (λ file. IfSome file (λ bytes. length bytes.items ≤ limit)) }
-        ensures too_long { IsErrOf result FetchError.TooLong → IsTrue told → IsSomeAnd (map.get (files self.old) name.now) (λ bytes. limit < length bytes) }
-        ensures same { IsTrue told → files self.new ≡ files self.old }
+        ensures too_long { IsErrOf result FetchError.TooLong → IfSome (files self.old) (λ kept. IsSomeAnd (map.get kept name.now) (λ bytes. limit < length bytes)) }
+        ensures same { Go (files self.old) (files self.new) (λ before after. after ≡ before) }
         ensures failed { IsErrOf result FetchError.Failed → HasRisen (faults self.old) (faults self.new) }
         ensures never_falls { faults self.old ≤ faults self.new };
 
     /// Keeps the bytes under the name, in place of what it had. Where the store fails, the file of that name is unknown, and each
     /// other one is as before.
     fn keep(&mut self, alloc: Global, name: &str, bytes: &[u8]) -> Result<(), KeepError>
-        ensures kept { OnOk result (IsTrue told → files self.new ≡ map.insert (files self.old) name.now bytes.now) }
-        ensures others { IsErrOf result KeepError.Failed → IsTrue told → (other : List ℕ) → other ≢ name.now → map.get (files self.new) other ≡ map.get (files self.old) other }
-        ensures memory { IsErrOf result KeepError.Memory → IsTrue told → files self.new ≡ files self.old }
+        ensures kept { OnOk result (Go (files self.old) (files self.new) (λ before after. after ≡ map.insert before name.now bytes.now)) }
+        ensures others { IsErrOf result KeepError.Failed → Go (files self.old) (files self.new) (λ before after. (other : List ℕ) → other ≢ name.now → map.get after other ≡ map.get before other) }
+        ensures memory { IsErrOf result KeepError.Memory → Go (files self.old) (files self.new) (λ before after. after ≡ before) }
         ensures failed { IsErrOf result KeepError.Failed → HasRisen (faults self.old) (faults self.new) }
         ensures never_falls { faults self.old ≤ faults self.new };
 }

@@ -1,4 +1,5 @@
-ghost use Rattle.std.specs.Prelude.{◌≡◌, ◌↔◌, ◌⊎◌, ℕ, ◌-◌, ◌<◌, ◌≤◌, [], length, true, ◌++◌, take, min, IfOk, OnErr, IsErr};
+ghost use Rattle.std.specs.Prelude.{◌≡◌, ◌↔◌, ◌⊎◌, ℕ, ◌-◌, ◌<◌, ◌≤◌, [], length, Some, ◌++◌, take, min, IfOk, OnErr, IsErr};
+ghost use Rattle.std.specs.Io.KnownBytes.{WriteAppends};
 ghost use Rattle.desk_base.specs.Calls.{IsListed, no_calls, one_more, one_more_failed};
 ghost use Rattle.desk_base.specs.Faults.{HasRisen};
 
@@ -53,9 +54,7 @@ impl MemSink {
 }
 
 impl Sink for MemSink {
-    ghost told = { true };
-
-    ghost written = { λ s. s.written };
+    ghost written = { λ s. Some s.written };
 
     ghost faults = { λ s. s.calls.faults };
 
@@ -63,7 +62,7 @@ impl Sink for MemSink {
     fn put(&mut self, piece: &[u8]) -> Result<usize, Failed>
         ensures most { IfOk result (λ k. k ≤ length piece.now) }
         ensures some { 0 < length piece.now → IfOk result (λ k. 0 < k) }
-        ensures appended { IfOk result (λ k. self.new.written ≡ self.old.written ++ take k piece.now) }
+        ensures bytes { WriteAppends (Some self.old.written) (Some self.new.written) result piece.now }
         ensures failed { OnErr result (HasRisen self.old.calls.faults self.new.calls.faults) }
         ensures never_falls { self.old.calls.faults ≤ self.new.calls.faults }
 

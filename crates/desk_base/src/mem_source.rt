@@ -1,7 +1,7 @@
-ghost use Rattle.std.specs.Prelude.{◌≡◌, ◌↔◌, ℕ, ◌<◌, ◌≤◌, [], length, drop, min, true, IfOk, OnErr, IsErr};
+ghost use Rattle.std.specs.Prelude.{◌≡◌, ◌↔◌, ℕ, ◌<◌, ◌≤◌, Some, length, drop, min, IfOk, OnErr, IsErr};
+ghost use Rattle.std.specs.Io.KnownBytes.{ReadConsumes};
 ghost use Rattle.desk_base.specs.Calls.{IsListed, no_calls, one_more, one_more_failed};
 ghost use Rattle.desk_base.specs.Faults.{HasRisen};
-ghost use Rattle.desk_base.specs.Moves.{Moved};
 
 use crate::calls::CallCount;
 use crate::source::{Failed, Source};
@@ -44,17 +44,14 @@ impl MemSource {
 }
 
 impl Source for MemSource {
-    ghost told = { true };
-
-    ghost left = { λ s. s.left };
+    ghost left = { λ s. Some s.left };
 
     ghost faults = { λ s. s.calls.faults };
 
     /// Moves as many bytes as there are, as fit, and as a call may move.
     fn take(&mut self, buffer: &mut [u8]) -> Result<usize, Failed>
         ensures most { IfOk result (λ k. k ≤ length buffer.old) }
-        ensures moved { IfOk result (λ k. Moved k self.old.left self.new.left buffer.new) }
-        ensures end { 0 < length buffer.old → result ≡ Ok 0 → self.old.left ≡ [] }
+        ensures bytes { ReadConsumes (Some self.old.left) (Some self.new.left) result buffer.new }
         ensures failed { OnErr result (HasRisen self.old.calls.faults self.new.calls.faults) }
         ensures never_falls { self.old.calls.faults ≤ self.new.calls.faults }
 

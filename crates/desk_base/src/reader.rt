@@ -52,8 +52,8 @@ impl LineReader {
         ensures stopped { IfSome self.old.stopped (λ answer. (result ≡ answer) × (self.new ≡ self.old) × (source.new ≡ source.old)) }
         ensures line { self.old.stopped ≡ None → KeepsLine result self.old.line self.new.line }
         ensures stops { self.old.stopped ≡ None → self.new.stopped ≡ stop_after result }
-        // Where the source tells its bytes, these are its lines, in order.
-        ensures lines { self.old.stopped ≡ None → IsTrue S.told → Takes result self.old.pending self.new.line self.new.pending (S.left source.old) (S.left source.new) }
+        // The lines are those of the bytes that are taken, which are those of the source where it tells them.
+        ensures lines { self.old.stopped ≡ None → Takes result self.old.pending self.new.line self.new.pending (S.left source.old) (S.left source.new) }
         ensures within { length self.new.pending ≤ 256 }
         ensures failed { self.old.stopped ≡ None → IsErrOf result LineError.Read → HasRisen (S.faults source.old) (S.faults source.new) }
         ensures never_falls { S.faults source.old ≤ S.faults source.new }
@@ -77,7 +77,7 @@ fn read_line<S: Source>(
     source: &mut S,
 ) -> Result<Line, LineError>
     ensures line { KeepsLine result line.old line.new }
-    ensures lines { IsTrue S.told → Takes result held.old line.new held.new (S.left source.old) (S.left source.new) }
+    ensures lines { Takes result held.old line.new held.new (S.left source.old) (S.left source.new) }
     ensures within { length held.new ≤ 256 }
     ensures failed { IsErrOf result LineError.Read → HasRisen (S.faults source.old) (S.faults source.new) }
     ensures never_falls { S.faults source.old ≤ S.faults source.new }

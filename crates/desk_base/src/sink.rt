@@ -1,4 +1,5 @@
-ghost use Rattle.std.specs.Prelude.{◌≡◌, ℕ, ◌<◌, ◌≤◌, Bool, List, ◌++◌, length, take, IsTrue, IfOk, OnOk, OnErr};
+ghost use Rattle.std.specs.Prelude.{ℕ, ◌<◌, ◌≤◌, List, Option, length, IfOk, OnOk, OnErr};
+ghost use Rattle.std.specs.Io.KnownBytes.{Appends, WriteAppends};
 ghost use Rattle.desk_base.specs.Faults.{HasRisen};
 ghost use Rattle.desk_base.specs.Moves.{AppendsFront};
 
@@ -6,11 +7,8 @@ use crate::source::Failed;
 
 /// Where bytes are written to.
 pub trait Sink {
-    /// Whether contracts see what was written.
-    ghost told: { Bool };
-
-    /// The bytes written so far.
-    ghost written: { Self → List ℕ };
+    /// The bytes written so far; `None` where the sink does not tell them.
+    ghost written: { Self → Option (List ℕ) };
 
     /// How often it has failed. The count never falls, and stands still at 2^64 - 1.
     ghost faults: { Self → ℕ };
@@ -19,17 +17,15 @@ pub trait Sink {
     fn put(&mut self, piece: &[u8]) -> Result<usize, Failed>
         ensures most { IfOk result (λ k. k ≤ length piece.now) }
         ensures some { 0 < length piece.now → IfOk result (λ k. 0 < k) }
-        ensures appended { IfOk result (λ k. IsTrue told → written self.new ≡ written self.old ++ take k piece.now) }
-        ensures err { OnErr result (IsTrue told → written self.new ≡ written self.old) }
+        ensures bytes { WriteAppends (written self.old) (written self.new) result piece.now }
         ensures failed { OnErr result (HasRisen (faults self.old) (faults self.new)) }
         ensures never_falls { faults self.old ≤ faults self.new };
 }
 
 /// Writes all the bytes. Where the sink fails, a front of them is written, and one byte or more is not.
 pub fn put_all<K: Sink>(sink: &mut K, bytes: &[u8]) -> Result<(), Failed>
-    ensures all { OnOk result (IsTrue K.told → K.written sink.new ≡ K.written sink.old ++ bytes.now) }
-    ensures err { OnErr result (IsTrue K.told → AppendsFront (K.written sink.old) (K.written sink.new) bytes.now) }
-    ensures some { OnErr result (0 < length bytes.now) }
+    ensures all { OnOk result (Appends (K.written sink.old) (K.written sink.new) bytes.now) }
+    ensures err { OnErr result (AppendsFront (K.written sink.old) (K.written sink.new) bytes.now) }
     ensures failed { OnErr result (HasRisen (K.faults sink.old) (K.faults sink.new)) }
     ensures never_falls { K.faults sink.old ≤ K.faults sink.new }
 {

@@ -15,13 +15,13 @@ use Rattle.game_rules.specs.Game.{Position, Attacked, HasReach, InCheck, IsBetwe
 use Rattle.game_rules.specs.Rays.{ray_of, rays_of}
 use Rattle.game_laws.specs.Answer.{CanGo, HasAnswer, IsCheckFrom, answer_square, answer_steps, cross, distance, off_line, steps_to, toward_x, toward_y}
 use Rattle.game_laws.specs.OnRay.{IsOnOneRay}
-use Rattle.game_laws.proofs.SoundLemmas.{any_at, live_at}
+use Rattle.game_laws.proofs.SoundLemmas.{any_at, live_at, other_differs}
 use Rattle.game_laws.proofs.LineLemmas.{IsOnWay, on_way, steps_distance, steps_toward_x, steps_toward_y, toward, toward_direction}
 use Rattle.game_laws.proofs.CrossLemmas.{IsOpposite, IsSame, cross_off, cross_steps, none_after, parallel, steps_ahead, steps_back, steps_behind, steps_facing}
-use Rattle.game_laws.proofs.CheckLemmas.{IsChecked, any_is, not_checker, not_other, some_and}
+use Rattle.game_laws.proofs.CheckLemmas.{IsChecked, any_is, not_checker, some_and}
 use Rattle.game_laws.proofs.TableLemmas.{ray_is}
 use Rattle.game_laws.proofs.RayLemmas.{far_slider, step_one, true_or_not}
-use Rattle.game_laws.proofs.MateLemmas.{Answers, answers}
+use Rattle.game_laws.proofs.MateLemmas.{IsAnswerSquare, answers}
 
 -- who stands between two squares is in the way
 in_the_way : (p : Position) (a b : Square) → IsOpen p a b → (i : ℕ) (m : Man) (w : Square) → man_at p i ≡ Some m → StandsOn m w → IsBetween a b w → ⊥
@@ -145,12 +145,12 @@ module _ (p : Position) (c : IsChecked p) (i : ℕ) (z : Square) (q : Position) 
       let same : c.number ≡ c.king_number = sound.apart c.number c.king_number c.checker c.king c.square c.checker_is c.king_is c.there (subst (StandsOn c.king) e c.king_there) in
       let both : Some c.checker ≡ Some c.king = sym c.checker_is ∙ ap (man_at p) same ∙ c.king_is in
       let same_man : c.checker ≡ c.king = same_Some c.checker c.king both in
-      not_other p.turn (sym c.king_side ∙ ap (λ m. m.side) (sym same_man) ∙ c.checker_side)
+      other_differs p.turn (sym c.king_side ∙ ap (λ m. m.side) (sym same_man) ∙ c.checker_side)
 
   line_direction : IsDirection (toward_x c.square c.king_square) (toward_y c.square c.king_square)
   line_direction = toward_direction c.square c.king_square (apart_far c.square c.king_square not_king_square (distance c.square c.king_square) refl)
 
-  far_answer : r.far ≡ true → Answers p c z → i ≢ c.king_number → answer_steps r b c.square c.king_square ≡ t
+  far_answer : r.far ≡ true → IsAnswerSquare p c z → i ≢ c.king_number → answer_steps r b c.square c.king_square ≡ t
   far_answer far (inl e) other_man =
       let d = (ray_is l.step.man.side l.step.man.kind one.number r one.on.is_ray).direction far in
       ap (λ f. steps_to f (off_line r.dx r.dy c.square c.king_square) (off_line (b.x -ℤ c.square.x) (b.y -ℤ c.square.y) c.square c.king_square) (distance b c.square)) far
@@ -216,7 +216,8 @@ answer_goes p a k i h =
     let w = there_is (man_at p i) (λ m b. Any (λ r. CanGo p i (answer_square a k b r)) (rays_of m.kind m.side)) h in
     (answer_square a k w.1 w.2.1, w.2.4)
 
-same_stand : (o : Option Square) (a : Square) (P : Square → Type 0) → o ≡ Some a → IsSomeAnd o P → P a
+-- what holds of the square where he stands
+pub same_stand : (o : Option Square) (a : Square) (P : Square → Type 0) → o ≡ Some a → IsSomeAnd o P → P a
 same_stand o a P e h = let k : IsSomeAnd (Some a) P = subst (λ o. IsSomeAnd o P) e h in k
 
 -- from the king and a man who gives check

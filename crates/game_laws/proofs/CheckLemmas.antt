@@ -6,11 +6,9 @@ use Rattle.std.specs.List.{Any}
 use Rattle.game_rules.specs.Game.{Position, Attacked, Bears, HasReach, InCheck, IsBetween, IsLiveAnd, IsOpen, IsSlider, Legal, Sound, StandsOn, man_at, other, square_of}
 use Rattle.game_rules.specs.declared.men.Kind.TheVariants.{King}
 use Rattle.game_rules.specs.declared.men.Man.{Man}
-use Rattle.game_rules.specs.declared.men.Side.{Side}
-use Rattle.game_rules.specs.declared.men.Side.TheVariants.{White, Black}
 use Rattle.game_rules.specs.declared.men.Square.{Square}
 use Rattle.game_laws.proofs.MoveLemmas.{after_each}
-use Rattle.game_laws.proofs.SoundLemmas.{Fate, moved, taken, kept, any_at, at_same, fate, king_not_taken, live_at}
+use Rattle.game_laws.proofs.SoundLemmas.{Fate, moved, taken, kept, any_at, at_same, fate, king_not_taken, live_at, other_differs}
 
 -- one man bears on the king of the side to move
 pub record IsChecked (p : Position) : Type 0 where
@@ -61,10 +59,6 @@ checked p check =
       clear = at_checker.2.1;
     }
 
-pub not_other : (s : Side) → s ≡ other s → ⊥
-not_other White e = cc
-not_other Black e = cc
-
 pub one_square : (m : Man) (a z : Square) → StandsOn m a → StandsOn m z → z ≡ a
 one_square m a z s t = let same : Some a ≡ Some z = sym s ∙ t in cc
 
@@ -84,7 +78,7 @@ module _ (p : Position) (c : IsChecked p) (i : ℕ) (z : Square) (q : Position) 
       let here : man_at p i ≡ Some c.checker = subst (λ n. man_at p n ≡ Some c.checker) e c.checker_is in
       let both : Some l.step.man ≡ Some c.checker = sym l.step.is_man ∙ here in
       let same : l.step.man ≡ c.checker = cc in
-      not_other p.turn (sym l.step.his_turn ∙ ap (λ m. m.side) same ∙ c.checker_side)
+      other_differs p.turn (sym l.step.his_turn ∙ ap (λ m. m.side) same ∙ c.checker_side)
 
   checker_stays : z ≢ c.square → man_at q c.number ≡ Some c.checker
   checker_stays ne =

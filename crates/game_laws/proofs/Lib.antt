@@ -9,3 +9,5 @@ pub mod TableLemmas
 pub mod RayLemmas
 pub mod CrossLemmas
 pub mod AnswerLemmas
+pub mod SymmetryLemmas
+pub mod BoardMaps

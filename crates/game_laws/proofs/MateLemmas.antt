@@ -14,11 +14,11 @@ use Rattle.game_laws.proofs.CheckLemmas.{IsChecked, checked, not_elsewhere}
 use Rattle.game_laws.proofs.DecideLemmas.{Decided, square_same, any_decided, below, between, both, can_go, either, is_slider}
 
 -- the checker's square, or one between
-abbrev pub Answers : (p : Position) → IsChecked p → Square → Type 0
-Answers p c z = (z ≡ c.square) ⊎ (IsSlider c.checker.kind × IsBetween c.square c.king_square z)
+abbrev pub IsAnswerSquare : (p : Position) → IsChecked p → Square → Type 0
+IsAnswerSquare p c z = (z ≡ c.square) ⊎ (IsSlider c.checker.kind × IsBetween c.square c.king_square z)
 
 -- a legal move of another man than the king takes the checker, or comes between
-pub answers : (p : Position) (c : IsChecked p) (i : ℕ) (z : Square) (q : Position) → Sound p → Legal p i z q → i ≢ c.king_number → Answers p c z
+pub answers : (p : Position) (c : IsChecked p) (i : ℕ) (z : Square) (q : Position) → Sound p → Legal p i z q → i ≢ c.king_number → IsAnswerSquare p c z
 answers p c i z q sound l other_man =
     elim (square_same z c.square) [
       | inl e ↦ inl e
@@ -29,21 +29,21 @@ answers p c i z q sound l other_man =
     ]
 
 -- one of the squares in question is a move of man i
-abbrev pub HasAnswer : (p : Position) → IsChecked p → ℕ → Type 0
-HasAnswer p c i =
+abbrev pub CanAnswer : (p : Position) → IsChecked p → ℕ → Type 0
+CanAnswer p c i =
     CanGo p i c.square ⊎ ((j : ℕ) × (j < distance c.square c.king_square) × CanGo p i (toward c.square c.king_square j))
 
-has_answer : (p : Position) (c : IsChecked p) (i : ℕ) → Decided (HasAnswer p c i)
+has_answer : (p : Position) (c : IsChecked p) (i : ℕ) → Decided (CanAnswer p c i)
 has_answer p c i =
     either _ _ (can_go p i c.square)
     (below (λ j. CanGo p i (toward c.square c.king_square j)) (λ j. can_go p i (toward c.square c.king_square j)) (distance c.square c.king_square))
 
-answer_found : (p : Position) (c : IsChecked p) (i : ℕ) (z : Square) → CanGo p i z → Answers p c z → HasAnswer p c i
+answer_found : (p : Position) (c : IsChecked p) (i : ℕ) (z : Square) → CanGo p i z → IsAnswerSquare p c z → CanAnswer p c i
 answer_found p c i z go (inl e) = inl (subst (CanGo p i) e go)
 answer_found p c i z go (inr h) =
     let w = on_way c.square c.king_square z h.1 in inr (w.part, w.fewer, subst (CanGo p i) w.is go)
 
-move_of : (p : Position) (c : IsChecked p) (i : ℕ) → HasAnswer p c i → HasMove p
+move_of : (p : Position) (c : IsChecked p) (i : ℕ) → CanAnswer p c i → HasMove p
 move_of p c i (inl go) = (i, c.square, go.0, go.1)
 move_of p c i (inr h) = (i, toward c.square c.king_square h.0, h.2.0, h.2.1)
 
@@ -68,7 +68,7 @@ king_steps p c z q l =
     subst (λ k. HasReach c.king.side k (z.x -ℤ c.king_square.x) (z.y -ℤ c.king_square.y)) c.king_kind (live_reach p c.king z c.king_square c.king_there goes') in
     around_has c.king_square z (CanGo p c.king_number) (omega (arith, reach)) (omega (arith, reach)) (q, l)
 
-with_searches : (p : Position) (c : IsChecked p) → Sound p → InCheck p p.turn → Decided (Any (CanGo p c.king_number) (around c.king_square)) → Decided ((i : ℕ) × (i < suc (length p.men)) × HasAnswer p c i) → Mate p ⊎ HasMove p
+with_searches : (p : Position) (c : IsChecked p) → Sound p → InCheck p p.turn → Decided (Any (CanGo p c.king_number) (around c.king_square)) → Decided ((i : ℕ) × (i < suc (length p.men)) × CanAnswer p c i) → Mate p ⊎ HasMove p
 with_searches p c sound check (inl h) d = inr (c.king_number, h.1, h.4.0, h.4.1)
 with_searches p c sound check (inr no_step) (inl h) = inr (move_of p c h.0 h.2)
 with_searches p c sound check (inr no_step) (inr no_answer) =
@@ -86,4 +86,4 @@ mate_or_move p sound check =
     let c = checked p check in
     with_searches p c sound check
     (any_decided (CanGo p c.king_number) (can_go p c.king_number) (around c.king_square))
-    (below (HasAnswer p c) (has_answer p c) (suc (length p.men)))
+    (below (CanAnswer p c) (has_answer p c) (suc (length p.men)))

@@ -56,6 +56,10 @@ pub other_other : (s : Side) → other (other s) ≡ s
 other_other White = refl
 other_other Black = refl
 
+pub other_differs : (s : Side) → s ≡ other s → ⊥
+other_differs White e = cc
+other_differs Black e = cc
+
 -- where it is known who holds z, whoever goes there bears on it
 pub goes_bears : (k : Kind) (p : Position) (m : Man) (z : Square) → GoesAs k p m z → (j : ℕ) (n : Man) → man_at p j ≡ Some n → StandsOn n z → Bears p m z
 goes_bears King p m z h j n is s = h

@@ -1,6 +1,6 @@
--- More moves lose nothing, and the flat form of Lost.
-use Rattle.std.proofs.Common.{inl, inr, ℕ, zero, suc, ◌≤◌, arith}
-use Rattle.game_rules.specs.Game.{Position, Lost, LostInto, Sound, Win}
+-- More moves lose nothing, the flat form of Lost, and Lost at once.
+use Rattle.std.proofs.Common.{◌≡◌, inl, inr, ℕ, zero, suc, ◌≤◌, arith}
+use Rattle.game_rules.specs.Game.{Position, Lost, LostInto, Mate, Sound, Win, other}
 use Rattle.game_rules.specs.declared.men.Side.{Side}
 use Rattle.game_laws.specs.Lost.{FlatLostInto}
 use Rattle.game_laws.proofs.MateLemmas.{mate_or_move}
@@ -28,3 +28,8 @@ pub flat_lost : (winner : Side) (W : Position → Type 0) (q : Position) → Sou
 flat_lost winner W q sound (turn, inl check, each) =
     (turn, elim (mate_or_move q sound check) [ inl mate ↦ inl mate | inr go ↦ inr (go, each) ])
 flat_lost winner W q sound (turn, inr go, each) = (turn, inr (go, each))
+
+-- who has a legal move is not mated at once
+pub at_once : (winner : Side) (q : Position) → Lost winner 0 q → (q.turn ≡ other winner) × Mate q
+at_once winner q (turn, inl mate) = (turn, mate)
+at_once winner q (turn, inr h) = absurd (h.1 h.0.0 h.0.1 h.0.2 h.0.3)

@@ -1,6 +1,6 @@
 -- The laws of the game, stated.
-use Rattle.std.specs.Prelude.{◌≡◌, ◌↔◌, ℕ, ◌≤◌, ◌⊎◌, Some}
-use Rattle.game_rules.specs.Game.{Position, Bears, HasMove, InCheck, IsLiveAnd, Legal, Lost, Mate, Sound, StandsOn, Step, Win, man_at}
+use Rattle.std.specs.Prelude.{◌≡◌, ◌↔◌, ℕ, ℤ, ◌≤◌, ◌⊎◌, Some}
+use Rattle.game_rules.specs.Game.{Position, Bears, HasMove, InCheck, IsLiveAnd, Legal, Lost, Mate, Sound, StandsOn, Step, Value, Win, man_at, other}
 use Rattle.game_rules.specs.declared.men.Kind.TheVariants.{King}
 use Rattle.game_rules.specs.declared.men.Man.{Man}
 use Rattle.game_rules.specs.declared.men.Side.{Side}
@@ -8,6 +8,7 @@ use Rattle.game_rules.specs.declared.men.Square.{Square}
 use Rattle.game_laws.specs.Answer.{HasAnswer, IsCheckFrom}
 use Rattle.game_laws.specs.Lost.{FlatLost}
 use Rattle.game_laws.specs.OnRay.{IsBorneAlong, IsOnOneRay}
+use Rattle.game_laws.specs.Symmetry.{KeepsGame, colour_exchange, mapped, reflection, shift}
 
 -- from a sound position no step leads to the square of a king
 abbrev pub SparesKings : Type 0
@@ -54,3 +55,25 @@ LostIsFlat = (winner : Side) (n : ℕ) (q : Position) → Sound q → Lost winne
 abbrev pub MateByRays : Type 0
 MateByRays =
     (p : Position) (a k : Square) → Sound p → IsCheckFrom p a k → Mate p ↔ ((i : ℕ) → HasAnswer p a k i → ⊥)
+
+-- to be mated within no move is to be mate, with the loser to move
+abbrev pub LostAtOnceIsMate : Type 0
+LostAtOnceIsMate = (winner : Side) (q : Position) → Lost winner 0 q ↔ ((q.turn ≡ other winner) × Mate q)
+
+-- where all men stand so far to the right and up, the winner mates as he does here
+abbrev pub ShiftKeepsValue : Type 0
+ShiftKeepsValue =
+    (dx dy : ℤ) (winner : Side) (n : ℕ) (p : Position) → Value winner n p ↔ Value winner n (mapped (shift dx dy) p)
+
+-- and likewise with right and left exchanged
+abbrev pub ReflectionKeepsValue : Type 0
+ReflectionKeepsValue = (winner : Side) (n : ℕ) (p : Position) → Value winner n p ↔ Value winner n (mapped reflection p)
+
+-- with the colours exchanged, and up and down, the other side mates as the winner does here
+abbrev pub ExchangeKeepsValue : Type 0
+ExchangeKeepsValue =
+    (winner : Side) (n : ℕ) (p : Position) → Value winner n p ↔ Value (other winner) n (mapped colour_exchange p)
+
+-- the game goes on the moved board as it goes here
+abbrev pub ShiftKeepsGame : Type 0
+ShiftKeepsGame = (dx dy : ℤ) → KeepsGame (shift dx dy)

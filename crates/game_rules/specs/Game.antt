@@ -1,4 +1,4 @@
--- Chess on the unbounded board: the laws of the game (FIDE Laws of Chess, Articles 3 and 5), with quantifiers over all squares.
+-- Chess on the unbounded board: the laws of the game (FIDE Laws of Chess, Articles 3 and 5), over all squares.
 use Rattle.std.specs.Prelude.{◌≡◌, ◌≢◌, ◌↔◌, ℕ, zero, suc, ◌<◌, ◌^◌, max, ℤ, pos, negsuc, ◌+ℤ◌, ◌-ℤ◌, ◌*ℤ◌, unsigned_abs, ◌⊎◌, List, length, Option, Some, None, IsSomeAnd, slice_get, ◌≤◌}
 use Rattle.std.specs.Int.{bit_at}
 use Rattle.std.specs.List.{All, Any}
@@ -172,7 +172,13 @@ pub record HasOneKing (p : Position) (s : Side) : Type 0 where
 
 -- live men stand on distinct squares
 abbrev pub IsApart : Position → Type 0
-IsApart p = (i j : ℕ) (m n : Man) (z : Square) → man_at p i ≡ Some m → man_at p j ≡ Some n → StandsOn m z → StandsOn n z → i ≡ j
+IsApart p =
+    (i j : ℕ) (m n : Man) (z : Square)
+    → man_at p i ≡ Some m
+    → man_at p j ≡ Some n
+    → StandsOn m z
+    → StandsOn n z
+    → i ≡ j
 
 -- each side has one king, who is live, men stand apart, and the side that is not to move is not in check
 pub record Sound (p : Position) : Type 0 where
@@ -198,7 +204,9 @@ LostInto winner W q =
 -- the winner is to move, and mates within n moves of his own, whatever is replied
 abbrev pub Win : Side → ℕ → Position → Type 0
 Win winner zero p = ⊥
-Win winner (suc n) p = (p.turn ≡ winner) × ((i : ℕ) × (z : Square) × (q : Position) × Legal p i z q × LostInto winner (Win winner n) q)
+Win winner (suc n) p =
+    (p.turn ≡ winner)
+    × ((i : ℕ) × (z : Square) × (q : Position) × Legal p i z q × LostInto winner (Win winner n) q)
 
 -- the loser is to move, and is mated within n moves of the winner, whatever he plays
 abbrev pub Lost : Side → ℕ → Position → Type 0

@@ -21,7 +21,7 @@ use Rattle.game_laws.proofs.MoveLemmas.{same_after}
 use Rattle.game_laws.proofs.RayLemmas.{true_or_not}
 use Rattle.game_laws.proofs.SoundLemmas.{at_same, fate, fate_kind, fate_side}
 use Rattle.game_laws.proofs.TableLemmas.{ray_is}
-use Rattle.chess_game.specs.Fault.{StandsAt}
+use Rattle.chess_game.specs.Unsoundness.{StandsAt}
 use Rattle.chess_game.specs.Way.{IsFree, IsFreeFrom, IsHit, IsHitFrom, IsInside}
 use Rattle.chess_game.specs.declared.moves.Move.{Move}
 use Rattle.chess_game.specs.declared.way.Frame.{Frame}

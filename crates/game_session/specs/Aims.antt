@@ -3,7 +3,7 @@ use Rattle.std.specs.Prelude.{◌≡◌, ℕ, ◌+◌, ◌≤◌, List, ℤ, sli
 use Rattle.auto_core.specs.Automaton.{Automaton}
 use Rattle.auto_core.specs.Integers.{IsAccepted}
 use Rattle.auto_search.specs.Way.{value_after}
-use Rattle.chess_game.specs.Fault.{StandsAt}
+use Rattle.chess_game.specs.Unsoundness.{StandsAt}
 use Rattle.chess_game.specs.Way.{IsHit}
 use Rattle.chess_game.specs.declared.way.Frame.{Frame}
 use Rattle.game_rules.specs.Game.{InCheck, Position, Sound, StandsOn, Step, man_at}

@@ -1,7 +1,11 @@
+pub mod Commands
 pub mod Exact
+pub mod Headline
 pub mod OneReport
 pub mod OneStep
 pub mod Reporting
+pub mod RoundTrip
+pub mod Statuses
 pub mod TextSteps
 pub mod Values
 pub mod Words

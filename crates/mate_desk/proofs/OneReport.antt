@@ -7,26 +7,29 @@ use Rattle.game_rules.specs.Game.{Position, Value}
 use Rattle.game_rules.specs.Game as game
 use Rattle.game_rules.specs.declared.men.Side.{Side}
 use Rattle.game_rules.specs.declared.men.Side.TheVariants.{White, Black}
-use Rattle.chess_game.specs.Fault.{IsFirstFault, IsLesserPair, rank}
-use Rattle.chess_game.specs.declared.faults.Unsound.{Unsound}
-use Rattle.chess_game.specs.declared.faults.Unsound.TheVariants.{NoKing, ManyKings, KingGone, SameSquare, OtherInCheck}
-use Rattle.chess_game.proofs.FaultLemmas.{fault_unsound, number_cases}
+use Rattle.chess_game.specs.Unsoundness.{IsFirstUnsoundness, IsLesserPair, rank}
+use Rattle.chess_game.specs.declared.unsoundness.Unsound.{Unsound}
+use Rattle.chess_game.specs.declared.unsoundness.Unsound.TheVariants.{NoKing, ManyKings, KingGone, SameSquare, OtherInCheck}
+use Rattle.chess_game.proofs.UnsoundnessLemmas.{unsound_refuted, number_cases}
 use Rattle.chess_text.specs.PositionText.{Turnout, position_text}
 use Rattle.chess_text.specs.PositionText as turnouts
 use Rattle.chess_text.specs.declared.reader.Stage.{Stage}
 use Rattle.chess_text.specs.declared.reader.Stage.TheVariants.{Header}
 use Rattle.chess_text.proofs.PositionLemmas.{feeds_once}
 use Rattle.winning_sets.specs.declared.names.StepName.{StepName}
-use Rattle.mate_desk.specs.Order.{ReadsNumber, FromNumber, WithNumber, MovesOrdered, ReadsMoves, ShowOrdered, Ordered, order_for, most_moves, most_budget, default_budget}
+use Rattle.mate_desk.specs.Order.{ReadsNumber, FromNumber, WithNumber, MovesOrdered, ReadsMoves, ShowOrdered, Ordered, OrderedBehind, order_for, most_moves, most_budget, default_budget}
 use Rattle.mate_desk.specs.Answer.{Answer, writes, exceeds}
 use Rattle.mate_desk.specs.Outcome.{Report, refusal_as, report_of}
 use Rattle.mate_desk.specs.Report.{unsound_line, IsVerdict, IsCheckLine, Answers, AnswersDecide, AnswersLeast, ExceedsAt, FitsBudget, least_line, live_line, ReportsPosition, ReportsText, ReportsOrder, OneReport}
 use Rattle.mate_desk.specs.Text.{Text, whole, refused, AfterLine, ReadsLines}
+use Rattle.mate_desk.specs.declared.order.Command.{Command}
+use Rattle.mate_desk.specs.declared.order.Command.TheVariants as commands
 use Rattle.mate_desk.specs.declared.order.Order.{Order}
 use Rattle.mate_desk.specs.declared.order.Order.TheVariants.{Decide, Least, Show}
 use Rattle.mate_desk.specs.declared.order.UsageWhy.{UsageWhy}
 use Rattle.mate_desk.specs.declared.order.UsageWhy.TheVariants.{NoCommand, Unknown, Count, Number, Limit}
 use Rattle.mate_desk.specs.declared.status.Status.TheVariants as is
+use Rattle.mate_desk.proofs.Commands.{once_command}
 use Rattle.mate_desk.proofs.OneStep.{exceeds_once, fits_exceeds}
 
 -- a word is one number, or none for one reason
@@ -82,30 +85,23 @@ module _ (one other : Result Order UsageWhy) where
   once_show [] a b = a ∙ sym b
   once_show (word ∷ words) a b = a ∙ sym b
 
+  once_behind : (command : Option Command) (words : List (List ℕ)) → OrderedBehind command words one → OrderedBehind command words other → one ≡ other
+  once_behind (Some commands.Decide) words a b = once_ordered (λ moves budget. Decide moves budget) words a b
+  once_behind (Some commands.Least) words a b = once_ordered (λ limit budget. Least limit budget) words a b
+  once_behind (Some commands.Show) words a b = once_show words a b
+  once_behind None words a b = a ∙ sym b
+
   pub once_words : (words : List (List ℕ)) → Ordered words one → Ordered words other → one ≡ other
   once_words [] a b = a ∙ sym b
-  once_words (command ∷ words) (inl (is', a)) (inl (so, b)) = once_ordered (λ moves budget. Decide moves budget) words a b
-  once_words (command ∷ words) (inl (is', a)) (inr (inl (so, b))) = absurd (cc)
-  once_words (command ∷ words) (inl (is', a)) (inr (inr (inl (so, b)))) = absurd (cc)
-  once_words (command ∷ words) (inl (is', a)) (inr (inr (inr (d, l, h, b)))) = absurd (d is')
-  once_words (command ∷ words) (inr (inl (is', a))) (inl (so, b)) = absurd (cc)
-  once_words (command ∷ words) (inr (inl (is', a))) (inr (inl (so, b))) = once_ordered (λ limit budget. Least limit budget) words a b
-  once_words (command ∷ words) (inr (inl (is', a))) (inr (inr (inl (so, b)))) = absurd (cc)
-  once_words (command ∷ words) (inr (inl (is', a))) (inr (inr (inr (d, l, h, b)))) = absurd (l is')
-  once_words (command ∷ words) (inr (inr (inl (is', a)))) (inl (so, b)) = absurd (cc)
-  once_words (command ∷ words) (inr (inr (inl (is', a)))) (inr (inl (so, b))) = absurd (cc)
-  once_words (command ∷ words) (inr (inr (inl (is', a)))) (inr (inr (inl (so, b)))) = once_show words a b
-  once_words (command ∷ words) (inr (inr (inl (is', a)))) (inr (inr (inr (d, l, h, b)))) = absurd (h is')
-  once_words (command ∷ words) (inr (inr (inr (d, l, h, a)))) (inl (so, b)) = absurd (d so)
-  once_words (command ∷ words) (inr (inr (inr (d, l, h, a)))) (inr (inl (so, b))) = absurd (l so)
-  once_words (command ∷ words) (inr (inr (inr (d, l, h, a)))) (inr (inr (inl (so, b)))) = absurd (h so)
-  once_words (command ∷ words) (inr (inr (inr (d, l, h, a)))) (inr (inr (inr (e, m, k, b)))) = a ∙ sym b
+  once_words (word ∷ words) a b =
+      let P : Option Command → Type 0 = λ command. OrderedBehind command words other in
+      once_behind a.0 words a.2 (subst P (sym (once_command word a.0 b.0 a.1 b.1)) b.2)
 
 -- lines are one text
 once_after : (turnout : Turnout) (number : ℕ) (rest : Lines) (one other : Text) (F G : Stage → Type 0) → ((next : Stage) → F next → G next → one ≡ other) → AfterLine turnout number rest one F → AfterLine turnout number rest other G → one ≡ other
 once_after (turnouts.more next) number rest one other F G once a b = once next a b
-once_after (turnouts.whole p) number rest one other F G once a b = a ∙ sym b
-once_after (turnouts.refused why) number rest one other F G once a b = a ∙ sym b
+once_after (turnouts.complete p) number rest one other F G once a b = a ∙ sym b
+once_after (turnouts.wrong why) number rest one other F G once a b = a ∙ sym b
 
 pub once_text : (stage : Stage) (number : ℕ) (lines : Lines) (one other : Text) → ReadsLines stage number lines one → ReadsLines stage number lines other → one ≡ other
 once_text stage number (full line rest) one other a b =
@@ -177,14 +173,14 @@ same_rank OtherInCheck (KingGone t) h = absurd (let q = ranks t in omega (arith,
 same_rank OtherInCheck (SameSquare k l) h = absurd (omega (arith, h))
 same_rank OtherInCheck OtherInCheck h = inl refl
 
-once_fault : (p : Position) (e f : Unsound) → IsFirstFault p e → IsFirstFault p f → e ≡ f
+once_fault : (p : Position) (e f : Unsound) → IsFirstUnsoundness p e → IsFirstUnsoundness p f → e ≡ f
 once_fault p e f a b = elim (number_cases (rank e) (rank f)) [
-  | inl less ↦ absurd (b.first e (inl less) a.fault)
-  | inr (inr more) ↦ absurd (a.first f (inl more) b.fault)
+  | inl less ↦ absurd (b.first e (inl less) a.holds)
+  | inr (inr more) ↦ absurd (a.first f (inl more) b.holds)
   | inr (inl same) ↦ elim (same_rank e f same) [
     | inl equal ↦ equal
-    | inr (inl lesser) ↦ absurd (b.first e (inr lesser) a.fault)
-    | inr (inr lesser) ↦ absurd (a.first f (inr lesser) b.fault)
+    | inr (inl lesser) ↦ absurd (b.first e (inr lesser) a.holds)
+    | inr (inr lesser) ↦ absurd (a.first f (inr lesser) b.holds)
   ]
 ]
 
@@ -248,8 +244,8 @@ once_answer Show p (exceeds step) other a b = absurd a
 module _ (files : Files) (one other : Report) where
   once_position : (order : Order) (p : Position) → ReportsPosition files order p one → ReportsPosition files order p other → one ≡ other
   once_position order p (inl (e, a, i)) (inl (f, b, j)) = i ∙ ap (λ why. refusal_as files is.Unsound (unsound_line why) false) (once_fault p e f a b) ∙ sym j
-  once_position order p (inl (e, a, i)) (inr (sound, b)) = absurd (fault_unsound e p a sound)
-  once_position order p (inr (sound, a)) (inl (f, b, j)) = absurd (fault_unsound f p b sound)
+  once_position order p (inl (e, a, i)) (inr (sound, b)) = absurd (unsound_refuted e p a sound)
+  once_position order p (inr (sound, a)) (inl (f, b, j)) = absurd (unsound_refuted f p b sound)
   once_position order p (inr (sound, a)) (inr (also, b)) = a.2 ∙ ap (report_of files) (once_answer order p a.0 b.0 a.1 b.1) ∙ sym b.2
 
   once_whole : (order : Order) (text : Text) → ReportsText files order text one → ReportsText files order text other → one ≡ other

@@ -3,12 +3,10 @@ use Rattle.std.proofs.Common.{◌≡◌, ℕ, sym, ap, ◌∙◌}
 use Rattle.game_rules.specs.Game.{Position}
 use Rattle.game_rules.specs.declared.men.Side.TheVariants.{White}
 use Rattle.set_plan.specs.declared.stop.StepName as set_plan
-use Rattle.set_plan.proofs.Unique.{Ends-not_stops, Stops-one}
-use Rattle.mate_plan.specs.PlanOf.{plan_of}
 use Rattle.mate_plan.specs.declared.names.PartName.{PartName}
 use Rattle.winning_sets.specs.declared.names.StepName.{StepName}
 use Rattle.mate_desk.specs.Report.{ExceedsAt, FitsBudget}
-use Rattle.mate_plan.proofs.PlanOnce.{SameLists, plan_of-alike}
+use Rattle.mate_plan.proofs.PlanOnce.{ends_once}
 
 -- the name without the number of moves
 abbrev in_plan : StepName → set_plan.StepName PartName
@@ -25,9 +23,7 @@ same_step x y moves same = λ i. record {
 
 module _ (p : Position) (budget n : ℕ) where
   pub fits_exceeds : (step : StepName) → FitsBudget p budget n → ExceedsAt p budget n step → ⊥
-  fits_exceeds step fits over =
-      Ends-not_stops SameLists (plan_of White p n) (plan_of White p n) budget (plan_of-alike White p n) fits.value (in_plan step) fits.ends over.1
+  fits_exceeds step fits over = (ends_once White p n budget).not_both fits.value (in_plan step) fits.ends over.1
 
   pub exceeds_once : (x y : StepName) → ExceedsAt p budget n x → ExceedsAt p budget n y → x ≡ y
-  exceeds_once x y a b =
-      same_step x y (a.0 ∙ sym b.0) (Stops-one SameLists (plan_of White p n) (plan_of White p n) budget (plan_of-alike White p n) (in_plan x) (in_plan y) a.1 b.1)
+  exceeds_once x y a b = same_step x y (a.0 ∙ sym b.0) ((ends_once White p n budget).one_step (in_plan x) (in_plan y) a.1 b.1)

@@ -1,80 +1,151 @@
--- What is reported of an input.
-use Rattle.std.proofs.Common.{◌≡◌, ◌++◌, ℕ, List, [], Ok, Err, IsTrue, false, inl, inr, refl, sym, subst}
-use Rattle.desk_base.specs.Files.{Files}
+-- How a run ends, from how its parts do.
+use Rattle.std.proofs.Common.{◌≡◌, ◌++◌, ℕ, List, [], Option, Some, None, IfSome, Result, Ok, Err, false, inl, inr, refl, sym, subst}
+use Rattle.std.specs.Prelude.{codes, unwrap_or}
+use Rattle.std.specs.Io.KnownBytes.{Consumes}
+use Rattle.std.proofs.KnownBytes.{Consumes-nil}
+use Rattle.desk_base.specs.Faults.{HasRisen}
+use Rattle.desk_base.specs.Files.{Files, Go, no_files}
 use Rattle.desk_base.specs.Lines.{lines_of}
 use Rattle.game_rules.specs.Game.{Position, Sound}
-use Rattle.chess_game.specs.Fault.{IsFirstFault}
-use Rattle.chess_game.specs.declared.faults.Unsound.{Unsound}
-use Rattle.mate_desk.specs.Answer.{Answer, writes, exceeds, budget_line}
+use Rattle.chess_game.specs.Unsoundness.{IsFirstUnsoundness}
+use Rattle.chess_game.specs.declared.unsoundness.Unsound.{Unsound}
+use Rattle.mate_desk.specs.Answer.{writes, exceeds, budget_line}
 use Rattle.mate_desk.specs.Order.{Ordered, usage_line}
-use Rattle.mate_desk.specs.Outcome.{Report, refusal_as, done_with, report_of, RunEnds, CommandEnds}
-use Rattle.mate_desk.specs.Report.{unsound_line, Answers, TakesMemory, ReportsText, Reports, MayLackMemory}
-use Rattle.mate_desk.specs.Text.{Text, TextAt, whole, refused, is_end, refusal_line}
+use Rattle.mate_desk.specs.Outcome.{Seen, Writes, WriteFailed, Leaves, KeepsFiles, refusal_as, done_with, CommandEnds}
+use Rattle.mate_desk.specs.Report.{unsound_line, Answers, TakesMemory}
+use Rattle.mate_desk.specs.Run.{Given, RunEnds}
+use Rattle.mate_desk.specs.Text.{whole, refused, is_end, refusal_line}
 use Rattle.mate_desk.specs.TextRead.{TextRead}
 use Rattle.mate_desk.specs.declared.order.Order.{Order}
 use Rattle.mate_desk.specs.declared.order.UsageWhy.{UsageWhy}
 use Rattle.mate_desk.specs.declared.status.Status.{Status}
 use Rattle.mate_desk.specs.declared.status.Status.TheVariants as is
 use Rattle.mate_desk.specs.declared.text.LineWhy.{LineWhy}
+use Rattle.mate_desk.specs.declared.text.TextEnd.{TextEnd}
 use Rattle.mate_desk.specs.declared.text.TextEnd.TheVariants.{Fault, Refused}
+use Rattle.mate_desk.proofs.TextSteps.{known_rest}
 use Rattle.mate_desk.proofs.Writing.{text_written}
 
-module _ (words : List (List ℕ)) (files : Files) where
-  pub usage_reported : (bytes : List ℕ) (why : UsageWhy) → Ordered words (Err why) → Reports words bytes files (refusal_as files is.Usage (usage_line why) false)
-  usage_reported bytes why ordered = (Err why, ordered, refl)
+-- the files of a store, or none where it does not tell them
+abbrev pub files_of : Option Files → Files
+files_of told = unwrap_or told no_files
 
-  module _ (order : Order) (ordered : Ordered words (Ok order)) where
-    text_reported : (bytes : List ℕ) (text : Text) (report : Report) → TextAt bytes text → ReportsText files order text report → Reports words bytes files report
-    text_reported bytes text report at r = (Ok order, ordered, (text, at, r))
+known_files : (told : Option Files) → IfSome told (λ files. files ≡ files_of told)
+known_files None = tt
+known_files (Some files) = refl
 
-    module _ (pending before after : List ℕ) where
-      pub refused_reported : (number : ℕ) (why : LineWhy) → TextRead (Err (Refused number why)) pending before after → Reports words before files (refusal_as files is.Text (refusal_line number why) (is_end why))
-      refused_reported number why t =
-          let P : List ℕ → Type 0 = λ b. TextAt b (refused number why) in
-          text_reported before (refused number why) (refusal_as files is.Text (refusal_line number why) (is_end why)) (subst P (sym t.taken) t.reads) refl
+left_files : (told : Option Files) → Go told told (λ before after. after ≡ files_of told)
+left_files None = tt
+left_files (Some files) = refl
 
-      -- the source has failed within the text
-      pub read_reported : TextRead (Err Fault) pending before after → (bytes : List ℕ) × (before ≡ bytes ++ after) × (report : Report) × Reports words bytes files report × IsTrue report.short × (report.text ≡ [])
-      read_reported t =
-          let short = t.reads in
-          let report = refusal_as files is.Text (refusal_line short.number short.why) (is_end short.why) in
-          (t.bytes, t.taken, report, text_reported t.bytes (refused short.number short.why) report short.text refl, short.short, refl)
+same_files : (told : Option Files) → Go told told (λ before after. after ≡ before)
+same_files None = tt
+same_files (Some files) = refl
 
-      module _ (p : Position) (read : TextRead (Ok p) pending before after) where
-        whole_at : TextAt before (whole p (lines_of (pending ++ after)))
-        whole_at =
-            let P : List ℕ → Type 0 = λ b. TextAt b (whole p (lines_of (pending ++ after))) in
-            subst P (sym read.taken) (read.reads after)
+module _ (words : List (List ℕ)) (old new : Seen) (same : new.files ≡ old.files) where
+  leaves : Leaves (files_of old.files) old new
+  leaves = let P : Option Files → Type 0 = λ f. Go old.files f (λ before after. after ≡ files_of old.files) in subst P (sym same) (left_files old.files)
 
-        pub unsound_reported : (why : Unsound) → IsFirstFault p why → Reports words before files (refusal_as files is.Unsound (unsound_line why) false)
-        unsound_reported why fault = text_reported before (whole p (lines_of (pending ++ after))) (refusal_as files is.Unsound (unsound_line why) false) whole_at (inl (why, fault, refl))
+  keeps : KeepsFiles old new
+  keeps = let P : Option Files → Type 0 = λ f. Go old.files f (λ before after. after ≡ before) in subst P (sym same) (same_files old.files)
 
-        module _ (sound : Sound p) where
-          answer_reported : (answer : Answer) → Answers order p answer → Reports words before files (report_of files answer)
-          answer_reported answer right = text_reported before (whole p (lines_of (pending ++ after))) (report_of files answer) whole_at (inr (sound, (answer, right, refl)))
+  -- the words are no order
+  pub usage_ends : (why : UsageWhy) → Ordered words (Err why) → new.left ≡ old.left → Writes [] (usage_line why) old.written new.written (WriteFailed old new) → RunEnds words is.Usage old new
+  usage_ends why ordered left wrote =
+      let P : Option (List ℕ) → Type 0 = λ l. IfSome l (λ told. told ≡ unwrap_or old.left []) in
+      let C : Option (List ℕ) → Type 0 = λ l. Consumes old.left l [] in
+      record {
+        given = record {
+          taken = [];
+          rest = unwrap_or old.left [];
+          files = files_of old.files;
+          consumed = subst C (sym left) (Consumes-nil old.left);
+          left = subst P (sym left) (known_rest old.left);
+          kept = known_files old.files;
+        };
+        takes = refl;
+        ends = (refusal_as (files_of old.files) is.Usage (usage_line why) false, (Err why, ordered, refl), record { reported = refl; written = wrote; files = leaves });
+      }
 
-          -- how the run ends, from how its command does
-          pub answered : (status : Status) (sink_told shelf_told failed : Type 0) (old new : List ℕ) → CommandEnds status (Answers order p) (TakesMemory order p) sink_told failed old new → RunEnds status (λ bytes report. Reports words bytes files report) (MayLackMemory words) (record { sink_told = sink_told; shelf_told = shelf_told; sink_failed = failed }) (record { left = before; written = old; files = files }) (record { left = after; written = new; files = files })
-          answered is.Done sink_told shelf_told failed old new ends = (
-            done_with files ends.0,
-            answer_reported (writes ends.0) ends.1,
-            record { status = refl; written = λ t. text_written ends.0 old new failed (ends.2 t); files = λ _. refl },
-          )
-          answered is.WriteFault sink_told shelf_told failed old new ends = (
-            done_with files ends.0,
-            answer_reported (writes ends.0) ends.1,
-            record { written = ends.2; files = λ _. refl },
-          )
-          answered is.Budget sink_told shelf_told failed old new ends = (
-            refusal_as files is.Budget (budget_line ends.0) false,
-            answer_reported (exceeds ends.0) ends.1,
-            record { status = refl; written = ends.2; files = λ _. refl },
-          )
-          answered is.Memory sink_told shelf_told failed old new ends = (
-            record { order = order; ordered = ordered; position = p; rest = lines_of (pending ++ after); text = whole_at; sound = sound; takes = ends.0 },
-            record { written = ends.1; files = λ _. refl },
-          )
-          answered is.Usage sink_told shelf_told failed old new ends = absurd ends
-          answered is.Text sink_told shelf_told failed old new ends = absurd ends
-          answered is.Unsound sink_told shelf_told failed old new ends = absurd ends
-          answered is.ReadFault sink_told shelf_told failed old new ends = absurd ends
+  module _ (order : Order) (ordered : Ordered words (Ok order)) (pending : List ℕ) where
+    abbrev given_text : (answer : Result Position TextEnd) → TextRead answer pending old.left new.left → Given old new
+    given_text answer t = record { taken = t.bytes; rest = t.rest; files = files_of old.files; consumed = t.taken; left = t.left; kept = known_files old.files }
+
+    pub refused_ends : (number : ℕ) (why : LineWhy) → TextRead (Err (Refused number why)) pending old.left new.left → Writes [] (refusal_line number why) old.written new.written (WriteFailed old new) → RunEnds words is.Text old new
+    refused_ends number why t wrote = record {
+      given = given_text (Err (Refused number why)) t;
+      takes = (pending, t.takes);
+      ends = (
+        refusal_as (files_of old.files) is.Text (refusal_line number why) (is_end why),
+        (Ok order, ordered, (refused number why, t.reads, refl)),
+        record { reported = refl; written = wrote; files = leaves },
+      );
+    }
+
+    -- the source has failed within the text
+    pub fault_ends : TextRead (Err Fault) pending old.left new.left → HasRisen old.read_faults new.read_faults → Writes [] (codes "read fault\n") old.written new.written (WriteFailed old new) → RunEnds words is.ReadFault old new
+    fault_ends t failed wrote =
+        let short = t.reads in
+        record {
+          given = given_text (Err Fault) t;
+          takes = (pending, t.takes);
+          ends = (
+            refusal_as (files_of old.files) is.Text (refusal_line short.number short.why) (is_end short.why),
+            (Ok order, ordered, (refused short.number short.why, short.text, refl)),
+            record { failed = failed; short = short.short; written = wrote; files = keeps },
+          );
+        }
+
+    module _ (p : Position) (t : TextRead (Ok p) pending old.left new.left) where
+      pub unsound_ends : (why : Unsound) → IsFirstUnsoundness p why → Writes [] (unsound_line why) old.written new.written (WriteFailed old new) → RunEnds words is.Unsound old new
+      unsound_ends why fault wrote = record {
+        given = given_text (Ok p) t;
+        takes = (pending, t.takes);
+        ends = (
+          refusal_as (files_of old.files) is.Unsound (unsound_line why) false,
+          (Ok order, ordered, (whole p (lines_of (pending ++ t.rest)), t.reads, inl (why, fault, refl))),
+          record { reported = refl; written = wrote; files = leaves },
+        );
+      }
+
+      -- the run ends as its command does
+      pub command_ends : Sound p → (status : Status) → CommandEnds status (Answers order p) (TakesMemory order p) (WriteFailed old new) old.written new.written → RunEnds words status old new
+      command_ends sound is.Done ends = record {
+        given = given_text (Ok p) t;
+        takes = (pending, t.takes);
+        ends = (
+          done_with (files_of old.files) ends.0,
+          (Ok order, ordered, (whole p (lines_of (pending ++ t.rest)), t.reads, inr (sound, (writes ends.0, ends.1, refl)))),
+          record { reported = refl; written = text_written ends.0 old.written new.written (WriteFailed old new) ends.2; files = leaves },
+        );
+      }
+      command_ends sound is.WriteFault ends = record {
+        given = given_text (Ok p) t;
+        takes = (pending, t.takes);
+        ends = (
+          done_with (files_of old.files) ends.0,
+          (Ok order, ordered, (whole p (lines_of (pending ++ t.rest)), t.reads, inr (sound, (writes ends.0, ends.1, refl)))),
+          record { failed = ends.2; written = ends.3; files = leaves },
+        );
+      }
+      command_ends sound is.Budget ends = record {
+        given = given_text (Ok p) t;
+        takes = (pending, t.takes);
+        ends = (
+          refusal_as (files_of old.files) is.Budget (budget_line ends.0) false,
+          (Ok order, ordered, (whole p (lines_of (pending ++ t.rest)), t.reads, inr (sound, (exceeds ends.0, ends.1, refl)))),
+          record { reported = refl; written = ends.2; files = leaves },
+        );
+      }
+      command_ends sound is.Memory ends = record {
+        given = given_text (Ok p) t;
+        takes = (pending, t.takes);
+        ends = (
+          record { order = order; ordered = ordered; position = p; rest = lines_of (pending ++ t.rest); text = t.reads; sound = sound; takes = ends.0 },
+          record { written = ends.1; files = keeps },
+        );
+      }
+      command_ends sound is.Usage ends = absurd ends
+      command_ends sound is.Text ends = absurd ends
+      command_ends sound is.Unsound ends = absurd ends
+      command_ends sound is.ReadFault ends = absurd ends

@@ -13,17 +13,17 @@ use Rattle.mate_plan.specs.PlanOf.{last_ply, plan_of, plan_to}
 use Rattle.winning_sets.specs.Solve.{IsOf, IsSolveError, IsWithin, Solution}
 use Rattle.winning_sets.specs.declared.names.SolveError.TheVariants as solve_error
 use Rattle.winning_sets.specs.declared.names.StepName.{StepName}
-use Rattle.mate_desk.specs.Report.{ExceedsAt, FitsBudget, HasNoMove, IsVerdict}
+use Rattle.mate_desk.specs.Report.{ExceedsAt, FitsBudget, HasNothingToPlay, IsVerdict}
 
 -- with White to move and no move there is no step
-pub none_fits : (p : Position) (budget n : ℕ) → HasNoMove n p → FitsBudget p budget n
+pub none_fits : (p : Position) (budget n : ℕ) → HasNothingToPlay n p → FitsBudget p budget n
 none_fits p budget n h =
     let Moves : ℕ → Type 0 = λ k. IsWithin (plan_to p (last_ply White White k)) budget in
     let Turn : Side → Type 0 = λ s. IsWithin (plan_to p (last_ply White s n)) budget in
     subst Turn (sym h.turn) (subst Moves (sym h.none) (record { value = []; ends = Ends-give budget [] }))
 
 -- and no mate
-pub none_mates : (p : Position) (n : ℕ) → HasNoMove n p → Value White n p → ⊥
+pub none_mates : (p : Position) (n : ℕ) → HasNothingToPlay n p → Value White n p → ⊥
 none_mates p n h value =
     let Moves : ℕ → Type 0 = λ k. Value White k p in
     no_win (subst Moves h.none value)

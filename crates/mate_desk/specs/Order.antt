@@ -1,8 +1,10 @@
 -- What words order.
-use Rattle.std.specs.Prelude.{◌≡◌, ◌≢◌, ◌⊎◌, ℕ, ◌≤◌, List, [], ◌∷◌, Result, Ok, Err, codes}
+use Rattle.std.specs.Prelude.{◌≡◌, ◌≢◌, ◌⊎◌, ℕ, ◌≤◌, List, [], ◌∷◌, Option, Some, None, Result, Ok, Err, codes}
 use Rattle.std.specs.Char.{IsAsciiDigit}
 use Rattle.std.specs.List.{All}
 use Rattle.std.specs.Str.Parse.{digits_value}
+use Rattle.mate_desk.specs.declared.order.Command.{Command}
+use Rattle.mate_desk.specs.declared.order.Command.TheVariants as commands
 use Rattle.mate_desk.specs.declared.order.Order.{Order}
 use Rattle.mate_desk.specs.declared.order.Order.TheVariants.{Decide, Least, Show}
 use Rattle.mate_desk.specs.declared.order.UsageWhy.{UsageWhy}
@@ -65,14 +67,31 @@ abbrev pub ShowOrdered : List (List ℕ) → Result Order UsageWhy → Type 0
 ShowOrdered [] answer = answer ≡ Ok Show
 ShowOrdered (word ∷ words) answer = answer ≡ Err Count
 
+-- the name of a command
+abbrev pub name_of : Command → List ℕ
+name_of commands.Decide = codes "decide"
+name_of commands.Least = codes "least"
+name_of commands.Show = codes "show"
+
+-- the command that the word names, or that it names none
+abbrev pub IsCommand : List ℕ → Option Command → Type 0
+IsCommand word (Some command) = word ≡ name_of command
+IsCommand word None = (command : Command) → word ≢ name_of command
+
+-- what the words behind a command order
+abbrev pub OrderedBy : Command → List (List ℕ) → Result Order UsageWhy → Type 0
+OrderedBy commands.Decide words answer = MovesOrdered (λ moves budget. Decide moves budget) words answer
+OrderedBy commands.Least words answer = MovesOrdered (λ limit budget. Least limit budget) words answer
+OrderedBy commands.Show words answer = ShowOrdered words answer
+
+abbrev pub OrderedBehind : Option Command → List (List ℕ) → Result Order UsageWhy → Type 0
+OrderedBehind (Some command) words answer = OrderedBy command words answer
+OrderedBehind None words answer = answer ≡ Err Unknown
+
 -- what words order, or the first reason why they are no order
 abbrev pub Ordered : List (List ℕ) → Result Order UsageWhy → Type 0
 Ordered [] answer = answer ≡ Err NoCommand
-Ordered (command ∷ words) answer =
-    ((command ≡ codes "decide") × MovesOrdered (λ moves budget. Decide moves budget) words answer)
-    ⊎ ((command ≡ codes "least") × MovesOrdered (λ limit budget. Least limit budget) words answer)
-    ⊎ ((command ≡ codes "show") × ShowOrdered words answer)
-    ⊎ ((command ≢ codes "decide") × (command ≢ codes "least") × (command ≢ codes "show") × (answer ≡ Err Unknown))
+Ordered (word ∷ words) answer = (command : Option Command) × IsCommand word command × OrderedBehind command words answer
 
 -- the number is a budget
 abbrev pub IsBudget : ℕ → Type 0

@@ -1,6 +1,9 @@
 -- What a run does, and how it may end.
-use Rattle.std.specs.Prelude.{◌≡◌, ◌⊎◌, ℕ, ◌≤◌, ◌<◌, List, [], ◌++◌, length, take, Bool, false, IsTrue, codes}
-use Rattle.desk_base.specs.Files.{Files}
+use Rattle.std.specs.Prelude.{◌≡◌, ◌⊎◌, ℕ, ◌≤◌, List, [], ◌++◌, length, take, Bool, false, Option, IsTrue, codes}
+use Rattle.std.specs.Io.KnownBytes.{Appends}
+use Rattle.desk_base.specs.Faults.{HasRisen}
+use Rattle.desk_base.specs.Files.{Files, Go}
+use Rattle.desk_base.specs.Moves.{AppendsFront}
 use Rattle.winning_sets.specs.declared.names.StepName.{StepName}
 use Rattle.mate_desk.specs.Answer.{Answer, writes, exceeds, budget_line}
 use Rattle.mate_desk.specs.declared.status.Status.{Status}
@@ -31,74 +34,69 @@ abbrev pub report_of : Files → Answer → Report
 report_of files (writes text) = done_with files text
 report_of files (exceeds step) = refusal_as files is.Budget (budget_line step) false
 
--- This text was written, and then this fault line, of which a suffix may be missing where the sink has failed.
-pub record Writes (text fault old new : List ℕ) (failed : Type 0) : Type 0 where
+-- This text was written to a sink that goes from `old` to `new`, and then this fault line, of which a suffix may be missing where the
+-- sink has failed.
+pub record Writes (text fault : List ℕ) (old new : Option (List ℕ)) (failed : Type 0) : Type 0 where
   pub count : ℕ
-  pub front : new ≡ old ++ (text ++ take count fault)
+  pub front : Appends old new (text ++ take count fault)
   pub whole : (length fault ≤ count) ⊎ failed
 
--- A proper front of the text was written.
-pub record WritesPart (text old new : List ℕ) : Type 0 where
-  pub count : ℕ
-  pub proper : count < length text
-  pub front : new ≡ old ++ take count text
-
--- What is told of the source, the sink and the store of files at a moment: the bytes still to come, those written, and the files.
+-- What the ports of a run tell at a moment: the bytes still to come, those written and the files, each where its port tells it, and how
+-- often the source and the sink have failed.
 pub record Seen : Type 0 where
-  pub left : List ℕ
-  pub written : List ℕ
-  pub files : Files
+  pub left : Option (List ℕ)
+  pub written : Option (List ℕ)
+  pub files : Option Files
+  pub read_faults : ℕ
+  pub write_faults : ℕ
 
--- Whether the sink and the store of files tell what they have, and whether the sink has failed in the run.
-pub record Ports : Type 1 where
-  pub sink_told : Type 0
-  pub shelf_told : Type 0
-  pub sink_failed : Type 0
+-- the sink has failed in the run
+abbrev pub WriteFailed : Seen → Seen → Type 0
+WriteFailed old new = HasRisen old.write_faults new.write_faults
+
+-- the files are these after the run
+abbrev pub Leaves : Files → Seen → Seen → Type 0
+Leaves files old new = Go old.files new.files (λ before after. after ≡ files)
+
+-- the files are after the run what they were before it
+abbrev pub KeepsFiles : Seen → Seen → Type 0
+KeepsFiles old new = Go old.files new.files (λ before after. after ≡ before)
 
 -- the run did what is reported
-abbrev pub DoesReport : Status → Report → Ports → Seen → Seen → Type 0
-DoesReport answer report ports old new = record {
-  status : answer ≡ report.status;
-  written : ports.sink_told → Writes report.text report.fault old.written new.written ports.sink_failed;
-  files : ports.shelf_told → new.files ≡ report.files;
-}
+pub record DoesReport (status : Status) (report : Report) (old new : Seen) : Type 0 where
+  pub reported : status ≡ report.status
+  pub written : Writes report.text report.fault old.written new.written (WriteFailed old new)
+  pub files : Leaves report.files old new
 
--- the sink failed within the text
-abbrev pub WritesSome : Report → Ports → Seen → Seen → Type 0
-WritesSome report ports old new = record {
-  written : ports.sink_told → WritesPart report.text old.written new.written;
-  files : ports.shelf_told → new.files ≡ report.files;
-}
+-- the sink failed within the text, which so is not empty
+pub record WritesSome (report : Report) (old new : Seen) : Type 0 where
+  pub failed : WriteFailed old new
+  pub written : AppendsFront old.written new.written report.text
+  pub files : Leaves report.files old new
 
 -- the source failed, and the report on the bytes before ends because they end
-abbrev pub ReadsSome : Report → Ports → Seen → Seen → Type 0
-ReadsSome report ports old new = record {
-  short : IsTrue report.short;
-  written : ports.sink_told → Writes report.text (codes "read fault\n") old.written new.written ports.sink_failed;
-  files : ports.shelf_told → new.files ≡ old.files;
-}
+pub record ReadsSome (report : Report) (old new : Seen) : Type 0 where
+  pub failed : HasRisen old.read_faults new.read_faults
+  pub short : IsTrue report.short
+  pub written : Writes report.text (codes "read fault\n") old.written new.written (WriteFailed old new)
+  pub files : KeepsFiles old new
 
 -- there was no memory, and nothing else was written
-abbrev pub LacksMemory : Ports → Seen → Seen → Type 0
-LacksMemory ports old new = record {
-  written : ports.sink_told → Writes [] (codes "memory\n") old.written new.written ports.sink_failed;
-  files : ports.shelf_told → new.files ≡ old.files;
-}
+pub record LacksMemory (old new : Seen) : Type 0 where
+  pub written : Writes [] (codes "memory\n") old.written new.written (WriteFailed old new)
+  pub files : KeepsFiles old new
 
--- How a run with this status ends, where `reports` says what is reported of the bytes of an input, and `may_lack` of which bytes the
--- answer takes memory.
-abbrev pub RunEnds : Status → (List ℕ → Report → Type 0) → (List ℕ → Type 0) → Ports → Seen → Seen → Type 0
-RunEnds is.ReadFault reports may_lack ports old new =
-    (bytes : List ℕ) × (old.left ≡ bytes ++ new.left) × (report : Report) × reports bytes report × ReadsSome report ports old new
-RunEnds is.WriteFault reports may_lack ports old new = (report : Report) × reports old.left report × WritesSome report ports old new
-RunEnds is.Memory reports may_lack ports old new = may_lack old.left × LacksMemory ports old new
-RunEnds status reports may_lack ports old new = (report : Report) × reports old.left report × DoesReport status report ports old new
+-- How a run with this status ends, where `reports` says what is reported, and `may_lack` that the answer takes memory.
+abbrev pub Ends : Status → (Report → Type 0) → Type 0 → Seen → Seen → Type 0
+Ends is.ReadFault reports may_lack old new = (report : Report) × reports report × ReadsSome report old new
+Ends is.WriteFault reports may_lack old new = (report : Report) × reports report × WritesSome report old new
+Ends is.Memory reports may_lack old new = may_lack × LacksMemory old new
+Ends status reports may_lack old new = (report : Report) × reports report × DoesReport status report old new
 
--- How a command ends, where `answers` says what it answers, with a sink that goes from `old` to `new`.
-abbrev pub CommandEnds : Status → (Answer → Type 0) → (may_lack told failed : Type 0) → (old new : List ℕ) → Type 0
-CommandEnds is.Done answers may_lack told failed old new = (text : List ℕ) × answers (writes text) × (told → new ≡ old ++ text)
-CommandEnds is.WriteFault answers may_lack told failed old new = (text : List ℕ) × answers (writes text) × (told → WritesPart text old new)
-CommandEnds is.Budget answers may_lack told failed old new =
-    (step : StepName) × answers (exceeds step) × (told → Writes [] (budget_line step) old new failed)
-CommandEnds is.Memory answers may_lack told failed old new = may_lack × (told → Writes [] (codes "memory\n") old new failed)
-CommandEnds status answers may_lack told failed old new = ⊥
+-- How a command ends, where `answers` says what it answers, with a sink that goes from `old` to `new` and has `failed` or not.
+abbrev pub CommandEnds : Status → (Answer → Type 0) → (may_lack failed : Type 0) → (old new : Option (List ℕ)) → Type 0
+CommandEnds is.Done answers may_lack failed old new = (text : List ℕ) × answers (writes text) × Appends old new text
+CommandEnds is.WriteFault answers may_lack failed old new = (text : List ℕ) × answers (writes text) × failed × AppendsFront old new text
+CommandEnds is.Budget answers may_lack failed old new = (step : StepName) × answers (exceeds step) × Writes [] (budget_line step) old new failed
+CommandEnds is.Memory answers may_lack failed old new = may_lack × Writes [] (codes "memory\n") old new failed
+CommandEnds status answers may_lack failed old new = ⊥

@@ -1,13 +1,13 @@
 -- What a run reports.
-use Rattle.std.specs.Prelude.{◌≡◌, ◌↔◌, ◌⊎◌, ℕ, ◌<◌, ◌≤◌, List, ◌∷◌, ◌++◌, false, Option, Some, None, Result, Ok, Err, codes, count_by, is_some, unwrap_or}
+use Rattle.std.specs.Prelude.{◌≡◌, ◌↔◌, ◌⊎◌, ℕ, ◌<◌, ◌≤◌, List, [], ◌∷◌, ◌++◌, false, Option, Some, None, Result, Ok, Err, codes, count_by, is_some, unwrap_or}
 use Rattle.std.specs.Fmt.{decimal}
 use Rattle.desk_base.specs.Files.{Files}
 use Rattle.desk_base.specs.Lines.{Lines}
 use Rattle.game_rules.specs.Game.{Position, InCheck, Least, Sound, Value, square_of}
 use Rattle.game_rules.specs.declared.men.Side.TheVariants.{White}
-use Rattle.chess_game.specs.Fault.{IsFirstFault}
-use Rattle.chess_game.specs.declared.faults.Unsound.{Unsound}
-use Rattle.chess_game.specs.declared.faults.Unsound.TheVariants.{NoKing, ManyKings, KingGone, SameSquare, OtherInCheck}
+use Rattle.chess_game.specs.Unsoundness.{IsFirstUnsoundness}
+use Rattle.chess_game.specs.declared.unsoundness.Unsound.{Unsound}
+use Rattle.chess_game.specs.declared.unsoundness.Unsound.TheVariants.{NoKing, ManyKings, KingGone, SameSquare, OtherInCheck}
 use Rattle.chess_text.specs.ManLine.{side_letter}
 use Rattle.chess_text.specs.PositionText.{position_text}
 use Rattle.mate_plan.specs.PlanOf.{plan_of}
@@ -91,21 +91,21 @@ Answers (orders.Least limit budget) p answer = AnswersLeast limit budget p answe
 Answers orders.Show p (writes text) = IsShown p text
 Answers orders.Show p (exceeds step) = ⊥
 
--- White is to move, and has no move of his own
-pub record HasNoMove (moves : ℕ) (p : Position) : Type 0 where
+-- White is to move, and has no move of his own left to make
+pub record HasNothingToPlay (moves : ℕ) (p : Position) : Type 0 where
   pub none : moves ≡ 0
   pub turn : p.turn ≡ White
 
 -- the answer to the order takes memory
 abbrev pub TakesMemory : Order → Position → Type 0
-TakesMemory (orders.Decide moves budget) p = ¬ HasNoMove moves p
-TakesMemory (orders.Least limit budget) p = ¬ HasNoMove limit p
+TakesMemory (orders.Decide moves budget) p = ¬ HasNothingToPlay moves p
+TakesMemory (orders.Least limit budget) p = ¬ HasNothingToPlay limit p
 TakesMemory orders.Show p = Unit {0}
 
 -- the report on a position, with the files before the run
 abbrev pub ReportsPosition : Files → Order → Position → Report → Type 0
 ReportsPosition files order p report =
-    ((why : Unsound) × IsFirstFault p why × (report ≡ refusal_as files is.Unsound (unsound_line why) false))
+    ((why : Unsound) × IsFirstUnsoundness p why × (report ≡ refusal_as files is.Unsound (unsound_line why) false))
     ⊎ (Sound p × ((answer : Answer) × Answers order p answer × (report ≡ report_of files answer)))
 
 abbrev pub ReportsText : Files → Order → Text → Report → Type 0
@@ -138,10 +138,24 @@ OneReport =
     → Reports words bytes files other
     → one ≡ other
 
+-- the run is done, and writes one of the two lines and no fault line
+pub record IsAnswered (n : ℕ) (report : Report) : Type 0 where
+  pub status : report.status ≡ is.Done
+  pub text : (report.text ≡ mate_line n) ⊎ (report.text ≡ no_mate_line n)
+  pub fault : report.fault ≡ []
+
+-- the run names the first step that exceeds the budget, and writes nothing else
+pub record IsOverBudget (n budget : ℕ) (p : Position) (report : Report) : Type 0 where
+  pub status : report.status ≡ is.Budget
+  pub text : report.text ≡ []
+  pub step : StepName
+  pub first : ExceedsAt p budget n step
+  pub fault : report.fault ≡ budget_line step
+
 -- What a run of `decide` reports of a sound position: it is done, with the one line exactly where White mates within n moves of his own,
 -- and the other exactly where he does not; or it names the first step that exceeds the budget.
 pub record IsExact (n budget : ℕ) (p : Position) (report : Report) : Type 0 where
-  pub cause : (report.status ≡ is.Done) ⊎ ((report.status ≡ is.Budget) × ((step : StepName) × ExceedsAt p budget n step × (report.fault ≡ budget_line step)))
+  pub cause : IsAnswered n report ⊎ IsOverBudget n budget p report
   pub mate : report.status ≡ is.Done → (report.text ≡ mate_line n) ↔ Value White n p
   pub no_mate : report.status ≡ is.Done → (report.text ≡ no_mate_line n) ↔ (¬ Value White n p)
 

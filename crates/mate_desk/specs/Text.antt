@@ -19,8 +19,8 @@ pub data Text : Type 0 where
 -- the text, after a line of this number of which the text makes that
 abbrev pub AfterLine : Turnout → ℕ → Lines → Text → (Stage → Type 0) → Type 0
 AfterLine (turnouts.more next) number rest text go_on = go_on next
-AfterLine (turnouts.whole p) number rest text go_on = text ≡ whole p rest
-AfterLine (turnouts.refused why) number rest text go_on = text ≡ refused number (Grammar why)
+AfterLine (turnouts.complete p) number rest text go_on = text ≡ whole p rest
+AfterLine (turnouts.wrong why) number rest text go_on = text ≡ refused number (Grammar why)
 
 -- the text that the lines are from this stage on, of which the first has this number
 abbrev pub ReadsLines : Stage → ℕ → Lines → Text → Type 0

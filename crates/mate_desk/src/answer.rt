@@ -24,8 +24,7 @@ pub fn answer<K: Sink>(alloc: Global, order: Order, p: &Position, sink: &mut K) 
     requires sound { Sound p.now }
     requires few { length p.now.men ≤ 5 }
     requires within { IsWithinLimits order }
-    ensures ends { CommandEnds result (Answers order p.now) (TakesMemory order p.now) (IsTrue K.told) (HasRisen (K.faults sink.old) (K.faults sink.new)) (K.written sink.old) (K.written sink.new) }
-    ensures write_fault { result ≡ Status.WriteFault → HasRisen (K.faults sink.old) (K.faults sink.new) }
+    ensures ends { CommandEnds result (Answers order p.now) (TakesMemory order p.now) (HasRisen (K.faults sink.old) (K.faults sink.new)) (K.written sink.old) (K.written sink.new) }
     ensures never_falls { K.faults sink.old ≤ K.faults sink.new }
 {
     match order {
@@ -39,8 +38,7 @@ pub fn answer<K: Sink>(alloc: Global, order: Order, p: &Position, sink: &mut K) 
 fn show<K: Sink>(alloc: Global, p: &Position, sink: &mut K) -> Status
     requires sound { Sound p.now }
     requires few { length p.now.men ≤ 5 }
-    ensures ends { CommandEnds result (Answers Order.Show p.now) (Unit {0}) (IsTrue K.told) (HasRisen (K.faults sink.old) (K.faults sink.new)) (K.written sink.old) (K.written sink.new) }
-    ensures write_fault { result ≡ Status.WriteFault → HasRisen (K.faults sink.old) (K.faults sink.new) }
+    ensures ends { CommandEnds result (Answers Order.Show p.now) (Unit {0}) (HasRisen (K.faults sink.old) (K.faults sink.new)) (K.written sink.old) (K.written sink.new) }
     ensures never_falls { K.faults sink.old ≤ K.faults sink.new }
 {
     match shown(alloc, p) {

@@ -1,9 +1,7 @@
 //! The top call.
 
-ghost use Rattle.std.specs.Prelude.{◌≡◌, ℕ, ◌≤◌, List, map, string_bytes, IsTrue};
-ghost use Rattle.desk_base.specs.Faults.{HasRisen};
-ghost use Rattle.mate_desk.specs.Outcome.{RunEnds};
-ghost use Rattle.mate_desk.specs.Report.{MayLackMemory, Reports};
+ghost use Rattle.std.specs.Prelude.{◌≡◌, map, string_bytes};
+ghost use Rattle.mate_desk.specs.Run.{RunEnds};
 
 use crate::answer::answer;
 use crate::fault_line::{refusal_line, refuse, unsound_line};
@@ -25,18 +23,21 @@ pub fn run<S: Source, K: Sink, H: Shelf>(
     sink: &mut K,
     shelf: &mut H,
 ) -> Status
-    ensures ends { IsTrue S.told →
-        let given = map string_bytes words.now.items in
-        RunEnds result (λ bytes report. Reports given bytes (H.files shelf.old) report) (MayLackMemory given)
+    ensures ends { RunEnds (map string_bytes words.now.items) result
         record {
-          sink_told = IsTrue K.told;
-          shelf_told = IsTrue H.told;
-          sink_failed = HasRisen (K.faults sink.old) (K.faults sink.new);
+          left = S.left source.old;
+          written = K.written sink.old;
+          files = H.files shelf.old;
+          read_faults = S.faults source.old;
+          write_faults = K.faults sink.old;
         }
-        record { left = S.left source.old; written = K.written sink.old; files = H.files shelf.old }
-        record { left = S.left source.new; written = K.written sink.new; files = H.files shelf.new } }
-    ensures read_fault { result ≡ Status.ReadFault → HasRisen (S.faults source.old) (S.faults source.new) }
-    ensures write_fault { result ≡ Status.WriteFault → HasRisen (K.faults sink.old) (K.faults sink.new) }
+        record {
+          left = S.left source.new;
+          written = K.written sink.new;
+          files = H.files shelf.new;
+          read_faults = S.faults source.new;
+          write_faults = K.faults sink.new;
+        } }
     // Where the words are no order, nothing is read.
     ensures nothing_read { result ≡ Status.Usage → source.new ≡ source.old }
     ensures shelf_untouched { shelf.new ≡ shelf.old }

@@ -1,6 +1,6 @@
 //! Fault lines.
 
-ghost use Rattle.std.specs.Prelude.{IsTrue, ◌≡◌, ◌≤◌, ◌++◌, ◌+◌, ◌∷◌, [], length};
+ghost use Rattle.std.specs.Prelude.{◌≡◌, ◌≤◌, ◌++◌, ◌+◌, ◌∷◌, [], length};
 ghost use Rattle.desk_base.specs.Faults.{HasRisen};
 ghost use Rattle.chess_text.specs.ManLine.{side_letter};
 ghost use Rattle.mate_desk.specs.Answer as answers;
@@ -118,7 +118,7 @@ fn part_word(part: Part) -> &'static [u8]
 
 /// Writes a fault line, as far as the sink takes it.
 pub fn refuse<K: Sink>(sink: &mut K, line: &[u8])
-    ensures written { IsTrue K.told → Writes [] line.now (K.written sink.old) (K.written sink.new) (HasRisen (K.faults sink.old) (K.faults sink.new)) }
+    ensures written { Writes [] line.now (K.written sink.old) (K.written sink.new) (HasRisen (K.faults sink.old) (K.faults sink.new)) }
     ensures never_falls { K.faults sink.old ≤ K.faults sink.new }
 {
     let _ = put_all(sink, line);

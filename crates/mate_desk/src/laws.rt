@@ -1,6 +1,39 @@
-//! Laws of the definitions, each the contract of a function that does nothing.
+//! Laws of a run, each the contract of a function that does nothing. They are of the relation that the contract of `run` names.
 
+ghost use Rattle.mate_desk.specs.Laws.{DecideWrites, FaultsAreCounted, LeastWrites, MemoryLast, TextIsRead, UsageExactly};
 ghost use Rattle.mate_desk.specs.Report.{DecidesExactly, OneReport};
+
+/// A run of `decide` that is done, on the text of a sound position and whatever comes behind it, writes `mate in n` exactly where White
+/// mates within n moves of his own, whatever is replied on the whole board, and `no mate in n` exactly where he does not.
+pub fn decide_writes()
+    ensures { DecideWrites }
+{}
+
+/// A run of `least` that is done, on the text of a sound position and whatever comes behind it, writes the least number of moves up to its
+/// limit within which White mates, or that there is none.
+pub fn least_writes()
+    ensures { LeastWrites }
+{}
+
+/// The text of a position, whatever comes behind it, is read as that position.
+pub fn text_is_read()
+    ensures { TextIsRead }
+{}
+
+/// A run has the status of words that are no order exactly where they are none.
+pub fn usage_exactly()
+    ensures { UsageExactly }
+{}
+
+/// Want of memory comes only after words that order something of a sound position that takes memory.
+pub fn memory_last()
+    ensures { MemoryLast }
+{}
+
+/// A run has the status of a fault only where the count of faults of its source, or of its sink, has risen.
+pub fn faults_are_counted()
+    ensures { FaultsAreCounted }
+{}
 
 /// Two reports of one input are equal.
 pub fn reports_once()

@@ -8,7 +8,7 @@ ghost use Rattle.winning_sets.specs.declared.names.StepName.{StepName};
 ghost use Rattle.mate_desk.specs.Answer.{exceeds};
 ghost use Rattle.mate_desk.specs.Order.{IsBudget, most_moves};
 ghost use Rattle.mate_desk.specs.Outcome.{CommandEnds};
-ghost use Rattle.mate_desk.specs.Report.{AnswersDecide, AnswersLeast, ExceedsAt, FitsBudget, HasNoMove};
+ghost use Rattle.mate_desk.specs.Report.{AnswersDecide, AnswersLeast, ExceedsAt, FitsBudget, HasNothingToPlay};
 ghost use Rattle.mate_desk.specs.Report as reports;
 
 use crate::output::{print, print_error};
@@ -25,8 +25,7 @@ pub fn decide<K: Sink>(alloc: Global, p: &Position, moves: u8, budget: u32, sink
     requires few { length p.now.men ≤ 5 }
     requires moves { moves ≤ most_moves }
     requires budget { IsBudget budget }
-    ensures ends { CommandEnds result (AnswersDecide moves budget p.now) (¬ HasNoMove moves p.now) (IsTrue K.told) (HasRisen (K.faults sink.old) (K.faults sink.new)) (K.written sink.old) (K.written sink.new) }
-    ensures write_fault { result ≡ Status.WriteFault → HasRisen (K.faults sink.old) (K.faults sink.new) }
+    ensures ends { CommandEnds result (AnswersDecide moves budget p.now) (¬ HasNothingToPlay moves p.now) (HasRisen (K.faults sink.old) (K.faults sink.new)) (K.written sink.old) (K.written sink.new) }
     ensures never_falls { K.faults sink.old ≤ K.faults sink.new }
 {
     let mut solver = Solver::new(alloc, p, Side::White, budget);
@@ -45,8 +44,7 @@ pub fn least<K: Sink>(alloc: Global, p: &Position, limit: u8, budget: u32, sink:
     requires few { length p.now.men ≤ 5 }
     requires limit { limit ≤ most_moves }
     requires budget { IsBudget budget }
-    ensures ends { CommandEnds result (AnswersLeast limit budget p.now) (¬ HasNoMove limit p.now) (IsTrue K.told) (HasRisen (K.faults sink.old) (K.faults sink.new)) (K.written sink.old) (K.written sink.new) }
-    ensures write_fault { result ≡ Status.WriteFault → HasRisen (K.faults sink.old) (K.faults sink.new) }
+    ensures ends { CommandEnds result (AnswersLeast limit budget p.now) (¬ HasNothingToPlay limit p.now) (HasRisen (K.faults sink.old) (K.faults sink.new)) (K.written sink.old) (K.written sink.new) }
     ensures never_falls { K.faults sink.old ≤ K.faults sink.new }
 {
     match least_moves(alloc, p, limit, budget) {
@@ -72,7 +70,7 @@ fn least_moves(
     ensures found { IfOk result (λ found. Least Side.White p.now limit found) }
     ensures fits { IfOk result (λ found. (n : ℕ) → n ≤ unwrap_or found limit → FitsBudget p.now budget n) }
     ensures step { IfErr result (λ error. (step : StepName) → error ≡ SolveError.Over step → AnswersLeast limit budget p.now (exceeds step)) }
-    ensures memory { result ≡ Err SolveError.Memory → ¬ HasNoMove limit p.now }
+    ensures memory { result ≡ Err SolveError.Memory → ¬ HasNothingToPlay limit p.now }
 {
     let mut solver = Solver::new(alloc, p, Side::White, budget);
     for moves in 0..=limit {
@@ -91,12 +89,12 @@ fn is_won(solver: &mut Solver, p: &Position, moves: u8) -> Result<bool, SolveErr
     ensures won { IfOk result (λ won. IsTrue won ↔ Value Side.White moves p.now) }
     ensures fits { OnOk result (FitsBudget p.now solver.old.budget moves) }
     ensures step { IfErr result (λ error. (step : StepName) → error ≡ SolveError.Over step → ExceedsAt p.now solver.old.budget moves step) }
-    ensures memory { result ≡ Err SolveError.Memory → ¬ HasNoMove moves p.now }
+    ensures memory { result ≡ Err SolveError.Memory → ¬ HasNothingToPlay moves p.now }
     ensures position { solver.new.position ≡ p.now }
     ensures winner { solver.new.winner ≡ Side.White }
     ensures budget { solver.new.budget ≡ solver.old.budget }
 {
-    if has_no_move(p, moves) {
+    if has_nothing_to_play(p, moves) {
         return Ok(false);
     }
     let solved = solver.solve(moves)?;
@@ -104,8 +102,8 @@ fn is_won(solver: &mut Solver, p: &Position, moves: u8) -> Result<bool, SolveErr
 }
 
 /// Whether White is to move and has no move of his own.
-fn has_no_move(p: &Position, moves: u8) -> bool
-    ensures { IsTrue result ↔ HasNoMove moves p.now }
+fn has_nothing_to_play(p: &Position, moves: u8) -> bool
+    ensures { IsTrue result ↔ HasNothingToPlay moves p.now }
 {
     moves == 0 && p.turn() == Side::White
 }

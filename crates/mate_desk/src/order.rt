@@ -3,7 +3,7 @@
 ghost use Rattle.std.specs.Prelude.{◌≡◌, ◌↔◌, ◌≤◌, map, string_bytes, IsTrue, IfOk};
 ghost use Rattle.std.specs.Char.{IsAsciiDigit};
 ghost use Rattle.std.specs.List.{All};
-ghost use Rattle.mate_desk.specs.Order.{IsBudget, IsNaturalText, IsWithinLimits, MovesOrdered, Ordered, ReadsMoves, ReadsNumber, ShowOrdered, most_moves, usage_line};
+ghost use Rattle.mate_desk.specs.Order.{IsBudget, IsCommand, IsNaturalText, IsWithinLimits, MovesOrdered, Ordered, OrderedBy, ReadsMoves, ReadsNumber, ShowOrdered, most_moves, usage_line};
 
 /// The greatest number of moves that can be asked for.
 const MOST_MOVES: u32 = 20;
@@ -62,18 +62,46 @@ pub fn order_of(words: &Vec<String>) -> Result<Order, UsageWhy>
 {
     match words.as_slice() {
         [] => Err(UsageWhy::NoCommand),
-        [command, rest @ ..] => {
-            if command.as_str() == "decide" {
-                return decide_order(rest);
-            }
-            if command.as_str() == "least" {
-                return least_order(rest);
-            }
-            if command.as_str() == "show" {
-                return show_order(rest);
-            }
-            Err(UsageWhy::Unknown)
-        }
+        [word, rest @ ..] => match command_named(word.as_str()) {
+            Some(command) => order_behind(command, rest),
+            None => Err(UsageWhy::Unknown),
+        },
+    }
+}
+
+/// What a first word can be.
+#[derive(Clone, Copy, Debug, PartialEq, Eq)]
+enum Command {
+    Decide,
+    Least,
+    Show,
+}
+
+/// The command of this name.
+fn command_named(word: &str) -> Option<Command>
+    ensures { IsCommand word.now result }
+{
+    if word == "decide" {
+        return Some(Command::Decide);
+    }
+    if word == "least" {
+        return Some(Command::Least);
+    }
+    if word == "show" {
+        return Some(Command::Show);
+    }
+    None
+}
+
+/// The order that the words behind the command are.
+fn order_behind(command: Command, words: &[String]) -> Result<Order, UsageWhy>
+    ensures ordered { OrderedBy command (map string_bytes words.now) result }
+    ensures within { IfOk result IsWithinLimits }
+{
+    match command {
+        Command::Decide => decide_order(words),
+        Command::Least => least_order(words),
+        Command::Show => show_order(words),
     }
 }
 

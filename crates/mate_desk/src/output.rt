@@ -1,6 +1,6 @@
 //! Writing an answer.
 
-ghost use Rattle.std.specs.Prelude.{◌≡◌, ◌≤◌, IsTrue};
+ghost use Rattle.std.specs.Prelude.{◌≡◌, ◌≤◌};
 ghost use Rattle.desk_base.specs.Faults.{HasRisen};
 ghost use Rattle.winning_sets.specs.declared.names.StepName.{StepName};
 ghost use Rattle.mate_desk.specs.Answer.{exceeds, writes};
@@ -13,8 +13,7 @@ use winning_sets::SolveError;
 
 /// Writes the text.
 pub fn print<K: Sink>(sink: &mut K, text: &[u8]) -> Status
-    ensures ends { CommandEnds result (λ answer. answer ≡ writes text.now) ⊥ (IsTrue K.told) (HasRisen (K.faults sink.old) (K.faults sink.new)) (K.written sink.old) (K.written sink.new) }
-    ensures write_fault { result ≡ Status.WriteFault → HasRisen (K.faults sink.old) (K.faults sink.new) }
+    ensures ends { CommandEnds result (λ answer. answer ≡ writes text.now) ⊥ (HasRisen (K.faults sink.old) (K.faults sink.new)) (K.written sink.old) (K.written sink.new) }
     ensures never_falls { K.faults sink.old ≤ K.faults sink.new }
 {
     match put_all(sink, text) {
@@ -25,8 +24,7 @@ pub fn print<K: Sink>(sink: &mut K, text: &[u8]) -> Status
 
 /// Writes why a plan was not gone through to its end.
 pub fn print_error<K: Sink>(sink: &mut K, error: SolveError) -> Status
-    ensures ends { CommandEnds result (λ answer. (step : StepName) × (error ≡ SolveError.Over step) × (answer ≡ exceeds step)) (error ≡ SolveError.Memory) (IsTrue K.told) (HasRisen (K.faults sink.old) (K.faults sink.new)) (K.written sink.old) (K.written sink.new) }
-    ensures write_fault { result ≡ Status.WriteFault → HasRisen (K.faults sink.old) (K.faults sink.new) }
+    ensures ends { CommandEnds result (λ answer. (step : StepName) × (error ≡ SolveError.Over step) × (answer ≡ exceeds step)) (error ≡ SolveError.Memory) (HasRisen (K.faults sink.old) (K.faults sink.new)) (K.written sink.old) (K.written sink.new) }
     ensures never_falls { K.faults sink.old ≤ K.faults sink.new }
 {
     match error {

@@ -1,6 +1,6 @@
 //! The position text at the front of an input.
 
-ghost use Rattle.std.specs.Prelude.{◌≡◌, ℕ, ◌+◌, ◌≤◌, [], length, IsTrue, IsErrOf, IfOk, None};
+ghost use Rattle.std.specs.Prelude.{◌≡◌, ℕ, ◌+◌, ◌≤◌, [], length, IsErrOf, IfOk, None};
 ghost use Rattle.desk_base.specs.Faults.{HasRisen};
 ghost use Rattle.mate_desk.specs.Text.{why_word};
 ghost use Rattle.mate_desk.specs.TextRead.{TextRead};
@@ -55,7 +55,7 @@ pub fn read_position<S: Source>(
     source: &mut S,
 ) -> Result<Position, TextEnd>
     requires fresh { (reader.old.pending ≡ []) × (reader.old.stopped ≡ None) }
-    ensures reads { IsTrue S.told → TextRead result reader.new.pending (S.left source.old) (S.left source.new) }
+    ensures reads { TextRead result reader.new.pending (S.left source.old) (S.left source.new) }
     ensures goes_on { IfOk result (λ p. reader.new.stopped ≡ None) }
     ensures few { IfOk result (λ p. length p.men ≤ 5) }
     ensures failed { IsErrOf result TextEnd.Fault → HasRisen (S.faults source.old) (S.faults source.new) }

@@ -1,23 +1,15 @@
 //! The program `mate`: does what its words say with the standard input, and writes the answer to the standard output.
 #![tactic(auto)]
 
+mod program;
 mod standard;
 
-use desk_base::{BareShelf, put_all};
-use mate_desk::{Status, UsageWhy, run};
+use desk_base::BareShelf;
+use program::{WordsError, exit_of, perform};
 use standard::{StdSink, StdSource};
 use std::alloc::AllocError;
 use std::process::ExitCode;
 use std::{env, io};
-
-/// Why there are no words.
-#[derive(Clone, Copy, Debug, PartialEq, Eq)]
-enum WordsError {
-    /// There is no memory for them.
-    Memory,
-    /// One of them is not text, or the system does not tell them.
-    Untold,
-}
 
 impl From<AllocError> for WordsError {
     fn from(_error: AllocError) -> Self {
@@ -41,18 +33,15 @@ fn words_of(rt: &HostRuntime) -> Result<Vec<String>, WordsError> {
 }
 
 fn main(rt: HostRuntime) -> ExitCode {
+    let mut source = StdSource::new(rt.stdin());
     let mut sink = StdSink::new(io::writer(&rt));
-    let status = match words_of(&rt) {
-        Ok(words) => {
-            let mut source = StdSource::new(rt.stdin());
-            let mut shelf = BareShelf::new();
-            run(rt.alloc(), &words, &mut source, &mut sink, &mut shelf)
-        }
-        Err(WordsError::Memory) => Status::Memory,
-        Err(WordsError::Untold) => {
-            let _ = put_all(&mut sink, UsageWhy::Unknown.line());
-            Status::Usage
-        }
-    };
-    ExitCode::from(status.code())
+    let mut shelf = BareShelf::new();
+    let status = perform(
+        words_of(&rt),
+        &mut source,
+        &mut sink,
+        &mut shelf,
+        rt.alloc(),
+    );
+    exit_of(status)
 }

@@ -14,5 +14,7 @@ pub mod UnionAnswers
 pub mod SafeAnswers
 pub mod StartAnswers
 pub mod Remainders
-pub mod PairLemmas
+pub mod TwinItems
+pub mod EmptyAnswers
+pub mod QuestionParts
 pub mod PlanOnce

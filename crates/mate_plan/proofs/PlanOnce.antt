@@ -1,4 +1,4 @@
--- A plan has one end, or one first step past a budget.
+-- A plan has one end, or one first step past a budget. claim_plan cites how the parts of plans go on alike.
 use Rattle.std.proofs.Common.{◌≡◌, ℕ, zero, suc, ◌==◌, Bool, true, false, List, [], ◌∷◌, ◌++◌, length, map, refl, ap, subst}
 use Rattle.std.specs.Prelude.{if◌then◌else◌}
 use Rattle.std.specs.List.{flat_map}
@@ -13,21 +13,12 @@ use Rattle.set_plan.specs.Unite.{Made, join, make, two, unite, without}
 use Rattle.set_plan.proofs.Alike.{Alike, SameSets-self}
 use Rattle.set_plan.proofs.Combined.{SameItems, SameMade, Empty-alike, bind-alike, join-alike, make-alike, unite-alike, without-alike}
 use Rattle.set_plan.proofs.SameSets.{SameItem-sets}
+use Rattle.set_plan.proofs.Unique.{Ends-not_stops, Ends-one, Stops-one}
 use Rattle.mate_plan.specs.declared.names.Part.{Part}
 use Rattle.mate_plan.specs.declared.names.Part.TheVariants as kind
 use Rattle.mate_plan.specs.Plan.{Level, Program, Rules, backward, backward_from, bear_item, bear_items, choices_into, difference, for_masks, forward, image_item, image_items, is_even, kept_level, level_with, lost_level, lost_set, lost_set_if, name, narrow, no_sets, plan, point_level, pre_item, pre_items, reach_level, reach_more, reach_set, rest_set, safe_item, turn_at, union, win_level, win_set}
+use Rattle.mate_plan.specs.Once.{EndsOnce, SameLevels, SameLists}
 use Rattle.mate_plan.specs.PlanOf.{last_ply, plan_of, plan_to, rules_of}
-
--- mask by mask, sets of the same tuples
-abbrev pub SameLevels : Level → Level → Type 0
-SameLevels l m = (mask : ℕ) → SameSets (l mask) (m mask)
-
--- ply by ply
-abbrev pub SameLists : List Level → List Level → Type 0
-SameLists [] [] = Unit {0}
-SameLists [] (m ∷ ms) = ⊥
-SameLists (l ∷ ls) [] = ⊥
-SameLists (l ∷ ls) (m ∷ ms) = SameLevels l m × SameLists ls ms
 
 same-length : (ls ms : List Level) → SameLists ls ms → length ls ≡ length ms
 same-length [] [] same = refl
@@ -214,3 +205,10 @@ plan_to-alike p (suc last) = plan-alike (rules_of p) p.turn (mask_of p) (suc las
 -- the plan of a position goes on alike at sets of the same tuples
 pub plan_of-alike : (winner : Side) (p : Position) (moves : ℕ) → Alike SameLists (plan_of winner p moves) (plan_of winner p moves)
 plan_of-alike winner p moves = plan_to-alike p (last_ply winner p.turn moves)
+
+pub ends_once : (winner : Side) (p : Position) (moves budget : ℕ) → EndsOnce winner p moves budget
+ends_once winner p moves budget = record {
+  one_end = Ends-one SameLists (plan_of winner p moves) (plan_of winner p moves) budget (plan_of-alike winner p moves);
+  one_step = Stops-one SameLists (plan_of winner p moves) (plan_of winner p moves) budget (plan_of-alike winner p moves);
+  not_both = Ends-not_stops SameLists (plan_of winner p moves) (plan_of winner p moves) budget (plan_of-alike winner p moves);
+}

@@ -1,8 +1,10 @@
 -- Levels as the sets that are kept make them.
 use Rattle.std.specs.Prelude.{ℕ, List, [], ◌∷◌, Option}
 use Rattle.auto_core.specs.Automaton.{Automaton}
+use Rattle.game_rules.specs.Game.{Position}
 use Rattle.game_rules.specs.declared.men.Man.{Man}
 use Rattle.lin_formula.specs.declared.formula.SetId.{SetId}
+use Rattle.rule_formula.specs.Fits.{masks_of}
 use Rattle.rule_formula.specs.Placed.{is_live}
 use Rattle.rule_formula.specs.Trees.{tracks_of}
 use Rattle.set_plan.specs.Sets.{IsNameOn, set_at}
@@ -24,3 +26,11 @@ AreNames stock sets [] [] = Unit {0}
 AreNames stock sets [] (id ∷ ids) = ⊥
 AreNames stock sets (mask ∷ masks) [] = ⊥
 AreNames stock sets (mask ∷ masks) (id ∷ ids) = IsNameOn (tracks_of stock (is_live mask)) sets id × AreNames stock sets masks ids
+
+-- the level of these names, one for each mask of the position
+abbrev pub level_in : Position → List Automaton → List (Option SetId) → Level
+level_in p sets ids = level_of sets (masks_of p) ids
+
+-- a name for each mask of the position
+abbrev pub AreNamesIn : Position → List Automaton → List (Option SetId) → Type 0
+AreNamesIn p sets ids = AreNames p.men sets (masks_of p) ids

@@ -18,5 +18,7 @@ pub mod PlanOf
 pub mod Levels
 pub mod Formulas
 pub mod Twins
+pub mod Questions
+pub mod Once
 pub mod Claim
 pub mod Won

@@ -1,8 +1,11 @@
 //! The sets of a level, by name.
-ghost use Rattle.std.specs.Prelude.{◌≡◌, [], ◌∷◌, ◌++◌, OnOk, OnErr};
+ghost use Rattle.std.specs.Prelude.{◌≡◌, [], ◌∷◌, ◌++◌, IfOk, OnOk, OnErr};
+ghost use Rattle.rule_formula.specs.Fits.{masks_of};
 ghost use Rattle.mate_plan.specs.Formulas.{name_of};
 
+use chess_game::Position;
 use lin_formula::SetId;
+use rule_formula::masks;
 use std::alloc::{AllocError, Global};
 use std::marker::Model;
 
@@ -59,4 +62,17 @@ pub(crate) fn name_at(masks: &[u8], level: &LevelNames, mask: u8) -> Option<SetI
         }
     }
     found
+}
+
+/// The name for a mask in a level of the position.
+pub(crate) fn name_in(
+    alloc: Global,
+    p: &Position,
+    level: &LevelNames,
+    mask: u8,
+) -> Result<Option<SetId>, AllocError>
+    ensures { IfOk result (λ name. name ≡ name_of (masks_of p.now) level.now mask) }
+{
+    let all = masks(alloc, p)?;
+    Ok(name_at(all.as_slice(), level, mask))
 }

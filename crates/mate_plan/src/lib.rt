@@ -1,11 +1,13 @@
 //! The plan by which the winner is to mate within so many moves: the named steps in which its sets of positions are computed, ply by ply and
 //! mask by mask. `specs/Plan` has the steps, `specs/PlanOf` the plan of a position, `specs/Levels` the sets of a ply as the code keeps them,
-//! `specs/Formulas` the formulas whose sets are united. Each function here answers one level of the plan, from the levels that it is made of.
+//! `specs/Formulas` the formulas whose sets are united. Each function here answers one level of the plan, from the levels that it is made of,
+//! or one of the questions on the sets of a ply that `specs/Questions` has. `specs/Claim` is a claim, and `specs/Won` says when it is won.
 #![tactic(auto)]
 
 mod answering;
 mod apart;
 mod formulas;
+pub mod laws;
 mod lending;
 mod level;
 mod losing;
@@ -18,11 +20,13 @@ mod tracks;
 mod unions;
 mod winning;
 
+pub use answering::{are_answered, have_replies};
 pub use apart::{are_apart, are_safe};
 pub use level::LevelNames;
 pub use losing::lost_level;
 pub use names::{Part, PartName};
 pub use reaching::reach_level;
+pub use stage::{MovesInto, Stage, StageLevel};
 pub use starting::{no_level, point_level};
 pub use tracks::mask_tracks;
 pub use winning::win_level;

@@ -18,12 +18,14 @@ pub mod MeaningLemmas
 pub mod MoveLemmas
 pub mod MoveTheorem
 pub mod OptionTheorem
+pub mod PairTheorem
 pub mod PlacedLemmas
 pub mod PointTheorem
 pub mod PointTracks
 pub mod RayLemmas
 pub mod ReachLemmas
 pub mod SizeTheorem
+pub mod StockLemmas
 pub mod SweptLemmas
 pub mod TracksTheorem
 pub mod TwinsTheorem

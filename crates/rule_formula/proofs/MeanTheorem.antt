@@ -28,6 +28,7 @@ use Rattle.rule_formula.proofs.ListTheorem.{options_are}
 use Rattle.rule_formula.proofs.MasksTheorem.{masks_are}
 use Rattle.rule_formula.proofs.MeaningLemmas.{bear_told, image_told, pre_told_at, safe_told}
 use Rattle.rule_formula.proofs.PlacedLemmas.{stock_man-men}
+use Rattle.rule_formula.proofs.PairTheorem.{pairs_are, pairs_mean}
 use Rattle.rule_formula.proofs.PointTheorem.{point_means}
 use Rattle.rule_formula.proofs.PointTracks.{place_there, point_tracks}
 use Rattle.rule_formula.proofs.FormulaLemmas.{stock_there}
@@ -95,6 +96,7 @@ game_means p game =
       taken = λ m o w low. taken_live p.men m w.man.side o.taken game.few w.is.prey low;
       targets = λ side m o is listed. target_mask p m o is ((options_are p.men m side o).0 listed).0;
       bearings = λ m s b is. bearings_are p m s b game.kings is;
+      pairs = λ m w. pairs_are p.men m w;
       checks = λ side s q fits.
           let main = checks_are p side s q fits in
           let lists = λ (b : Bearing). bearings_are p (mask_of q) s b game.kings (fits_mask p side q fits) in (
@@ -289,4 +291,5 @@ rules_mean p game =
       point = point_mean p;
       options = λ side m o is listed. options_mean p game side m o ((options_are p.men m side o).0 listed);
       bearings = λ m s b is listed. bearings_mean p m b ((bearings_are p m s b game.kings is).0 listed).bearer;
+      pairs = λ m w is listed. pairs_mean p game.few m w is ((pairs_are p.men m w).0 listed);
     }

@@ -4,6 +4,7 @@ pub mod Laws
 pub mod Mean
 pub mod Meaning
 pub mod Options
+pub mod Pairs
 pub mod Placed
 pub mod Seats
 pub mod Size
@@ -14,4 +15,3 @@ pub use Rattle.lin_formula.specs.Tree
 pub use Rattle.lin_formula.specs.TreeOf
 pub use Rattle.lin_formula.specs.Holds
 pub use Rattle.lin_formula.specs.SetOf
-pub mod TwinsMean

@@ -7,13 +7,15 @@ use Rattle.lin_formula.specs.Tree.{Tree, Among, Or, free_vars}
 use Rattle.lin_formula.specs.SetOf.{Member, SetOf, Where}
 use Rattle.rule_formula.specs.declared.opt.Bearing.{Bearing}
 use Rattle.rule_formula.specs.declared.opt.Opt.{Opt}
+use Rattle.rule_formula.specs.declared.opt.Pair.{Pair}
 use Rattle.rule_formula.specs.Bearings.{IsBearingOf, bearings_of}
-use Rattle.rule_formula.specs.Fits.{Fits, IsGameMask, mask_of, masks_of, target_of}
+use Rattle.rule_formula.specs.Fits.{Fits, HasStock, IsGameMask, mask_of, masks_of, target_of}
 use Rattle.rule_formula.specs.Laws.{StepsTo}
-use Rattle.rule_formula.specs.Meaning.{BearsBy, IsOptionOf, TakesOption}
+use Rattle.rule_formula.specs.Meaning.{AreTwins, BearsBy, IsOptionOf, TakesOption}
 use Rattle.rule_formula.specs.Options.{options_of}
+use Rattle.rule_formula.specs.Pairs.{IsPairOf, pairs_of}
 use Rattle.rule_formula.specs.Placed.{IsLiveIn, is_live, tuple_of}
-use Rattle.rule_formula.specs.Trees.{bear_of, image_of, point_of, pre_of, safe_of, tracks_of}
+use Rattle.rule_formula.specs.Trees.{bear_of, image_of, point_of, pre_of, safe_of, tracks_of, twins_tree}
 
 -- the variables of the live men of a mask
 abbrev pub mask_tracks : Position → ℕ → List Var
@@ -49,6 +51,7 @@ pub record GameMeans (p : Position) : Type 0 where
   pub taken : (m : ℕ) (o : Opt) → IsOptionOf p.men m o → 0 < o.taken → IsLiveIn m o.taken
   pub targets : (side : Side) (m : ℕ) (o : Opt) → IsGameMask p m → Contains (options_of p.men m side) o → IsGameMask p (target_of m o)
   pub bearings : (m : ℕ) (s : Side) (b : Bearing) → IsGameMask p m → Contains (bearings_of p.men m s) b ↔ IsBearingOf p.men m s b
+  pub pairs : (m : ℕ) (w : Pair) → Contains (pairs_of p.men m) w ↔ IsPairOf p.men m w
   pub checks : (side s : Side) (q : Position) → Fits p side q → InCheck q (other s) ↔ ((b : Bearing) × Contains (bearings_of p.men (mask_of q) s) b × BearsOnKing b q)
 
 -- the formula of the one position that the game begins at
@@ -71,6 +74,12 @@ pub record BearingsMean (p : Position) (m : ℕ) (b : Bearing) : Type 0 where
   pub safe : (a : ℕ) (e : ℕ → SetOf) (side : Side) (q : Position) → Fits p side q → mask_of q ≡ m → Member (Where (safe_of p.men m b.man b.ray b.king a) e) (tuple_of q) ↔ (Member (e a) (tuple_of q) × (¬ BearsOnKing b q))
   pub safe_within : (a : ℕ) (e : ℕ → SetOf) (tuple : List ℤ) → Member (Where (safe_of p.men m b.man b.ray b.king a) e) tuple → Member (e a) tuple
 
+-- the formula of two men, at all positions of the stock with the mask, also where men stand on one square
+pub record PairsMean (p : Position) (m : ℕ) (w : Pair) : Type 0 where
+  pub tracks : (a : ℕ) → free_vars (twins_tree 8 m w.first w.second a) ≡ mask_tracks p m
+  pub twins : (a : ℕ) (e : ℕ → SetOf) (q : Position) → HasStock p.men q → mask_of q ≡ m → Member (Where (twins_tree 8 m w.first w.second a) e) (tuple_of q) ↔ (Member (e a) (tuple_of q) × AreTwins w.first w.second q)
+  pub within : (a : ℕ) (e : ℕ → SetOf) (tuple : List ℤ) → Member (Where (twins_tree 8 m w.first w.second a) e) tuple → Member (e a) tuple
+
 -- two to eight men, with one live king a side
 pub record IsGame (p : Position) : Type 0 where
   pub few : length p.men ≤ 8
@@ -82,6 +91,7 @@ pub record RulesMean (p : Position) : Type 0 where
   pub point : PointMeans p
   pub options : (side : Side) (m : ℕ) (o : Opt) → IsGameMask p m → Contains (options_of p.men m side) o → OptionsMean p side m o
   pub bearings : (m : ℕ) (s : Side) (b : Bearing) → IsGameMask p m → Contains (bearings_of p.men m s) b → BearingsMean p m b
+  pub pairs : (m : ℕ) (w : Pair) → IsGameMask p m → Contains (pairs_of p.men m) w → PairsMean p m w
 
 -- in each game the formulas mean what the rules say
 abbrev pub FormulasMeanTheRules : Type 0

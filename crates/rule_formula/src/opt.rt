@@ -1,4 +1,4 @@
-//! The ways in which men may go, and bear.
+//! The ways in which men may go, and bear, and two men together.
 
 ghost use Rattle.std.specs.Prelude.{◌≡◌, ◌<◌};
 ghost use Rattle.rule_formula.specs.Fits.{mask_without, target_of};
@@ -47,4 +47,13 @@ pub struct Bearing {
     pub ray: u8,
     /// The number of the king, counted from 1.
     pub king: u8,
+}
+
+/// Two men.
+#[derive(Clone, Copy, Debug, Default, PartialEq, Eq)]
+pub struct Pair {
+    /// The number of the one man, counted from 1.
+    pub first: u8,
+    /// The number of the other, who comes later.
+    pub second: u8,
 }

@@ -1,10 +1,8 @@
 -- Programs that go on alike at sets of equal tuples come to one end.
-use Rattle.std.proofs.Common.{◌≡◌, ◌↔◌, ◌⊎◌, ℕ, ◌+◌, suc, List, [], ◌∷◌, ◌++◌, length, map, Option, Some, None, ℤ, refl, sym, ap, ◌∙◌, inl, inr, subst}
-use Rattle.track_word.specs.declared.tracks.Var.{Var}
+use Rattle.std.proofs.Common.{◌≡◌, ◌↔◌, ℕ, ◌+◌, List, [], ◌∷◌, ◌++◌, Option, Some, None, refl, sym, ◌∙◌, inl, inr, subst}
 use Rattle.lin_formula.specs.Tree.{Tree, steps}
-use Rattle.lin_formula.specs.SetOf.{SetOf, Nothing, Where, Member, members, IsEmpty, SomeEmpty, NoneEmpty}
-use Rattle.formula_auto.specs.Step.{Exceeds}
-use Rattle.set_plan.specs.Program.{Item, Program, Give, Compute, Ask, Question, Empty, IsYes, IsNo, bind, Takes, Entry, IsSetOf}
+use Rattle.lin_formula.specs.SetOf.{SetOf}
+use Rattle.set_plan.specs.Program.{Item, Program, Give, Compute, Ask, Question, IsYes, IsNo, Takes, Entry, IsSetOf}
 use Rattle.set_plan.specs.Past.{Step, numbered, all_steps, PastStep, Past}
 use Rattle.set_plan.specs.Outcome.{Ends, Stops}
 use Rattle.set_plan.specs.Same.{SameSets, SameSteps, SameItem}

@@ -1,10 +1,10 @@
 -- Questions whose answers take steps, one item after the other.
-use Rattle.std.proofs.Common.{◌≡◌, ◌⊎◌, ℕ, List, [], ◌∷◌, map, Some, None, Result, Ok, Err, Bool, true, false, inl, inr, subst}
+use Rattle.std.proofs.Common.{◌⊎◌, ℕ, List, [], ◌∷◌, map, Some, None, Result, Ok, Err, Bool, false, inl, inr, subst}
 use Rattle.lin_formula.specs.SetOf.{IsEmpty, Nothing}
 use Rattle.set_plan.specs.Past.{Past}
-use Rattle.set_plan.specs.Program.{Entry, Item, Program, Give, Ask, Question, Empty, IsYes, IsNo, Takes, bind}
+use Rattle.set_plan.specs.Program.{Entry, Item, Program, Give, Ask, Question, Empty, IsYes, IsNo, Takes}
 use Rattle.set_plan.specs.Outcome.{Answers, Ends, IsPlanError, Stops}
-use Rattle.set_plan.specs.Same.{IsLacking, SameItem, Thinned}
+use Rattle.set_plan.specs.Same.{IsLacking, Thinned}
 use Rattle.set_plan.specs.Unite as plan
 use Rattle.set_plan.specs.declared.stop.PlanError.{PlanError}
 use Rattle.set_plan.specs.declared.stop.PlanError.TheVariants as plan_error

@@ -1,11 +1,11 @@
 -- Programs that are made of programs that go on alike go on alike.
-use Rattle.std.proofs.Common.{◌≡◌, ◌↔◌, ℕ, ◌+◌, suc, zero, List, [], ◌∷◌, length, map, ℤ, refl, sym, ap, ◌∙◌, inl, inr, subst}
+use Rattle.std.proofs.Common.{◌≡◌, ℕ, ◌+◌, suc, zero, List, [], ◌∷◌, length, refl, ap, inl, inr, subst}
 use Rattle.track_word.specs.declared.tracks.Var.{Var}
 use Rattle.lin_formula.specs.Tree.{Tree, Among, Not, And, Or, steps}
-use Rattle.lin_formula.specs.SetOf.{SetOf, Nothing, Where, IsEmpty, SomeEmpty, NoneEmpty}
-use Rattle.set_plan.specs.Program.{Item, Program, Give, Compute, Ask, Question, Empty, IsYes, IsNo, bind}
-use Rattle.set_plan.specs.Unite.{Made, compute, make, join, unite, without, either, difference, positives, two}
-use Rattle.set_plan.specs.Same.{SameSets, SameItem, SameEmpty, SameSteps}
+use Rattle.lin_formula.specs.SetOf.{SetOf, Nothing}
+use Rattle.set_plan.specs.Program.{Item, Program, Give, Compute, Ask, Empty, bind}
+use Rattle.set_plan.specs.Unite.{Made, compute, make, join, unite, without, either, difference, two}
+use Rattle.set_plan.specs.Same.{SameSets, SameItem, SameSteps}
 use Rattle.set_plan.proofs.Alike.{Alike, SameSets-self, SameQuestion}
 use Rattle.set_plan.proofs.SameSets.{SameItem-sets}
 

@@ -1,25 +1,23 @@
 -- An automaton that decides a formula has the tuples at which the formula holds.
-use Rattle.std.proofs.Common.{◌≡◌, ◌↔◌, ℕ, zero, suc, ◌+◌, ◌<◌, ◌≤◌, ◌^◌, List, [], ◌∷◌, length, map, ℤ, pos, Bool, true, refl, sym, ap, ◌∙◌, subst, inl, inr, arith, nat_lt, ◌==◌, if◌then◌else◌, slice_index, slice_index_or}
+use Rattle.std.proofs.Common.{◌≡◌, ℕ, suc, ◌<◌, ◌^◌, List, [], ◌∷◌, length, map, ℤ, pos, Bool, true, refl, sym, ap, ◌∙◌, subst, inl, inr, arith, nat_lt, ◌==◌, if◌then◌else◌, slice_index_or}
 use Rattle.std.specs.List.{AllPairs}
 use Rattle.std.proofs.lemmas.List.Kept.{AllPairs-from_increasing}
 use Rattle.std.proofs.lemmas.Bool.{lt-ltb}
 use Rattle.std.proofs.lemmas.List.Elements.{All-cons, All-head}
 use Rattle.track_word.specs.declared.tracks.Var.{Var}
-use Rattle.track_word.specs.Word.{IsWord, Spells, val, repeat_first, spelled}
+use Rattle.track_word.specs.Word.{IsWord, Spells, repeat_first, spelled}
 use Rattle.track_word.specs.Tracks.{Values, IsAscending, place, values_at, with_var, with_vars, word_values}
 use Rattle.track_word.proofs.Spelling.{Spells-spelled, fits-bound, bound_of}
-use Rattle.auto_core.specs.Automaton.{Automaton, Accepts, IsAutomaton}
+use Rattle.auto_core.specs.Automaton.{Automaton}
 use Rattle.auto_core.specs.Integers.{DecidesIntegers, IsAccepted}
-use Rattle.auto_core.specs.Reduced.{IsReduced}
-use Rattle.lin_formula.specs.Tree.{Tree, Among, Not, And, Or, free_vars}
-use Rattle.lin_formula.specs.Holds.{Sets, Holds}
-use Rattle.lin_formula.specs.SetOf.{SetOf, Table, Where, Member, members, HoldsAt, IsEmpty}
-use Rattle.lin_formula.specs.Free.{IsOneOf, IsFree}
+use Rattle.lin_formula.specs.Tree.{Tree, Among, free_vars}
+use Rattle.lin_formula.specs.Holds.{Holds}
+use Rattle.lin_formula.specs.SetOf.{SetOf, Table, Member, members, HoldsAt}
+use Rattle.lin_formula.specs.Free.{IsOneOf}
 use Rattle.lin_formula.proofs.FreeVars.{free_vars-free}
 use Rattle.lin_formula.proofs.Coincide.{agree-values, coincide}
 use Rattle.formula_auto.specs.Step.{Says}
 use Rattle.formula_auto.specs.Decides.{Decides}
-use Rattle.formula_auto.specs.Distinct.{Apart}
 use Rattle.formula_auto.proofs.Values.{Cases, Same, Other, cases_of, place-here, place-later}
 use Rattle.formula_auto.proofs.Atoms.{accepted-values}
 use Rattle.formula_auto.proofs.Projections.{apart-ascending, val-repeated}

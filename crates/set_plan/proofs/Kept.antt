@@ -1,5 +1,5 @@
 -- Sets that are kept.
-use Rattle.std.proofs.Common.{◌≡◌, ℕ, zero, suc, ◌<◌, List, [], ◌∷◌, ◌++◌, length, Option, Some, None, slice_get, refl, sym, ◌∙◌, subst, ap, arith}
+use Rattle.std.proofs.Common.{◌≡◌, ℕ, zero, suc, List, [], ◌∷◌, ◌++◌, Some, slice_get, sym, subst}
 use Rattle.auto_core.specs.Automaton.{Automaton}
 use Rattle.set_plan.specs.Sets.{Grows}
 

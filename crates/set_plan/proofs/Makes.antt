@@ -1,5 +1,5 @@
 -- Ends of items, and of two sets.
-use Rattle.std.proofs.Common.{◌≡◌, ℕ, ◌+◌, ◌-◌, ◌≤◌, ◌<◌, arith, List, [], ◌∷◌, map, length, Some, None, ap, subst, refl, sym, inl, inr, ◌∙◌}
+use Rattle.std.proofs.Common.{◌≡◌, ℕ, ◌+◌, ◌-◌, ◌≤◌, ◌<◌, arith, List, [], ◌∷◌, map, length, Some, None, ap, subst, refl, sym, inl, inr}
 use Rattle.track_word.specs.declared.tracks.Var.{Var}
 use Rattle.lin_formula.specs.Tree.{Tree, Among, And, Not, Or, steps}
 use Rattle.lin_formula.specs.SetOf.{SetOf, Nothing, members, IsEmpty, NoneEmpty}
@@ -7,7 +7,7 @@ use Rattle.formula_auto.specs.Step.{Exceeds, FirstOver}
 use Rattle.set_plan.specs.Program.{Item, IsSetOf, Program, Give, Ask, Empty, bind}
 use Rattle.set_plan.specs.Outcome.{Ends, Stops}
 use Rattle.set_plan.specs.Unite as plan
-use Rattle.set_plan.proofs.Composition.{none_some, Ends-compute, Ends-give, Ends-ask_no, Ends-ask_yes, Stops-compute_here, Stops-ask_no, Ends-bind, Stops-bind, LeadsTo, LeadsTo-later, Error-bind, Error-later}
+use Rattle.set_plan.proofs.Composition.{none_some, Ends-compute, Ends-give, Ends-ask_no, Ends-ask_yes, Stops-compute_here, Stops-ask_no, Ends-bind, Stops-bind, LeadsTo, LeadsTo-later}
 
 -- the first step past the budget is one of the steps
 pub FirstOver-within : (fs : List Tree) (e : ℕ → SetOf) (budget from k : ℕ) → FirstOver fs (members e) budget from (Some k) → (from ≤ k) × (k < from + length fs)

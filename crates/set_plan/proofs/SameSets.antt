@@ -1,12 +1,12 @@
 -- What a formula says and what its steps spread to depends on the sets alone, and not on the numbers of their symbols.
-use Rattle.std.proofs.Common.{◌≡◌, ◌↔◌, ℕ, ◌+◌, List, [], ◌∷◌, ◌++◌, length, map, inl, inr, ℤ, refl, sym, ap, ◌∙◌, subst}
+use Rattle.std.proofs.Common.{◌≡◌, ◌↔◌, ℕ, List, [], ◌∷◌, length, map, inl, inr, ℤ, refl, sym, ap, ◌∙◌, subst}
 use Rattle.std.proofs.lemmas.List.{map-append}
 use Rattle.track_word.specs.declared.tracks.Var.{Var}
 use Rattle.track_word.specs.Tracks.{Values, values_at, word_values, with_vars, without_var}
 use Rattle.auto_core.specs.Spread.{BothSpreadExceeds, ExSpreadExceeds}
 use Rattle.lin_formula.specs.Tree.{Tree, Lin, Value, Among, Not, And, Or, Ex, free_vars, steps}
 use Rattle.lin_formula.specs.Holds.{Sets, Holds, with_value}
-use Rattle.lin_formula.specs.SetOf.{SetOf, Where, Member, members, HoldsAt, IsEmpty, SomeEmpty, NoneEmpty}
+use Rattle.lin_formula.specs.SetOf.{SetOf, Member, members, HoldsAt, SomeEmpty, NoneEmpty}
 use Rattle.formula_auto.specs.Step.{Says, Exceeds}
 use Rattle.formula_auto.proofs.SameWords.{SameWords, BothSpread-same, ExSpread-same}
 use Rattle.set_plan.specs.Relabel.{relabel}

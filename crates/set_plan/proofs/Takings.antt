@@ -226,6 +226,20 @@ contains_filter p [] o = (λ h. absurd (contains_none o h), λ h. absurd (contai
 contains_filter p (c ∷ xs) o = filter_step p c xs o (p c) refl (contains_filter p xs o)
 
 -- a tuple of some item of a list that is made from another
+pub contains_map : {X Y : Type 0} (g : X → Y) (xs : List X) (y : Y) → Contains (map g xs) y ↔ ((x : X) × Contains xs x × (g x ≡ y))
+contains_map g [] y = (λ h. absurd (contains_none y h), λ h. absurd (contains_none h.0 h.1))
+contains_map {X} {Y} g (z ∷ xs) y =
+    let rest = contains_map g xs y in (
+      λ h. elim (contains_cases (g z) (map g xs) y h) [
+        | inl same ↦ (z, contains_head z xs, same)
+        | inr i ↦ let (x, j, e) = rest.0 i in (x, contains_rest z xs x j, e)
+      ],
+      λ (x, i, e). elim (contains_cases z xs x i) [
+        | inl same ↦ (let P : Y → Type 0 = λ u. Contains (g z ∷ map g xs) u in subst P (ap g same ∙ e) (contains_head (g z) (map g xs)))
+        | inr j ↦ contains_rest (g z) (map g xs) y (rest.1 (x, j, e))
+      ],
+    )
+
 pub any-map : {X : Type 0} (f : X → Item) (xs : List X) (tuple : List ℤ) → AnyItem (map f xs) tuple ↔ ((x : X) × Contains xs x × IsOf (f x) tuple)
 any-map f [] tuple = (λ h. absurd h, λ h. absurd (contains_none h.0 h.1))
 any-map {X} f (x ∷ xs) tuple =

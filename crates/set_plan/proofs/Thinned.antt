@@ -1,8 +1,8 @@
 -- A union of some items is the union of those that lack nothing, under other numbers for their sets.
-use Rattle.std.proofs.Common.{◌≡◌, ◌⊎◌, ℕ, ◌+◌, List, [], ◌∷◌, ◌++◌, length, map, Some, None, refl, sym, ap, subst, inl, inr}
+use Rattle.std.proofs.Common.{ℕ, ◌+◌, List, [], ◌∷◌, ◌++◌, map, Some, None, refl, ap, subst, inl, inr}
 use Rattle.track_word.specs.declared.tracks.Var.{Var}
 use Rattle.lin_formula.specs.Tree.{steps}
-use Rattle.lin_formula.specs.SetOf.{SetOf, Nothing, SomeEmpty}
+use Rattle.lin_formula.specs.SetOf.{Nothing}
 use Rattle.set_plan.specs.Program.{Item, Program, Give, Empty, bind, Takes, Entry}
 use Rattle.set_plan.specs.Past.{numbered, all_steps, PastStep, Past}
 use Rattle.set_plan.specs.Outcome.{Ends, Stops}

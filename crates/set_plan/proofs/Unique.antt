@@ -1,5 +1,5 @@
--- A program has one end, and one first step past a budget.
-use Rattle.std.proofs.Common.{◌≡◌, ◌⊎◌, ℕ, List, [], ◌∷◌, ◌++◌, Option, Some, None, sym, ◌∙◌, inl, inr, subst, ap}
+-- A program has one end, and one first step past a budget. The crates above cite the three lemmas of the end.
+use Rattle.std.proofs.Common.{◌≡◌, ℕ, List, [], ◌∷◌, ◌++◌, Option, Some, None, sym, inl, inr, subst}
 use Rattle.lin_formula.specs.Tree.{steps}
 use Rattle.lin_formula.specs.SetOf.{SetOf, SomeEmpty, NoneEmpty}
 use Rattle.set_plan.specs.Program.{Program, Give, Compute, Ask, Question, Empty, Stable, Has, Within, IsYes, IsNo, Takes, Entry}
@@ -98,9 +98,41 @@ stop-stop R (Compute d next) (Ask r or_yes or_no) budget xs ys x y same t past u
 stop-stop R (Ask q if_yes if_no) (Give b) budget xs ys x y same t past u over = absurd same
 stop-stop R (Ask q if_yes if_no) (Compute e more) budget xs ys x y same t past u over = absurd same
 
+-- both come to related values
+end-end : {P A B : Type 0} (R : A → B → Type 0) (m : Program P A) (n : Program P B) (xs ys : List (Entry P)) (a : A) (b : B) → Alike R m n → Takes m xs (Some a) → Takes n ys (Some b) → R a b
+end-end R (Give c) (Give d) xs ys a b same (e, inr is) u = none_some is
+end-end R (Give c) (Give d) xs ys a b same (e, inl is) (f, inr too) = none_some too
+end-end R (Give c) (Give d) xs ys a b same (e, inl is) (f, inl too) =
+    let here : a ≡ c = cc in
+    let there : b ≡ d = cc in
+    subst (λ x. R x b) (sym here) (subst (λ y. R c y) (sym there) same)
+end-end R (Compute d next) (Compute e more) xs ys a b same (inl (f, is)) u = none_some is
+end-end R (Compute d next) (Compute e more) xs ys a b same (inr t) (inl (f, is)) = none_some is
+end-end R (Compute d next) (Compute e more) xs ys a b (part, at, item, go) (inr (rest, s, whole, is, t)) (inr (left, r, all, are, u)) =
+    end-end R (next s) (more r) rest left a b (go s r (sets-same d.item e.item s r item is are)) t u
+end-end R (Ask q if_yes if_no) (Ask r or_yes or_no) xs ys a b same (inl (f, is)) u = none_some is
+end-end R (Ask q if_yes if_no) (Ask r or_yes or_no) xs ys a b same (inr t) (inl (f, is)) = none_some is
+end-end R (Ask q if_yes if_no) (Ask r or_yes or_no) xs ys a b (same, yes_go, no_go) (inr (inl (is, t))) (inr (inl (too, u))) =
+    end-end R if_yes or_yes xs ys a b yes_go t u
+end-end R (Ask q if_yes if_no) (Ask r or_yes or_no) xs ys a b (same, yes_go, no_go) (inr (inr (is, t))) (inr (inr (too, u))) =
+    end-end R if_no or_no xs ys a b no_go t u
+end-end R (Ask q if_yes if_no) (Ask r or_yes or_no) xs ys a b (same, yes_go, no_go) (inr (inl (is, t))) (inr (inr (too, u))) =
+    absurd (yes-no r (same.yes.0 is) too)
+end-end R (Ask q if_yes if_no) (Ask r or_yes or_no) xs ys a b (same, yes_go, no_go) (inr (inr (is, t))) (inr (inl (too, u))) =
+    absurd (yes-no r too (same.no.0 is))
+end-end R (Give c) (Compute e more) xs ys a b same t u = absurd same
+end-end R (Give c) (Ask r or_yes or_no) xs ys a b same t u = absurd same
+end-end R (Compute d next) (Give c) xs ys a b same t u = absurd same
+end-end R (Compute d next) (Ask r or_yes or_no) xs ys a b same t u = absurd same
+end-end R (Ask q if_yes if_no) (Give c) xs ys a b same t u = absurd same
+end-end R (Ask q if_yes if_no) (Compute e more) xs ys a b same t u = absurd same
+
 module _ {P A B : Type 0} (R : A → B → Type 0) (m : Program P A) (n : Program P B) (budget : ℕ) (same : Alike R m n) where
   pub Ends-not_stops : (a : A) (name : StepName P) → Ends m budget a → Stops n budget name → ⊥
   Ends-not_stops a name h k = end-stop R m n budget h.entries k.entries a name same h.takes h.past k.takes k.past
 
   pub Stops-one : (x y : StepName P) → Stops m budget x → Stops n budget y → x ≡ y
   Stops-one x y h k = stop-stop R m n budget h.entries k.entries x y same h.takes h.past k.takes k.past
+
+  pub Ends-one : (a : A) (b : B) → Ends m budget a → Ends n budget b → R a b
+  Ends-one a b h k = end-end R m n h.entries k.entries a b same h.takes k.takes

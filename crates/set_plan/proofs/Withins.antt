@@ -1,11 +1,10 @@
 -- Whether one set has each tuple of another, told by what is left of the other.
-use Rattle.std.proofs.Common.{◌≡◌, ◌⊎◌, ℕ, List, Bool, true, false, Option, Some, None, IfSome, inl, inr, ℤ, refl, sym, ap, ◌∙◌, subst}
+use Rattle.std.proofs.Common.{◌≡◌, ◌⊎◌, ℕ, List, Bool, true, false, Option, Some, None, IfSome, inl, inr, ℤ, sym, ap, ◌∙◌, subst}
 use Rattle.std.specs.Borrow.{Bor}
 use Rattle.std.specs.Bool.{OnFalse, OnTrue}
 use Rattle.track_word.specs.declared.tracks.Var.{Var}
-use Rattle.track_word.specs.Tracks.{IsAscending, Values, values_at, with_vars, word_values}
+use Rattle.track_word.specs.Tracks.{IsAscending, values_at, with_vars, word_values}
 use Rattle.auto_core.specs.Automaton.{Automaton}
-use Rattle.auto_core.specs.Integers.{DecidesIntegers, IsAccepted}
 use Rattle.lin_formula.specs.Tree.{Among, Or, free_vars}
 use Rattle.lin_formula.specs.SetOf.{IsEmpty, Member, Nothing, SetOf, Table}
 use Rattle.set_plan.specs.Program.{Program, Give, Ask, Within}

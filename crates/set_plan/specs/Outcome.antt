@@ -1,5 +1,5 @@
 -- How a program ends under a budget.
-use Rattle.std.specs.Prelude.{ℕ, List, Option, Some, None, Result, Ok, Err}
+use Rattle.std.specs.Prelude.{ℕ, List, Some, None, Result, Ok, Err}
 use Rattle.set_plan.specs.Program.{Program, Entry, Takes}
 use Rattle.set_plan.specs.Past.{Past}
 use Rattle.set_plan.specs.declared.stop.StepName.{StepName}

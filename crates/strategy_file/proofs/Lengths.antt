@@ -1,14 +1,17 @@
 -- How many bytes are written.
-use Rattle.std.proofs.Common.{◌≡◌, ℕ, zero, suc, ◌+◌, ◌*◌, ◌^◌, ◌<◌, ◌≤◌, List, [], ◌∷◌, ◌++◌, map, length, take, drop, get_or, refl, ap, sym, ◌∙◌, arith, add-one, lit<}
+use Rattle.std.proofs.Common.{◌≡◌, ℕ, zero, suc, ◌+◌, ◌*◌, ◌^◌, ◌<◌, ◌≤◌, List, ◌∷◌, ◌++◌, length, drop, Some, refl, ap, sym, ◌∙◌, arith, add-one, drop-cons, lit<}
+use Rattle.std.specs.Prelude.{slice_get}
+use Rattle.std.proofs.lemmas.List.Concat.{flat_map-cons}
+use Rattle.std.proofs.lemmas.Option.{get_or_from_slice_get, slice_get_within}
+use Rattle.game_rules.specs.Game.{Position, man_at}
+use Rattle.game_rules.specs.declared.men.Man.{Man}
 use Rattle.std.proofs.Math.Nat.{pow-le-pow_right, mul-le-mul_left}
 use Rattle.std.specs.List.{flat_map, range_with_len}
 use Rattle.std.specs.Int.{w32, to_be_bytes}
 use Rattle.std.proofs.lemmas.List.{length-append}
-use Rattle.auto_core.specs.Automaton.{Automaton, first_state, next_state, is_final, width}
+use Rattle.auto_core.specs.Automaton.{Automaton, first_state, next_state, width}
 use Rattle.mate_plan.specs.Claim.{Claim, ClaimedSet}
-use Rattle.strategy_file.specs.declared.claim.ClaimedSet.{ClaimedSet as SetHere}
-use Rattle.strategy_file.specs.Claims.{set_of}
-use Rattle.strategy_file.specs.Written.{written, start_bytes, man_bytes, row_bytes, state_bytes, table_bytes, set_bytes, flag_byte}
+use Rattle.strategy_file.specs.Written.{written, start_bytes, man_bytes, row_bytes, state_bytes, table_bytes, set_bytes}
 
 -- as many bytes for each number of a range
 range_length : (f : ℕ → List ℕ) (m : ℕ) → ((k : ℕ) → length (f k) ≡ m) → (a n : ℕ) → length (flat_map f (range_with_len a n)) ≡ n * m
@@ -58,3 +61,15 @@ unfolding written start_bytes
 written_length c men sets m s =
     let whole = length-append (start_bytes c.position c.moves) (flat_map set_bytes c.sets) in
     omega (arith, whole, m, s)
+
+-- one man more
+pub men_step : (p : Position) (n : ℕ) (m : Man) (total step whole : ℕ) → man_at p (n + 1) ≡ Some m → step ≡ length (man_bytes m) → total + length (flat_map man_bytes (drop n p.men)) ≡ whole
+    → (total + step) + length (flat_map man_bytes (drop (n + 1) p.men)) ≡ whole
+men_step p n m total step whole is size so_far =
+    let there : slice_get p.men n ≡ Some m = rw add-one at is in
+    let same = get_or_from_slice_get p.men n m m there in
+    let front : drop n p.men ≡ m ∷ drop (n + 1) p.men = rw add-one (drop-cons p.men n m (slice_get_within p.men n m there) ∙ ap (λ x. x ∷ drop (suc n) p.men) same) in
+    let cons = flat_map-cons man_bytes m (drop (n + 1) p.men) in
+    let both = length-append (man_bytes m) (flat_map man_bytes (drop (n + 1) p.men)) in
+    let e : length (flat_map man_bytes (drop n p.men)) ≡ length (man_bytes m) + length (flat_map man_bytes (drop (n + 1) p.men)) = ap (λ l. length (flat_map man_bytes l)) front ∙ ap length cons ∙ both in
+    omega (arith, e, size, so_far)

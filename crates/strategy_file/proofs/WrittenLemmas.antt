@@ -1,12 +1,12 @@
 -- What is written for a claim is read as that claim.
-use Rattle.std.proofs.Common.{◌≡◌, ℕ, zero, suc, ◌+◌, ◌≤◌, ◌<◌, List, [], ◌∷◌, ◌++◌, map, length, Result, Ok, refl, sym, ap, subst, ◌∙◌, append_assoc, arith, inl, inr, All}
+use Rattle.std.proofs.Common.{◌≡◌, ℕ, ◌+◌, ◌≤◌, List, [], ◌∷◌, ◌++◌, map, length, Ok, refl, sym, ap, subst, ◌∙◌, arith, inr, All}
 use Rattle.std.proofs.Common.{codes}
 use Rattle.std.specs.Int.{w8, w32, from_be_bytes}
 use Rattle.std.specs.List.{flat_map, AllByRecursion}
 use Rattle.std.proofs.lemmas.List.{append-nil}
 use Rattle.std.proofs.lemmas.List.Concat.{flat_map-cons}
-use Rattle.std.proofs.lemmas.List.Elements.{recursion_from_All}
-use Rattle.auto_core.specs.Automaton.{Automaton, IsAutomaton}
+use Rattle.std.proofs.lemmas.List.Elements.{All-head, All-tail, recursion_from_All}
+use Rattle.auto_core.specs.Automaton.{IsAutomaton}
 use Rattle.game_rules.specs.Game.{Position}
 use Rattle.game_rules.specs.declared.men.Side.TheVariants.{White}
 use Rattle.game_rules.specs.declared.men.Man.{Man}
@@ -14,11 +14,18 @@ use Rattle.rule_formula.specs.Mean.{mask_tracks}
 use Rattle.mate_plan.specs.Claim.{Claim, ClaimedSet}
 use Rattle.strategy_file.specs.declared.refusal.ByteWhy.TheVariants as why
 use Rattle.strategy_file.specs.Layout.{Layout, Give, bind, one, between, repeated, each, Ends}
-use Rattle.strategy_file.specs.Reading.{Left, taken}
-use Rattle.strategy_file.specs.Fitting.{FitsPlace, HasFile}
-use Rattle.strategy_file.specs.StrategyFile.{Chart, Charts, Start, chart_of, charts_of, charts_with, chart_with, chart_layout, charts_layout, start_layout, start_with, table_layout, table_of, man_layout, side_of, places_of, File, GoesOn}
+use Rattle.strategy_file.specs.Reading.{taken}
+use Rattle.std.specs.Option.{ForSome}
+use Rattle.game_rules.specs.Game.{place_square}
+use Rattle.game_rules.specs.declared.men.Place.{Place}
+use Rattle.game_rules.specs.declared.men.Place.TheVariants.{Gone, At}
+use Rattle.chess_game.specs.Near.{IsNarrow, IsNarrowMan}
+use Rattle.strategy_file.specs.Fitting.{HasFile, IsFormed}
+use Rattle.strategy_file.specs.Men.{Start, start_layout, start_with, man_layout}
+use Rattle.strategy_file.specs.Tables.{table_layout, table_of}
+use Rattle.strategy_file.specs.StrategyFile.{Chart, Charts, chart_of, charts_of, charts_with, chart_with, chart_layout, charts_layout, places_of, File, GoesOn}
 use Rattle.strategy_file.specs.Written.{written, start_bytes, man_bytes, set_bytes, table_bytes, side_byte}
-use Rattle.strategy_file.proofs.Again.{Again, give_again, field_again, then_again, as_again, repeated_again, byte_again, man_again, side_again, side_small}
+use Rattle.strategy_file.proofs.Again.{Again, FitsPlace, give_again, field_again, then_again, as_again, repeated_again, byte_again, man_again, side_again, side_small}
 use Rattle.strategy_file.proofs.ListedTables.{automaton_again}
 use Rattle.strategy_file.proofs.ReadLemmas.{came, ends_whole}
 
@@ -90,23 +97,32 @@ each_set f place value bytes (c ∷ cs) all =
     (ap (λ b. bytes c ++ b) (append-nil (flat_map bytes cs)) ∙ sym (flat_map-cons bytes c cs))
     (then_again (f (place c)) (λ y. bind (each (map place cs) f) (λ ys. Give (y ∷ ys))) (bytes c) (flat_map bytes cs ++ []) (value c) (value c ∷ map value cs) all.0 rest)
 
+fitting_man : (m : Man) → IsNarrowMan m → FitsPlace m.place
+fitting_man m h = fits m.place h
+  where
+    fits : (p : Place) → ForSome (place_square p) IsNarrow → FitsPlace p
+    fits Gone h = tt
+    fits (At x y) h = h (record { x = x; y = y }) refl
+
+fitting_men : (men : List Man) → AllByRecursion IsNarrowMan men → AllByRecursion (λ m. FitsPlace m.place) men
+fitting_men [] h = tt
+fitting_men (m ∷ men) h = (fitting_man m h.0, fitting_men men h.1)
+
 module _ (c : Claim) (h : HasFile c) where
   start : Start
   start = record { moves = c.moves; position = c.position }
 
-  charts : (cs : List ClaimedSet) → All (λ s. s.set.tracks ≡ mask_tracks c.position s.mask) cs → All (λ s. IsAutomaton s.set) cs → All (λ s. length s.set.accept ≤ 200000) cs
-      → AllByRecursion (λ s. Again (chart_layout c.position (s.ply, s.mask)) (set_bytes s) (chart_of s)) cs
-  charts [] tracks valid few = tt
-  charts (s ∷ cs) tracks valid few = (
-    chart_again c.position s (valid 0 s (omega arith)) (few 0 s (omega arith)) (tracks 0 s (omega arith)),
-    charts cs (λ i d k. tracks (suc i) d (omega (arith, k))) (λ i d k. valid (suc i) d (omega (arith, k))) (λ i d k. few (suc i) d (omega (arith, k))),
-  )
+  charts : (cs : List ClaimedSet) → All (IsFormed c.position) cs → AllByRecursion (λ s. Again (chart_layout c.position (s.ply, s.mask)) (set_bytes s) (chart_of s)) cs
+  charts [] formed = tt
+  charts (s ∷ cs) formed =
+      let here = All-head (IsFormed c.position) s cs formed in
+      (chart_again c.position s here.valid here.few here.tracks, charts cs (All-tail (IsFormed c.position) s cs formed))
 
   sets_again : Again (charts_layout start) (flat_map set_bytes c.sets) (charts_with start (map chart_of c.sets))
   unfolding charts_layout start
   sets_again =
-      let all = each_set (chart_layout c.position) (λ (s : ClaimedSet). (s.ply, s.mask)) chart_of set_bytes c.sets (charts c.sets h.tracks h.valid h.few) in
-      let placed : Again (each (places_of White c.position c.moves) (chart_layout c.position)) (flat_map set_bytes c.sets) (map chart_of c.sets) = subst (λ ps. Again (each ps (chart_layout c.position)) (flat_map set_bytes c.sets) (map chart_of c.sets)) h.sets all in
+      let all = each_set (chart_layout c.position) (λ (s : ClaimedSet). (s.ply, s.mask)) chart_of set_bytes c.sets (charts c.sets h.sets) in
+      let placed : Again (each (places_of White c.position c.moves) (chart_layout c.position)) (flat_map set_bytes c.sets) (map chart_of c.sets) = subst (λ ps. Again (each ps (chart_layout c.position)) (flat_map set_bytes c.sets) (map chart_of c.sets)) h.places all in
       as_again (charts_layout start) (flat_map set_bytes c.sets ++ []) (flat_map set_bytes c.sets) (charts_with start (map chart_of c.sets)) (append-nil (flat_map set_bytes c.sets))
       (then_again (each (places_of White c.position c.moves) (chart_layout c.position)) (λ sets. Give (charts_with start sets)) (flat_map set_bytes c.sets) [] (map chart_of c.sets) (charts_with start (map chart_of c.sets)) placed (give_again (charts_with start (map chart_of c.sets))))
 
@@ -115,7 +131,7 @@ module _ (c : Claim) (h : HasFile c) where
   written_is_read =
       let back = flat_map set_bytes c.sets in
       let at = 0 + length (start_bytes c.position c.moves) in
-      let first = start_again c.position c.moves h.moves h.least h.most (recursion_from_All (λ m. FitsPlace m.place) c.position.men h.places) in
+      let first = start_again c.position c.moves h.moves h.least h.most (fitting_men c.position.men (recursion_from_All IsNarrowMan c.position.men h.narrow)) in
       let made : Charts = charts_with start (map chart_of c.sets) in
       let same : made ≡ charts_of c = ap (λ w. record { position = c.position; winner = w; moves = c.moves; sets = map chart_of c.sets }) (sym h.white) in
       let sets : taken (charts_layout start) at back ≡ Ok (made, record { at = at + length back; bytes = [] }) = ap (taken (charts_layout start) at) (sym (append-nil back)) ∙ sets_again.read at [] in

@@ -1,8 +1,11 @@
 -- Claims in memory as data.
-use Rattle.std.specs.Prelude.{List, map}
+use Rattle.std.specs.Prelude.{List, Result, map}
 use Rattle.mate_plan.specs.Claim.{Claim, ClaimedSet}
 use Rattle.strategy_file.specs.declared.claim.Claim.{Claim as ClaimHere}
 use Rattle.strategy_file.specs.declared.claim.ClaimedSet.{ClaimedSet as SetHere}
+use Rattle.strategy_file.specs.declared.refusal.FileError.{FileError}
+use Rattle.strategy_file.specs.Layout.{Refusal}
+use Rattle.strategy_file.specs.Reading.{Tells}
 use Rattle.strategy_file.specs.StrategyFile.{Chart, Charts, chart_of, charts_of}
 
 abbrev pub set_of : SetHere → ClaimedSet
@@ -10,6 +13,10 @@ set_of s = record { ply = s.ply; mask = s.mask; set = s.set }
 
 abbrev pub claim_of : ClaimHere → Claim
 claim_of c = record { position = c.position; winner = c.winner; moves = c.moves; sets = map set_of c.sets.items }
+
+-- what a reader answers is the claim of what comes of the bytes, unless it has no memory
+abbrev pub TellsClaim : (Result Charts Refusal → Type 0) → Result ClaimHere FileError → Type 0
+TellsClaim Comes result = Tells (λ c. charts_of (claim_of c)) Comes result
 
 -- the tables of some sets
 abbrev pub charts_in : List SetHere → List Chart

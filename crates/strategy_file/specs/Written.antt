@@ -1,5 +1,5 @@
 -- The bytes that are written for a claim.
-use Rattle.std.specs.Prelude.{ℕ, ◌<◌, Bool, true, false, List, [], ◌∷◌, ◌++◌, length, codes, ℤ}
+use Rattle.std.specs.Prelude.{ℕ, Bool, true, false, List, [], ◌∷◌, ◌++◌, length, codes, ℤ}
 use Rattle.std.specs.Int.{w32, w64, to_be_bytes, cast_unsigned}
 use Rattle.std.specs.List.{flat_map, range_with_len}
 use Rattle.auto_core.specs.Automaton.{Automaton, first_state, next_state, is_final, width}
@@ -55,7 +55,9 @@ unfoldable pub state_bytes : Automaton → ℕ → List ℕ
 state_bytes a state = flag_byte (is_final a state) ∷ row_bytes (width a) (next_state a state)
 
 unfoldable pub table_bytes : Automaton → List ℕ
-table_bytes a = (to_be_bytes w32 (length a.accept) ++ row_bytes (width a) (first_state a)) ++ flat_map (state_bytes a) (range_with_len 0 (length a.accept))
+table_bytes a =
+    (to_be_bytes w32 (length a.accept) ++ row_bytes (width a) (first_state a))
+    ++ flat_map (state_bytes a) (range_with_len 0 (length a.accept))
 
 unfoldable pub set_bytes : ClaimedSet → List ℕ
 set_bytes c = (c.ply ∷ c.mask ∷ []) ++ table_bytes c.set

@@ -24,7 +24,7 @@ pub mean : (p : Position) → Sound p → length p.men ≤ 8 → RulesMean p
 mean p sound few = let game : IsGame p = record { few = few; kings = sound.kings } in rules_mean p game
 
 -- and some man is live in it
-some_point : (p : Position) → Sound p → point_of p.men ≡ None → ⊥
+pub some_point : (p : Position) → Sound p → point_of p.men ≡ None → ⊥
 some_point p sound =
     let king = sound.kings White in
     point_made p (any_at p (λ m. m.place ≢ Gone) king.number king.king king.is_man king.live)

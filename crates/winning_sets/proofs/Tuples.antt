@@ -15,7 +15,7 @@ use Rattle.rule_formula.specs.Trees.{tracks_of}
 use Rattle.rule_formula.proofs.FitLemmas.{placed_values, tuple_placed, values_of}
 use Rattle.rule_formula.proofs.LawTheorem.{squares_of}
 use Rattle.mate_plan.specs.Plan.{turn_at}
-use Rattle.winning_sets.proofs.KeptKeeps.{stock_placed}
+use Rattle.rule_formula.proofs.StockLemmas.{stock_placed}
 use Rattle.set_plan.proofs.Takings.{same_some}
 
 -- they are as many as its live men have variables

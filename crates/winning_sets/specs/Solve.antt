@@ -1,5 +1,5 @@
 -- What `solve` answers, and the sets that it hands out.
-use Rattle.std.specs.Prelude.{◌≡◌, ◌↔◌, ◌⊎◌, ℕ, zero, suc, ◌-◌, ◌<◌, ◌≤◌, ◌==◌, if◌then◌else◌, List, [], ◌∷◌, ◌++◌, length, Option, Some, None, IsSomeAnd, ℤ, option_and_then, slice_get}
+use Rattle.std.specs.Prelude.{◌≡◌, ◌↔◌, ◌⊎◌, ℕ, zero, suc, ◌-◌, ◌<◌, ◌≤◌, List, ◌++◌, length, Option, Some, None, IsSomeAnd, ℤ, option_and_then, slice_get}
 use Rattle.auto_core.specs.Automaton.{Automaton}
 use Rattle.auto_core.specs.Integers.{DecidesIntegers, IsAccepted}
 use Rattle.auto_core.specs.Reduced.{IsReduced}

@@ -1,9 +1,22 @@
 use Rattle.std.proofs.Common.{arith, ◌≡◌, ◌<◌, ◌+◌, ℕ, List, Vec, Global, length, map, ap, sym, ◌∙◌, subst}
 use Rattle.std.specs.List.{All}
+use Rattle.std.proofs.lemmas.List.{length-map}
 use Rattle.auto_reduce.specs.Partition.{IsSplit, IsListing}
 use Rattle.auto_reduce.proofs.Rounds.{count_le-size}
 use Rattle.auto_reduce.proofs.Splits.{signatures_few, signatures_some, moved_within, numbers_within, all_moved, IsSplit-moved, IsListing-moved, AreSettled-moved}
 use Rattle.auto_reduce.proofs.partition.split.Goals as goal
+
+pub move_states-requires-clause-states : goal.move_states-requires-clause-states
+move_states-requires-clause-states c = moved_within _ _ _ _ _ _ _ _ c.in_ok-moves.ensures.moves
+
+pub move_states-requires-clause-size : goal.move_states-requires-clause-size
+move_states-requires-clause-size c = let m = c.in_ok-moves.ensures.moves in m.size
+
+pub move_states-requires-clause-lists : goal.move_states-requires-clause-lists
+move_states-requires-clause-lists c =
+    let f : Vec ℕ Global → List ℕ = (λ list. list.items) in
+    let listing = c.in_ok-found.ensures.listing in
+    sym (length-map c.candidates.new.lists.items f) ∙ listing.size
 
 pub move_states-requires-clause-numbers : goal.move_states-requires-clause-numbers
 move_states-requires-clause-numbers c = numbers_within _ _ _ _ _ _ _ _ c.in_ok-moves.ensures.moves

@@ -1,26 +1,18 @@
-use Rattle.std.proofs.Common.{map, string_bytes, sym, ◌∙◌}
-use Rattle.std.proofs.lemmas.Slice.Eq.{bytes_eq-Decides}
-use Rattle.mate_desk.specs.Order.{Ordered}
-use Rattle.mate_desk.proofs.Words.{behind_decide, behind_least, behind_show}
+use Rattle.std.proofs.Common.{map, string_bytes, Some, None, refl, subst}
+use Rattle.mate_desk.specs.Order.{IsCommand, Ordered}
+use Rattle.mate_desk.proofs.Words.{behind}
 use Rattle.mate_desk.proofs.order.order_of.Goals as goal
 
-pub returns-then-eq-clause-ordered : goal.returns-then-eq-clause-ordered
-returns-then-eq-clause-ordered c =
-    let is = sym c.as_str.ensures.value ∙ (bytes_eq-Decides c.as_str.result.now _).0 (sym c.eq.ensures ∙ c.if-eq.true) in
-    let ordered : Ordered (map string_bytes c.as_slice.result.now) c.decide_order.result =
-    behind_decide string_bytes c.decide_order.result c.as_slice.result.now c.command-item.result c.in-len1-up.len_at_least c.command-item.is is c.decide_order.ensures.ordered in
+pub returns-in-Some-clause-ordered : goal.returns-in-Some-clause-ordered
+returns-in-Some-clause-ordered c =
+    let named = subst (λ word. IsCommand word (Some c.in-Some.command)) c.as_str.ensures.value c.in-Some.ensures in
+    let ordered : Ordered (map string_bytes c.as_slice.result.now) c.order_behind.result =
+    behind string_bytes c.order_behind.result (Some c.in-Some.command) c.as_slice.result.now c.word-item.result c.in-len1-up.len_at_least c.word-item.is named c.order_behind.ensures.ordered in
     rw (← c.as_slice.ensures.value) ordered
 
-pub returns-then-eq-2-clause-ordered : goal.returns-then-eq-2-clause-ordered
-returns-then-eq-2-clause-ordered c =
-    let is = sym c.as_str-in-len1-up.ensures.value ∙ (bytes_eq-Decides c.as_str-in-len1-up.result.now _).0 (sym c.eq-in-len1-up.ensures ∙ c.if-eq-2.true) in
-    let ordered : Ordered (map string_bytes c.as_slice.result.now) c.least_order.result =
-    behind_least string_bytes c.least_order.result c.as_slice.result.now c.command-item.result c.in-len1-up.len_at_least c.command-item.is is c.least_order.ensures.ordered in
-    rw (← c.as_slice.ensures.value) ordered
-
-pub returns-then-eq-3-clause-ordered : goal.returns-then-eq-3-clause-ordered
-returns-then-eq-3-clause-ordered c =
-    let is = sym c.as_str-in-len1-up-2.ensures.value ∙ (bytes_eq-Decides c.as_str-in-len1-up-2.result.now _).0 (sym c.eq-in-len1-up-2.ensures ∙ c.if-eq-3.true) in
-    let ordered : Ordered (map string_bytes c.as_slice.result.now) c.show_order.result =
-    behind_show string_bytes c.show_order.result c.as_slice.result.now c.command-item.result c.in-len1-up.len_at_least c.command-item.is is c.show_order.ensures.ordered in
+pub returns-in-None-clause-ordered : goal.returns-in-None-clause-ordered
+returns-in-None-clause-ordered c =
+    let named = subst (λ word. IsCommand word None) c.as_str.ensures.value c.in-None.ensures in
+    let ordered : Ordered (map string_bytes c.as_slice.result.now) _ =
+    behind string_bytes _ None c.as_slice.result.now c.word-item.result c.in-len1-up.len_at_least c.word-item.is named refl in
     rw (← c.as_slice.ensures.value) ordered

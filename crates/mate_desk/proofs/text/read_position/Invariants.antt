@@ -1,4 +1,4 @@
-use Rattle.std.proofs.Common.{◌≡◌, ◌+◌, ◌≤◌, IsTrue, None}
+use Rattle.std.proofs.Common.{◌≡◌, ◌+◌, ◌≤◌, None}
 use Rattle.mate_desk.proofs.TextSteps.{SoFar, IsFew, lines_left}
 use Rattle.mate_desk.proofs.text.read_position.Given as goal
 
@@ -10,7 +10,7 @@ invariant-loop-text g l =
       no_answer : l.text.answer ≡ None;
       number : l.number + lines_left l.text.stage ≡ 8;
       few : IsFew l.text.stage;
-      so_far : IsTrue source.told → SoFar l.text.stage l.number l.reader.pending (source.left l.fn.source) (source.left l.source);
+      so_far : SoFar l.text.stage l.number l.reader.pending (source.left l.fn.source) (source.left l.source);
       faults : source.faults l.fn.source ≤ source.faults l.source;
     }
 

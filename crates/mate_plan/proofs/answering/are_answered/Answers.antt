@@ -1,57 +1,23 @@
-use Rattle.std.proofs.Common.{◌≡◌, ℕ, Bool, List, sym, ◌∙◌, subst}
-use Rattle.std.specs.Prelude.{IfSome}
-use Rattle.std.proofs.lemmas.Result.{err_from_is_err_and}
-use Rattle.track_word.specs.declared.tracks.Var.{Var}
-use Rattle.lin_formula.specs.SetOf.{SetOf, as_set}
+use Rattle.std.proofs.Common.{Bool, refl, subst}
+use Rattle.lin_formula.specs.SetOf.{SetOf}
 use Rattle.rule_formula.specs.Fits.{masks_of}
-use Rattle.rule_formula.specs.Mean.{mask_tracks}
 use Rattle.set_plan.specs.Outcome.{Answers}
-use Rattle.set_plan.specs.Sets.{IsSetOn, lent, set_at}
-use Rattle.set_plan.specs.Unite.{is_within}
-use Rattle.set_plan.proofs.Composition.{Answers-later, Error-bind}
 use Rattle.mate_plan.specs.Levels.{level_of}
-use Rattle.mate_plan.specs.Plan.{Program, name, pre_items, union}
 use Rattle.mate_plan.specs.PlanOf.{rules_of}
-use Rattle.mate_plan.specs.declared.names.PartName.{PartName}
-use Rattle.mate_plan.proofs.LostParts.{lent-copied, on-copied}
+use Rattle.mate_plan.specs.Questions.{have_moves}
+use Rattle.mate_plan.specs.declared.names.Part.TheVariants as kind
+use Rattle.mate_plan.proofs.LevelLemmas.{name_is_found, set_is_found}
 use Rattle.mate_plan.proofs.answering.are_answered.Goals as goal
 
-pub lent-requires : goal.lent-requires
-lent-requires c = (mask_tracks c.args.p.now c.args.stage.mask, c.requires.source)
-
-pub is_within-requires-clause-one : goal.is_within-requires-clause-one
-is_within-requires-clause-one c =
-    let same : c.deref.result.now ≡ mask_tracks c.args.p.now c.args.stage.mask = c.deref.ensures.value ∙ c.in_ok-tracks.ensures in
-    let On : List Var → Type 0 = λ tracks. IfSome c.lent.result (λ a. IsSetOn tracks a.now) in
-    subst On (sym same) (c.lent.ensures.on (mask_tracks c.args.p.now c.args.stage.mask) c.requires.source)
-
-pub is_within-requires-clause-other : goal.is_within-requires-clause-other
-is_within-requires-clause-other c =
-    let same : c.deref.result.now ≡ mask_tracks c.args.p.now c.args.stage.mask = c.deref.ensures.value ∙ c.in_ok-tracks.ensures in
-    let On : List Var → Type 0 = λ tracks. IfSome c.as_ref.result (λ a. IsSetOn tracks a.now) in
-    subst On (sym same) (on-copied (mask_tracks c.args.p.now c.args.stage.mask) c.as_ref.result c.in_ok-answer.answer c.as_ref.ensures.value c.in_ok-answer.ensures.set)
-
-pub returns-in_err-answer-clause-answers : goal.returns-in_err-answer-clause-answers
-returns-in_err-answer-clause-answers c =
-    let p = err_from_is_err_and c.from_residual.result c.from_residual.ensures.1 in
-    let source = set_at c.args.sets.now c.args.source in
-    let answer : Program SetOf = union (rules_of c.args.p.now) c.args.stage.ply c.args.stage.mask c.args.moves (pre_items (rules_of c.args.p.now) c.args.stage.side c.args.stage.mask source (level_of c.args.sets.now (masks_of c.args.p.now) c.args.targets.now)) in
-    rw (p.1, p.2) (Error-bind answer (is_within (mask_tracks c.args.p.now c.args.stage.mask) (name c.args.stage.ply c.args.stage.mask c.args.rest) source) c.args.memo.now.budget c.in_err-answer.field-0.0 c.in_err-answer.ensures.answers)
+pub have_moves-requires-clause-source : goal.have_moves-requires-clause-source
+have_moves-requires-clause-source c =
+    let masks = masks_of c.args.p.now in
+    name_is_found c.args.p.now.men c.args.sets.now masks masks c.args.moves.now.from.now c.args.moves.now.stage.mask c.in_ok-name.name refl c.in_ok-name.ensures c.requires.from
 
 pub returns-clause-answers : goal.returns-clause-answers
 returns-clause-answers c =
-    let same : c.deref.result.now ≡ mask_tracks c.args.p.now c.args.stage.mask = c.deref.ensures.value ∙ c.in_ok-tracks.ensures in
-    let tracks = mask_tracks c.args.p.now c.args.stage.mask in
-    let part : PartName = name c.args.stage.ply c.args.stage.mask c.args.rest in
-    let source = set_at c.args.sets.now c.args.source in
-    let found = as_set c.in_ok-answer.answer in
-    let answer : Program SetOf = union (rules_of c.args.p.now) c.args.stage.ply c.args.stage.mask c.args.moves (pre_items (rules_of c.args.p.now) c.args.stage.side c.args.stage.mask source (level_of c.args.sets.now (masks_of c.args.p.now) c.args.targets.now)) in
-    let r = c.is_within.result in
-    let copied = lent-copied c.as_ref.result c.in_ok-answer.answer c.as_ref.ensures.value in
-    let By_tracks : List Var → Type 0 = λ ts. Answers (is_within ts c.part.result (lent c.lent.result) (lent c.as_ref.result)) c.budget.result (λ (b : Bool). b) r in
-    let By_part : PartName → Type 0 = λ n. Answers (is_within tracks n (lent c.lent.result) (lent c.as_ref.result)) c.budget.result (λ (b : Bool). b) r in
-    let By_one : SetOf → Type 0 = λ s. Answers (is_within tracks part s (lent c.as_ref.result)) c.budget.result (λ (b : Bool). b) r in
-    let By_other : SetOf → Type 0 = λ s. Answers (is_within tracks part source s) c.budget.result (λ (b : Bool). b) r in
-    let By_budget : ℕ → Type 0 = λ n. Answers (is_within tracks part source found) n (λ (b : Bool). b) r in
-    Answers-later answer (is_within tracks part source) c.args.memo.now.budget (λ (b : Bool). b) found c.in_ok-answer.ensures.answers r
-    (subst By_budget (c.budget.ensures.is ∙ c.in_ok-answer.ensures.budget) (subst By_other copied (subst By_one c.lent.ensures.set (subst By_part c.part.ensures (subst By_tracks same c.is_within.ensures.answers)))))
+    let masks = masks_of c.args.p.now in
+    let stage = c.args.moves.now.stage in
+    let is = set_is_found c.args.sets.now masks masks c.args.moves.now.from.now stage.mask c.in_ok-name.name refl c.in_ok-name.ensures in
+    let Of : SetOf → Type 0 = λ s. Answers (have_moves (rules_of c.args.p.now) stage.side stage.ply stage.mask kind.Answer kind.Left s (level_of c.args.sets.now masks c.args.moves.now.into.now)) c.args.memo.now.budget (λ (b : Bool). b) c.have_moves.result in
+    subst Of is c.have_moves.ensures.answers

@@ -1,7 +1,6 @@
-use Rattle.std.proofs.Common.{◌≡◌, ◌+◌, ◌<◌, length, drop, map, arith, ◌∙◌}
+use Rattle.std.proofs.Common.{◌<◌, length, arith, ◌∙◌}
 use Rattle.lin_formula.specs.TreeOf.{tree_of}
 use Rattle.set_plan.specs.Sets.{item_of, made_of}
-use Rattle.set_plan.specs.Unite as plan
 use Rattle.set_plan.proofs.Askings.{Ends-some, LeadsTo-empty}
 use Rattle.set_plan.proofs.Items.{drop_front, item-at}
 use Rattle.set_plan.proofs.asking.are_empty.Goals as goal

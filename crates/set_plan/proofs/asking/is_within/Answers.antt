@@ -1,8 +1,8 @@
-use Rattle.std.proofs.Common.{◌≡◌, Bool, true, false}
+use Rattle.std.proofs.Common.{true, false}
 use Rattle.std.proofs.lemmas.Result.{err_from_is_err_and}
 use Rattle.lin_formula.specs.SetOf.{SetOf, Table}
 use Rattle.set_plan.specs.Program.{Ask, Give, Within}
-use Rattle.set_plan.specs.Sets.{left_of, lent}
+use Rattle.set_plan.specs.Sets.{lent}
 use Rattle.set_plan.specs.Unite as plan
 use Rattle.set_plan.proofs.Composition.{Error-bind}
 use Rattle.set_plan.proofs.Withins.{within-nothing, within-told}

@@ -1,4 +1,4 @@
-use Rattle.std.proofs.Common.{◌≡◌, Some, None, ap, sym, ◌∙◌, inl, inr, subst, slice_get, ◌++◌}
+use Rattle.std.proofs.Common.{◌≡◌, ap, sym, subst, ◌++◌}
 use Rattle.std.proofs.Common.{map}
 use Rattle.std.proofs.lemmas.Bool.{OnFalse_at, OnFalse_from, OnTrue_at, OnTrue_from}
 use Rattle.lin_formula.specs.SetOf.{SetOf, IsEmpty, as_set, tables, Table, SomeEmpty, NoneEmpty}

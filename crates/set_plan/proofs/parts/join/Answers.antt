@@ -1,4 +1,3 @@
-use Rattle.lin_formula.specs.SetOf.{Table}
 use Rattle.set_plan.proofs.Makes.{Ends-join, Stops-join}
 use Rattle.set_plan.proofs.parts.join.Goals as goal
 

@@ -1,4 +1,4 @@
-use Rattle.lin_formula.specs.SetOf.{SetOf, as_set}
+use Rattle.lin_formula.specs.SetOf.{as_set}
 use Rattle.std.proofs.lemmas.Result.{err_from_is_err_and}
 use Rattle.set_plan.specs.Program.{Give}
 use Rattle.set_plan.specs.Sets.{made_of}

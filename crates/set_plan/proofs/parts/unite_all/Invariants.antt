@@ -1,5 +1,5 @@
 use Rattle.std.proofs.Common.{◌≡◌, ◌≤◌, ◌+◌, ◌*◌, map, drop, IfSome}
-use Rattle.lin_formula.specs.SetOf.{as_set, Nothing}
+use Rattle.lin_formula.specs.SetOf.{Nothing}
 use Rattle.lin_formula.specs.TreeOf.{tree_of}
 use Rattle.set_plan.specs.Sets.{IsSetOn, item_of, made_of}
 use Rattle.set_plan.specs.Unite as plan

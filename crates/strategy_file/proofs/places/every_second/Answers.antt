@@ -1,4 +1,4 @@
-use Rattle.std.proofs.Common.{ℕ, map, List}
+use Rattle.std.proofs.Common.{map}
 use Rattle.std.specs.List.{flat_map}
 use Rattle.mate_plan.specs.Claim.{every_second}
 use Rattle.strategy_file.proofs.PlaceLemmas.{next_ply}

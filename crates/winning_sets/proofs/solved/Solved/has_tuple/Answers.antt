@@ -2,7 +2,6 @@ use Rattle.std.proofs.Common.{◌≡◌, ◌↔◌, Option, Some, length, ap, su
 use Rattle.std.specs.Prelude.{IsSomeAnd, IsTrue}
 use Rattle.auto_core.specs.Automaton.{Automaton}
 use Rattle.auto_core.specs.Integers.{IsAccepted}
-use Rattle.mask_sets.specs.Sets.{set_at}
 use Rattle.rule_formula.specs.Fits.{mask_of}
 use Rattle.rule_formula.specs.Placed.{tuple_of}
 use Rattle.winning_sets.specs.Solve.{kept_at}

@@ -1,6 +1,0 @@
-use Rattle.std.proofs.Common.{ℕ, ◌<◌}
-use Rattle.chess_game.specs.Fault.{AreTwins}
-use Rattle.chess_game.proofs.faults.first_twins.Given as goal
-
-abbrev pub invariant-loop-i : goal.invariant-loop-i
-invariant-loop-i l = (j k : ℕ) → j < l.i → j < k → AreTwins l.board j k → ⊥

@@ -1,6 +1,0 @@
-use Rattle.std.proofs.Common.{ℕ, ◌<◌}
-use Rattle.chess_game.specs.Fault.{IsKingAt}
-use Rattle.chess_game.proofs.faults.king_after.Given as goal
-
-abbrev pub invariant-loop-i : goal.invariant-loop-i
-invariant-loop-i l = (k : ℕ) → l.number < k → k < l.i → IsKingAt l.board l.side k → ⊥

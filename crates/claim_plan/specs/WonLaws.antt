@@ -1,0 +1,69 @@
+-- What it means that a claim is won: laws, stated.
+use Rattle.std.specs.Prelude.{◌≡◌, ℕ, Some}
+use Rattle.auto_core.specs.Automaton.{Automaton}
+use Rattle.auto_core.specs.Integers.{DecidesIntegers}
+use Rattle.game_rules.specs.Game.{Lost, Position, Sound, Value, other}
+use Rattle.game_rules.specs.declared.men.Side.{Side}
+use Rattle.mate_plan.specs.Claim.{Claim, IsClaim, IsClaimed, IsLosersPly, claimed_at}
+use Rattle.mate_plan.specs.PlanOf.{last_ply}
+use Rattle.mate_plan.specs.Won.{IsWonBy, Won}
+use Rattle.winning_sets.specs.Kept.{Kept, moves_left}
+use Rattle.winning_sets.specs.Solve.{HasTuplesOf}
+
+-- a claimed set has as its tuples exactly the coordinates of the claimed positions of its ply with its live men
+abbrev pub SetsHaveClaimedTuples : Type 0
+SetsHaveClaimedTuples =
+    (c : Claim) (ply mask : ℕ) (a : Automaton) → IsClaim c → claimed_at c ply mask ≡ Some a
+    → HasTuplesOf (IsClaimed c ply) mask a
+
+-- positions of the plies of the loser: they are sound, with the loser to move
+pub record AreOfGame (winner : Side) (p : Position) (moves : ℕ) (C : ℕ → Position → Type 0) : Type 0 where
+  pub plies : (ply : ℕ) (q : Position) → C ply q → IsLosersPly winner p moves ply
+  pub turn : (ply : ℕ) (q : Position) → C ply q → q.turn ≡ other winner
+  pub sound : (ply : ℕ) (q : Position) → C ply q → Sound q
+
+-- in a won claim the claimed positions are such
+abbrev pub ClaimedAreOfGame : Type 0
+ClaimedAreOfGame = (c : Claim) → IsClaim c → Won c → AreOfGame c.winner c.position c.moves (IsClaimed c)
+
+-- how many of his moves the winner has left after so many plies of a claim
+abbrev pub left_at : Claim → ℕ → ℕ
+left_at c ply = moves_left (last_ply c.winner c.position.turn c.moves) ply
+
+-- in a won claim the loser is mated from each claimed position within the moves that the winner has left
+abbrev pub ClaimedIsLost : Type 0
+ClaimedIsLost =
+    (c : Claim) (ply : ℕ) (q : Position) → IsClaim c → Won c → IsClaimed c ply q
+    → Lost c.winner (left_at c ply) q
+
+-- in a won claim the winner mates in time
+abbrev pub WonIsValue : Type 0
+WonIsValue = (c : Claim) → IsClaim c → Won c → Value c.winner c.moves c.position
+
+-- the position is kept, and the ply is one of the loser
+pub record KeptByLoser (winner : Side) (p : Position) (moves ply : ℕ) (q : Position) : Type 0 where
+  pub losers : IsLosersPly winner p moves ply
+  pub kept : Kept winner p moves ply q
+
+-- what is kept there is sound, with the loser to move
+abbrev pub KeptAreOfGame : Type 0
+KeptAreOfGame = (winner : Side) (p : Position) (moves : ℕ) → Sound p → AreOfGame winner p moves (KeptByLoser winner p moves)
+
+-- where the winner mates in time, what is kept at the plies of the loser is won
+abbrev pub KeptIsWon : Type 0
+KeptIsWon =
+    (winner : Side) (p : Position) (moves : ℕ) → Sound p → Value winner moves p
+    → IsWonBy winner p (KeptByLoser winner p moves)
+
+-- the automaton decides a set of integers, and has as its tuples those of what is kept at the ply with the mask's men
+pub record IsKeptSet (c : Claim) (ply mask : ℕ) (a : Automaton) : Type 0 where
+  pub sign : DecidesIntegers a
+  pub kept : HasTuplesOf (Kept c.winner c.position c.moves ply) mask a
+
+-- each claimed set is the set of what is kept
+abbrev pub IsOfKept : Claim → Type 0
+IsOfKept c = (ply mask : ℕ) (a : Automaton) → claimed_at c ply mask ≡ Some a → IsKeptSet c ply mask a
+
+-- where the winner mates in time, a claim of the sets that are kept is won
+abbrev pub KeptClaimIsWon : Type 0
+KeptClaimIsWon = (c : Claim) → IsClaim c → IsOfKept c → Value c.winner c.moves c.position → Won c

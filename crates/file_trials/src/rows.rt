@@ -1,0 +1,219 @@
+//! The rows, each a call of `strategy_file`.
+
+ghost use Rattle.std.specs.Prelude.{IfOk};
+ghost use Rattle.strategy_file.specs.Claims.{claim_of};
+ghost use Rattle.strategy_file.specs.Fitting.{HasFile};
+
+use crate::errors::RowError;
+use crate::fields::{Fields, number};
+use crate::files::Files;
+use crate::outcome::write_outcome;
+use crate::spelling::spelled;
+use chess_game::Side;
+use std::alloc::Global;
+use strategy_file::{Claim, ClaimedSet, FileError, WriteFileError, read_file, write_file};
+use winning_sets::{SolveError, solve};
+
+/// `file NAME WORDS`: names a file.
+pub fn file_row(alloc: Global, files: &mut Files, fields: &mut Fields) -> Result<(), RowError> {
+    let name = fields.word()?;
+    let bytes = spelled(alloc, fields.rest())?;
+    files.add(alloc, name, bytes)
+}
+
+/// `read NAME`: what comes of a file.
+pub fn read_row(
+    alloc: Global,
+    files: &Files,
+    fields: &mut Fields,
+    out: &mut String,
+) -> Result<(), RowError> {
+    let bytes = files.bytes(fields.word()?)?;
+    fields.end()?;
+    write_outcome(out, &read_file(alloc, bytes))
+}
+
+/// `change NAME AT WORDS`: what comes of a file whose bytes from a place on are others.
+pub fn change_row(
+    alloc: Global,
+    files: &Files,
+    fields: &mut Fields,
+    out: &mut String,
+) -> Result<(), RowError> {
+    let bytes = files.bytes(fields.word()?)?;
+    let at = fields.usize()?;
+    let piece = spelled(alloc, fields.rest())?;
+    if at > bytes.len() || piece.len() > bytes.len() - at {
+        return Err(RowError::Number);
+    }
+    let mut changed = Vec::from_slice(alloc, &bytes[..at])?;
+    changed.extend_from_slice(piece.as_slice())?;
+    changed.extend_from_slice(&bytes[at + piece.len()..])?;
+    write_outcome(out, &read_file(alloc, changed.as_slice()))
+}
+
+/// `more NAME WORDS`: what comes of a file with more bytes behind it.
+pub fn more_row(
+    alloc: Global,
+    files: &Files,
+    fields: &mut Fields,
+    out: &mut String,
+) -> Result<(), RowError> {
+    let mut bytes = Vec::from_slice(alloc, files.bytes(fields.word()?)?)?;
+    let piece = spelled(alloc, fields.rest())?;
+    bytes.extend_from_slice(piece.as_slice())?;
+    write_outcome(out, &read_file(alloc, bytes.as_slice()))
+}
+
+/// Whether what comes of the first bytes of a file is that it is cut where they end.
+fn is_cut_at(alloc: Global, bytes: &[u8], length: usize) -> Result<bool, RowError> {
+    if length > bytes.len() {
+        return Err(RowError::Number);
+    }
+    match read_file(alloc, &bytes[..length]) {
+        Err(FileError::Cut { at }) => Ok(at == length as u64),
+        Err(FileError::Memory) => Err(RowError::Memory),
+        _ => Ok(false),
+    }
+}
+
+/// `cuts NAME FROM TO`: how many of the cuts to a length from FROM on and below TO are told as that cut.
+pub fn cuts_row(
+    alloc: Global,
+    files: &Files,
+    fields: &mut Fields,
+    out: &mut String,
+) -> Result<(), RowError> {
+    let bytes = files.bytes(fields.word()?)?;
+    let first = fields.u32()?;
+    let last = fields.u32()?;
+    fields.end()?;
+    let mut told = 0u32;
+    for length in first..last {
+        if is_cut_at(alloc, bytes, length as usize)? {
+            told = told.saturating_add(1);
+        }
+    }
+    write!(out, "{told}")?;
+    Ok(())
+}
+
+/// The claim of a file that is one.
+fn claim_in(alloc: Global, bytes: &[u8]) -> Result<Claim, RowError>
+    ensures { IfOk result (λ claim. HasFile (claim_of claim)) }
+{
+    match read_file(alloc, bytes) {
+        Ok(claim) => Ok(claim),
+        Err(_) => Err(RowError::Condition),
+    }
+}
+
+/// The set of a ply and a mask.
+fn set_of(claim: &Claim, ply: u8, mask: u8) -> Result<&ClaimedSet, RowError> {
+    for set in claim.sets.as_slice() {
+        if set.ply == ply && set.mask == mask {
+            return Ok(set);
+        }
+    }
+    Err(RowError::Number)
+}
+
+/// Whether the set accepts the word of these letters.
+fn accepts(set: &ClaimedSet, word: &[u32]) -> Result<bool, RowError> {
+    let letters = 1u32 << set.set.tracks().len();
+    if word.is_empty() || word.iter().any(|letter| *letter >= letters) {
+        return Err(RowError::Condition);
+    }
+    Ok(set.set.accepts(word))
+}
+
+/// The letters of a field, parted by commas.
+fn letters_of(alloc: Global, field: &str) -> Result<Vec<u32>, RowError> {
+    let mut word = Vec::new(alloc);
+    for part in field.split(',') {
+        word.push(number(part)?)?;
+    }
+    Ok(word)
+}
+
+/// `accepts NAME PLY MASK LETTERS`: whether a set of the claim that is read accepts a word.
+pub fn accepts_row(
+    alloc: Global,
+    files: &Files,
+    fields: &mut Fields,
+    out: &mut String,
+) -> Result<(), RowError> {
+    let bytes = files.bytes(fields.word()?)?;
+    let claim = claim_in(alloc, bytes)?;
+    let ply = fields.u8()?;
+    let mask = fields.u8()?;
+    let word = letters_of(alloc, fields.word()?)?;
+    fields.end()?;
+    let set = set_of(&claim, ply, mask)?;
+    out.push_str(if accepts(set, word.as_slice())? {
+        "yes"
+    } else {
+        "no"
+    })?;
+    Ok(())
+}
+
+/// The file of what is solved for the position and the number of moves of a claim.
+fn solved_file(alloc: Global, claim: &Claim) -> Result<Result<Vec<u8>, WriteFileError>, RowError>
+    requires { HasFile (claim_of claim.now) }
+{
+    match solve(alloc, &claim.position, Side::White, claim.moves, 50_000) {
+        Ok(solved) => Ok(write_file(alloc, &solved)),
+        Err(SolveError::Over(_)) => Err(RowError::Condition),
+        Err(SolveError::Memory) => Err(RowError::Memory),
+    }
+}
+
+/// `write NAME OTHER`: how many bytes are written for the position and the number of moves of a file, and whether they are those of the other.
+pub fn write_row(
+    alloc: Global,
+    files: &Files,
+    fields: &mut Fields,
+    out: &mut String,
+) -> Result<(), RowError> {
+    let claim = claim_in(alloc, files.bytes(fields.word()?)?)?;
+    let other = files.bytes(fields.word()?)?;
+    fields.end()?;
+    match solved_file(alloc, &claim)? {
+        Ok(bytes) => {
+            let word = if bytes.as_slice() == other {
+                "same"
+            } else {
+                "other"
+            };
+            write!(out, "{} {word}", bytes.len())?;
+        }
+        Err(WriteFileError::TooLarge { length }) => write!(out, "too large {length}")?,
+        Err(WriteFileError::Memory) => return Err(RowError::Memory),
+    }
+    Ok(())
+}
+
+/// `noise NAME STATES LETTERS SEED WORDS`: names the file of the words and behind them so many states, each a flag 0 and a row of entries that
+/// are drawn.
+pub fn noise_row(alloc: Global, files: &mut Files, fields: &mut Fields) -> Result<(), RowError> {
+    let name = fields.word()?;
+    let states = fields.u32()?;
+    let letters = fields.u32()?;
+    let mut seed = fields.u64()?;
+    let mut bytes = spelled(alloc, fields.rest())?;
+    if states == 0 {
+        return Err(RowError::Number);
+    }
+    for _ in 0..states {
+        bytes.push(0)?;
+        for _ in 0..letters {
+            seed = seed
+                .wrapping_mul(6364136223846793005)
+                .wrapping_add(1442695040888963407);
+            let entry = (seed >> 33) as u32 % states;
+            bytes.extend_from_slice(&entry.to_be_bytes())?;
+        }
+    }
+    files.add(alloc, name, bytes)
+}

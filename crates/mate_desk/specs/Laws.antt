@@ -1,0 +1,77 @@
+-- Laws of what a run does.
+use Rattle.std.specs.Prelude.{◌≡◌, ◌↔◌, ◌⊎◌, ℕ, List, ◌++◌, Option, Some, Ok, Err}
+use Rattle.desk_base.specs.Faults.{HasRisen}
+use Rattle.desk_base.specs.Lines.{lines_of}
+use Rattle.game_rules.specs.Game.{Position, Least, Sound, Value}
+use Rattle.game_rules.specs.declared.men.Side.TheVariants.{White}
+use Rattle.chess_text.specs.PositionText.{IsWritable, position_text}
+use Rattle.mate_desk.specs.Order.{Ordered}
+use Rattle.mate_desk.specs.Outcome.{Seen, WriteFailed}
+use Rattle.mate_desk.specs.Report.{TakesMemory, least_line, mate_line, no_mate_line}
+use Rattle.mate_desk.specs.Run.{RunEnds}
+use Rattle.mate_desk.specs.Text.{TextAt, whole}
+use Rattle.mate_desk.specs.declared.order.Order.{Order}
+use Rattle.mate_desk.specs.declared.order.Order.TheVariants as orders
+use Rattle.mate_desk.specs.declared.order.UsageWhy.{UsageWhy}
+use Rattle.mate_desk.specs.declared.status.Status.{Status}
+use Rattle.mate_desk.specs.declared.status.Status.TheVariants as is
+
+-- What `decide` wrote behind the bytes `old`: one of the two lines, the one exactly where White mates within n moves of his own, and the
+-- other exactly where he does not.
+pub record WritesVerdict (n : ℕ) (p : Position) (old new : List ℕ) : Type 0 where
+  pub one : (new ≡ old ++ mate_line n) ⊎ (new ≡ old ++ no_mate_line n)
+  pub mate : (new ≡ old ++ mate_line n) ↔ Value White n p
+  pub no_mate : (new ≡ old ++ no_mate_line n) ↔ (¬ Value White n p)
+
+-- What `least` wrote behind the bytes `old`: the least number of moves up to the limit within which White mates, or that there is none.
+pub record WritesLeast (limit : ℕ) (p : Position) (old new : List ℕ) : Type 0 where
+  pub found : Option ℕ
+  pub least : Least White p limit found
+  pub written : new ≡ old ++ least_line limit found
+
+-- A run that is done has the text of the sound position at the front of its source, and a sink that tells what was written.
+pub record HasRun (words : List (List ℕ)) (order : Order) (p : Position) (old new : Seen) (out : List ℕ) : Type 0 where
+  pub behind : List ℕ
+  pub ordered : Ordered words (Ok order)
+  pub writable : IsWritable p
+  pub sound : Sound p
+  pub input : old.left ≡ Some (position_text p ++ behind)
+  pub output : old.written ≡ Some out
+  pub ends : RunEnds words is.Done old new
+
+-- what a run of `decide` writes
+abbrev pub DecideWrites : Type 0
+DecideWrites =
+    (words : List (List ℕ)) (n budget : ℕ) (p : Position) (old new : Seen) (out : List ℕ)
+    → HasRun words (orders.Decide n budget) p old new out
+    → (all : List ℕ) × (new.written ≡ Some all) × WritesVerdict n p out all
+
+-- what a run of `least` writes
+abbrev pub LeastWrites : Type 0
+LeastWrites =
+    (words : List (List ℕ)) (limit budget : ℕ) (p : Position) (old new : Seen) (out : List ℕ)
+    → HasRun words (orders.Least limit budget) p old new out
+    → (all : List ℕ) × (new.written ≡ Some all) × WritesLeast limit p out all
+
+-- the text of a position, whatever comes behind it, is read as that position
+abbrev pub TextIsRead : Type 0
+TextIsRead = (p : Position) (rest : List ℕ) → IsWritable p → TextAt (position_text p ++ rest) (whole p (lines_of rest))
+
+-- the status is that of words that are no order exactly where they are none
+abbrev pub UsageExactly : Type 0
+UsageExactly =
+    (words : List (List ℕ)) (status : Status) (old new : Seen)
+    → RunEnds words status old new
+    → (status ≡ is.Usage) ↔ ((why : UsageWhy) × Ordered words (Err why))
+
+-- want of memory comes only after words that order something of a sound position that takes memory
+abbrev pub MemoryLast : Type 0
+MemoryLast =
+    (words : List (List ℕ)) (old new : Seen)
+    → RunEnds words is.Memory old new
+    → (order : Order) × (p : Position) × Ordered words (Ok order) × Sound p × TakesMemory order p
+
+-- the statuses of a fault come only where its count has risen
+pub record FaultsAreCounted : Type 0 where
+  pub read : (words : List (List ℕ)) (old new : Seen) → RunEnds words is.ReadFault old new → HasRisen old.read_faults new.read_faults
+  pub write : (words : List (List ℕ)) (old new : Seen) → RunEnds words is.WriteFault old new → WriteFailed old new

@@ -1,0 +1,35 @@
+-- How a run ends.
+use Rattle.std.specs.Prelude.{◌≡◌, ℕ, List, [], ◌++◌, IfSome}
+use Rattle.std.specs.Io.KnownBytes.{Consumes}
+use Rattle.desk_base.specs.Files.{Files}
+use Rattle.mate_desk.specs.Outcome.{Seen, Ends}
+use Rattle.mate_desk.specs.Report.{Reports, MayLackMemory}
+use Rattle.mate_desk.specs.Taken.{TakesText}
+use Rattle.mate_desk.specs.declared.status.Status.{Status}
+use Rattle.mate_desk.specs.declared.status.Status.TheVariants as is
+
+-- What a run was given: the bytes that it took of its source, those behind them, and the files. They are what the ports tell, where they
+-- tell.
+pub record Given (old new : Seen) : Type 0 where
+  pub taken : List ℕ
+  pub rest : List ℕ
+  pub files : Files
+  pub consumed : Consumes old.left new.left taken
+  pub left : IfSome new.left (λ told. told ≡ rest)
+  pub kept : IfSome old.files (λ told. told ≡ files)
+
+-- what a run with this status takes: nothing where the words are no order, and else the lines that it reads
+abbrev pub Takes : Status → List ℕ → Type 0
+Takes is.Usage taken = taken ≡ []
+Takes status taken = (pending : List ℕ) × TakesText taken pending
+
+-- The bytes that the report is on: all that were given, or, where the source has failed, those that were taken.
+abbrev pub reported_on : Status → (taken rest : List ℕ) → List ℕ
+reported_on is.ReadFault taken rest = taken
+reported_on status taken rest = taken ++ rest
+
+-- How a run of these words with this status ends.
+pub record RunEnds (words : List (List ℕ)) (status : Status) (old new : Seen) : Type 0 where
+  pub given : Given old new
+  pub takes : Takes status given.taken
+  pub ends : Ends status (λ report. Reports words (reported_on status given.taken given.rest) given.files report) (MayLackMemory words (given.taken ++ given.rest)) old new

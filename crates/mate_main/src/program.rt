@@ -1,0 +1,125 @@
+//! What the program does with its words and its ports.
+
+ghost use Rattle.std.specs.Prelude.{◌≡◌, MatchResult, Some, map, string_bytes};
+ghost use Rattle.std.specs.Process.{exit_status};
+ghost use Rattle.desk_base.specs.Faults.{HasRisen};
+ghost use Rattle.desk_base.specs.Files.{no_files};
+ghost use Rattle.mate_desk.specs.Codes.{code_of};
+ghost use Rattle.mate_desk.specs.Outcome.{Seen};
+ghost use Rattle.mate_desk.specs.Run.{RunEnds};
+ghost use Rattle.mate_main.specs.Program.{EndsWithoutWords, RefusesWords};
+
+use crate::standard::{StdSink, StdSource};
+use desk_base::{BareShelf, Shelf, Sink, Source, put_all};
+use mate_desk::{Status, UsageWhy, run};
+use std::alloc::Global;
+use std::process::ExitCode;
+
+/// Why there are no words.
+#[derive(Clone, Copy, Debug, PartialEq, Eq)]
+pub enum WordsError {
+    /// There is no memory for them.
+    Memory,
+    /// One of them is not text, or the system does not tell them.
+    Untold,
+}
+
+/// The body of the program: does what the words say. Where there are none, nothing is read.
+pub fn perform<S: Source, K: Sink, H: Shelf>(
+    words: Result<Vec<String>, WordsError>,
+    source: &mut S,
+    sink: &mut K,
+    shelf: &mut H,
+    alloc: Global,
+) -> Status
+    ensures { let old : Seen = record {
+      left = S.left source.old;
+      written = K.written sink.old;
+      files = H.files shelf.old;
+      read_faults = S.faults source.old;
+      write_faults = K.faults sink.old;
+    } in
+        let new : Seen = record {
+          left = S.left source.new;
+          written = K.written sink.new;
+          files = H.files shelf.new;
+          read_faults = S.faults source.new;
+          write_faults = K.faults sink.new;
+        } in
+        MatchResult words (λ given. RunEnds (map string_bytes given.items) result old new) (λ why. EndsWithoutWords why result old new) }
+{
+    match words {
+        Ok(words) => run(alloc, &words, source, sink, shelf),
+        Err(why) => refuse_words(why, sink),
+    }
+}
+
+/// Writes that there are no words, where memory is not what is wanting.
+fn refuse_words<K: Sink>(why: WordsError, sink: &mut K) -> Status
+    ensures { RefusesWords why result (K.written sink.old) (K.written sink.new) (HasRisen (K.faults sink.old) (K.faults sink.new)) }
+{
+    match why {
+        WordsError::Memory => Status::Memory,
+        WordsError::Untold => {
+            let _ = put_all(sink, UsageWhy::Unknown.line());
+            Status::Usage
+        }
+    }
+}
+
+/// What became of a run over bytes in memory.
+#[derive(Drop)]
+pub struct Ran<'a> {
+    pub status: Status,
+    /// What was not taken of the input.
+    pub rest: &'a [u8],
+    /// The output, behind what it had before.
+    pub output: Vec<u8>,
+    pub read_faults: u64,
+    pub write_faults: u64,
+}
+
+/// The body of the program over a slice as its input and a vector as its output, of which all bytes are told, with no files.
+pub fn perform_in_memory<'a>(
+    words: Result<Vec<String>, WordsError>,
+    input: &'a [u8],
+    output: Vec<u8>,
+    alloc: Global,
+) -> Ran<'a>
+    ensures { let old : Seen = record {
+      left = Some input.now;
+      written = Some output.items;
+      files = Some no_files;
+      read_faults = 0;
+      write_faults = 0;
+    } in
+        let new : Seen = record {
+          left = Some result.rest.now;
+          written = Some result.output.items;
+          files = Some no_files;
+          read_faults = result.read_faults;
+          write_faults = result.write_faults;
+        } in
+        MatchResult words (λ given. RunEnds (map string_bytes given.items) result.status old new) (λ why. EndsWithoutWords why result.status old new) }
+{
+    let mut source = StdSource::new(input);
+    let mut sink = StdSink::new(output);
+    let mut shelf = BareShelf::new();
+    let status = perform(words, &mut source, &mut sink, &mut shelf, alloc);
+    let (rest, read_faults) = source.into_parts();
+    let (output, write_faults) = sink.into_parts();
+    Ran {
+        status,
+        rest,
+        output,
+        read_faults,
+        write_faults,
+    }
+}
+
+/// The status that the process ends with.
+pub fn exit_of(status: Status) -> ExitCode
+    ensures { exit_status result ≡ code_of status }
+{
+    ExitCode::from(status.code())
+}

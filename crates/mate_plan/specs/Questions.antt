@@ -1,0 +1,46 @@
+-- Questions on the sets of a plan, each a part or some parts of its own.
+use Rattle.std.specs.Prelude.{ℕ, [], ◌∷◌, Bool, true}
+use Rattle.game_rules.specs.Game.{Position, other}
+use Rattle.game_rules.specs.declared.men.Side.{Side}
+use Rattle.lin_formula.specs.SetOf.{SetOf}
+use Rattle.set_plan.specs.Program.{Give, Ask, Empty, ◌>>=◌}
+use Rattle.set_plan.specs.Unite.{are_empty, is_within}
+use Rattle.mate_plan.specs.Plan.{Level, Program, Rules, bear_items, difference, name, pre_items, union}
+use Rattle.mate_plan.specs.Twins.{twin_items}
+use Rattle.mate_plan.specs.declared.names.Part.{Part}
+use Rattle.mate_plan.specs.declared.names.Part.TheVariants as kind
+
+-- whether no two live men of the mask stand on one square in the set
+abbrev pub are_apart : Position → ℕ → ℕ → SetOf → Program Bool
+are_apart p ply mask s = are_empty (name ply mask kind.Same) 1 (twin_items p mask s)
+
+module _ (rules : Rules) where
+  -- whether no man of the side bears on the other king in the set
+  abbrev pub are_safe : Side → ℕ → ℕ → SetOf → Program Bool
+  are_safe side ply mask s = are_empty (name ply mask kind.Guard) 1 (bear_items rules side mask s)
+
+  -- whether the side has a move into the level from each position of the set: the first part has the moves, the second what has none
+  abbrev pub have_moves : Side → ℕ → ℕ → Part → Part → SetOf → Level → Program Bool
+  have_moves side ply mask found missing s level = do
+    moves ← union rules ply mask found (pre_items rules side mask s level)
+    is_within (rules.tracks mask) (name ply mask missing) s moves
+
+  -- whether each position of one level with the mask has an answer into the other level
+  abbrev pub are_answered : Side → ℕ → Level → Level → ℕ → Program Bool
+  are_answered side ply from into mask = have_moves side ply mask kind.Answer kind.Left (from mask) into
+
+  -- where the side is not in check in the set
+  abbrev pub quiet_set : Side → ℕ → ℕ → SetOf → Program SetOf
+  quiet_set side ply mask s = do
+    check ← union rules ply mask kind.Check (bear_items rules (other side) mask s)
+    difference rules ply mask kind.Quiet s check
+
+  -- whether the side is in check, or has a reply into the level, in each position of the set
+  abbrev pub some_have_replies : Side → ℕ → ℕ → SetOf → Level → Program Bool
+  some_have_replies side ply mask s into = do
+    quiet ← quiet_set side ply mask s
+    have_moves side ply mask kind.Reply kind.Stale quiet into
+
+  -- the same of one level with the mask, with no step where it has no such position
+  abbrev pub have_replies : Side → ℕ → Level → Level → ℕ → Program Bool
+  have_replies side ply from into mask = Ask (Empty (from mask ∷ [])) (Give true) (some_have_replies side ply mask (from mask) into)

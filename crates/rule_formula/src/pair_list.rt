@@ -1,0 +1,70 @@
+//! The pairs of live men.
+
+ghost use Rattle.std.specs.Prelude.{◌≡◌, ◌↔◌, ◌≤◌, ◌++◌, Contains, IfOk, OnOk, length};
+ghost use Rattle.rule_formula.specs.declared.opt.Pair.{Pair};
+ghost use Rattle.rule_formula.specs.Pairs.{IsPairOf, is_later as later_in, later_to, man_pairs, pairs_of};
+
+use crate::opt::Pair;
+use crate::stock::is_live;
+use chess_game::Position;
+use smallvec::SmallVec;
+use std::alloc::{AllocError, Global};
+
+/// Pairs of men. Those of five men are ten, and those of eight men are 28.
+type Pairs = SmallVec<Pair, 16>;
+
+/// Whether the second man is live, and comes after the first.
+fn is_later(mask: u8, first: u8, second: u8) -> bool
+    requires low { 1 ≤ second }
+    requires high { second ≤ 8 }
+    ensures { result ≡ later_in mask first second }
+{
+    first < second && is_live(mask, second)
+}
+
+/// Adds a man with each later live one among the first so many.
+fn push_later(pairs: &mut Pairs, mask: u8, first: u8, count: u8) -> Result<(), AllocError>
+    requires { count ≤ 8 }
+    ensures { OnOk result (pairs.new.items ≡ pairs.old.items ++ later_to mask first count) }
+{
+    for n in 0..count {
+        let second = n + 1;
+        if is_later(mask, first, second) {
+            pairs.push(Pair { first, second })?;
+        }
+    }
+    Ok(())
+}
+
+/// Adds a man with each later live one among so many men, if he is live.
+fn push_man(pairs: &mut Pairs, mask: u8, first: u8, count: u8) -> Result<(), AllocError>
+    requires low { 1 ≤ first }
+    requires high { first ≤ count }
+    requires few { count ≤ 8 }
+    ensures { OnOk result (pairs.new.items ≡ pairs.old.items ++ man_pairs mask count first) }
+{
+    if !is_live(mask, first) {
+        return Ok(());
+    }
+    push_later(pairs, mask, first, count)
+}
+
+/// The list itself.
+fn list(alloc: Global, stock: &Position, mask: u8) -> Result<Pairs, AllocError>
+    ensures { IfOk result (λ all. all.items ≡ pairs_of stock.now.men mask) }
+{
+    let count = stock.count();
+    let mut pairs = SmallVec::new(alloc);
+    for n in 0..count {
+        push_man(&mut pairs, mask, n + 1, count)?;
+    }
+    Ok(pairs)
+}
+
+/// The pairs of men who are live in the mask: by the first man, then by the second, who comes later.
+pub fn pairs(alloc: Global, stock: &Position, mask: u8) -> Result<SmallVec<Pair, 16>, AllocError>
+    ensures list { IfOk result (λ all. all.items ≡ pairs_of stock.now.men mask) }
+    ensures exact { IfOk result (λ all. (w : Pair) → Contains all.items w ↔ IsPairOf stock.now.men mask w) }
+{
+    list(alloc, stock, mask)
+}

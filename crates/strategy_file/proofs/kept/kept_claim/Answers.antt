@@ -1,0 +1,19 @@
+use Rattle.std.proofs.Common.{◌≡◌, ◌∙◌}
+use Rattle.std.proofs.lemmas.List.Elements.{All-map}
+use Rattle.strategy_file.specs.Claims.{set_of}
+use Rattle.strategy_file.specs.SolvedFile.{IsOfKeptSet}
+use Rattle.strategy_file.specs.StrategyFile.{places_of}
+use Rattle.strategy_file.proofs.ReadLemmas.{places_twice}
+use Rattle.strategy_file.proofs.kept.kept_claim.Goals as goal
+
+pub returns-clause-claim : goal.returns-clause-claim
+returns-clause-claim c =
+    let all : c.as_slice.result.now ≡ places_of c.args.solved.now.winner c.args.solved.now.position c.args.solved.now.moves =
+    c.as_slice.ensures.value ∙ (rw (c.masks.ensures.masks, c.winner.ensures, c.moves.ensures, c.turn.ensures, c.position-position.ensures) at c.in_ok-places.ensures) in
+    record {
+      position = c.position-position.ensures;
+      winner = c.winner-2.ensures;
+      moves = c.moves-2.ensures;
+      places = places_twice c.in_ok-sets.sets.items ∙ c.in_ok-sets.ensures.places ∙ all;
+      sets = All-map (IsOfKeptSet c.args.solved.now) set_of c.in_ok-sets.sets.items c.in_ok-sets.ensures.sets;
+    }

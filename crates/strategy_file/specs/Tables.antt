@@ -1,0 +1,46 @@
+-- The table of a set, field by field.
+use Rattle.std.specs.Prelude.{ℕ, ◌-◌, ◌^◌, ◌==◌, List, map, Bool}
+use Rattle.std.specs.Int.{w8, w32}
+use Rattle.std.specs.List.{flat_map}
+use Rattle.auto_core.specs.Automaton.{Automaton}
+use Rattle.strategy_file.specs.declared.refusal.ByteWhy.TheVariants as why
+use Rattle.strategy_file.specs.Layout.{Layout, Give, ◌>>=◌, one, between, repeated}
+
+-- what a file has of an automaton: a state for each sign letter, and for each state a flag and a state for each letter
+pub record Table : Type 0 where
+  pub first : List ℕ
+  pub next : List ℕ
+  pub accept : List Bool
+
+abbrev pub table_of : Automaton → Table
+table_of a = record { first = a.first; next = a.next; accept = a.accept }
+
+-- one of so many states
+abbrev pub entry_layout : ℕ → Layout ℕ
+entry_layout states = one (between w32 0 (states - 1) why.Entry)
+
+-- a state for each letter, ascending
+unfoldable pub row_layout : ℕ → ℕ → Layout (List ℕ)
+row_layout tracks states = repeated (2 ^ tracks) (entry_layout states)
+
+-- a flag, and a row
+unfoldable pub state_layout : ℕ → ℕ → Layout (Bool × List ℕ)
+state_layout tracks states = do
+  flag ← one (between w8 0 1 why.Flag)
+  row ← row_layout tracks states
+  Give (flag == 1, row)
+
+abbrev pub table_with : List ℕ → List (Bool × List ℕ) → Table
+table_with first states = record { first = first; next = flat_map (λ s. s.1) states; accept = map (λ s. s.0) states }
+
+-- a first row, and so many states
+unfoldable pub rows_layout : ℕ → ℕ → Layout Table
+rows_layout tracks states = do
+  first ← row_layout tracks states
+  rows ← repeated states (state_layout tracks states)
+  Give (table_with first rows)
+
+unfoldable pub table_layout : ℕ → Layout Table
+table_layout tracks = do
+  states ← one (between w32 1 200000 why.States)
+  rows_layout tracks states

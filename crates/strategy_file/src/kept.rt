@@ -1,0 +1,71 @@
+//! The claim of a solved position.
+
+ghost use Rattle.std.specs.Prelude.{◌≡◌, All, IfOk, IsSome, OnOk, map};
+ghost use Rattle.winning_sets.specs.Solve.{IsSolution, kept_at};
+ghost use Rattle.strategy_file.specs.Claims.{claim_of, set_of};
+ghost use Rattle.strategy_file.specs.SolvedFile.{IsClaimOf, IsOfKeptSet};
+ghost use Rattle.strategy_file.specs.StrategyFile.{places_of};
+
+use crate::claim::{Claim, ClaimedSet};
+use crate::places::places;
+use auto_reduce::reduce;
+use std::alloc::{AllocError, Global};
+use winning_sets::Solved;
+
+/// The claim of the sets that are kept at the plies of the loser.
+pub(crate) fn kept_claim(alloc: Global, solved: &Solved) -> Result<Claim, AllocError>
+    ensures claim { IfOk result (λ c. IsClaimOf solved.now (claim_of c)) }
+    ensures valid { OnOk result (IsSolution solved.now) }
+{
+    let position = solved.position();
+    let places = places(
+        alloc,
+        solved.winner(),
+        position.turn(),
+        solved.moves(),
+        solved.masks(),
+    )?;
+    let sets = kept_sets(alloc, solved, places.as_slice())?;
+    Ok(Claim {
+        position,
+        winner: solved.winner(),
+        moves: solved.moves(),
+        sets,
+    })
+}
+
+/// The sets that are kept at these plies and masks.
+fn kept_sets(
+    alloc: Global,
+    solved: &Solved,
+    places: &[(u8, u8)],
+) -> Result<Vec<ClaimedSet>, AllocError>
+    requires valid { IsSolution solved.now }
+    requires all { places.now ≡ places_of solved.now.winner solved.now.position solved.now.moves }
+    ensures places { IfOk result (λ sets. map (λ s. (s.ply, s.mask)) sets.items ≡ places.now) }
+    ensures sets { IfOk result (λ sets. All (λ s. IsOfKeptSet solved.now (set_of s)) sets.items) }
+{
+    let mut sets = Vec::new(alloc);
+    for (ply, mask) in places {
+        let set = kept_set(alloc, solved, *ply, *mask)?;
+        sets.push(set)?;
+    }
+    Ok(sets)
+}
+
+/// The set that is kept at a ply and a mask. It is reduced again, since how the states of a solved position's sets
+/// are numbered is not said.
+fn kept_set(alloc: Global, solved: &Solved, ply: u8, mask: u8) -> Result<ClaimedSet, AllocError>
+    requires { IsSome (kept_at solved.now ply mask) }
+    ensures ply { IfOk result (λ s. s.ply ≡ ply) }
+    ensures mask { IfOk result (λ s. s.mask ≡ mask) }
+    ensures set { IfOk result (λ s. IsOfKeptSet solved.now (set_of s)) }
+{
+    match solved.set(ply, mask) {
+        Some(kept) => {
+            let set = reduce(alloc, kept)?;
+            Ok(ClaimedSet { ply, mask, set })
+        }
+        None => unreachable!(),
+    }
+}
