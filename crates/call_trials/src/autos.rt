@@ -1,6 +1,7 @@
 //! Rows that ask automata.
 
-ghost use Rattle.std.specs.Prelude.{◌≡◌, ◌≤◌, ◌<◌, ◌^◌, IsTrue, length};
+ghost use Rattle.std.specs.Prelude.{◌≡◌, ◌≤◌, ◌<◌, ◌^◌, [], IfOk, IsTrue, length};
+ghost use Rattle.track_word.specs.Tracks.{with_vars};
 ghost use Rattle.track_word.specs.Word.{IsWord};
 ghost use Rattle.auto_core.specs.Automaton.{IsAutomaton};
 
@@ -14,6 +15,7 @@ use crate::sets::NamedSets;
 use auto_core::Auto;
 use auto_reduce::{is_empty, same_set, sign_stable};
 use std::alloc::Global;
+use track_word::Var;
 
 /// `set NAME A`: names an automaton.
 pub fn set_row(alloc: Global, sets: &mut NamedSets, fields: &mut Fields) -> Result<(), RowError> {
@@ -111,6 +113,25 @@ pub fn empty_row(
     Ok(())
 }
 
+/// A copy of the automaton, where these are its variables.
+fn over(alloc: Global, a: &Auto, vars: &[Var]) -> Result<Auto, RowError>
+    ensures { IfOk result (λ r. r.tracks ≡ with_vars vars.now []) }
+{
+    let tracks = a.tracks();
+    if tracks.len() != vars.len() || tracks != vars {
+        return Err(RowError::Condition);
+    }
+    Ok(a.rename(alloc, vars)?)
+}
+
+/// Whether they accept the same words, where they are over the same variables.
+fn are_same(alloc: Global, a: &Auto, b: &Auto) -> Result<bool, RowError> {
+    let vars = a.tracks();
+    let one = over(alloc, a, vars)?;
+    let two = over(alloc, b, vars)?;
+    Ok(same_set(alloc, &one, &two)?)
+}
+
 /// `same A A`: whether two automata over the same variables accept the same words.
 pub fn same_row(
     alloc: Global,
@@ -121,10 +142,7 @@ pub fn same_row(
     let left = automaton(alloc, sets, fields)?;
     let right = automaton(alloc, sets, fields)?;
     fields.end()?;
-    if left.auto().tracks() != right.auto().tracks() {
-        return Err(RowError::Condition);
-    }
-    out.push_str(yes_or_no(same_set(alloc, left.auto(), right.auto())?))?;
+    out.push_str(yes_or_no(are_same(alloc, left.auto(), right.auto())?))?;
     Ok(())
 }
 

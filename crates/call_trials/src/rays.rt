@@ -2,7 +2,7 @@
 
 ghost use Rattle.std.specs.Prelude.{◌≡◌, ◌≤◌, IsTrue, length};
 ghost use Rattle.auto_core.specs.Integers.{DecidesIntegers};
-ghost use Rattle.auto_search.specs.Way.{IsSlope, IsWay};
+ghost use Rattle.auto_search.specs.Way.{IsWay};
 
 use crate::auto_text::automaton;
 use crate::errors::RowError;
@@ -19,23 +19,21 @@ const MOST_DISTANCE: u128 = 1 << 64;
 /// The greatest number of states that room is reserved for.
 const MOST_RESERVED: u32 = 400000;
 
-/// Whether a step may add so much.
-fn is_slope(slope: i8) -> bool
-    ensures { IsTrue result → IsSlope slope }
-{
-    slope >= -2 && slope <= 2
-}
-
 /// Whether a ray steps by at most two on each of two different tracks.
 pub fn is_way(way: &Way) -> bool
     ensures { IsTrue result → IsWay way.now }
 {
     let tracks = way.fixed.len();
-    (way.x_track as usize) < tracks
-        && (way.y_track as usize) < tracks
-        && way.x_track != way.y_track
-        && is_slope(way.dx)
-        && is_slope(way.dy)
+    if way.x_track as usize >= tracks || way.y_track as usize >= tracks {
+        return false;
+    }
+    if way.x_track == way.y_track {
+        return false;
+    }
+    if way.dx < -2 || way.dx > 2 {
+        return false;
+    }
+    way.dy >= -2 && way.dy <= 2
 }
 
 /// A ray as it is spelled: the tuple at distance 0, the places of the tracks that it moves on, and what a step adds there.
