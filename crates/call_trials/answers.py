@@ -1,12 +1,13 @@
 """Makes `stdout` from the answers that stand in the script beside its rows.
 
-Each row of `stdin` but one that names a position is followed by a line `#= ANSWER`, or by several. Nothing is run.
+Each row of `stdin` but one that names a position or an automaton is followed by a line `#= ANSWER`, or by several. Nothing is run.
 """
 
 import pathlib
 
 HERE = pathlib.Path(__file__).parent
 MARK = "#= "
+NAMING = ("position ", "set ")
 
 
 def main():
@@ -19,7 +20,7 @@ def main():
         elif line and not line.startswith("#"):
             if open_row:
                 raise SystemExit(f"line {open_row} has no answer")
-            open_row = None if line.startswith("position ") else number
+            open_row = None if line.startswith(NAMING) else number
     if open_row:
         raise SystemExit(f"line {open_row} has no answer")
     (HERE / "stdout").write_text("".join(answer + "\n" for answer in answers))

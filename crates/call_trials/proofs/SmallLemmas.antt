@@ -2,10 +2,13 @@
 use Rattle.std.proofs.Common.{◌≡◌, ℕ, zero, suc, ◌+◌, ◌<◌, ◌≤◌, ℤ, List, [], ◌∷◌, ◌++◌, length, map, slice_index, nat_lt, ◌==◌, if◌then◌else◌, arith, ap, sym, subst}
 use Rattle.std.specs.List.{All}
 use Rattle.std.proofs.lemmas.Bool.Decides.{nat_tests}
-use Rattle.std.proofs.lemmas.List.Elements.{All-nil, All-cons, All-tail, All-append, All-push}
+use Rattle.std.proofs.lemmas.List.Elements.{All-nil, All-cons, All-tail, All-append, All-push, All-contains}
 use Rattle.track_word.specs.declared.tracks.Var.{Var}
 use Rattle.track_word.specs.Tracks.{IsAscending, with_var, with_vars}
 use Rattle.track_word.specs.Atom.{term_vars}
+use Rattle.letter_diagram.specs.declared.diagrams.Shape.{Shape}
+use Rattle.letter_diagram.specs.Diagram.{map_at}
+use Rattle.letter_diagram.specs.Leaves.{AreLeaves}
 use Rattle.auto_core.specs.Automaton.{Automaton}
 use Rattle.lin_formula.specs.Tree.{Tree, Lin, Value, Among, Not, And, Or, Ex, IsWellMade, vars_of, memberships}
 use Rattle.lin_formula.proofs.FreeVars.{if_cases}
@@ -127,3 +130,6 @@ all_sets sets a all reduced integers = All-push IsSet sets a all (record { reduc
 
 pub no_set : All IsSet []
 no_set = All-nil IsSet
+
+pub leaves_below : (shapes : List Shape) (node : ℕ) (values : List ℕ) (bound : ℕ) → AreLeaves shapes node values → All (λ v. v < bound) values → (letter : ℕ) → map_at shapes node letter < bound
+leaves_below shapes node values bound leaves below letter = All-contains (λ v. v < bound) values (map_at shapes node letter) below (leaves.all letter)

@@ -128,7 +128,7 @@ pub fn soundness_row(
     Ok(())
 }
 
-fn illegal_words(why: Illegal) -> &'static str {
+pub fn illegal_words(why: Illegal) -> &'static str {
     match why {
         Illegal::NoSuchMan => "no such man",
         Illegal::NotYours => "not yours",
@@ -209,7 +209,7 @@ pub fn ray_row(fields: &mut Fields, out: &mut String) -> Result<(), RowError> {
 }
 
 /// A frame: `whole`, or its least and greatest x and y.
-fn frame_of(alloc: Global, field: &str) -> Result<Frame, RowError> {
+pub fn frame_of(alloc: Global, field: &str) -> Result<Frame, RowError> {
     if field == "whole" {
         return Ok(Frame::whole());
     }

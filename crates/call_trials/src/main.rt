@@ -2,28 +2,36 @@
 //! writes what it answers. The rows are calls that no command of the program `mate` makes. `docs/CALLS.md` says how rows are written.
 #![tactic(auto)]
 
+mod auto_text;
+mod autos;
+mod built;
 mod compiled;
+mod diagrams;
 mod errors;
 mod fields;
 mod formula_text;
 mod formulas;
 mod games;
 mod ports;
+mod random;
+mod rays;
 mod row;
+mod sessions;
+mod sets;
 mod small;
+mod solving;
 
 use errors::RowError;
-use games::Stocks;
-use row::answer;
+use row::{Names, answer};
 use std::alloc::Global;
 use std::io;
 use std::io::{BufRead, BufReader, BufWriter, Write};
 use std::process::ExitCode;
 
 /// The text of an answer: what the call answers, or `over` where a step that the row asks for is over its budget.
-fn text_of(alloc: Global, stocks: &mut Stocks, row: &str) -> Result<String, RowError> {
+fn text_of(alloc: Global, names: &mut Names, row: &str) -> Result<String, RowError> {
     let mut out = String::new(alloc);
-    match answer(alloc, stocks, row, &mut out) {
+    match answer(alloc, names, row, &mut out) {
         Ok(()) => {}
         Err(RowError::Over) => out.push_str("over")?,
         Err(error) => return Err(error),
@@ -38,7 +46,7 @@ fn is_row(line: &str) -> bool {
 
 /// Writes the answers of all rows, and for a row that can't be read its line's number and the reason. Says whether each was read.
 fn answer_all(rt: &HostRuntime) -> io::Result<bool> {
-    let mut stocks = Stocks::new(rt.alloc());
+    let mut names = Names::new(rt.alloc());
     let mut writer = BufWriter::new(rt.alloc(), io::writer(rt))?;
     let mut all_read = true;
     let mut number = 0u64;
@@ -48,7 +56,7 @@ fn answer_all(rt: &HostRuntime) -> io::Result<bool> {
         if !is_row(line.as_str()) {
             continue;
         }
-        match text_of(rt.alloc(), &mut stocks, line.as_str()) {
+        match text_of(rt.alloc(), &mut names, line.as_str()) {
             Ok(text) if text.is_empty() => {}
             Ok(text) => writeln!(writer, "{text}")?,
             Err(error) => {

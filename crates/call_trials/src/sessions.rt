@@ -1,0 +1,142 @@
+//! Rows that play games: the winner by a session, and the other side by moves that stand in the row.
+
+ghost use Rattle.std.specs.Prelude.{◌≤◌, ◌≡◌};
+
+use crate::errors::RowError;
+use crate::fields::{Fields, yes_or_no};
+use crate::games::{Stocks, frame_of, illegal_words, side_of};
+use chess_game::{Frame, Move, Position};
+use chess_text::position_bytes;
+use std::alloc::Global;
+use white_player::{Session, TooWide};
+use winning_sets::{SolveError, Solved, solve};
+
+/// A solved position, where the budget sufficed.
+fn solved(alloc: Global, stocks: &Stocks, fields: &mut Fields) -> Result<Solved, RowError> {
+    let position = stocks.sound(fields.word()?)?;
+    let winner = side_of(fields.word()?)?;
+    let moves = fields.u8()?;
+    let budget = fields.budget()?;
+    let _ = position.count();
+    if moves > 20 {
+        return Err(RowError::Condition);
+    }
+    match solve(alloc, &position, winner, moves, budget) {
+        Ok(solved) => Ok(solved),
+        Err(SolveError::Over(_)) => Err(RowError::Over),
+        Err(SolveError::Memory) => Err(RowError::Memory),
+    }
+}
+
+/// A session of a position that is won.
+fn session_of(alloc: Global, solved: Solved, frame: Frame) -> Result<Session, RowError> {
+    if !solved.verdict() {
+        return Err(RowError::Condition);
+    }
+    match Session::begin(alloc, solved, frame) {
+        Ok(session) => Ok(session),
+        Err(_) => Err(RowError::Memory),
+    }
+}
+
+/// `win`: the winner's move, its ray and distance, and whether it mates; or `wide`.
+fn win_step(session: &mut Session, out: &mut String) -> Result<(), RowError> {
+    if session.position().turn() != session.winner() {
+        return Err(RowError::Condition);
+    }
+    match session.win_move() {
+        Ok(played) => {
+            let Move { man, x, y } = played.mv;
+            write!(
+                out,
+                "{man} {x} {y} ray {} distance {}",
+                played.ray, played.distance
+            )?;
+            write!(out, " mated {}", yes_or_no(played.mated))?;
+        }
+        Err(TooWide) => out.push_str("wide")?,
+    }
+    Ok(())
+}
+
+/// `other M X Y`: whether the other side's move is made, or why not.
+fn other_step(
+    session: &mut Session,
+    fields: &mut Fields,
+    out: &mut String,
+) -> Result<(), RowError> {
+    let man = fields.u8()?;
+    let x = fields.i64()?;
+    let y = fields.i64()?;
+    if session.position().turn() != session.winner().other() {
+        return Err(RowError::Condition);
+    }
+    match session.other_move(Move { man, x, y }) {
+        Ok(()) => out.push_str("made")?,
+        Err(why) => out.push_str(illegal_words(why))?,
+    }
+    Ok(())
+}
+
+/// Writes the lines of a position's text without the first and the last, parted by commas.
+fn write_position(alloc: Global, position: &Position, out: &mut String) -> Result<(), RowError> {
+    if position.count() > 5 {
+        return Err(RowError::Condition);
+    }
+    let text = position_bytes(alloc, position)?;
+    let mut lines = 0u8;
+    for byte in text.as_slice() {
+        if *byte == b'\n' {
+            lines = lines.saturating_add(1);
+            if lines > 1 && lines < 2 + position.count() {
+                out.push(',')?;
+            }
+        } else if lines > 0 && lines < 2 + position.count() {
+            out.push(*byte as char)?;
+        }
+    }
+    Ok(())
+}
+
+fn step(
+    alloc: Global,
+    session: &mut Session,
+    fields: &mut Fields,
+    out: &mut String,
+) -> Result<(), RowError> {
+    match fields.word()? {
+        "win" => win_step(session, out),
+        "other" => other_step(session, fields, out),
+        "left" => {
+            write!(out, "{}", session.moves_left())?;
+            Ok(())
+        }
+        "over" => {
+            out.push_str(yes_or_no(session.over()))?;
+            Ok(())
+        }
+        "position" => write_position(alloc, &session.position(), out),
+        _ => Err(RowError::Word),
+    }
+}
+
+/// `game NAME WINNER MOVES BUDGET FRAME STEP/STEP ..`: what the steps answer, parted by `/`.
+pub fn game_row(
+    alloc: Global,
+    stocks: &Stocks,
+    fields: &mut Fields,
+    out: &mut String,
+) -> Result<(), RowError> {
+    let solved = solved(alloc, stocks, fields)?;
+    let frame = frame_of(alloc, fields.word()?)?;
+    let mut session = session_of(alloc, solved, frame)?;
+    for text in fields.rest().split('/') {
+        if !out.is_empty() {
+            out.push('/')?;
+        }
+        let mut fields = Fields::new(text);
+        step(alloc, &mut session, &mut fields, out)?;
+        fields.end()?;
+    }
+    Ok(())
+}

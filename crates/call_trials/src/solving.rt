@@ -1,0 +1,151 @@
+//! Rows that solve positions for one number of moves after another, and ask for the sets.
+
+ghost use Rattle.std.specs.Prelude.{◌≤◌};
+
+use crate::compiled::is_member;
+use crate::errors::RowError;
+use crate::fields::{Fields, numbers, yes_or_no};
+use crate::games::{Stocks, side_letter, side_of};
+use auto_core::Auto;
+use chess_game::Position;
+use std::alloc::Global;
+use winning_sets::{SolveError, Solved, Solver};
+
+/// A solver of a row, and what it has solved last.
+#[derive(Drop)]
+struct Bench {
+    solver: Solver,
+    last: Option<Solved>,
+}
+
+impl Bench {
+    fn solved(&self) -> Result<&Solved, RowError> {
+        self.last.as_ref().ok_or(RowError::Condition)
+    }
+}
+
+/// `solve MOVES`: whether the winner mates within so many moves.
+fn solve_step(bench: &mut Bench, fields: &mut Fields, out: &mut String) -> Result<(), RowError> {
+    let moves = fields.u8()?;
+    if moves > 20 {
+        return Err(RowError::Condition);
+    }
+    match bench.solver.solve(moves) {
+        Ok(solved) => {
+            out.push_str(if solved.verdict() { "mate" } else { "no mate" })?;
+            bench.last = Some(solved);
+            Ok(())
+        }
+        Err(SolveError::Over(_)) => Err(RowError::Over),
+        Err(SolveError::Memory) => Err(RowError::Memory),
+    }
+}
+
+/// Writes whether a tuple is in a set, or that there is none.
+fn write_is_in(
+    alloc: Global,
+    set: Option<&Auto>,
+    tuple: &str,
+    out: &mut String,
+) -> Result<(), RowError> {
+    match set {
+        None => out.push_str("none")?,
+        Some(set) => {
+            let values = numbers::<i64>(alloc, tuple)?;
+            out.push_str(yes_or_no(is_member(alloc, set, values.as_slice())?))?;
+        }
+    }
+    Ok(())
+}
+
+/// Writes the masks.
+fn write_masks(out: &mut String, masks: &[u8]) -> Result<(), RowError> {
+    for (place, mask) in masks.iter().enumerate() {
+        if place > 0 {
+            out.push(',')?;
+        }
+        write!(out, "{mask}")?;
+    }
+    Ok(())
+}
+
+/// What the step asks the solved position for: `masks`, `most`, `last`, `moves`, `winner`.
+fn write_solved(solved: &Solved, word: &str, out: &mut String) -> Result<(), RowError> {
+    match word {
+        "masks" => write_masks(out, solved.masks())?,
+        "most" => write!(out, "{}", solved.most_states())?,
+        "last" => write!(out, "{}", solved.last_ply())?,
+        "moves" => write!(out, "{}", solved.moves())?,
+        "winner" => out.push(side_letter(solved.winner()))?,
+        _ => return Err(RowError::Word),
+    }
+    Ok(())
+}
+
+/// A question, and the positions that it may name.
+fn step(
+    alloc: Global,
+    stocks: &Stocks,
+    bench: &mut Bench,
+    fields: &mut Fields,
+    out: &mut String,
+) -> Result<(), RowError> {
+    match fields.word()? {
+        "solve" => solve_step(bench, fields, out),
+        "plies" => {
+            write!(out, "{}", bench.solver.plies())?;
+            Ok(())
+        }
+        "reach" => {
+            let ply = fields.u8()?;
+            let mask = fields.u8()?;
+            write_is_in(alloc, bench.solver.reach(ply, mask), fields.word()?, out)
+        }
+        "reached" => {
+            let ply = fields.u8()?;
+            let mask = fields.u8()?;
+            write_is_in(alloc, bench.solved()?.reach(ply, mask), fields.word()?, out)
+        }
+        "kept" => {
+            let ply = fields.u8()?;
+            let mask = fields.u8()?;
+            write_is_in(alloc, bench.solved()?.set(ply, mask), fields.word()?, out)
+        }
+        "keeps" => {
+            let ply = fields.u8()?;
+            let position = stocks.position(fields.word()?)?;
+            out.push_str(yes_or_no(bench.solved()?.keeps(ply, &position)))?;
+            Ok(())
+        }
+        word => write_solved(bench.solved()?, word, out),
+    }
+}
+
+/// A solver of a sound position.
+fn solver_of(alloc: Global, stocks: &Stocks, fields: &mut Fields) -> Result<Solver, RowError> {
+    let position = stocks.sound(fields.word()?)?;
+    let winner = side_of(fields.word()?)?;
+    let budget = fields.budget()?;
+    let _ = position.count();
+    Ok(Solver::new(alloc, &position, winner, budget))
+}
+
+/// `solver NAME WINNER BUDGET STEP/STEP ..`: what the steps answer.
+pub fn solver_row(
+    alloc: Global,
+    stocks: &Stocks,
+    fields: &mut Fields,
+    out: &mut String,
+) -> Result<(), RowError> {
+    let solver = solver_of(alloc, stocks, fields)?;
+    let mut bench = Bench { solver, last: None };
+    for text in fields.rest().split('/') {
+        if !out.is_empty() {
+            out.push(' ')?;
+        }
+        let mut fields = Fields::new(text);
+        step(alloc, stocks, &mut bench, &mut fields, out)?;
+        fields.end()?;
+    }
+    Ok(())
+}
