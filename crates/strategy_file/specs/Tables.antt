@@ -1,7 +1,8 @@
 -- The table of a set, field by field.
-use Rattle.std.specs.Prelude.{ℕ, ◌-◌, ◌^◌, ◌==◌, List, map, Bool}
+use Rattle.std.specs.Prelude.{ℕ, ◌-◌, ◌^◌, ◌==◌, List, [], map, Bool}
 use Rattle.std.specs.Int.{w8, w32}
 use Rattle.std.specs.List.{flat_map}
+use Rattle.track_word.specs.declared.tracks.Var.{Var}
 use Rattle.auto_core.specs.Automaton.{Automaton}
 use Rattle.strategy_file.specs.declared.refusal.ByteWhy.TheVariants as why
 use Rattle.strategy_file.specs.Layout.{Layout, Give, ◌>>=◌, one, between, repeated}
@@ -14,6 +15,11 @@ pub record Table : Type 0 where
 
 abbrev pub table_of : Automaton → Table
 table_of a = record { first = a.first; next = a.next; accept = a.accept }
+
+-- the automaton that has these tables, and no nodes
+abbrev pub automaton_of : List Var → List ℕ → List ℕ → List Bool → Automaton
+automaton_of tracks first next accept =
+    record { tracks = tracks; first = first; next = next; accept = accept; shapes = []; first_node = 0; row_nodes = [] }
 
 -- one of so many states
 abbrev pub entry_layout : ℕ → Layout ℕ

@@ -2,19 +2,37 @@
 
 ghost use Rattle.std.specs.Prelude.{◌≡◌, All, IfOk, IsSome, OnOk, map};
 ghost use Rattle.winning_sets.specs.Solve.{IsSolution, kept_at};
-ghost use Rattle.strategy_file.specs.Claims.{claim_of, set_of};
+ghost use Rattle.strategy_file.specs.KeptClaims.{as_claim, as_set};
 ghost use Rattle.strategy_file.specs.SolvedFile.{IsClaimOf, IsOfKeptSet};
 ghost use Rattle.strategy_file.specs.StrategyFile.{places_of};
 
-use crate::claim::{Claim, ClaimedSet};
 use crate::places::places;
+use auto_core::Auto;
 use auto_reduce::reduce;
+use chess_game::{Position, Side};
 use std::alloc::{AllocError, Global};
 use winning_sets::Solved;
 
+/// The set that is kept at a ply and a mask. Its rows share what they have in common: as a table it could be larger than any file.
+#[derive(Drop)]
+pub(crate) struct KeptSet {
+    pub(crate) ply: u8,
+    pub(crate) mask: u8,
+    pub(crate) set: Auto,
+}
+
+/// The claim of a solved position.
+#[derive(Drop)]
+pub(crate) struct KeptClaim {
+    pub(crate) position: Position,
+    pub(crate) winner: Side,
+    pub(crate) moves: u8,
+    pub(crate) sets: Vec<KeptSet>,
+}
+
 /// The claim of the sets that are kept at the plies of the loser.
-pub(crate) fn kept_claim(alloc: Global, solved: &Solved) -> Result<Claim, AllocError>
-    ensures claim { IfOk result (λ c. IsClaimOf solved.now (claim_of c)) }
+pub(crate) fn kept_claim(alloc: Global, solved: &Solved) -> Result<KeptClaim, AllocError>
+    ensures claim { IfOk result (λ c. IsClaimOf solved.now (as_claim c)) }
     ensures valid { OnOk result (IsSolution solved.now) }
 {
     let position = solved.position();
@@ -26,7 +44,7 @@ pub(crate) fn kept_claim(alloc: Global, solved: &Solved) -> Result<Claim, AllocE
         solved.masks(),
     )?;
     let sets = kept_sets(alloc, solved, places.as_slice())?;
-    Ok(Claim {
+    Ok(KeptClaim {
         position,
         winner: solved.winner(),
         moves: solved.moves(),
@@ -39,11 +57,11 @@ fn kept_sets(
     alloc: Global,
     solved: &Solved,
     places: &[(u8, u8)],
-) -> Result<Vec<ClaimedSet>, AllocError>
+) -> Result<Vec<KeptSet>, AllocError>
     requires valid { IsSolution solved.now }
     requires all { places.now ≡ places_of solved.now.winner solved.now.position solved.now.moves }
     ensures places { IfOk result (λ sets. map (λ s. (s.ply, s.mask)) sets.items ≡ places.now) }
-    ensures sets { IfOk result (λ sets. All (λ s. IsOfKeptSet solved.now (set_of s)) sets.items) }
+    ensures sets { IfOk result (λ sets. All (λ s. IsOfKeptSet solved.now (as_set s)) sets.items) }
 {
     let mut sets = Vec::new(alloc);
     for (ply, mask) in places {
@@ -55,16 +73,16 @@ fn kept_sets(
 
 /// The set that is kept at a ply and a mask. It is reduced again, since how the states of a solved position's sets
 /// are numbered is not said.
-fn kept_set(alloc: Global, solved: &Solved, ply: u8, mask: u8) -> Result<ClaimedSet, AllocError>
+fn kept_set(alloc: Global, solved: &Solved, ply: u8, mask: u8) -> Result<KeptSet, AllocError>
     requires { IsSome (kept_at solved.now ply mask) }
     ensures ply { IfOk result (λ s. s.ply ≡ ply) }
     ensures mask { IfOk result (λ s. s.mask ≡ mask) }
-    ensures set { IfOk result (λ s. IsOfKeptSet solved.now (set_of s)) }
+    ensures set { IfOk result (λ s. IsOfKeptSet solved.now (as_set s)) }
 {
     match solved.set(ply, mask) {
         Some(kept) => {
             let set = reduce(alloc, kept)?;
-            Ok(ClaimedSet { ply, mask, set })
+            Ok(KeptSet { ply, mask, set })
         }
         None => unreachable!(),
     }

@@ -6,6 +6,7 @@
 
 mod charts;
 mod claim;
+mod dense;
 mod fields;
 mod kept;
 pub mod laws;
@@ -18,6 +19,7 @@ mod tables;
 mod writing;
 
 pub use claim::{Claim, ClaimedSet};
+pub use dense::DenseAuto;
 pub use reading::read_file;
 pub use refusal::{ByteWhy, FileError};
 pub use writing::{WriteFileError, write_file};

@@ -1,6 +1,6 @@
 use Rattle.std.proofs.Common.{◌≡◌, ◌∙◌}
 use Rattle.std.proofs.lemmas.List.Elements.{All-map}
-use Rattle.strategy_file.specs.Claims.{set_of}
+use Rattle.strategy_file.specs.KeptClaims.{as_set}
 use Rattle.strategy_file.specs.SolvedFile.{IsOfKeptSet}
 use Rattle.strategy_file.specs.StrategyFile.{places_of}
 use Rattle.strategy_file.proofs.ReadLemmas.{places_twice}
@@ -14,6 +14,6 @@ returns-clause-claim c =
       position = c.position-position.ensures;
       winner = c.winner-2.ensures;
       moves = c.moves-2.ensures;
-      places = places_twice c.in_ok-sets.sets.items ∙ c.in_ok-sets.ensures.places ∙ all;
-      sets = All-map (IsOfKeptSet c.args.solved.now) set_of c.in_ok-sets.sets.items c.in_ok-sets.ensures.sets;
+      places = places_twice as_set c.in_ok-sets.sets.items ∙ c.in_ok-sets.ensures.places ∙ all;
+      sets = All-map (IsOfKeptSet c.args.solved.now) as_set c.in_ok-sets.sets.items c.in_ok-sets.ensures.sets;
     }

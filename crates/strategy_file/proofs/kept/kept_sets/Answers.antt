@@ -2,7 +2,7 @@ use Rattle.std.proofs.Common.{◌≡◌, ◌+◌, ◌∷◌, ◌++◌, ◌∙◌
 use Rattle.std.specs.Prelude.{Contains}
 use Rattle.std.proofs.lemmas.List.{map_push, take_more}
 use Rattle.std.proofs.lemmas.List.Elements.{All-push, Contains-get_or}
-use Rattle.strategy_file.specs.Claims.{set_of}
+use Rattle.strategy_file.specs.KeptClaims.{as_set}
 use Rattle.strategy_file.specs.SolvedFile.{IsOfKeptSet}
 use Rattle.strategy_file.proofs.SolvedFiles.{kept_there, pair_of}
 use Rattle.strategy_file.proofs.kept.kept_sets.Goals as goal
@@ -22,5 +22,5 @@ loop-ply-preserved c =
     let taken_more : take (c.loop-ply.ply-index + 1) c.args.places.now ≡ take c.loop-ply.ply-index c.args.places.now ++ place ∷ [] = take_more c.args.places.now c.loop-ply.ply-index (0, 0) c.loop-ply-test.true in
     record {
       places = rw (mapped, taken_more) (ap (λ ps. ps ++ place ∷ []) c.loop-ply.invariant.places);
-      sets = rw c.in_ok-push.ensures.items (All-push (λ s. IsOfKeptSet c.args.solved.now (set_of s)) c.loop-ply.sets.items c.in_ok-set.set c.loop-ply.invariant.sets c.in_ok-set.ensures.set);
+      sets = rw c.in_ok-push.ensures.items (All-push (λ s. IsOfKeptSet c.args.solved.now (as_set s)) c.loop-ply.sets.items c.in_ok-set.set c.loop-ply.invariant.sets c.in_ok-set.ensures.set);
     }

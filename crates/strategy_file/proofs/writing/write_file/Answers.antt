@@ -1,6 +1,6 @@
 use Rattle.std.proofs.Common.{subst}
 use Rattle.chess_game.specs.Near.{IsNarrowPosition}
-use Rattle.strategy_file.specs.Claims.{claim_of}
+use Rattle.strategy_file.specs.KeptClaims.{as_claim}
 use Rattle.strategy_file.proofs.SolvedFiles.{claim_has_file}
 use Rattle.strategy_file.proofs.writing.write_file.Goals as goal
 
@@ -9,8 +9,8 @@ returns-clause-file c =
     let of = c.in_ok-claim.ensures.claim in
     let narrow : IsNarrowPosition c.args.solved.now.position = subst IsNarrowPosition of.position c.in_ok-bytes.ensures.narrow in
     record {
-      claim = claim_of c.in_ok-claim.claim;
+      claim = as_claim c.in_ok-claim.claim;
       of = of;
-      has_file = claim_has_file c.args.solved.now c.in_ok-claim.ensures.valid c.requires.white c.requires.most narrow (claim_of c.in_ok-claim.claim) of;
+      has_file = claim_has_file c.args.solved.now c.in_ok-claim.ensures.valid c.requires.white c.requires.most narrow (as_claim c.in_ok-claim.claim) of;
       bytes_are = c.in_ok-bytes.ensures.written;
     }

@@ -1,0 +1,70 @@
+//! Automata whose rows are plain lists.
+
+ghost use Rattle.std.specs.Prelude.{◌≡◌, length, IfOk};
+ghost use Rattle.auto_core.specs.Automaton.{IsAutomaton};
+ghost use Rattle.auto_core.specs.Rows.{AreTables};
+
+use auto_core::Auto;
+use std::alloc::{AllocError, Global};
+use std::marker::Model;
+use track_word::Var;
+
+/// A complete deterministic automaton whose tables stand in memory as they stand in a file. An entry takes four bytes, whatever the
+/// others are, so that it is about as large as its bytes there.
+#[derive(Drop)]
+pub struct DenseAuto {
+    tracks: Vec<Var>,
+    first: Vec<u32>,
+    next: Vec<u32>,
+    accept: Vec<bool>,
+}
+
+impl Model for DenseAuto {
+    ghost use Rattle.auto_core.specs.Automaton.{Automaton};
+    ghost use Rattle.auto_core.specs.Rows.{AreTables};
+    ghost use Rattle.strategy_file.specs.Tables.{automaton_of};
+
+    ghost Value = { Automaton };
+
+    ghost view = { λ d. automaton_of d.tracks.items d.first.items d.next.items d.accept.items };
+
+    ghost invariant = { λ d. AreTables d.tracks.items d.first.items d.next.items d.accept.items };
+}
+
+impl DenseAuto {
+    /// The automaton of these tables: `first` has a state for each sign letter, `next` a row of states for each state,
+    /// one after another, and `accept` a flag for each state.
+    pub fn new(tracks: Vec<Var>, first: Vec<u32>, next: Vec<u32>, accept: Vec<bool>) -> DenseAuto
+        requires { AreTables tracks.items first.items next.items accept.items }
+        ensures tracks { result.tracks ≡ tracks.items }
+        ensures first { result.first ≡ first.items }
+        ensures next { result.next ≡ next.items }
+        ensures accept { result.accept ≡ accept.items }
+        ensures valid { IsAutomaton result }
+    {
+        DenseAuto {
+            tracks,
+            first,
+            next,
+            accept,
+        }
+    }
+
+    /// The number of states.
+    pub fn states(&self) -> u32
+        ensures { result ≡ length self.now.accept }
+    {
+        self.accept.len() as u32
+    }
+
+    /// The automaton with the same tables, whose rows share what they have in common.
+    pub fn into_auto(self, alloc: Global) -> Result<Auto, AllocError>
+        ensures tracks { IfOk result (λ a. a.tracks ≡ self.tracks) }
+        ensures first { IfOk result (λ a. a.first ≡ self.first) }
+        ensures next { IfOk result (λ a. a.next ≡ self.next) }
+        ensures accept { IfOk result (λ a. a.accept ≡ self.accept) }
+        ensures valid { IfOk result (λ a. IsAutomaton a) }
+    {
+        Auto::from_rows(alloc, self.tracks, self.first, self.next, self.accept)
+    }
+}
