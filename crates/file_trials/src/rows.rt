@@ -9,9 +9,10 @@ use crate::fields::{Fields, number};
 use crate::files::Files;
 use crate::outcome::write_outcome;
 use crate::spelling::spelled;
+use auto_core::Auto;
 use chess_game::Side;
 use std::alloc::Global;
-use strategy_file::{Claim, ClaimedSet, FileError, WriteFileError, read_file, write_file};
+use strategy_file::{Claim, FileError, WriteFileError, read_file, write_file};
 use winning_sets::{SolveError, solve};
 
 /// `file NAME WORDS`: names a file.
@@ -109,22 +110,22 @@ fn claim_in(alloc: Global, bytes: &[u8]) -> Result<Claim, RowError>
 }
 
 /// The set of a ply and a mask.
-fn set_of(claim: &Claim, ply: u8, mask: u8) -> Result<&ClaimedSet, RowError> {
-    for set in claim.sets.as_slice() {
-        if set.ply == ply && set.mask == mask {
-            return Ok(set);
+fn set_of(alloc: Global, claim: Claim, ply: u8, mask: u8) -> Result<Auto, RowError> {
+    for claimed in claim.sets {
+        if claimed.ply == ply && claimed.mask == mask {
+            return Ok(claimed.set.into_auto(alloc)?);
         }
     }
     Err(RowError::Number)
 }
 
 /// Whether the set accepts the word of these letters.
-fn accepts(set: &ClaimedSet, word: &[u32]) -> Result<bool, RowError> {
-    let letters = 1u32 << set.set.tracks().len();
+fn accepts(set: &Auto, word: &[u32]) -> Result<bool, RowError> {
+    let letters = 1u32 << set.tracks().len();
     if word.is_empty() || word.iter().any(|letter| *letter >= letters) {
         return Err(RowError::Condition);
     }
-    Ok(set.set.accepts(word))
+    Ok(set.accepts(word))
 }
 
 /// The letters of a field, parted by commas.
@@ -149,8 +150,8 @@ pub fn accepts_row(
     let mask = fields.u8()?;
     let word = letters_of(alloc, fields.word()?)?;
     fields.end()?;
-    let set = set_of(&claim, ply, mask)?;
-    out.push_str(if accepts(set, word.as_slice())? {
+    let set = set_of(alloc, claim, ply, mask)?;
+    out.push_str(if accepts(&set, word.as_slice())? {
         "yes"
     } else {
         "no"
