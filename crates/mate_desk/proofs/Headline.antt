@@ -1,24 +1,22 @@
 -- What `decide` and `least` write.
-use Rattle.std.proofs.Common.{◌≡◌, ◌↔◌, ◌⊎◌, ℕ, List, [], ◌++◌, take, Option, Some, None, IfSome, Result, Ok, inl, inr, refl, sym, ◌∙◌, ap, subst, arith}
+use Rattle.std.proofs.Common.{◌≡◌, ◌↔◌, ◌⊎◌, ℕ, List, [], ◌++◌, length, take, Option, Some, None, IfSome, Result, Ok, inl, inr, refl, sym, ◌∙◌, ap, subst, arith}
 use Rattle.std.specs.Io.KnownBytes.{Appends, Consumes}
 use Rattle.std.proofs.lemmas.List.{append-nil, append_cancel_left, take_all}
 use Rattle.desk_base.specs.Files.{Files}
 use Rattle.desk_base.specs.Lines.{lines_of}
-use Rattle.game_rules.specs.Game.{Position, Sound}
-use Rattle.chess_game.proofs.UnsoundnessLemmas.{unsound_refuted}
-use Rattle.chess_text.specs.PositionText.{position_text}
-use Rattle.chess_text.specs.declared.reader.Stage.TheVariants.{Header}
-use Rattle.mate_desk.specs.Answer.{Answer, writes, exceeds}
+use Rattle.game_rules.specs.Game.{Position}
+use Rattle.chess_text.specs.PositionText.{position_lines, position_text}
+use Rattle.mate_desk.specs.Decide.{IsAnswered, IsOverBudget}
 use Rattle.mate_desk.specs.Laws.{DecideWrites, HasRun, LeastWrites}
-use Rattle.mate_desk.specs.Outcome.{Report, Seen, report_of}
-use Rattle.mate_desk.specs.Report.{AnswersLeast, IsAnswered, IsOverBudget, ReportsOrder, ReportsPosition, ReportsText, mate_line, no_mate_line}
-use Rattle.mate_desk.specs.Text.{Text, TextAt, whole}
+use Rattle.mate_desk.specs.Least.{LeastFinds, LeastReports, least_line}
+use Rattle.mate_desk.specs.Outcome.{Report, Seen}
+use Rattle.mate_desk.specs.Text.{TextAt, white_mates, whole}
+use Rattle.mate_desk.specs.Verdict.{mate_line, no_mate_line}
 use Rattle.mate_desk.specs.declared.order.Order.{Order}
 use Rattle.mate_desk.specs.declared.order.Order.TheVariants as orders
-use Rattle.mate_desk.specs.declared.order.UsageWhy.{UsageWhy}
+use Rattle.mate_desk.specs.declared.problem.Problem.{Problem}
 use Rattle.mate_desk.specs.declared.status.Status.TheVariants as is
-use Rattle.mate_desk.proofs.Exact.{decides_exactly}
-use Rattle.mate_desk.proofs.OneReport.{once_text, once_words}
+use Rattle.mate_desk.proofs.Exact.{decides_exactly, of_text, of_words}
 use Rattle.mate_desk.proofs.RoundTrip.{text_is_read}
 
 -- what was given is what the source told
@@ -40,9 +38,13 @@ module _ (words : List (List ℕ)) (order : Order) (p : Position) (old new : See
   abbrev reported : Report
   reported = run.ends.ends.0
 
-  is_read : TextAt (run.ends.given.taken ++ run.ends.given.rest) (whole p (lines_of run.behind))
+  -- the problem that was read
+  abbrev problem : Problem
+  problem = white_mates p (length (position_lines p))
+
+  is_read : TextAt (run.ends.given.taken ++ run.ends.given.rest) (whole problem (lines_of run.behind))
   is_read =
-      let P : List ℕ → Type 0 = λ b. TextAt b (whole p (lines_of run.behind)) in
+      let P : List ℕ → Type 0 = λ b. TextAt b (whole problem (lines_of run.behind)) in
       subst P (given_bytes old.left new.left (position_text p ++ run.behind) run.ends.given.taken run.ends.given.rest run.input run.ends.given.consumed run.ends.given.left)
       (text_is_read p run.behind run.writable)
 
@@ -59,9 +61,9 @@ same_text out text all line is = (λ e. append_cancel_left out text line (sym is
 through : {A B C : Type 0} → A ↔ B → B ↔ C → A ↔ C
 through f g = (λ a. g.0 (f.0 a), λ c. f.1 (g.1 c))
 
-answered : (n budget : ℕ) (p : Position) (report : Report) → report.status ≡ is.Done → (IsAnswered n report) ⊎ (IsOverBudget n budget p report) → IsAnswered n report
-answered n budget p report done (inl a) = a
-answered n budget p report done (inr b) = let other = b.status in absurd (cc)
+answered : (n budget : ℕ) (problem : Problem) (report : Report) → report.status ≡ is.Done → (IsAnswered n report) ⊎ (IsOverBudget n budget problem report) → IsAnswered n report
+answered n budget problem report done (inl a) = a
+answered n budget problem report done (inr b) = let other = b.status in absurd (cc)
 
 one_of : (n : ℕ) (out text all : List ℕ) → all ≡ out ++ text → (text ≡ mate_line n) ⊎ (text ≡ no_mate_line n) → (all ≡ out ++ mate_line n) ⊎ (all ≡ out ++ no_mate_line n)
 one_of n out text all is (inl e) = inl (is ∙ ap (λ l. out ++ l) e)
@@ -73,8 +75,10 @@ decide_writes words n budget p old new out run =
     let given = run.ends.given in
     let report = run.ends.ends.0 in
     let done = sym run.ends.ends.2.reported in
-    let exact = decides_exactly words (given.taken ++ given.rest) given.files n budget p (lines_of run.behind) report run.ordered (is_read words order p old new out run) run.sound run.ends.ends.1 in
-    let answer = answered n budget p report done exact.cause in
+    let read = problem words order p old new out run in
+    let exact =
+    decides_exactly words (given.taken ++ given.rest) given.files n budget read (lines_of run.behind) report run.ordered (is_read words order p old new out run) run.sound run.ends.ends.1 in
+    let answer = answered n budget read report done exact.cause in
     let all = wrote words order p old new out run answer.fault in (
       all.0,
       all.1,
@@ -85,36 +89,30 @@ decide_writes words n budget p old new out run =
       },
     )
 
--- what is reported of `least`
-record SaysLeast (limit budget : ℕ) (p : Position) (report : Report) : Type 0 where
-  text : List ℕ
-  right : AnswersLeast limit budget p (writes text)
-  wrote : report.text ≡ text
+-- what is reported of `least` that is done
+record SaysLeast (limit budget : ℕ) (problem : Problem) (report : Report) : Type 0 where
+  found : Option ℕ
+  finds : LeastFinds limit budget problem found
+  wrote : report.text ≡ least_line limit found
   fault : report.fault ≡ []
 
-least_answer : (files : Files) (limit budget : ℕ) (p : Position) (report : Report) (answer : Answer) → report.status ≡ is.Done → AnswersLeast limit budget p answer → report ≡ report_of files answer → SaysLeast limit budget p report
-least_answer files limit budget p report (writes text) done right is' = record { text = text; right = right; wrote = ap (λ r. r.text) is'; fault = ap (λ r. r.fault) is' }
-least_answer files limit budget p report (exceeds step) done right is' = let e : is.Done ≡ is.Budget = sym done ∙ ap (λ r. r.status) is' in absurd (cc)
-
-least_position : (files : Files) (limit budget : ℕ) (p : Position) (report : Report) → report.status ≡ is.Done → Sound p → ReportsPosition files (orders.Least limit budget) p report → SaysLeast limit budget p report
-least_position files limit budget p report done sound (inl (why, fault, is')) = absurd (unsound_refuted why p fault sound)
-least_position files limit budget p report done sound (inr (also, (answer, right, is'))) = least_answer files limit budget p report answer done right is'
+says_least : (limit budget : ℕ) (problem : Problem) (files : Files) (report : Report) → report.status ≡ is.Done → LeastReports limit budget problem files report → SaysLeast limit budget problem report
+says_least limit budget problem files report done (inl (step, stops, is')) = let e : is.Done ≡ is.Budget = sym done ∙ ap (λ r. r.status) is' in absurd (cc)
+says_least limit budget problem files report done (inr (found, finds, is')) = record { found = found; finds = finds; wrote = ap (λ r. r.text) is'; fault = ap (λ r. r.fault) is' }
 
 pub least_writes : LeastWrites
 least_writes words limit budget p old new out run =
     let order = orders.Least limit budget in
     let given = run.ends.given in
     let report = run.ends.ends.0 in
-    let done = sym run.ends.ends.2.reported in
-    let reports = run.ends.ends.1 in
     let bytes = given.taken ++ given.rest in
-    let P : Result Order UsageWhy → Type 0 = λ r. ReportsOrder given.files r bytes report in
-    let Q : Text → Type 0 = λ t. ReportsText given.files order t report in
-    let text = subst P (once_words reports.0 (Ok order) words reports.1 run.ordered) reports.2 in
-    let at = is_read words order p old new out run in
-    let says = least_position given.files limit budget p report done run.sound (subst Q (once_text Header 1 (lines_of bytes) text.0 (whole p (lines_of run.behind)) text.1 at) text.2) in
+    let read = problem words order p old new out run in
+    let reports = of_words words bytes given.files order report run.ordered run.ends.ends.1 in
+    let right =
+    of_text (λ r behind. LeastReports limit budget r given.files) given.files bytes read (lines_of run.behind) report (is_read words order p old new out run) run.sound reports in
+    let says = says_least limit budget read given.files report (sym run.ends.ends.2.reported) right in
     let all = wrote words order p old new out run says.fault in (
       all.0,
       all.1,
-      record { found = says.right.0; least = says.right.1; written = all.2 ∙ ap (λ l. out ++ l) (says.wrote ∙ says.right.3) },
+      record { found = says.found; least = says.finds.0; written = all.2 ∙ ap (λ l. out ++ l) says.wrote },
     )

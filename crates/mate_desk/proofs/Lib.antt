@@ -8,5 +8,6 @@ pub mod RoundTrip
 pub mod Statuses
 pub mod TextSteps
 pub mod Values
+pub mod WhiteToMate
 pub mod Words
 pub mod Writing

@@ -3,7 +3,7 @@ use Rattle.std.proofs.Common.{◌≡◌, ◌⊎◌, ◌++◌, ℕ, ◌+◌, ◌<
 use Rattle.std.specs.Prelude.{unwrap_or}
 use Rattle.desk_base.specs.Files.{Files}
 use Rattle.desk_base.specs.Lines.{Lines, full, ended, cut, long, lines_of}
-use Rattle.game_rules.specs.Game.{Position, Value}
+use Rattle.game_rules.specs.Game.{Position}
 use Rattle.game_rules.specs.Game as game
 use Rattle.game_rules.specs.declared.men.Side.{Side}
 use Rattle.game_rules.specs.declared.men.Side.TheVariants.{White, Black}
@@ -17,17 +17,23 @@ use Rattle.chess_text.specs.declared.reader.Stage.{Stage}
 use Rattle.chess_text.specs.declared.reader.Stage.TheVariants.{Header}
 use Rattle.chess_text.proofs.PositionLemmas.{feeds_once}
 use Rattle.winning_sets.specs.declared.names.StepName.{StepName}
+use Rattle.mate_desk.specs.Decide.{DecideReports}
+use Rattle.mate_desk.specs.FaultLines.{unsound_line}
+use Rattle.mate_desk.specs.Laws.{OneReport}
+use Rattle.mate_desk.specs.Least.{LeastFinds, LeastReports, LeastStops, least_line}
 use Rattle.mate_desk.specs.Order.{ReadsNumber, FromNumber, WithNumber, MovesOrdered, ReadsMoves, ShowOrdered, Ordered, OrderedBehind, order_for, most_moves, most_budget, default_budget}
-use Rattle.mate_desk.specs.Answer.{Answer, writes, exceeds}
-use Rattle.mate_desk.specs.Outcome.{Report, refusal_as, report_of}
-use Rattle.mate_desk.specs.Report.{unsound_line, IsVerdict, IsCheckLine, Answers, AnswersDecide, AnswersLeast, ExceedsAt, FitsBudget, least_line, live_line, ReportsPosition, ReportsText, ReportsOrder, OneReport}
+use Rattle.mate_desk.specs.Outcome.{Report, done_with, over_budget, refusal_as}
+use Rattle.mate_desk.specs.Report.{OfRead, OfSound, OfText, ReportsOrder, ReportsWords}
+use Rattle.mate_desk.specs.Show.{IsCheckLine, ShowReports, live_line}
 use Rattle.mate_desk.specs.Text.{Text, whole, refused, AfterLine, ReadsLines}
+use Rattle.mate_desk.specs.Verdict.{ExceedsAt, IsVerdict}
 use Rattle.mate_desk.specs.declared.order.Command.{Command}
 use Rattle.mate_desk.specs.declared.order.Command.TheVariants as commands
 use Rattle.mate_desk.specs.declared.order.Order.{Order}
 use Rattle.mate_desk.specs.declared.order.Order.TheVariants.{Decide, Least, Show}
 use Rattle.mate_desk.specs.declared.order.UsageWhy.{UsageWhy}
 use Rattle.mate_desk.specs.declared.order.UsageWhy.TheVariants.{NoCommand, Unknown, Count, Number, Limit}
+use Rattle.mate_desk.specs.declared.problem.Problem.{Problem}
 use Rattle.mate_desk.specs.declared.status.Status.TheVariants as is
 use Rattle.mate_desk.proofs.Commands.{once_command}
 use Rattle.mate_desk.proofs.OneStep.{exceeds_once, fits_exceeds}
@@ -184,12 +190,12 @@ once_fault p e f a b = elim (number_cases (rank e) (rank f)) [
   ]
 ]
 
--- what is answered of a position is one answer
-once_verdict : (n : ℕ) (p : Position) (one other : List ℕ) → IsVerdict n p one → IsVerdict n p other → one ≡ other
-once_verdict n p one other (inl (a, v)) (inl (b, w)) = a ∙ sym b
-once_verdict n p one other (inl (a, v)) (inr (b, w)) = absurd (w v)
-once_verdict n p one other (inr (a, v)) (inl (b, w)) = absurd (v w)
-once_verdict n p one other (inr (a, v)) (inr (b, w)) = a ∙ sym b
+-- what is reported of a problem is one report
+once_verdict : (n : ℕ) (problem : Problem) (one other : List ℕ) → IsVerdict n problem one → IsVerdict n problem other → one ≡ other
+once_verdict n problem one other (inl (a, v)) (inl (b, w)) = a ∙ sym b
+once_verdict n problem one other (inl (a, v)) (inr (b, w)) = absurd (w v)
+once_verdict n problem one other (inr (a, v)) (inl (b, w)) = absurd (v w)
+once_verdict n problem one other (inr (a, v)) (inr (b, w)) = a ∙ sym b
 
 once_check : (p : Position) (one other : List ℕ) → IsCheckLine p one → IsCheckLine p other → one ≡ other
 once_check p one other (inl (a, v)) (inl (b, w)) = a ∙ sym b
@@ -197,68 +203,82 @@ once_check p one other (inl (a, v)) (inr (b, w)) = absurd (w v)
 once_check p one other (inr (a, v)) (inl (b, w)) = absurd (v w)
 once_check p one other (inr (a, v)) (inr (b, w)) = a ∙ sym b
 
-once_decide : (n budget : ℕ) (p : Position) (one other : Answer) → AnswersDecide n budget p one → AnswersDecide n budget p other → one ≡ other
-once_decide n budget p (writes one) (writes other) a b = ap writes (once_verdict n p one other a.1 b.1)
-once_decide n budget p (writes one) (exceeds step) a b = absurd (fits_exceeds p budget n step a.0 b)
-once_decide n budget p (exceeds step) (writes other) a b = absurd (fits_exceeds p budget n step b.0 a)
-once_decide n budget p (exceeds one) (exceeds other) a b = ap exceeds (exceeds_once p budget n one other a b)
-
-once_found : (p : Position) (limit : ℕ) (one other : Option ℕ) → game.Least White p limit one → game.Least White p limit other → one ≡ other
-once_found p limit (Some m) (Some n) a b = elim (number_cases m n) [
+once_found : (problem : Problem) (limit : ℕ) (one other : Option ℕ) → game.Least problem.winner problem.position limit one → game.Least problem.winner problem.position limit other → one ≡ other
+once_found problem limit (Some m) (Some n) a b = elim (number_cases m n) [
   | inl less ↦ absurd (b.2 m less a.1)
   | inr (inl same) ↦ ap (λ k. Some k) same
   | inr (inr more) ↦ absurd (a.2 n more b.1)
 ]
-once_found p limit (Some m) None a b = absurd (b m a.0 a.1)
-once_found p limit None (Some n) a b = absurd (a n b.0 b.1)
-once_found p limit None None a b = refl
+once_found problem limit (Some m) None a b = absurd (b m a.0 a.1)
+once_found problem limit None (Some n) a b = absurd (a n b.0 b.1)
+once_found problem limit None None a b = refl
 
--- a text and a step that exceeds the budget
-text_step : (limit budget : ℕ) (p : Position) (found : Option ℕ) (n : ℕ) (step : StepName) → game.Least White p limit found → ((k : ℕ) → k ≤ unwrap_or found limit → FitsBudget p budget k) → n ≤ limit → ((k : ℕ) → k < n → FitsBudget p budget k × (Value White k p → ⊥)) → ExceedsAt p budget n step → ⊥
-text_step limit budget p (Some m) n step least fits within passed over = elim (number_cases m n) [
+-- the numbers of moves are gone through to one end
+found_stops : (limit budget : ℕ) (problem : Problem) (found : Option ℕ) (step : StepName) → LeastFinds limit budget problem found → LeastStops limit budget problem step → ⊥
+found_stops limit budget problem (Some m) step (least, fits) (n, within, passed, over) = elim (number_cases m n) [
   | inl less ↦ (passed m less).1 least.1
-  | inr (inl same) ↦ fits_exceeds p budget n step (fits n (omega (arith, same))) over
-  | inr (inr more) ↦ fits_exceeds p budget n step (fits n (omega (arith, more))) over
+  | inr (inl same) ↦ fits_exceeds problem budget n step (fits n (omega (arith, same))) over
+  | inr (inr more) ↦ fits_exceeds problem budget n step (fits n (omega (arith, more))) over
 ]
-text_step limit budget p None n step least fits within passed over = fits_exceeds p budget n step (fits n within) over
+found_stops limit budget problem None step (least, fits) (n, within, passed, over) = fits_exceeds problem budget n step (fits n within) over
 
-once_least : (limit budget : ℕ) (p : Position) (one other : Answer) → AnswersLeast limit budget p one → AnswersLeast limit budget p other → one ≡ other
-once_least limit budget p (writes one) (writes other) a b =
-    ap writes (a.3 ∙ ap (λ found. least_line limit found) (once_found p limit a.0 b.0 a.1 b.1) ∙ sym b.3)
-once_least limit budget p (writes one) (exceeds step) a b = absurd (text_step limit budget p a.0 b.0 step a.1 a.2 b.1 b.2 b.3)
-once_least limit budget p (exceeds step) (writes other) a b = absurd (text_step limit budget p b.0 a.0 step b.1 b.2 a.1 a.2 a.3)
-once_least limit budget p (exceeds one) (exceeds other) a b = elim (number_cases a.0 b.0) [
-  | inl less ↦ absurd (fits_exceeds p budget a.0 one (b.2 a.0 less).0 a.3)
-  | inr (inl same) ↦ ap exceeds (exceeds_once p budget b.0 one other (subst (λ n. ExceedsAt p budget n one) same a.3) b.3)
-  | inr (inr more) ↦ absurd (fits_exceeds p budget b.0 other (a.2 b.0 more).0 b.3)
+once_stop : (limit budget : ℕ) (problem : Problem) (one other : StepName) → LeastStops limit budget problem one → LeastStops limit budget problem other → one ≡ other
+once_stop limit budget problem one other a b = elim (number_cases a.0 b.0) [
+  | inl less ↦ absurd (fits_exceeds problem budget a.0 one (b.2 a.0 less).0 a.3)
+  | inr (inl same) ↦ exceeds_once problem budget b.0 one other (subst (λ n. ExceedsAt problem budget n one) same a.3) b.3
+  | inr (inr more) ↦ absurd (fits_exceeds problem budget b.0 other (a.2 b.0 more).0 b.3)
 ]
-
-once_answer : (order : Order) (p : Position) (one other : Answer) → Answers order p one → Answers order p other → one ≡ other
-once_answer (Decide moves budget) p one other a b = once_decide moves budget p one other a b
-once_answer (Least limit budget) p one other a b = once_least limit budget p one other a b
-once_answer Show p (writes one) (writes other) a b =
-    ap writes (a.2 ∙ ap (λ check. position_text p ++ check ++ live_line p) (once_check p a.0 b.0 a.1 b.1) ∙ sym b.2)
-once_answer Show p (writes one) (exceeds step) a b = absurd b
-once_answer Show p (exceeds step) other a b = absurd a
 
 module _ (files : Files) (one other : Report) where
-  once_position : (order : Order) (p : Position) → ReportsPosition files order p one → ReportsPosition files order p other → one ≡ other
-  once_position order p (inl (e, a, i)) (inl (f, b, j)) = i ∙ ap (λ why. refusal_as files is.Unsound (unsound_line why) false) (once_fault p e f a b) ∙ sym j
-  once_position order p (inl (e, a, i)) (inr (sound, b)) = absurd (unsound_refuted e p a sound)
-  once_position order p (inr (sound, a)) (inl (f, b, j)) = absurd (unsound_refuted f p b sound)
-  once_position order p (inr (sound, a)) (inr (also, b)) = a.2 ∙ ap (report_of files) (once_answer order p a.0 b.0 a.1 b.1) ∙ sym b.2
+  once_decide : (n budget : ℕ) (problem : Problem) → DecideReports n budget problem files one → DecideReports n budget problem files other → one ≡ other
+  once_decide n budget problem (inl (s, a, i)) (inl (t, b, j)) = i ∙ ap (over_budget files) (exceeds_once problem budget n s t a b) ∙ sym j
+  once_decide n budget problem (inl (s, a, i)) (inr (l, fits, v, j)) = absurd (fits_exceeds problem budget n s fits a)
+  once_decide n budget problem (inr (l, fits, v, i)) (inl (t, b, j)) = absurd (fits_exceeds problem budget n t fits b)
+  once_decide n budget problem (inr (k, fits, v, i)) (inr (l, also, w, j)) = i ∙ ap (done_with files) (once_verdict n problem k l v w) ∙ sym j
 
-  once_whole : (order : Order) (text : Text) → ReportsText files order text one → ReportsText files order text other → one ≡ other
-  once_whole order (refused number why) a b = a ∙ sym b
-  once_whole order (whole p rest) a b = once_position order p a b
+  once_least : (limit budget : ℕ) (problem : Problem) → LeastReports limit budget problem files one → LeastReports limit budget problem files other → one ≡ other
+  once_least limit budget problem (inl (s, a, i)) (inl (t, b, j)) = i ∙ ap (over_budget files) (once_stop limit budget problem s t a b) ∙ sym j
+  once_least limit budget problem (inl (s, a, i)) (inr (f, b, j)) = absurd (found_stops limit budget problem f s b a)
+  once_least limit budget problem (inr (f, a, i)) (inl (t, b, j)) = absurd (found_stops limit budget problem f t a b)
+  once_least limit budget problem (inr (f, a, i)) (inr (g, b, j)) =
+      i ∙ ap (λ found. done_with files (least_line limit found)) (once_found problem limit f g a.0 b.0) ∙ sym j
 
-  once_order : (answer : Result Order UsageWhy) (bytes : List ℕ) → ReportsOrder files answer bytes one → ReportsOrder files answer bytes other → one ≡ other
-  once_order (Err why) bytes a b = a ∙ sym b
-  once_order (Ok order) bytes a b =
-      let P : Text → Type 0 = λ t. ReportsText files order t other in
-      once_whole order a.0 a.2 (subst P (sym (once_text Header 1 (lines_of bytes) a.0 b.0 a.1 b.1)) b.2)
+  once_shown : (p : Position) → ShowReports p files one → ShowReports p files other → one ≡ other
+  once_shown p (t, a, i) (u, b, j) =
+      let same : t ≡ u = a.2 ∙ ap (λ check. position_text p ++ check ++ live_line p) (once_check p a.0 b.0 a.1 b.1) ∙ sym b.2 in
+      i ∙ ap (done_with files) same ∙ sym j
+
+  -- of a text one thing is reported where it is so of each problem
+  module _ (says : Problem → Lines → Report → Type 0) (once : (problem : Problem) (rest : Lines) → says problem rest one → says problem rest other → one ≡ other) where
+    once_sound : (problem : Problem) (rest : Lines) → OfSound (says problem rest) files problem.position one → OfSound (says problem rest) files problem.position other → one ≡ other
+    once_sound problem rest (inl (e, a, i)) (inl (f, b, j)) =
+        i ∙ ap (λ why. refusal_as files is.Unsound (unsound_line why) false) (once_fault problem.position e f a b) ∙ sym j
+    once_sound problem rest (inl (e, a, i)) (inr (sound, b)) = absurd (unsound_refuted e problem.position a sound)
+    once_sound problem rest (inr (sound, a)) (inl (f, b, j)) = absurd (unsound_refuted f problem.position b sound)
+    once_sound problem rest (inr (sound, a)) (inr (also, b)) = once problem rest a b
+
+    once_read : (text : Text) → OfRead says files text one → OfRead says files text other → one ≡ other
+    once_read (refused number why) a b = a ∙ sym b
+    once_read (whole problem rest) a b = once_sound problem rest a b
+
+    once_of_text : (bytes : List ℕ) → OfText says files bytes one → OfText says files bytes other → one ≡ other
+    once_of_text bytes a b =
+        let P : Text → Type 0 = λ t. OfRead says files t other in
+        once_read a.0 a.2 (subst P (sym (once_text Header 1 (lines_of bytes) a.0 b.0 a.1 b.1)) b.2)
+
+  once_order : (order : Order) (words : List (List ℕ)) (bytes : List ℕ) → ReportsOrder order words bytes files one → ReportsOrder order words bytes files other → one ≡ other
+  once_order (Decide n budget) words bytes a b =
+      once_of_text (λ problem rest. DecideReports n budget problem files) (λ problem rest. once_decide n budget problem) bytes a b
+  once_order (Least limit budget) words bytes a b =
+      once_of_text (λ problem rest. LeastReports limit budget problem files) (λ problem rest. once_least limit budget problem) bytes a b
+  once_order Show words bytes a b =
+      once_of_text (λ problem rest. ShowReports problem.position files) (λ problem rest. once_shown problem.position) bytes a b
+
+  once_answer : (answer : Result Order UsageWhy) (words : List (List ℕ)) (bytes : List ℕ) → ReportsWords answer words bytes files one → ReportsWords answer words bytes files other → one ≡ other
+  once_answer (Err why) words bytes a b = a ∙ sym b
+  once_answer (Ok order) words bytes a b = once_order order words bytes a b
 
 pub one_report : OneReport
 one_report words bytes files one other a b =
-    let P : Result Order UsageWhy → Type 0 = λ r. ReportsOrder files r bytes other in
-    once_order files one other a.0 bytes a.2 (subst P (sym (once_words a.0 b.0 words a.1 b.1)) b.2)
+    let P : Result Order UsageWhy → Type 0 = λ r. ReportsWords r words bytes files other in
+    once_answer files one other a.0 words bytes a.2 (subst P (sym (once_words a.0 b.0 words a.1 b.1)) b.2)

@@ -1,11 +1,10 @@
 -- A plan exceeds a budget at one step, or at none.
 use Rattle.std.proofs.Common.{◌≡◌, ℕ, sym, ap, ◌∙◌}
-use Rattle.game_rules.specs.Game.{Position}
-use Rattle.game_rules.specs.declared.men.Side.TheVariants.{White}
 use Rattle.set_plan.specs.declared.stop.StepName as set_plan
 use Rattle.mate_plan.specs.declared.names.PartName.{PartName}
 use Rattle.winning_sets.specs.declared.names.StepName.{StepName}
-use Rattle.mate_desk.specs.Report.{ExceedsAt, FitsBudget}
+use Rattle.mate_desk.specs.Verdict.{ExceedsAt, FitsBudget}
+use Rattle.mate_desk.specs.declared.problem.Problem.{Problem}
 use Rattle.mate_plan.proofs.PlanOnce.{ends_once}
 
 -- the name without the number of moves
@@ -21,9 +20,9 @@ same_step x y moves same = λ i. record {
   at = ap (λ (s : set_plan.StepName PartName). s.at) same i;
 }
 
-module _ (p : Position) (budget n : ℕ) where
-  pub fits_exceeds : (step : StepName) → FitsBudget p budget n → ExceedsAt p budget n step → ⊥
-  fits_exceeds step fits over = (ends_once White p n budget).not_both fits.value (in_plan step) fits.ends over.1
+module _ (problem : Problem) (budget n : ℕ) where
+  pub fits_exceeds : (step : StepName) → FitsBudget problem budget n → ExceedsAt problem budget n step → ⊥
+  fits_exceeds step fits over = (ends_once problem.winner problem.position n budget).not_both fits.value (in_plan step) fits.ends over.1
 
-  pub exceeds_once : (x y : StepName) → ExceedsAt p budget n x → ExceedsAt p budget n y → x ≡ y
-  exceeds_once x y a b = same_step x y (a.0 ∙ sym b.0) ((ends_once White p n budget).one_step (in_plan x) (in_plan y) a.1 b.1)
+  pub exceeds_once : (x y : StepName) → ExceedsAt problem budget n x → ExceedsAt problem budget n y → x ≡ y
+  exceeds_once x y a b = same_step x y (a.0 ∙ sym b.0) ((ends_once problem.winner problem.position n budget).one_step (in_plan x) (in_plan y) a.1 b.1)

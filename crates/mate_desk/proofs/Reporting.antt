@@ -1,30 +1,41 @@
 -- How a run ends, from how its parts do.
-use Rattle.std.proofs.Common.{◌≡◌, ◌++◌, ℕ, List, [], Option, Some, None, IfSome, Result, Ok, Err, false, inl, inr, refl, sym, subst}
+use Rattle.std.proofs.Common.{◌≡◌, ◌+◌, ◌++◌, ℕ, List, [], take, Option, Some, None, IfSome, Result, Ok, Err, false, inl, inr, refl, sym, ap, ◌∙◌, subst, append_assoc, arith}
 use Rattle.std.specs.Prelude.{codes, unwrap_or}
 use Rattle.std.specs.Io.KnownBytes.{Consumes}
 use Rattle.std.proofs.KnownBytes.{Consumes-nil}
+use Rattle.std.proofs.lemmas.List.{append-nil}
 use Rattle.desk_base.specs.Faults.{HasRisen}
 use Rattle.desk_base.specs.Files.{Files, Go, no_files}
-use Rattle.desk_base.specs.Lines.{lines_of}
-use Rattle.game_rules.specs.Game.{Position, Sound}
+use Rattle.desk_base.specs.Lines.{Lines, ended, lines_of}
+use Rattle.game_rules.specs.Game.{Sound}
 use Rattle.chess_game.specs.Unsoundness.{IsFirstUnsoundness}
 use Rattle.chess_game.specs.declared.unsoundness.Unsound.{Unsound}
-use Rattle.mate_desk.specs.Answer.{writes, exceeds, budget_line}
+use Rattle.chess_text.specs.PositionText.{text_of_lines}
+use Rattle.mate_desk.specs.Decide.{DecideReports}
+use Rattle.mate_desk.specs.FaultLines.{unsound_line}
+use Rattle.mate_desk.specs.Least.{LeastReports}
 use Rattle.mate_desk.specs.Order.{Ordered, usage_line}
-use Rattle.mate_desk.specs.Outcome.{Seen, Writes, WriteFailed, Leaves, KeepsFiles, refusal_as, done_with, CommandEnds}
-use Rattle.mate_desk.specs.Report.{unsound_line, Answers, TakesMemory}
-use Rattle.mate_desk.specs.Run.{Given, RunEnds}
-use Rattle.mate_desk.specs.Text.{whole, refused, is_end, refusal_line}
-use Rattle.mate_desk.specs.TextRead.{TextRead}
+use Rattle.mate_desk.specs.Outcome.{Ends, Leaves, KeepsFiles, Report, Seen, Writes, WriteFailed, of_sink, refusal_as}
+use Rattle.mate_desk.specs.Report.{LacksBehindText, MayLackMemory, OfText, OrderMayLack, Reports, ReportsOrder, TakesMemory}
+use Rattle.mate_desk.specs.Run.{Given, IsLineDue, RunEnds}
+use Rattle.mate_desk.specs.Show.{ShowReports}
+use Rattle.mate_desk.specs.Taken.{TakesLines}
+use Rattle.mate_desk.specs.Text.{TextAt, whole, refused, is_end, refusal_line}
+use Rattle.mate_desk.specs.TextRead.{IsMissing, IsShort, TextRead}
+use Rattle.mate_desk.specs.Verdict.{HasNothingToPlay}
 use Rattle.mate_desk.specs.declared.order.Order.{Order}
+use Rattle.mate_desk.specs.declared.order.Order.TheVariants.{Decide, Least, Show}
 use Rattle.mate_desk.specs.declared.order.UsageWhy.{UsageWhy}
+use Rattle.mate_desk.specs.declared.problem.Problem.{Problem}
 use Rattle.mate_desk.specs.declared.status.Status.{Status}
 use Rattle.mate_desk.specs.declared.status.Status.TheVariants as is
 use Rattle.mate_desk.specs.declared.text.LineWhy.{LineWhy}
+use Rattle.mate_desk.specs.declared.text.LineWhy.TheVariants.{Missing}
 use Rattle.mate_desk.specs.declared.text.TextEnd.{TextEnd}
 use Rattle.mate_desk.specs.declared.text.TextEnd.TheVariants.{Fault, Refused}
+use Rattle.mate_desk.proofs.Statuses.{order_status}
 use Rattle.mate_desk.proofs.TextSteps.{known_rest}
-use Rattle.mate_desk.proofs.Writing.{text_written}
+use Rattle.mate_desk.proofs.Writing.{at_sink, ends_as}
 
 -- the files of a store, or none where it does not tell them
 abbrev pub files_of : Option Files → Files
@@ -41,6 +52,12 @@ left_files (Some files) = refl
 same_files : (told : Option Files) → Go told told (λ before after. after ≡ before)
 same_files None = tt
 same_files (Some files) = refl
+
+-- where the text is refused, each order that reads one has that refusal
+refused_order : (order : Order) (words : List (List ℕ)) (bytes : List ℕ) (files : Files) (number : ℕ) (why : LineWhy) → TextAt bytes (refused number why) → ReportsOrder order words bytes files (refusal_as files is.Text (refusal_line number why) (is_end why))
+refused_order (Decide n budget) words bytes files number why at = (refused number why, at, refl)
+refused_order (Least limit budget) words bytes files number why at = (refused number why, at, refl)
+refused_order Show words bytes files number why at = (refused number why, at, refl)
 
 module _ (words : List (List ℕ)) (old new : Seen) (same : new.files ≡ old.files) where
   leaves : Leaves (files_of old.files) old new
@@ -68,84 +85,139 @@ module _ (words : List (List ℕ)) (old new : Seen) (same : new.files ≡ old.fi
       }
 
   module _ (order : Order) (ordered : Ordered words (Ok order)) (pending : List ℕ) where
-    abbrev given_text : (answer : Result Position TextEnd) → TextRead answer pending old.left new.left → Given old new
-    given_text answer t = record { taken = t.bytes; rest = t.rest; files = files_of old.files; consumed = t.taken; left = t.left; kept = known_files old.files }
+    abbrev files : Files
+    files = files_of old.files
+
+    abbrev given_text : (answer : Result Problem TextEnd) → TextRead answer pending old.left new.left → Given old new
+    given_text answer t = record { taken = t.bytes; rest = t.rest; files = files; consumed = t.taken; left = t.left; kept = known_files old.files }
+
+    -- each line of the text was due
+    line_due : (number : ℕ) (before : List ℕ) → IsMissing number before → IsLineDue words files number before
+    line_due number before at =
+        (refusal_as files is.Text (refusal_line number Missing) (is_end Missing), (Ok order, ordered, refused_order order words before files number Missing at), refl)
+
+    lines_due : (bytes : List ℕ) → TakesLines IsMissing bytes pending → TakesLines (IsLineDue words files) bytes pending
+    lines_due bytes t = record {
+      lines = t.lines;
+      are_lines = t.are_lines;
+      due = λ k below. line_due (k + 1) (text_of_lines (take k t.lines)) (t.due k below);
+      bytes = t.bytes;
+      few = t.few;
+    }
 
     pub refused_ends : (number : ℕ) (why : LineWhy) → TextRead (Err (Refused number why)) pending old.left new.left → Writes [] (refusal_line number why) old.written new.written (WriteFailed old new) → RunEnds words is.Text old new
-    refused_ends number why t wrote = record {
-      given = given_text (Err (Refused number why)) t;
-      takes = (pending, t.takes);
-      ends = (
-        refusal_as (files_of old.files) is.Text (refusal_line number why) (is_end why),
-        (Ok order, ordered, (refused number why, t.reads, refl)),
-        record { reported = refl; written = wrote; files = leaves },
-      );
-    }
+    refused_ends number why t wrote =
+        let P : List ℕ → Type 0 = λ b. TextAt (b ++ t.rest) (refused number why) in
+        record {
+          given = given_text (Err (Refused number why)) t;
+          takes = (pending, lines_due t.bytes t.takes);
+          ends = (
+            refusal_as files is.Text (refusal_line number why) (is_end why),
+            (Ok order, ordered, refused_order order words (t.bytes ++ t.rest) files number why (subst P (sym t.takes.bytes) t.reads)),
+            record { reported = refl; written = wrote; files = leaves },
+          );
+        }
 
     -- the source has failed within the text
     pub fault_ends : TextRead (Err Fault) pending old.left new.left → HasRisen old.read_faults new.read_faults → Writes [] (codes "read fault\n") old.written new.written (WriteFailed old new) → RunEnds words is.ReadFault old new
     fault_ends t failed wrote =
-        let short = t.reads in
+        let short : IsShort t.bytes = subst IsShort (sym t.takes.bytes) t.reads in
         record {
           given = given_text (Err Fault) t;
-          takes = (pending, t.takes);
+          takes = (pending, lines_due t.bytes t.takes);
           ends = (
-            refusal_as (files_of old.files) is.Text (refusal_line short.number short.why) (is_end short.why),
-            (Ok order, ordered, (refused short.number short.why, short.text, refl)),
+            refusal_as files is.Text (refusal_line short.number short.why) (is_end short.why),
+            (Ok order, ordered, refused_order order words t.bytes files short.number short.why short.text),
             record { failed = failed; short = short.short; written = wrote; files = keeps },
           );
         }
 
-    module _ (p : Position) (t : TextRead (Ok p) pending old.left new.left) where
-      pub unsound_ends : (why : Unsound) → IsFirstUnsoundness p why → Writes [] (unsound_line why) old.written new.written (WriteFailed old new) → RunEnds words is.Unsound old new
+    module _ (problem : Problem) (t : TextRead (Ok problem) pending old.left new.left) where
+      -- the text is whole, and there is more behind it
+      is_whole : TextAt (t.bytes ++ t.rest) (whole problem (lines_of (pending ++ t.rest)))
+      is_whole =
+          let P : List ℕ → Type 0 = λ b. TextAt b (whole problem (lines_of (pending ++ t.rest))) in
+          let same : text_of_lines t.takes.lines ++ (pending ++ t.rest) ≡ t.bytes ++ t.rest =
+          sym (append_assoc (text_of_lines t.takes.lines) pending t.rest) ∙ ap (λ b. b ++ t.rest) (sym t.takes.bytes) in
+          subst P same (t.reads (pending ++ t.rest))
+
+      pub of_problem : (says : Problem → Lines → Report → Type 0) → Sound problem.position → (report : Report) → says problem (lines_of (pending ++ t.rest)) report → OfText says files (t.bytes ++ t.rest) report
+      of_problem says sound report right = (whole problem (lines_of (pending ++ t.rest)), is_whole, inr (sound, right))
+
+      pub lacks_behind : (takes : Problem → Type 0) → Sound problem.position → takes problem → LacksBehindText takes t.bytes
+      lacks_behind takes sound lacks =
+          let P : List ℕ → Type 0 = λ b. TextAt b (whole problem ended) in
+          record {
+            problem = problem;
+            sound = sound;
+            lacks = lacks;
+            front = text_of_lines t.takes.lines;
+            pending = pending;
+            text = subst P (append-nil (text_of_lines t.takes.lines)) (t.reads []);
+            bytes = t.takes.bytes;
+            few = t.takes.few;
+          }
+
+      unsound_order : (o : Order) (why : Unsound) → IsFirstUnsoundness problem.position why → ReportsOrder o words (t.bytes ++ t.rest) files (refusal_as files is.Unsound (unsound_line why) false)
+      unsound_order (Decide n budget) why fault = (whole problem (lines_of (pending ++ t.rest)), is_whole, inl (why, fault, refl))
+      unsound_order (Least limit budget) why fault = (whole problem (lines_of (pending ++ t.rest)), is_whole, inl (why, fault, refl))
+      unsound_order Show why fault = (whole problem (lines_of (pending ++ t.rest)), is_whole, inl (why, fault, refl))
+
+      pub unsound_ends : (why : Unsound) → IsFirstUnsoundness problem.position why → Writes [] (unsound_line why) old.written new.written (WriteFailed old new) → RunEnds words is.Unsound old new
       unsound_ends why fault wrote = record {
-        given = given_text (Ok p) t;
-        takes = (pending, t.takes);
+        given = given_text (Ok problem) t;
+        takes = (pending, lines_due t.bytes t.takes);
         ends = (
-          refusal_as (files_of old.files) is.Unsound (unsound_line why) false,
-          (Ok order, ordered, (whole p (lines_of (pending ++ t.rest)), t.reads, inl (why, fault, refl))),
+          refusal_as files is.Unsound (unsound_line why) false,
+          (Ok order, ordered, unsound_order order why fault),
           record { reported = refl; written = wrote; files = leaves },
         );
       }
 
-      -- the run ends as its command does
-      pub command_ends : Sound p → (status : Status) → CommandEnds status (Answers order p) (TakesMemory order p) (WriteFailed old new) old.written new.written → RunEnds words status old new
-      command_ends sound is.Done ends = record {
-        given = given_text (Ok p) t;
-        takes = (pending, t.takes);
-        ends = (
-          done_with (files_of old.files) ends.0,
-          (Ok order, ordered, (whole p (lines_of (pending ++ t.rest)), t.reads, inr (sound, (writes ends.0, ends.1, refl)))),
-          record { reported = refl; written = text_written ends.0 old.written new.written (WriteFailed old new) ends.2; files = leaves },
-        );
-      }
-      command_ends sound is.WriteFault ends = record {
-        given = given_text (Ok p) t;
-        takes = (pending, t.takes);
-        ends = (
-          done_with (files_of old.files) ends.0,
-          (Ok order, ordered, (whole p (lines_of (pending ++ t.rest)), t.reads, inr (sound, (writes ends.0, ends.1, refl)))),
-          record { failed = ends.2; written = ends.3; files = leaves },
-        );
-      }
-      command_ends sound is.Budget ends = record {
-        given = given_text (Ok p) t;
-        takes = (pending, t.takes);
-        ends = (
-          refusal_as (files_of old.files) is.Budget (budget_line ends.0) false,
-          (Ok order, ordered, (whole p (lines_of (pending ++ t.rest)), t.reads, inr (sound, (exceeds ends.0, ends.1, refl)))),
-          record { reported = refl; written = ends.2; files = leaves },
-        );
-      }
-      command_ends sound is.Memory ends = record {
-        given = given_text (Ok p) t;
-        takes = (pending, t.takes);
-        ends = (
-          record { order = order; ordered = ordered; position = p; rest = lines_of (pending ++ t.rest); text = t.reads; sound = sound; takes = ends.0 },
-          record { written = ends.1; files = keeps },
-        );
-      }
-      command_ends sound is.Usage ends = absurd ends
-      command_ends sound is.Text ends = absurd ends
-      command_ends sound is.Unsound ends = absurd ends
-      command_ends sound is.ReadFault ends = absurd ends
+      -- the run ends as its command does, which has the sink alone
+      module _ (reports : Report → Type 0) (may_lack : Type 0) (says : (report : Report) → reports report → ReportsOrder order words (t.bytes ++ t.rest) files report) (lacks : may_lack → OrderMayLack order t.bytes) where
+        ended_as : (status : Status) → Ends status reports may_lack (of_sink files old.written old.write_faults) (of_sink files new.written new.write_faults) → Ends status (λ report. Reports words (t.bytes ++ t.rest) files report) (MayLackMemory words t.bytes) old new
+        ended_as status ends =
+            ends_as status reports (λ report. Reports words (t.bytes ++ t.rest) files report) may_lack (MayLackMemory words t.bytes) old new
+            (λ report right. (Ok order, ordered, says report right)) (λ lack. (order, ordered, lacks lack))
+            (at_sink files old new (known_files old.files) same status reports may_lack ends)
+
+        pub command_ends : (status : Status) → Ends status reports may_lack (of_sink files old.written old.write_faults) (of_sink files new.written new.write_faults) → RunEnds words status old new
+        command_ends is.Done ends = record { given = given_text (Ok problem) t; takes = (pending, lines_due t.bytes t.takes); ends = ended_as is.Done ends }
+        command_ends is.Text ends = record { given = given_text (Ok problem) t; takes = (pending, lines_due t.bytes t.takes); ends = ended_as is.Text ends }
+        command_ends is.Unsound ends = record { given = given_text (Ok problem) t; takes = (pending, lines_due t.bytes t.takes); ends = ended_as is.Unsound ends }
+        command_ends is.WriteFault ends =
+            record { given = given_text (Ok problem) t; takes = (pending, lines_due t.bytes t.takes); ends = ended_as is.WriteFault ends }
+        command_ends is.Budget ends = record { given = given_text (Ok problem) t; takes = (pending, lines_due t.bytes t.takes); ends = ended_as is.Budget ends }
+        command_ends is.Memory ends = record { given = given_text (Ok problem) t; takes = (pending, lines_due t.bytes t.takes); ends = ended_as is.Memory ends }
+        command_ends is.Usage ends =
+            absurd (order_status order words (t.bytes ++ t.rest) files ends.0 (says ends.0 ends.1) (sym ends.2.reported))
+        command_ends is.ReadFault ends = absurd (omega (arith, ends.2.failed))
+
+-- so it is with each command
+module _ (words : List (List ℕ)) (old new : Seen) (same : new.files ≡ old.files) (pending : List ℕ) (problem : Problem) (t : TextRead (Ok problem) pending old.left new.left) (sound : Sound problem.position) (status : Status) where
+  abbrev EndsWithSink : (Files → Report → Type 0) → Type 0 → Type 0
+  EndsWithSink reports may_lack = (files : Files) → Ends status (reports files) may_lack (of_sink files old.written old.write_faults) (of_sink files new.written new.write_faults)
+
+  pub decide_ends : (n budget : ℕ) → Ordered words (Ok (Decide n budget)) → EndsWithSink (DecideReports n budget problem) (¬ HasNothingToPlay n problem) → RunEnds words status old new
+  decide_ends n budget ordered ends =
+      let order = Decide n budget in
+      let files = files_of old.files in
+      command_ends words old new same order ordered pending problem t (DecideReports n budget problem files) (¬ HasNothingToPlay n problem)
+      (of_problem words old new same order ordered pending problem t (λ r rest. DecideReports n budget r files) sound)
+      (lacks_behind words old new same order ordered pending problem t (TakesMemory order) sound) status (ends files)
+
+  pub least_ends : (limit budget : ℕ) → Ordered words (Ok (Least limit budget)) → EndsWithSink (LeastReports limit budget problem) (¬ HasNothingToPlay limit problem) → RunEnds words status old new
+  least_ends limit budget ordered ends =
+      let order = Least limit budget in
+      let files = files_of old.files in
+      command_ends words old new same order ordered pending problem t (LeastReports limit budget problem files) (¬ HasNothingToPlay limit problem)
+      (of_problem words old new same order ordered pending problem t (λ r rest. LeastReports limit budget r files) sound)
+      (lacks_behind words old new same order ordered pending problem t (TakesMemory order) sound) status (ends files)
+
+  pub show_ends : Ordered words (Ok Show) → EndsWithSink (ShowReports problem.position) (Unit {0}) → RunEnds words status old new
+  show_ends ordered ends =
+      let files = files_of old.files in
+      command_ends words old new same Show ordered pending problem t (ShowReports problem.position files) (Unit {0})
+      (of_problem words old new same Show ordered pending problem t (λ r rest. ShowReports r.position files) sound)
+      (lacks_behind words old new same Show ordered pending problem t (TakesMemory Show) sound) status (ends files)

@@ -24,7 +24,7 @@ use Rattle.chess_text.specs.declared.reader.Stage.{Stage}
 use Rattle.chess_text.specs.declared.reader.Stage.TheVariants.{Header}
 use Rattle.chess_text.proofs.PositionLemmas.{spelled_is_accepted}
 use Rattle.mate_desk.specs.Laws.{TextIsRead}
-use Rattle.mate_desk.specs.Text.{ReadsLines, whole}
+use Rattle.mate_desk.specs.Text.{ReadsLines, white_mates, whole}
 
 -- bytes of which none is LF, at most so many
 record IsShort (bytes : List ℕ) (most : ℕ) : Type 0 where
@@ -95,28 +95,29 @@ man_line m fits =
 turn_line : (s : Side) → IsLine (turn_text s)
 turn_line s = record { free = free_append (codes "turn ") (side_letter s ∷ []) (all_free (codes "turn ") refl) (side_free s, tt); short = omega arith }
 
--- lines that are read as a position are read from their bytes
-module _ (p : Position) (rest : List ℕ) where
-  read_last : (stage : Stage) (number : ℕ) (line more : List ℕ) → IsLine line → more ≡ rest → turnouts.Feeds stage line (turnouts.complete p) → ReadsLines stage number (lines_of (line ++ 10 ∷ more)) (whole p (lines_of rest))
-  read_last stage number line more is same feeds =
-      let P : Lines → Type 0 = λ l. ReadsLines stage number l (whole p (lines_of rest)) in
-      subst P (sym (line_first line more is.free is.short)) (turnouts.complete p, feeds, ap (λ b. whole p (lines_of b)) (sym same))
+-- lines that are read as a position are read from their bytes, where so many lines stood before them, and there are as many with them
+module _ (p : Position) (rest : List ℕ) (all : ℕ) where
+  read_last : (stage : Stage) (number : ℕ) (line more : List ℕ) → IsLine line → more ≡ rest → number ≡ all → turnouts.Feeds stage line (turnouts.complete p) → ReadsLines stage number (lines_of (line ++ 10 ∷ more)) (whole (white_mates p all) (lines_of rest))
+  read_last stage number line more is same last feeds =
+      let P : Lines → Type 0 = λ l. ReadsLines stage number l (whole (white_mates p all) (lines_of rest)) in
+      subst P (sym (line_first line more is.free is.short))
+      (turnouts.complete p, feeds, ap (λ b. whole (white_mates p all) (lines_of b)) (sym same) ∙ ap (λ k. whole (white_mates p k) (lines_of more)) (sym last))
 
-  pub read_lines : (stage : Stage) (number : ℕ) (lines : List (List ℕ)) → All IsLine lines → Completes stage lines p → ReadsLines stage number (lines_of (text_of_lines lines ++ rest)) (whole p (lines_of rest))
-  read_lines stage number [] are completes = absurd completes
-  read_lines stage number (line ∷ []) are completes =
-      let P : List ℕ → Type 0 = λ b. ReadsLines stage number (lines_of b) (whole p (lines_of rest)) in
+  pub read_lines : (stage : Stage) (number : ℕ) (lines : List (List ℕ)) → All IsLine lines → number + length lines ≡ all + 1 → Completes stage lines p → ReadsLines stage number (lines_of (text_of_lines lines ++ rest)) (whole (white_mates p all) (lines_of rest))
+  read_lines stage number [] are count completes = absurd completes
+  read_lines stage number (line ∷ []) are count completes =
+      let P : List ℕ → Type 0 = λ b. ReadsLines stage number (lines_of b) (whole (white_mates p all) (lines_of rest)) in
       let same : line ++ 10 ∷ rest ≡ ((line ++ 10 ∷ []) ++ []) ++ rest =
       sym (append_assoc line (10 ∷ []) rest) ∙ ap (λ b. b ++ rest) (sym (append-nil (line ++ 10 ∷ []))) in
-      subst P same (read_last stage number line rest (All-head IsLine line [] are) refl completes)
-  read_lines stage number (line ∷ next_line ∷ lines) are completes =
-      let P : Lines → Type 0 = λ l. ReadsLines stage number l (whole p (lines_of rest)) in
-      let Q : List ℕ → Type 0 = λ b. ReadsLines stage number (lines_of b) (whole p (lines_of rest)) in
+      subst P same (read_last stage number line rest (All-head IsLine line [] are) refl (omega (arith, count)) completes)
+  read_lines stage number (line ∷ next_line ∷ lines) are count completes =
+      let P : Lines → Type 0 = λ l. ReadsLines stage number l (whole (white_mates p all) (lines_of rest)) in
+      let Q : List ℕ → Type 0 = λ b. ReadsLines stage number (lines_of b) (whole (white_mates p all) (lines_of rest)) in
       let behind = text_of_lines (next_line ∷ lines) ++ rest in
       let is = All-head IsLine line (next_line ∷ lines) are in
       let same : line ++ 10 ∷ behind ≡ ((line ++ 10 ∷ []) ++ text_of_lines (next_line ∷ lines)) ++ rest =
       sym (append_assoc line (10 ∷ []) behind) ∙ sym (append_assoc (line ++ 10 ∷ []) (text_of_lines (next_line ∷ lines)) rest) in
-      let more = read_lines completes.0 (number + 1) (next_line ∷ lines) (All-tail IsLine line (next_line ∷ lines) are) completes.2 in
+      let more = read_lines completes.0 (number + 1) (next_line ∷ lines) (All-tail IsLine line (next_line ∷ lines) are) (omega (arith, count)) completes.2 in
       subst Q same (subst P (sym (line_first line behind is.free is.short)) (turnouts.more completes.0, completes.1, more))
 
 -- each line of the text of a position is one
@@ -132,4 +133,4 @@ all_lines p h =
     (All-cons IsLine (turn_text p.turn) (map man_text p.men ++ end_line ∷ []) (turn_line p.turn) men)
 
 pub text_is_read : TextIsRead
-text_is_read p rest h = read_lines p rest Header 1 (position_lines p) (all_lines p h) (spelled_is_accepted p h)
+text_is_read p rest h = read_lines p rest (length (position_lines p)) Header 1 (position_lines p) (all_lines p h) (omega arith) (spelled_is_accepted p h)

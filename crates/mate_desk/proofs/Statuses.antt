@@ -1,47 +1,84 @@
 -- What the status of a run says of its words.
 use Rattle.std.proofs.Common.{◌≡◌, ◌≢◌, ◌↔◌, ℕ, List, [], length, Result, Ok, Err, false, inl, inr, sym, ◌∙◌, ap, subst, arith}
 use Rattle.desk_base.specs.Files.{Files}
-use Rattle.game_rules.specs.Game.{Position}
-use Rattle.mate_desk.specs.Answer.{Answer, writes, exceeds}
-use Rattle.mate_desk.specs.Order.{Ordered, usage_line}
-use Rattle.mate_desk.specs.Outcome.{Report, refusal_as, report_of}
-use Rattle.mate_desk.specs.Report.{Reports, ReportsOrder, ReportsPosition, ReportsText}
-use Rattle.mate_desk.specs.Text.{Text, whole, refused}
+use Rattle.desk_base.specs.Lines.{Lines}
+use Rattle.game_rules.specs.Game.{Position, Sound}
+use Rattle.mate_desk.specs.Decide.{DecideReports}
 use Rattle.mate_desk.specs.Laws.{FaultsAreCounted, MemoryLast, UsageExactly}
+use Rattle.mate_desk.specs.Least.{LeastReports}
+use Rattle.mate_desk.specs.Order.{Ordered, usage_line}
+use Rattle.mate_desk.specs.Outcome.{Ends, Report, Seen, refusal_as}
+use Rattle.mate_desk.specs.Report.{LacksBehindText, OfRead, OfSound, OfText, OrderMayLack, Reports, ReportsOrder, ReportsWords, TakesMemory}
+use Rattle.mate_desk.specs.Show.{ShowReports}
+use Rattle.mate_desk.specs.Text.{Text, whole, refused}
 use Rattle.mate_desk.specs.declared.order.Order.{Order}
+use Rattle.mate_desk.specs.declared.order.Order.TheVariants.{Decide, Least, Show}
 use Rattle.mate_desk.specs.declared.order.UsageWhy.{UsageWhy}
+use Rattle.mate_desk.specs.declared.problem.Problem.{Problem}
 use Rattle.mate_desk.specs.declared.status.Status.{Status}
 use Rattle.mate_desk.specs.declared.status.Status.TheVariants as is
 use Rattle.mate_desk.proofs.OneReport.{once_words}
 
 -- what is reported of an order has another status than words that are none
-answer_status : (files : Files) (answer : Answer) → (report_of files answer).status ≢ is.Usage
-answer_status files (writes text) same = absurd (cc)
-answer_status files (exceeds step) same = absurd (cc)
+abbrev pub IsNotUsage : Report → Type 0
+IsNotUsage report = report.status ≢ is.Usage
 
-position_status : (files : Files) (order : Order) (p : Position) (report : Report) → ReportsPosition files order p report → report.status ≢ is.Usage
-position_status files order p report (inl (why, fault, is')) same = let e : is.Unsound ≡ is.Usage = sym (ap (λ r. r.status) is') ∙ same in absurd (cc)
-position_status files order p report (inr (sound, (answer, right, is'))) same = answer_status files answer (sym (ap (λ r. r.status) is') ∙ same)
+other_status : (report due : Report) → report ≡ due → IsNotUsage due → IsNotUsage report
+other_status report due is not same = not (sym (ap (λ r. r.status) is) ∙ same)
 
-text_status : (files : Files) (order : Order) (text : Text) (report : Report) → ReportsText files order text report → report.status ≢ is.Usage
-text_status files order (refused number why) report is' same = let e : is.Text ≡ is.Usage = sym (ap (λ r. r.status) is') ∙ same in absurd (cc)
-text_status files order (whole p rest) report reports same = position_status files order p report reports same
+pub decide_status : (n budget : ℕ) (problem : Problem) (files : Files) (report : Report) → DecideReports n budget problem files report → IsNotUsage report
+decide_status n budget problem files report (inl (step, over, is')) = other_status report _ is' (λ e. absurd (cc))
+decide_status n budget problem files report (inr (line, fits, verdict, is')) = other_status report _ is' (λ e. absurd (cc))
 
-order_words : (words : List (List ℕ)) (files : Files) (answer : Result Order UsageWhy) (bytes : List ℕ) (report : Report) → Ordered words answer → ReportsOrder files answer bytes report → report.status ≡ is.Usage → (why : UsageWhy) × Ordered words (Err why)
-order_words words files (Err why) bytes report ordered reports same = (why, ordered)
-order_words words files (Ok order) bytes report ordered reports same = absurd (text_status files order reports.0 report reports.2 same)
+pub least_status : (limit budget : ℕ) (problem : Problem) (files : Files) (report : Report) → LeastReports limit budget problem files report → IsNotUsage report
+least_status limit budget problem files report (inl (step, stops, is')) = other_status report _ is' (λ e. absurd (cc))
+least_status limit budget problem files report (inr (found, finds, is')) = other_status report _ is' (λ e. absurd (cc))
+
+pub show_status : (p : Position) (files : Files) (report : Report) → ShowReports p files report → IsNotUsage report
+show_status p files report (text, shown, is') = other_status report _ is' (λ e. absurd (cc))
+
+-- so its run has
+pub not_usage : (status : Status) (reports : Report → Type 0) (may_lack : Type 0) (old new : Seen) → ((report : Report) → reports report → IsNotUsage report) → Ends status reports may_lack old new → status ≢ is.Usage
+not_usage status reports may_lack old new not ends same =
+    let P : Status → Type 0 = λ s. Ends s reports may_lack old new in
+    let ended : Ends is.Usage reports may_lack old new = subst P same ends in
+    not ended.0 ended.1 (sym ended.2.reported)
+
+module _ (says : Problem → Lines → Report → Type 0) (files : Files) (report : Report) (not : (problem : Problem) (rest : Lines) → says problem rest report → IsNotUsage report) where
+  sound_status : (problem : Problem) (rest : Lines) → OfSound (says problem rest) files problem.position report → IsNotUsage report
+  sound_status problem rest (inl (why, fault, is')) = other_status report _ is' (λ e. absurd (cc))
+  sound_status problem rest (inr (sound, right)) = not problem rest right
+
+  read_status : (text : Text) → OfRead says files text report → IsNotUsage report
+  read_status (refused number why) is' = other_status report _ is' (λ e. absurd (cc))
+  read_status (whole problem rest) read = sound_status problem rest read
+
+  text_status : (bytes : List ℕ) → OfText says files bytes report → IsNotUsage report
+  text_status bytes read = read_status read.0 read.2
+
+pub order_status : (order : Order) (words : List (List ℕ)) (bytes : List ℕ) (files : Files) (report : Report) → ReportsOrder order words bytes files report → IsNotUsage report
+order_status (Decide n budget) words bytes files report =
+    text_status (λ problem rest. DecideReports n budget problem files) files report (λ problem rest. decide_status n budget problem files report) bytes
+order_status (Least limit budget) words bytes files report =
+    text_status (λ problem rest. LeastReports limit budget problem files) files report (λ problem rest. least_status limit budget problem files report) bytes
+order_status Show words bytes files report =
+    text_status (λ problem rest. ShowReports problem.position files) files report (λ problem rest. show_status problem.position files report) bytes
+
+words_status : (words : List (List ℕ)) (files : Files) (answer : Result Order UsageWhy) (bytes : List ℕ) (report : Report) → Ordered words answer → ReportsWords answer words bytes files report → report.status ≡ is.Usage → (why : UsageWhy) × Ordered words (Err why)
+words_status words files (Err why) bytes report ordered reports same = (why, ordered)
+words_status words files (Ok order) bytes report ordered reports same = absurd (order_status order words bytes files report reports same)
 
 -- of words that are no order one thing is reported
 usage_reported : (words : List (List ℕ)) (files : Files) (bytes : List ℕ) (report : Report) (why : UsageWhy) → Ordered words (Err why) → Reports words bytes files report → report ≡ refusal_as files is.Usage (usage_line why) false
 usage_reported words files bytes report why none reports =
-    let P : Result Order UsageWhy → Type 0 = λ r. ReportsOrder files r bytes report in
+    let P : Result Order UsageWhy → Type 0 = λ r. ReportsWords r words bytes files report in
     subst P (once_words reports.0 (Err why) words reports.1 none) reports.2
 
 -- a run that did what is reported
 module _ (words : List (List ℕ)) (files : Files) (bytes : List ℕ) (report : Report) (reports : Reports words bytes files report) where
   done_usage : (status : Status) → status ≡ report.status → (status ≡ is.Usage) ↔ ((why : UsageWhy) × Ordered words (Err why))
   done_usage status reported = (
-    λ same. order_words words files reports.0 bytes report reports.1 reports.2 (sym reported ∙ same),
+    λ same. words_status words files reports.0 bytes report reports.1 reports.2 (sym reported ∙ same),
     λ none. reported ∙ ap (λ r. r.status) (usage_reported words files bytes report none.0 none.1 reports),
   )
 
@@ -66,10 +103,18 @@ usage_exactly words is.ReadFault old new run =
 usage_exactly words is.WriteFault old new run =
     other (λ same. absurd (cc)) (λ none. let proper = run.ends.2.written.proper in absurd (omega (arith, proper, ap length (no_text words run.given.files _ run.ends.0 run.ends.1 none))))
 usage_exactly words is.Memory old new run =
-    other (λ same. absurd (cc)) (λ none. let order = run.ends.0 in let both = once_words (Ok order.order) (Err none.0) words order.ordered none.1 in absurd (cc))
+    other (λ same. absurd (cc)) (λ none. let lack = run.ends.0 in let both = once_words (Ok lack.0) (Err none.0) words lack.1 none.1 in absurd (cc))
+
+behind_text : (words : List (List ℕ)) (order : Order) (takes : Problem → Type 0) (taken : List ℕ) → ((problem : Problem) → takes problem → TakesMemory order problem) → Ordered words (Ok order) → LacksBehindText takes taken → (o : Order) × (problem : Problem) × Ordered words (Ok o) × Sound problem.position × TakesMemory o problem
+behind_text words order takes taken more ordered lack = (order, lack.problem, ordered, lack.sound, more lack.problem lack.lacks)
+
+order_lacks : (words : List (List ℕ)) (order : Order) (taken : List ℕ) → Ordered words (Ok order) → OrderMayLack order taken → (o : Order) × (problem : Problem) × Ordered words (Ok o) × Sound problem.position × TakesMemory o problem
+order_lacks words (Decide n budget) taken ordered lack = behind_text words (Decide n budget) _ taken (λ problem takes. takes) ordered lack
+order_lacks words (Least limit budget) taken ordered lack = behind_text words (Least limit budget) _ taken (λ problem takes. takes) ordered lack
+order_lacks words Show taken ordered lack = behind_text words Show _ taken (λ problem takes. takes) ordered lack
 
 pub memory_last : MemoryLast
-memory_last words old new run = let lack = run.ends.0 in (lack.order, lack.position, lack.ordered, lack.sound, lack.takes)
+memory_last words old new run = let lack = run.ends.0 in order_lacks words lack.0 run.given.taken lack.1 lack.2
 
 pub faults_are_counted : FaultsAreCounted
 faults_are_counted = record {

@@ -21,9 +21,9 @@ use Rattle.chess_text.specs.declared.reader.Stage.{Stage}
 use Rattle.chess_text.specs.declared.reader.Stage.TheVariants as stages
 use Rattle.chess_text.specs.declared.reader.Fed.{Fed}
 use Rattle.chess_text.specs.declared.reader.Fed.TheVariants.{More, Whole}
-use Rattle.mate_desk.specs.Taken.{TakesText}
-use Rattle.mate_desk.specs.Text.{Text, whole, refused, AfterLine, ReadsLines, TextAt, is_end}
-use Rattle.mate_desk.specs.TextRead.{TextRead}
+use Rattle.mate_desk.specs.Taken.{TakesLines}
+use Rattle.mate_desk.specs.Text.{Text, white_mates, whole, refused, AfterLine, ReadsLines, TextAt, is_end}
+use Rattle.mate_desk.specs.TextRead.{IsMissing, TextRead}
 use Rattle.mate_desk.specs.declared.text.LineWhy.{LineWhy}
 use Rattle.mate_desk.specs.declared.text.LineWhy.TheVariants.{Grammar, Long, Cut, Missing}
 use Rattle.mate_desk.specs.declared.text.TextEnd.TheVariants.{Fault, Refused}
@@ -166,7 +166,7 @@ module _ (stage : Stage) (number : ℕ) (pending : List ℕ) (before mid after :
           subst (λ l. P (k + 1) l) (sym front) (subst (λ n. P n lines) same here)
     ]
 
-    takes_now : (few : length rest ≤ 256) → TakesText (text_of_lines now ++ rest) rest
+    takes_now : (few : length rest ≤ 256) → TakesLines IsMissing (text_of_lines now ++ rest) rest
     takes_now few = record { lines = now; are_lines = all_lines lines line so_far.are_lines is_line; due = due_now; bytes = refl; few = few }
 
     text_full : (more : List ℕ) (t : Text) (turnout : Turnout) → Feeds stage line turnout → AfterLine turnout number (lines_of more) t (λ next. ReadsLines next (number + 1) (lines_of more) t) → TextAt (text_of_lines now ++ more) t
@@ -196,19 +196,19 @@ module _ (stage : Stage) (number : ℕ) (pending : List ℕ) (before mid after :
       text = λ more t r. text_full more t (turnouts.more next) feeds r;
     }
 
-    pub is_whole : (p : Position) → length rest ≤ 256 → Feeds stage line (turnouts.complete p) → TextRead (Ok p) rest before after
-    is_whole p few feeds =
-        let behind = unwrap_or after [] in
-        record {
-          bytes = text_of_lines now ++ rest;
-          rest = behind;
-          taken = consumed;
-          left = known_rest after;
-          reads = text_taken behind (whole p (lines_of (rest ++ behind))) (turnouts.complete p) feeds refl;
-          takes = takes_now few;
-        }
+    pub is_whole : (p : Position) → length rest ≤ 256 → Feeds stage line (turnouts.complete p) → TextRead (Ok (white_mates p number)) rest before after
+    unfolding takes_now
+    is_whole p few feeds = record {
+      bytes = text_of_lines now ++ rest;
+      rest = unwrap_or after [];
+      taken = consumed;
+      left = known_rest after;
+      takes = takes_now few;
+      reads = λ more. text_full more (whole (white_mates p number) (lines_of more)) (turnouts.complete p) feeds refl;
+    }
 
     pub is_wrong : (why : TextWhy) → length rest ≤ 256 → Feeds stage line (turnouts.wrong why) → TextRead (Err (Refused number (Grammar why))) rest before after
+    unfolding takes_now
     is_wrong why few feeds =
         let behind = unwrap_or after [] in
         record {
@@ -225,10 +225,11 @@ module _ (stage : Stage) (number : ℕ) (pending : List ℕ) (before mid after :
     still : Consumes before after (text_of_lines lines ++ rest)
     still = subst (λ b. Consumes before after (text_of_lines lines ++ b)) (sym keeps) (all_taken bytes took)
 
-    takes_still : length rest ≤ 256 → TakesText (text_of_lines lines ++ rest) rest
+    takes_still : length rest ≤ 256 → TakesLines IsMissing (text_of_lines lines ++ rest) rest
     takes_still few = record { lines = lines; are_lines = so_far.are_lines; due = so_far.due; bytes = refl; few = few }
 
     refused_still : (behind : List ℕ) (why : LineWhy) → IfSome after (λ told. told ≡ behind) → length rest ≤ 256 → ReadsLines stage number (lines_of (rest ++ behind)) (refused number why) → TextRead (Err (Refused number why)) rest before after
+    unfolding takes_still
     refused_still behind why left few r =
         let Q : List ℕ → Type 0 = λ b. TextAt b (refused number why) in
         record {
@@ -265,6 +266,7 @@ module _ (stage : Stage) (number : ℕ) (pending : List ℕ) (before mid after :
   part_ends (b ∷ bytes) = (Cut, refl, refl)
 
   pub is_fault : length rest ≤ 256 → Takes (Err fails.Read) pending line rest mid after → TextRead (Err Fault) rest before after
+  unfolding takes_still
   is_fault few took =
       let part = part_ends (pending ++ took.bytes) in
       let P : Lines → Type 0 = λ l. ReadsLines stage number l (refused number part.0) in

@@ -1,10 +1,10 @@
 -- What was written of a fault line and of a text.
-use Rattle.std.proofs.Common.{◌≡◌, ℕ, List, [], length, Option, Result, Ok, Err, OnOk, OnErr, inl, inr, sym, subst, arith}
+use Rattle.std.proofs.Common.{◌≡◌, ℕ, List, [], length, Option, Some, None, IfSome, Result, Ok, Err, OnOk, OnErr, inl, inr, refl, sym, ◌∙◌, subst, arith}
 use Rattle.std.specs.Io.KnownBytes.{Appends}
 use Rattle.std.proofs.lemmas.List.{take_all, append-nil}
+use Rattle.desk_base.specs.Files.{Files, Go}
 use Rattle.desk_base.specs.Moves.{AppendsFront}
-use Rattle.mate_desk.specs.Answer.{Answer, writes, exceeds}
-use Rattle.mate_desk.specs.Outcome.{Writes, CommandEnds}
+use Rattle.mate_desk.specs.Outcome.{DoesReport, Ends, Report, Seen, Writes, of_sink}
 use Rattle.mate_desk.specs.declared.status.Status.{Status}
 use Rattle.mate_desk.specs.declared.status.Status.TheVariants as is
 
@@ -25,18 +25,56 @@ text_written text old new failed wrote = record {
   whole = inl (omega arith);
 }
 
--- a command ends as it answers, where what it answers says more
-pub ends_as : (status : Status) (answers more : Answer → Type 0) (may_lack may_more failed : Type 0) (old new : Option (List ℕ)) → ((answer : Answer) → answers answer → more answer) → (may_lack → may_more) → CommandEnds status answers may_lack failed old new → CommandEnds status more may_more failed old new
-ends_as is.Done answers more may_lack may_more failed old new says lacks ends = (ends.0, says (writes ends.0) ends.1, ends.2)
-ends_as is.WriteFault answers more may_lack may_more failed old new says lacks ends = (ends.0, says (writes ends.0) ends.1, ends.2, ends.3)
-ends_as is.Budget answers more may_lack may_more failed old new says lacks ends = (ends.0, says (exceeds ends.0) ends.1, ends.2)
-ends_as is.Memory answers more may_lack may_more failed old new says lacks ends = (lacks ends.0, ends.1)
-ends_as is.Usage answers more may_lack may_more failed old new says lacks ends = absurd ends
-ends_as is.Text answers more may_lack may_more failed old new says lacks ends = absurd ends
-ends_as is.Unsound answers more may_lack may_more failed old new says lacks ends = absurd ends
-ends_as is.ReadFault answers more may_lack may_more failed old new says lacks ends = absurd ends
+-- what is reported may say less, and memory may lack more often
+pub ends_as : (status : Status) (reports more : Report → Type 0) (may_lack may_more : Type 0) (old new : Seen) → ((report : Report) → reports report → more report) → (may_lack → may_more) → Ends status reports may_lack old new → Ends status more may_more old new
+ends_as is.Done reports more may_lack may_more old new says lacks ends = (ends.0, says ends.0 ends.1, ends.2)
+ends_as is.Usage reports more may_lack may_more old new says lacks ends = (ends.0, says ends.0 ends.1, ends.2)
+ends_as is.Text reports more may_lack may_more old new says lacks ends = (ends.0, says ends.0 ends.1, ends.2)
+ends_as is.Unsound reports more may_lack may_more old new says lacks ends = (ends.0, says ends.0 ends.1, ends.2)
+ends_as is.ReadFault reports more may_lack may_more old new says lacks ends = (ends.0, says ends.0 ends.1, ends.2)
+ends_as is.WriteFault reports more may_lack may_more old new says lacks ends = (ends.0, says ends.0 ends.1, ends.2)
+ends_as is.Budget reports more may_lack may_more old new says lacks ends = (ends.0, says ends.0 ends.1, ends.2)
+ends_as is.Memory reports more may_lack may_more old new says lacks ends = (lacks ends.0, ends.1)
 
--- it answers one text, which is right
-pub printed : (status : Status) (answers : Answer → Type 0) (may_lack failed : Type 0) (old new : Option (List ℕ)) (text : List ℕ) → answers (writes text) → CommandEnds status (λ answer. answer ≡ writes text) ⊥ failed old new → CommandEnds status answers may_lack failed old new
-printed status answers may_lack failed old new text right =
-    ends_as status (λ answer. answer ≡ writes text) answers ⊥ may_lack failed old new (λ answer is_text. subst answers (sym is_text) right) (λ none. absurd none)
+-- what is printed is what is to be reported
+pub printed : (status : Status) (reports : Report → Type 0) (may_lack : Type 0) (old new : Seen) (due : Report) → reports due → Ends status (λ report. report ≡ due) ⊥ old new → Ends status reports may_lack old new
+printed status reports may_lack old new due right =
+    ends_as status (λ report. report ≡ due) reports ⊥ may_lack old new (λ report is'. subst reports (sym is') right) (λ none. absurd none)
+
+-- The ports of a run of whom its command has the sink alone: what it leaves of the files, where the store tells them, is what they were.
+module _ (files : Files) (old new : Seen) (kept : IfSome old.files (λ told. told ≡ files)) (same : new.files ≡ old.files) where
+  abbrev sink_old : Seen
+  sink_old = of_sink files old.written old.write_faults
+
+  abbrev sink_new : Seen
+  sink_new = of_sink files new.written new.write_faults
+
+  go_same : (way : Files → Files → Type 0) (before after : Option Files) → after ≡ before → IfSome before (λ told. told ≡ files) → way files files → Go before after way
+  go_same way None after is' told holds = tt
+  go_same way (Some x) (Some y) is' told holds =
+      let P : Files → Type 0 = λ x. way x y in
+      let Q : Files → Type 0 = λ y. way files y in
+      let y_is : y ≡ x = cc in
+      subst P (sym told) (subst Q (sym (y_is ∙ told)) holds)
+  go_same way (Some x) None is' told holds = absurd (cc)
+
+  does : (status : Status) (report : Report) → DoesReport status report sink_old sink_new → DoesReport status report old new
+  does status report d =
+      record { reported = d.reported; written = d.written; files = go_same (λ before after. after ≡ report.files) old.files new.files same kept d.files }
+
+  -- so the run ends as its command does
+  pub at_sink : (status : Status) (reports : Report → Type 0) (may_lack : Type 0) → Ends status reports may_lack sink_old sink_new → Ends status reports may_lack old new
+  at_sink is.Done reports may_lack ends = (ends.0, ends.1, does is.Done ends.0 ends.2)
+  at_sink is.Usage reports may_lack ends = (ends.0, ends.1, does is.Usage ends.0 ends.2)
+  at_sink is.Text reports may_lack ends = (ends.0, ends.1, does is.Text ends.0 ends.2)
+  at_sink is.Unsound reports may_lack ends = (ends.0, ends.1, does is.Unsound ends.0 ends.2)
+  at_sink is.Budget reports may_lack ends = (ends.0, ends.1, does is.Budget ends.0 ends.2)
+  at_sink is.ReadFault reports may_lack ends = absurd (omega (arith, ends.2.failed))
+  at_sink is.WriteFault reports may_lack ends =
+      let some = ends.2 in (
+        ends.0,
+        ends.1,
+        record { failed = some.failed; written = some.written; files = go_same (λ before after. after ≡ ends.0.files) old.files new.files same kept some.files },
+      )
+  at_sink is.Memory reports may_lack ends =
+      (ends.0, record { written = ends.1.written; files = go_same (λ before after. after ≡ before) old.files new.files same kept refl })

@@ -1,18 +1,23 @@
 -- Laws of what a run does.
-use Rattle.std.specs.Prelude.{◌≡◌, ◌↔◌, ◌⊎◌, ℕ, List, ◌++◌, Option, Some, Ok, Err}
+use Rattle.std.specs.Prelude.{◌≡◌, ◌↔◌, ◌⊎◌, ℕ, List, ◌++◌, length, Option, Some, Ok, Err}
 use Rattle.desk_base.specs.Faults.{HasRisen}
-use Rattle.desk_base.specs.Lines.{lines_of}
+use Rattle.desk_base.specs.Files.{Files}
+use Rattle.desk_base.specs.Lines.{Lines, lines_of}
 use Rattle.game_rules.specs.Game.{Position, Least, Sound, Value}
 use Rattle.game_rules.specs.declared.men.Side.TheVariants.{White}
-use Rattle.chess_text.specs.PositionText.{IsWritable, position_text}
+use Rattle.chess_text.specs.PositionText.{IsWritable, position_lines, position_text}
+use Rattle.mate_desk.specs.Decide.{IsExact}
+use Rattle.mate_desk.specs.Least.{least_line}
 use Rattle.mate_desk.specs.Order.{Ordered}
-use Rattle.mate_desk.specs.Outcome.{Seen, WriteFailed}
-use Rattle.mate_desk.specs.Report.{TakesMemory, least_line, mate_line, no_mate_line}
+use Rattle.mate_desk.specs.Outcome.{Report, Seen, WriteFailed}
+use Rattle.mate_desk.specs.Report.{Reports, TakesMemory}
 use Rattle.mate_desk.specs.Run.{RunEnds}
-use Rattle.mate_desk.specs.Text.{TextAt, whole}
+use Rattle.mate_desk.specs.Text.{TextAt, white_mates, whole}
+use Rattle.mate_desk.specs.Verdict.{mate_line, no_mate_line}
 use Rattle.mate_desk.specs.declared.order.Order.{Order}
 use Rattle.mate_desk.specs.declared.order.Order.TheVariants as orders
 use Rattle.mate_desk.specs.declared.order.UsageWhy.{UsageWhy}
+use Rattle.mate_desk.specs.declared.problem.Problem.{Problem}
 use Rattle.mate_desk.specs.declared.status.Status.{Status}
 use Rattle.mate_desk.specs.declared.status.Status.TheVariants as is
 
@@ -53,9 +58,15 @@ LeastWrites =
     → HasRun words (orders.Least limit budget) p old new out
     → (all : List ℕ) × (new.written ≡ Some all) × WritesLeast limit p out all
 
--- the text of a position, whatever comes behind it, is read as that position
+-- the text of a position, whatever comes behind it, is read as that position, with White to mate, and has so many lines
 abbrev pub TextIsRead : Type 0
-TextIsRead = (p : Position) (rest : List ℕ) → IsWritable p → TextAt (position_text p ++ rest) (whole p (lines_of rest))
+TextIsRead =
+    (p : Position) (rest : List ℕ) → IsWritable p
+    → TextAt (position_text p ++ rest) (whole (white_mates p (length (position_lines p))) (lines_of rest))
+
+-- each text that is read has White to mate
+abbrev pub WhiteIsToMate : Type 0
+WhiteIsToMate = (bytes : List ℕ) (problem : Problem) (rest : Lines) → TextAt bytes (whole problem rest) → problem.winner ≡ White
 
 -- the status is that of words that are no order exactly where they are none
 abbrev pub UsageExactly : Type 0
@@ -69,9 +80,27 @@ abbrev pub MemoryLast : Type 0
 MemoryLast =
     (words : List (List ℕ)) (old new : Seen)
     → RunEnds words is.Memory old new
-    → (order : Order) × (p : Position) × Ordered words (Ok order) × Sound p × TakesMemory order p
+    → (order : Order) × (problem : Problem) × Ordered words (Ok order) × Sound problem.position × TakesMemory order problem
 
 -- the statuses of a fault come only where its count has risen
 pub record FaultsAreCounted : Type 0 where
   pub read : (words : List (List ℕ)) (old new : Seen) → RunEnds words is.ReadFault old new → HasRisen old.read_faults new.read_faults
   pub write : (words : List (List ℕ)) (old new : Seen) → RunEnds words is.WriteFault old new → WriteFailed old new
+
+-- two reports of one input are equal
+abbrev pub OneReport : Type 0
+OneReport =
+    (words : List (List ℕ)) (bytes : List ℕ) (files : Files) (one other : Report)
+    → Reports words bytes files one
+    → Reports words bytes files other
+    → one ≡ other
+
+-- each report of `decide` on the text of a sound position is exact
+abbrev pub DecidesExactly : Type 0
+DecidesExactly =
+    (words : List (List ℕ)) (bytes : List ℕ) (files : Files) (n budget : ℕ) (problem : Problem) (rest : Lines) (report : Report)
+    → Ordered words (Ok (orders.Decide n budget))
+    → TextAt bytes (whole problem rest)
+    → Sound problem.position
+    → Reports words bytes files report
+    → IsExact n budget problem report

@@ -1,11 +1,11 @@
 -- What a run does, and how it may end.
-use Rattle.std.specs.Prelude.{◌≡◌, ◌⊎◌, ℕ, ◌≤◌, List, [], ◌++◌, length, take, Bool, false, Option, IsTrue, codes}
+use Rattle.std.specs.Prelude.{◌≡◌, ◌⊎◌, ℕ, ◌≤◌, List, [], ◌++◌, length, take, Bool, false, Option, Some, None, IsTrue, codes}
 use Rattle.std.specs.Io.KnownBytes.{Appends}
 use Rattle.desk_base.specs.Faults.{HasRisen}
 use Rattle.desk_base.specs.Files.{Files, Go}
 use Rattle.desk_base.specs.Moves.{AppendsFront}
 use Rattle.winning_sets.specs.declared.names.StepName.{StepName}
-use Rattle.mate_desk.specs.Answer.{Answer, writes, exceeds, budget_line}
+use Rattle.mate_desk.specs.FaultLines.{budget_line}
 use Rattle.mate_desk.specs.declared.status.Status.{Status}
 use Rattle.mate_desk.specs.declared.status.Status.TheVariants as is
 
@@ -29,10 +29,9 @@ refusal_as files status fault short = record { status = status; text = []; fault
 abbrev pub done_with : Files → List ℕ → Report
 done_with files text = record { status = is.Done; text = text; fault = []; short = false; files = files }
 
--- a run that answers this, and leaves these files
-abbrev pub report_of : Files → Answer → Report
-report_of files (writes text) = done_with files text
-report_of files (exceeds step) = refusal_as files is.Budget (budget_line step) false
+-- a run that names this step, which exceeds the budget, and leaves these files
+abbrev pub over_budget : Files → StepName → Report
+over_budget files step = refusal_as files is.Budget (budget_line step) false
 
 -- This text was written to a sink that goes from `old` to `new`, and then this fault line, of which a suffix may be missing where the
 -- sink has failed.
@@ -49,6 +48,11 @@ pub record Seen : Type 0 where
   pub files : Option Files
   pub read_faults : ℕ
   pub write_faults : ℕ
+
+-- what a command sees that has a sink alone: it reads nothing, and the files stay what they are
+abbrev pub of_sink : Files → Option (List ℕ) → ℕ → Seen
+of_sink files written faults =
+    record { left = None; written = written; files = Some files; read_faults = 0; write_faults = faults }
 
 -- the sink has failed in the run
 abbrev pub WriteFailed : Seen → Seen → Type 0
@@ -86,17 +90,11 @@ pub record LacksMemory (old new : Seen) : Type 0 where
   pub written : Writes [] (codes "memory\n") old.written new.written (WriteFailed old new)
   pub files : KeepsFiles old new
 
--- How a run with this status ends, where `reports` says what is reported, and `may_lack` that the answer takes memory.
+-- How a run, or the command in it, ends with this status, where `reports` says what is reported, and `may_lack` that memory may be wanting.
+-- A command that uses the shelf will have one case more, the status of a fault of the shelf. What it lacks is the count of the shelf's faults
+-- in what is seen, and which file is then unknown.
 abbrev pub Ends : Status → (Report → Type 0) → Type 0 → Seen → Seen → Type 0
 Ends is.ReadFault reports may_lack old new = (report : Report) × reports report × ReadsSome report old new
 Ends is.WriteFault reports may_lack old new = (report : Report) × reports report × WritesSome report old new
 Ends is.Memory reports may_lack old new = may_lack × LacksMemory old new
 Ends status reports may_lack old new = (report : Report) × reports report × DoesReport status report old new
-
--- How a command ends, where `answers` says what it answers, with a sink that goes from `old` to `new` and has `failed` or not.
-abbrev pub CommandEnds : Status → (Answer → Type 0) → (may_lack failed : Type 0) → (old new : Option (List ℕ)) → Type 0
-CommandEnds is.Done answers may_lack failed old new = (text : List ℕ) × answers (writes text) × Appends old new text
-CommandEnds is.WriteFault answers may_lack failed old new = (text : List ℕ) × answers (writes text) × failed × AppendsFront old new text
-CommandEnds is.Budget answers may_lack failed old new = (step : StepName) × answers (exceeds step) × Writes [] (budget_line step) old new failed
-CommandEnds is.Memory answers may_lack failed old new = may_lack × Writes [] (codes "memory\n") old new failed
-CommandEnds status answers may_lack failed old new = ⊥

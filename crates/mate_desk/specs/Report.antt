@@ -1,170 +1,82 @@
 -- What a run reports.
-use Rattle.std.specs.Prelude.{◌≡◌, ◌↔◌, ◌⊎◌, ℕ, ◌<◌, ◌≤◌, List, [], ◌∷◌, ◌++◌, false, Option, Some, None, Result, Ok, Err, codes, count_by, is_some, unwrap_or}
-use Rattle.std.specs.Fmt.{decimal}
+use Rattle.std.specs.Prelude.{◌≡◌, ◌⊎◌, ℕ, ◌≤◌, List, ◌++◌, length, false, Result, Ok, Err}
 use Rattle.desk_base.specs.Files.{Files}
-use Rattle.desk_base.specs.Lines.{Lines}
-use Rattle.game_rules.specs.Game.{Position, InCheck, Least, Sound, Value, square_of}
-use Rattle.game_rules.specs.declared.men.Side.TheVariants.{White}
+use Rattle.desk_base.specs.Lines.{Lines, ended}
+use Rattle.game_rules.specs.Game.{Position, Sound}
 use Rattle.chess_game.specs.Unsoundness.{IsFirstUnsoundness}
 use Rattle.chess_game.specs.declared.unsoundness.Unsound.{Unsound}
-use Rattle.chess_game.specs.declared.unsoundness.Unsound.TheVariants.{NoKing, ManyKings, KingGone, SameSquare, OtherInCheck}
-use Rattle.chess_text.specs.ManLine.{side_letter}
-use Rattle.chess_text.specs.PositionText.{position_text}
-use Rattle.mate_plan.specs.PlanOf.{plan_of}
-use Rattle.winning_sets.specs.Solve.{IsWithin, IsSolveError}
-use Rattle.winning_sets.specs.declared.names.SolveError.TheVariants as solve_error
-use Rattle.winning_sets.specs.declared.names.StepName.{StepName}
-use Rattle.mate_desk.specs.Answer.{Answer, writes, exceeds, budget_line}
+use Rattle.mate_desk.specs.Decide.{DecideReports}
+use Rattle.mate_desk.specs.FaultLines.{unsound_line}
+use Rattle.mate_desk.specs.Least.{LeastReports}
 use Rattle.mate_desk.specs.Order.{Ordered, usage_line}
-use Rattle.mate_desk.specs.Outcome.{Report, refusal_as, report_of}
+use Rattle.mate_desk.specs.Outcome.{Report, refusal_as}
+use Rattle.mate_desk.specs.Show.{ShowReports}
 use Rattle.mate_desk.specs.Text.{Text, TextAt, whole, refused, is_end, refusal_line}
+use Rattle.mate_desk.specs.Verdict.{HasNothingToPlay}
 use Rattle.mate_desk.specs.declared.order.Order.{Order}
 use Rattle.mate_desk.specs.declared.order.Order.TheVariants as orders
 use Rattle.mate_desk.specs.declared.order.UsageWhy.{UsageWhy}
+use Rattle.mate_desk.specs.declared.problem.Problem.{Problem}
 use Rattle.mate_desk.specs.declared.status.Status.TheVariants as is
 
--- the fault line of a position that is not sound
-abbrev pub unsound_line : Unsound → List ℕ
-unsound_line (NoKing s) = codes "unsound no king " ++ side_letter s ∷ codes "\n"
-unsound_line (ManyKings s) = codes "unsound many kings " ++ side_letter s ∷ codes "\n"
-unsound_line (KingGone s) = codes "unsound king gone " ++ side_letter s ∷ codes "\n"
-unsound_line (SameSquare i j) = codes "unsound same square " ++ decimal i ++ codes " " ++ decimal j ++ codes "\n"
-unsound_line OtherInCheck = codes "unsound other side in check\n"
-
--- the two lines of a verdict
-abbrev pub mate_line : ℕ → List ℕ
-mate_line n = codes "mate in " ++ decimal n ++ codes "\n"
-
-abbrev pub no_mate_line : ℕ → List ℕ
-no_mate_line n = codes "no mate in " ++ decimal n ++ codes "\n"
-
--- the line says whether White mates within n moves of his own, whatever is replied
-abbrev pub IsVerdict : ℕ → Position → List ℕ → Type 0
-IsVerdict n p line = ((line ≡ mate_line n) × Value White n p) ⊎ ((line ≡ no_mate_line n) × (Value White n p → ⊥))
-
--- no step of the plan by which White is to mate within n moves exceeds the budget
-abbrev pub FitsBudget : Position → ℕ → ℕ → Type 0
-FitsBudget p budget n = IsWithin (plan_of White p n) budget
-
--- the step is the first of that plan that exceeds the budget
-abbrev pub ExceedsAt : Position → ℕ → ℕ → StepName → Type 0
-ExceedsAt p budget n step = IsSolveError (plan_of White p n) n budget (solve_error.Over step)
-
--- the answer to whether White mates within n moves of his own
-abbrev pub AnswersDecide : ℕ → ℕ → Position → Answer → Type 0
-AnswersDecide n budget p (writes text) = FitsBudget p budget n × IsVerdict n p text
-AnswersDecide n budget p (exceeds step) = ExceedsAt p budget n step
-
--- the line that says within how few moves White mates, or that he does not within the limit
-abbrev pub least_line : ℕ → Option ℕ → List ℕ
-least_line limit (Some n) = codes "least " ++ decimal n ++ codes "\n"
-least_line limit None = codes "none up to " ++ decimal limit ++ codes "\n"
-
--- the answer to within how few moves White mates: the numbers of moves are gone through from 0 on
-abbrev pub AnswersLeast : ℕ → ℕ → Position → Answer → Type 0
-AnswersLeast limit budget p (writes text) =
-    (found : Option ℕ) × Least White p limit found × ((n : ℕ) → n ≤ unwrap_or found limit → FitsBudget p budget n) × (text ≡ least_line limit found)
-AnswersLeast limit budget p (exceeds step) =
-    (n : ℕ) × (n ≤ limit) × ((k : ℕ) → k < n → FitsBudget p budget k × (Value White k p → ⊥)) × ExceedsAt p budget n step
-
--- the line says whether the side to move is in check
-abbrev pub IsCheckLine : Position → List ℕ → Type 0
-IsCheckLine p line =
-    ((line ≡ codes "check yes\n") × InCheck p p.turn)
-    ⊎ ((line ≡ codes "check no\n") × (InCheck p p.turn → ⊥))
-
--- how many men are not captured
-abbrev pub live_count : Position → ℕ
-live_count p = count_by (λ m. is_some (square_of m)) p.men
-
-abbrev pub live_line : Position → List ℕ
-live_line p = codes "live " ++ decimal (live_count p) ++ codes "\n"
-
--- the text of the position, whether its side to move is in check, and how many men are live
-abbrev pub IsShown : Position → List ℕ → Type 0
-IsShown p text = (check : List ℕ) × IsCheckLine p check × (text ≡ position_text p ++ check ++ live_line p)
-
--- the answer to the order for a sound position
-abbrev pub Answers : Order → Position → Answer → Type 0
-Answers (orders.Decide moves budget) p answer = AnswersDecide moves budget p answer
-Answers (orders.Least limit budget) p answer = AnswersLeast limit budget p answer
-Answers orders.Show p (writes text) = IsShown p text
-Answers orders.Show p (exceeds step) = ⊥
-
--- White is to move, and has no move of his own left to make
-pub record HasNothingToPlay (moves : ℕ) (p : Position) : Type 0 where
-  pub none : moves ≡ 0
-  pub turn : p.turn ≡ White
-
--- the answer to the order takes memory
-abbrev pub TakesMemory : Order → Position → Type 0
-TakesMemory (orders.Decide moves budget) p = ¬ HasNothingToPlay moves p
-TakesMemory (orders.Least limit budget) p = ¬ HasNothingToPlay limit p
-TakesMemory orders.Show p = Unit {0}
-
--- the report on a position, with the files before the run
-abbrev pub ReportsPosition : Files → Order → Position → Report → Type 0
-ReportsPosition files order p report =
+-- the report on a position is that it is not sound, or else what `reports` says
+abbrev pub OfSound : (Report → Type 0) → Files → Position → Report → Type 0
+OfSound reports files p report =
     ((why : Unsound) × IsFirstUnsoundness p why × (report ≡ refusal_as files is.Unsound (unsound_line why) false))
-    ⊎ (Sound p × ((answer : Answer) × Answers order p answer × (report ≡ report_of files answer)))
+    ⊎ (Sound p × reports report)
 
-abbrev pub ReportsText : Files → Order → Text → Report → Type 0
-ReportsText files order (refused number why) report = report ≡ refusal_as files is.Text (refusal_line number why) (is_end why)
-ReportsText files order (whole p rest) report = ReportsPosition files order p report
+-- the report on a text is that it is refused, or else what `reports` says of the problem, where it is sound, and of the lines behind it
+abbrev pub OfRead : (Problem → Lines → Report → Type 0) → Files → Text → Report → Type 0
+OfRead reports files (refused number why) report = report ≡ refusal_as files is.Text (refusal_line number why) (is_end why)
+OfRead reports files (whole problem rest) report = OfSound (reports problem rest) files problem.position report
 
-abbrev pub ReportsOrder : Files → Result Order UsageWhy → List ℕ → Report → Type 0
-ReportsOrder files (Err why) bytes report = report ≡ refusal_as files is.Usage (usage_line why) false
-ReportsOrder files (Ok order) bytes report = (text : Text) × TextAt bytes text × ReportsText files order text report
+-- the report on the text at the front of these bytes
+abbrev pub OfText : (Problem → Lines → Report → Type 0) → Files → List ℕ → Report → Type 0
+OfText reports files bytes report = (text : Text) × TextAt bytes text × OfRead reports files text report
+
+-- What is reported of an order: the words that it is, the bytes of the input, and the files. Each order has a line of its own.
+abbrev pub ReportsOrder : Order → (words : List (List ℕ)) → List ℕ → Files → Report → Type 0
+ReportsOrder (orders.Decide n budget) words bytes files = OfText (λ problem rest. DecideReports n budget problem files) files bytes
+ReportsOrder (orders.Least limit budget) words bytes files = OfText (λ problem rest. LeastReports limit budget problem files) files bytes
+ReportsOrder orders.Show words bytes files = OfText (λ problem rest. ShowReports problem.position files) files bytes
+
+abbrev pub ReportsWords : Result Order UsageWhy → (words : List (List ℕ)) → List ℕ → Files → Report → Type 0
+ReportsWords (Err why) words bytes files report = report ≡ refusal_as files is.Usage (usage_line why) false
+ReportsWords (Ok order) words bytes files report = ReportsOrder order words bytes files report
 
 -- What is reported of words, the bytes of an input, and files.
 abbrev pub Reports : List (List ℕ) → List ℕ → Files → Report → Type 0
-Reports words bytes files report = (answer : Result Order UsageWhy) × Ordered words answer × ReportsOrder files answer bytes report
+Reports words bytes files report = (answer : Result Order UsageWhy) × Ordered words answer × ReportsWords answer words bytes files report
 
--- The words order something that takes memory, of the sound position at the front of these bytes.
-pub record MayLackMemory (words : List (List ℕ)) (bytes : List ℕ) : Type 0 where
-  pub order : Order
-  pub ordered : Ordered words (Ok order)
-  pub position : Position
-  pub rest : Lines
-  pub text : TextAt bytes (whole position rest)
-  pub sound : Sound position
-  pub takes : TakesMemory order position
+-- what the order asks for takes memory
+abbrev pub TakesMemory : Order → Problem → Type 0
+TakesMemory (orders.Decide n budget) problem = ¬ HasNothingToPlay n problem
+TakesMemory (orders.Least limit budget) problem = ¬ HasNothingToPlay limit problem
+TakesMemory orders.Show problem = Unit {0}
 
--- two reports of one input are equal
-abbrev pub OneReport : Type 0
-OneReport =
-    (words : List (List ℕ)) (bytes : List ℕ) (files : Files) (one other : Report)
-    → Reports words bytes files one
-    → Reports words bytes files other
-    → one ≡ other
+-- The bytes taken are the text of a sound position, of which the order asks for something that takes memory, and at most 256 behind it.
+pub record LacksBehindText (takes : Problem → Type 0) (taken : List ℕ) : Type 0 where
+  pub problem : Problem
+  pub sound : Sound problem.position
+  pub lacks : takes problem
+  pub front : List ℕ
+  pub pending : List ℕ
+  pub text : TextAt front (whole problem ended)
+  pub bytes : taken ≡ front ++ pending
+  pub few : length pending ≤ 256
 
--- the run is done, and writes one of the two lines and no fault line
-pub record IsAnswered (n : ℕ) (report : Report) : Type 0 where
-  pub status : report.status ≡ is.Done
-  pub text : (report.text ≡ mate_line n) ⊎ (report.text ≡ no_mate_line n)
-  pub fault : report.fault ≡ []
+-- where memory may be wanting, by the order and the bytes that were taken
+abbrev pub OrderMayLack : Order → List ℕ → Type 0
+OrderMayLack (orders.Decide n budget) taken = LacksBehindText (TakesMemory (orders.Decide n budget)) taken
+OrderMayLack (orders.Least limit budget) taken = LacksBehindText (TakesMemory (orders.Least limit budget)) taken
+OrderMayLack orders.Show taken = LacksBehindText (TakesMemory orders.Show) taken
 
--- the run names the first step that exceeds the budget, and writes nothing else
-pub record IsOverBudget (n budget : ℕ) (p : Position) (report : Report) : Type 0 where
-  pub status : report.status ≡ is.Budget
-  pub text : report.text ≡ []
-  pub step : StepName
-  pub first : ExceedsAt p budget n step
-  pub fault : report.fault ≡ budget_line step
+-- the words are an order, and memory may be wanting after these bytes were taken
+abbrev pub MayLackMemory : List (List ℕ) → (taken : List ℕ) → Type 0
+MayLackMemory words taken = (order : Order) × Ordered words (Ok order) × OrderMayLack order taken
 
--- What a run of `decide` reports of a sound position: it is done, with the one line exactly where White mates within n moves of his own,
--- and the other exactly where he does not; or it names the first step that exceeds the budget.
-pub record IsExact (n budget : ℕ) (p : Position) (report : Report) : Type 0 where
-  pub cause : IsAnswered n report ⊎ IsOverBudget n budget p report
-  pub mate : report.status ≡ is.Done → (report.text ≡ mate_line n) ↔ Value White n p
-  pub no_mate : report.status ≡ is.Done → (report.text ≡ no_mate_line n) ↔ (¬ Value White n p)
-
--- each report of `decide` on the text of a sound position is exact
-abbrev pub DecidesExactly : Type 0
-DecidesExactly =
-    (words : List (List ℕ)) (bytes : List ℕ) (files : Files) (n budget : ℕ) (p : Position) (rest : Lines) (report : Report)
-    → Ordered words (Ok (orders.Decide n budget))
-    → TextAt bytes (whole p rest)
-    → Sound p
-    → Reports words bytes files report
-    → IsExact n budget p report
+-- the order uses no file
+abbrev pub UsesNoShelf : Order → Type 0
+UsesNoShelf (orders.Decide n budget) = Unit {0}
+UsesNoShelf (orders.Least limit budget) = Unit {0}
+UsesNoShelf orders.Show = Unit {0}

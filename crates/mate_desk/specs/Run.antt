@@ -1,10 +1,10 @@
 -- How a run ends.
-use Rattle.std.specs.Prelude.{◌≡◌, ℕ, List, [], ◌++◌, IfSome}
+use Rattle.std.specs.Prelude.{◌≡◌, ℕ, List, [], ◌++◌, IfSome, IsTrue}
 use Rattle.std.specs.Io.KnownBytes.{Consumes}
 use Rattle.desk_base.specs.Files.{Files}
-use Rattle.mate_desk.specs.Outcome.{Seen, Ends}
+use Rattle.mate_desk.specs.Outcome.{Report, Seen, Ends}
 use Rattle.mate_desk.specs.Report.{Reports, MayLackMemory}
-use Rattle.mate_desk.specs.Taken.{TakesText}
+use Rattle.mate_desk.specs.Taken.{TakesLines}
 use Rattle.mate_desk.specs.declared.status.Status.{Status}
 use Rattle.mate_desk.specs.declared.status.Status.TheVariants as is
 
@@ -18,10 +18,14 @@ pub record Given (old new : Seen) : Type 0 where
   pub left : IfSome new.left (λ told. told ≡ rest)
   pub kept : IfSome old.files (λ told. told ≡ files)
 
+-- a line is due behind these bytes: the report on them ends because they end
+abbrev pub IsLineDue : List (List ℕ) → Files → (number : ℕ) → (before : List ℕ) → Type 0
+IsLineDue words files number before = (report : Report) × Reports words before files report × IsTrue report.short
+
 -- what a run with this status takes: nothing where the words are no order, and else the lines that it reads
-abbrev pub Takes : Status → List ℕ → Type 0
-Takes is.Usage taken = taken ≡ []
-Takes status taken = (pending : List ℕ) × TakesText taken pending
+abbrev pub Takes : List (List ℕ) → Files → Status → List ℕ → Type 0
+Takes words files is.Usage taken = taken ≡ []
+Takes words files status taken = (pending : List ℕ) × TakesLines (IsLineDue words files) taken pending
 
 -- The bytes that the report is on: all that were given, or, where the source has failed, those that were taken.
 abbrev pub reported_on : Status → (taken rest : List ℕ) → List ℕ
@@ -31,5 +35,7 @@ reported_on status taken rest = taken ++ rest
 -- How a run of these words with this status ends.
 pub record RunEnds (words : List (List ℕ)) (status : Status) (old new : Seen) : Type 0 where
   pub given : Given old new
-  pub takes : Takes status given.taken
-  pub ends : Ends status (λ report. Reports words (reported_on status given.taken given.rest) given.files report) (MayLackMemory words (given.taken ++ given.rest)) old new
+  pub takes : Takes words given.files status given.taken
+  pub ends :
+      Ends status (λ report. Reports words (reported_on status given.taken given.rest) given.files report)
+      (MayLackMemory words given.taken) old new

@@ -3,23 +3,29 @@ use Rattle.std.specs.Prelude.{◌≡◌, ℕ, ◌+◌, ◌++◌, Bool, true, fal
 use Rattle.std.specs.Fmt.{decimal}
 use Rattle.desk_base.specs.Lines.{Lines, full, ended, cut, long, lines_of}
 use Rattle.game_rules.specs.Game.{Position}
+use Rattle.game_rules.specs.declared.men.Side.TheVariants.{White}
 use Rattle.chess_text.specs.PositionText.{Feeds, Turnout}
 use Rattle.chess_text.specs.PositionText as turnouts
 use Rattle.chess_text.specs.declared.man_line.TextWhy.TheVariants as grammar
 use Rattle.chess_text.specs.declared.reader.Stage.{Stage}
 use Rattle.chess_text.specs.declared.reader.Stage.TheVariants.{Header}
+use Rattle.mate_desk.specs.declared.problem.Problem.{Problem}
 use Rattle.mate_desk.specs.declared.text.LineWhy.{LineWhy}
 use Rattle.mate_desk.specs.declared.text.LineWhy.TheVariants.{Grammar, Long, Cut, Missing}
 
--- What an input begins with: the text of a position, and the lines that come after it, or the first line that is refused.
+-- What an input begins with: the text of a problem, and the lines that come after it, or the first line that is refused.
 pub data Text : Type 0 where
-  whole : Position → Lines → Text
+  whole : Problem → Lines → Text
   refused : ℕ → LineWhy → Text
+
+-- what a text of so many lines says, which has a position and no more: White is to mate
+abbrev pub white_mates : Position → ℕ → Problem
+white_mates p lines = record { position = p; winner = White; lines = lines }
 
 -- the text, after a line of this number of which the text makes that
 abbrev pub AfterLine : Turnout → ℕ → Lines → Text → (Stage → Type 0) → Type 0
 AfterLine (turnouts.more next) number rest text go_on = go_on next
-AfterLine (turnouts.complete p) number rest text go_on = text ≡ whole p rest
+AfterLine (turnouts.complete p) number rest text go_on = text ≡ whole (white_mates p number) rest
 AfterLine (turnouts.wrong why) number rest text go_on = text ≡ refused number (Grammar why)
 
 -- the text that the lines are from this stage on, of which the first has this number

@@ -1,13 +1,18 @@
 //! The top call.
 
-ghost use Rattle.std.specs.Prelude.{◌≡◌, map, string_bytes};
+ghost use Rattle.std.specs.Prelude.{◌≡◌, IfOk, Result, map, string_bytes};
+ghost use Rattle.mate_desk.specs.Order.{Ordered};
+ghost use Rattle.mate_desk.specs.Report.{UsesNoShelf};
 ghost use Rattle.mate_desk.specs.Run.{RunEnds};
 
-use crate::answer::answer;
+use crate::decide::decide;
 use crate::fault_line::{refusal_line, refuse, unsound_line};
-use crate::order::order_of;
+use crate::least::least;
+use crate::order::{Order, UsageWhy, order_of};
+use crate::problem::Task;
+use crate::show::show;
 use crate::status::Status;
-use crate::text::{TextEnd, read_position};
+use crate::text::{TextEnd, read_problem};
 use chess_game::soundness;
 use desk_base::{LineReader, Shelf, Sink, Source};
 use std::alloc::Global;
@@ -40,7 +45,8 @@ pub fn run<S: Source, K: Sink, H: Shelf>(
         } }
     // Where the words are no order, nothing is read.
     ensures nothing_read { result ≡ Status.Usage → source.new ≡ source.old }
-    ensures shelf_untouched { shelf.new ≡ shelf.old }
+    // Where they are none, or one that uses no file, the shelf is not called.
+    ensures shelf_untouched { (answer : Result Order UsageWhy) → Ordered (map string_bytes words.now.items) answer → IfOk answer UsesNoShelf → shelf.new ≡ shelf.old }
 {
     let _ = shelf;
     let order = match order_of(words) {
@@ -51,8 +57,8 @@ pub fn run<S: Source, K: Sink, H: Shelf>(
         }
     };
     let mut reader = LineReader::new();
-    let position = match read_position(&mut reader, source) {
-        Ok(position) => position,
+    let problem = match read_problem(&mut reader, source) {
+        Ok(problem) => problem,
         Err(TextEnd::Fault) => {
             refuse(sink, b"read fault\n");
             return Status::ReadFault;
@@ -63,12 +69,28 @@ pub fn run<S: Source, K: Sink, H: Shelf>(
             return Status::Text;
         }
     };
-    match soundness(&position) {
-        Ok(()) => answer(alloc, order, &position, sink),
-        Err(why) => {
-            let line = unsound_line(why);
-            refuse(sink, line.as_slice());
-            Status::Unsound
+    if let Err(why) = soundness(&problem.position) {
+        let line = unsound_line(why);
+        refuse(sink, line.as_slice());
+        return Status::Unsound;
+    }
+    match order {
+        Order::Decide { moves, budget } => {
+            let task = Task {
+                problem,
+                moves,
+                budget,
+            };
+            decide(alloc, &task, sink)
         }
+        Order::Least { limit, budget } => {
+            let task = Task {
+                problem,
+                moves: limit,
+                budget,
+            };
+            least(alloc, &task, sink)
+        }
+        Order::Show => show(alloc, &problem.position, sink),
     }
 }

@@ -3,9 +3,8 @@
 ghost use Rattle.std.specs.Prelude.{◌≡◌, ◌≤◌, ◌++◌, ◌+◌, ◌∷◌, [], length};
 ghost use Rattle.desk_base.specs.Faults.{HasRisen};
 ghost use Rattle.chess_text.specs.ManLine.{side_letter};
-ghost use Rattle.mate_desk.specs.Answer as answers;
+ghost use Rattle.mate_desk.specs.FaultLines as specs;
 ghost use Rattle.mate_desk.specs.Outcome.{Writes};
-ghost use Rattle.mate_desk.specs.Report as reports;
 ghost use Rattle.mate_desk.specs.Text as texts;
 
 use crate::text::LineWhy;
@@ -29,7 +28,7 @@ pub fn refusal_line(number: u32, why: LineWhy) -> LineBuffer
 
 /// The line that says why a position is not sound.
 pub fn unsound_line(why: Unsound) -> LineBuffer
-    ensures { result ≡ reports.unsound_line why }
+    ensures { result ≡ specs.unsound_line why }
 {
     match why {
         Unsound::NoKing(side) => side_line(b"unsound no king ", side),
@@ -60,7 +59,7 @@ fn side_line(text: &[u8], side: Side) -> LineBuffer
 
 /// The line that names two men on one square.
 fn same_square_line(first: u8, second: u8) -> LineBuffer
-    ensures { result ≡ reports.unsound_line (Unsound.SameSquare first second) }
+    ensures { result ≡ specs.unsound_line (Unsound.SameSquare first second) }
 {
     let mut line = LineBuffer::new();
     line.push(b"unsound same square ");
@@ -73,7 +72,7 @@ fn same_square_line(first: u8, second: u8) -> LineBuffer
 
 /// The line that names a step that needs more states than the budget.
 pub fn budget_line(step: StepName) -> LineBuffer
-    ensures { result ≡ answers.budget_line step }
+    ensures { result ≡ specs.budget_line step }
 {
     let mut line = LineBuffer::new();
     line.push(b"over budget at moves ");
@@ -92,7 +91,7 @@ pub fn budget_line(step: StepName) -> LineBuffer
 
 /// The word for a part of a plan.
 fn part_word(part: Part) -> &'static [u8]
-    ensures word { result.now ≡ answers.part_word part }
+    ensures word { result.now ≡ specs.part_word part }
     ensures short { length result.now ≤ 6 }
 {
     match part {

@@ -1,7 +1,6 @@
 //! Laws of a run, each the contract of a function that does nothing. They are of the relation that the contract of `run` names.
 
-ghost use Rattle.mate_desk.specs.Laws.{DecideWrites, FaultsAreCounted, LeastWrites, MemoryLast, TextIsRead, UsageExactly};
-ghost use Rattle.mate_desk.specs.Report.{DecidesExactly, OneReport};
+ghost use Rattle.mate_desk.specs.Laws.{DecidesExactly, DecideWrites, FaultsAreCounted, LeastWrites, MemoryLast, OneReport, TextIsRead, UsageExactly, WhiteIsToMate};
 
 /// A run of `decide` that is done, on the text of a sound position and whatever comes behind it, writes `mate in n` exactly where White
 /// mates within n moves of his own, whatever is replied on the whole board, and `no mate in n` exactly where he does not.
@@ -18,6 +17,11 @@ pub fn least_writes()
 /// The text of a position, whatever comes behind it, is read as that position.
 pub fn text_is_read()
     ensures { TextIsRead }
+{}
+
+/// Each text that is read has White to mate.
+pub fn white_is_to_mate()
+    ensures { WhiteIsToMate }
 {}
 
 /// A run has the status of words that are no order exactly where they are none.
@@ -40,7 +44,7 @@ pub fn reports_once()
     ensures { OneReport }
 {}
 
-/// Of the text of a sound position `decide` reports `mate in n` exactly where White mates within n moves of his own, whatever is replied
+/// Of the text of a sound position `decide` reports `mate in n` exactly where its winner mates within n moves of his own, whatever is replied
 /// on the whole board, and `no mate in n` exactly where he does not; or it names the first step that exceeds the budget.
 pub fn decides_exactly()
     ensures { DecidesExactly }

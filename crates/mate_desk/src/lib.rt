@@ -4,13 +4,16 @@
 //! run does is the relation `Reports` under `specs`, and the contract of `run` says how a run may differ from it where an object fails.
 #![tactic(auto)]
 
-mod answer;
+mod decide;
 mod desk;
 mod fault_line;
 pub mod laws;
+mod least;
 mod mates;
 mod order;
 mod output;
+mod problem;
+mod show;
 mod status;
 mod text;
 

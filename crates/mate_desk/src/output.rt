@@ -1,10 +1,9 @@
 //! Writing an answer.
 
-ghost use Rattle.std.specs.Prelude.{◌≡◌, ◌≤◌};
-ghost use Rattle.desk_base.specs.Faults.{HasRisen};
+ghost use Rattle.std.specs.Prelude.{◌≡◌};
+ghost use Rattle.desk_base.specs.Files.{Files};
 ghost use Rattle.winning_sets.specs.declared.names.StepName.{StepName};
-ghost use Rattle.mate_desk.specs.Answer.{exceeds, writes};
-ghost use Rattle.mate_desk.specs.Outcome.{CommandEnds};
+ghost use Rattle.mate_desk.specs.Outcome.{Ends, done_with, of_sink, over_budget};
 
 use crate::fault_line::{budget_line, refuse};
 use crate::status::Status;
@@ -13,8 +12,9 @@ use winning_sets::SolveError;
 
 /// Writes the text.
 pub fn print<K: Sink>(sink: &mut K, text: &[u8]) -> Status
-    ensures ends { CommandEnds result (λ answer. answer ≡ writes text.now) ⊥ (HasRisen (K.faults sink.old) (K.faults sink.new)) (K.written sink.old) (K.written sink.new) }
-    ensures never_falls { K.faults sink.old ≤ K.faults sink.new }
+    ensures ends { (files : Files) →
+        Ends result (λ report. report ≡ done_with files text.now) ⊥
+        (of_sink files (K.written sink.old) (K.faults sink.old)) (of_sink files (K.written sink.new) (K.faults sink.new)) }
 {
     match put_all(sink, text) {
         Ok(()) => Status::Done,
@@ -24,8 +24,9 @@ pub fn print<K: Sink>(sink: &mut K, text: &[u8]) -> Status
 
 /// Writes why a plan was not gone through to its end.
 pub fn print_error<K: Sink>(sink: &mut K, error: SolveError) -> Status
-    ensures ends { CommandEnds result (λ answer. (step : StepName) × (error ≡ SolveError.Over step) × (answer ≡ exceeds step)) (error ≡ SolveError.Memory) (HasRisen (K.faults sink.old) (K.faults sink.new)) (K.written sink.old) (K.written sink.new) }
-    ensures never_falls { K.faults sink.old ≤ K.faults sink.new }
+    ensures ends { (files : Files) →
+        Ends result (λ report. (step : StepName) × (error ≡ SolveError.Over step) × (report ≡ over_budget files step)) (error ≡ SolveError.Memory)
+        (of_sink files (K.written sink.old) (K.faults sink.old)) (of_sink files (K.written sink.new) (K.faults sink.new)) }
 {
     match error {
         SolveError::Over(step) => {

@@ -5,7 +5,8 @@ ghost use Rattle.desk_base.specs.Faults.{HasRisen};
 ghost use Rattle.mate_desk.specs.Text.{why_word};
 ghost use Rattle.mate_desk.specs.TextRead.{TextRead};
 
-use chess_game::Position;
+use crate::problem::Problem;
+use chess_game::Side;
 use chess_text::{PositionReader, TextWhy};
 use desk_base::{Line, LineError, LineReader, Source};
 
@@ -49,15 +50,12 @@ pub enum TextEnd {
     Refused(u32, LineWhy),
 }
 
-/// Reads the position text at the front of an input. What comes after it is not read, but for the bytes that the reader holds.
-pub fn read_position<S: Source>(
-    reader: &mut LineReader,
-    source: &mut S,
-) -> Result<Position, TextEnd>
+/// Reads the text of a problem at the front of an input. What comes after it is not read, but for the bytes that the reader holds.
+pub fn read_problem<S: Source>(reader: &mut LineReader, source: &mut S) -> Result<Problem, TextEnd>
     requires fresh { (reader.old.pending ≡ []) × (reader.old.stopped ≡ None) }
     ensures reads { TextRead result reader.new.pending (S.left source.old) (S.left source.new) }
-    ensures goes_on { IfOk result (λ p. reader.new.stopped ≡ None) }
-    ensures few { IfOk result (λ p. length p.men ≤ 5) }
+    ensures goes_on { IfOk result (λ problem. reader.new.stopped ≡ None) }
+    ensures few { IfOk result (λ problem. length problem.position.men ≤ 5) }
     ensures failed { IsErrOf result TextEnd.Fault → HasRisen (S.faults source.old) (S.faults source.new) }
     ensures never_falls { S.faults source.old ≤ S.faults source.new }
 {
@@ -67,7 +65,13 @@ pub fn read_position<S: Source>(
         match reader.next_line(source) {
             Ok(Line::Full(_)) => match text.feed_line(reader.line()) {
                 Ok(fed) => match fed.position() {
-                    Some(position) => return Ok(position),
+                    Some(position) => {
+                        return Ok(Problem {
+                            position,
+                            winner: Side::White,
+                            lines: number,
+                        });
+                    }
                     None => number += 1,
                 },
                 Err(error) => return Err(TextEnd::Refused(number, LineWhy::Grammar(error.why))),

@@ -1,5 +1,9 @@
-use Rattle.std.proofs.Common.{map, string_bytes, refl, rules}
-use Rattle.mate_desk.proofs.Reporting.{usage_ends, refused_ends, fault_ends, unsound_ends, command_ends}
+use Rattle.std.proofs.Common.{map, string_bytes, Ok, refl, subst, rules}
+use Rattle.desk_base.specs.Files.{no_files}
+use Rattle.mate_desk.specs.Order.{Ordered}
+use Rattle.mate_desk.specs.declared.order.Order.{Order}
+use Rattle.mate_desk.proofs.Reporting.{usage_ends, refused_ends, fault_ends, unsound_ends, decide_ends, least_ends, show_ends}
+use Rattle.mate_desk.proofs.Statuses.{decide_status, least_status, not_usage, show_status}
 use Rattle.mate_desk.proofs.desk.run.Goals as goal
 
 pub returns-in-Err-clause-ends : goal.returns-in-Err-clause-ends
@@ -20,10 +24,38 @@ returns-in-Err-Refused-clause-ends g c =
 
 pub returns-in-Err-soundness-clause-ends : goal.returns-in-Err-soundness-clause-ends
 returns-in-Err-soundness-clause-ends g c =
-    unsound_ends (map string_bytes c.args.words.now.items) _ _ refl c.in-Ok.order c.in-Ok.ensures.ordered _ _ c.in-Ok-read_position.ensures.reads c.in-Err-soundness.why c.in-Err-soundness.ensures.reason
+    unsound_ends (map string_bytes c.args.words.now.items) _ _ refl c.in-Ok.order c.in-Ok.ensures.ordered _ _ c.in-Ok-read_problem.ensures.reads c.in-Err-soundness.why c.in-Err-soundness.ensures.reason
     (rw (c.as_slice-in-Err-soundness.ensures, c.unsound_line-line.ensures) at c.refuse-in-Err-soundness.ensures.written)
 
-pub returns-in-Ok-soundness-clause-ends : goal.returns-in-Ok-soundness-clause-ends
-returns-in-Ok-soundness-clause-ends g c =
-    command_ends (map string_bytes c.args.words.now.items) _ _ refl c.in-Ok.order c.in-Ok.ensures.ordered _ c.in-Ok-read_position.position c.in-Ok-read_position.ensures.reads (c.in-Ok-soundness.ensures.ok.0 refl)
-    c.answer.result c.answer.ensures.ends
+pub returns-in-Decide-clause-ends : goal.returns-in-Decide-clause-ends
+returns-in-Decide-clause-ends g c =
+    let words = map string_bytes c.args.words.now.items in
+    let IsOrdered : Order → Type 0 = λ order. Ordered words (Ok order) in
+    decide_ends words _ _ refl _ c.in-Ok-read_problem.problem c.in-Ok-read_problem.ensures.reads (c.in_default.ensures.ok.0 refl) c.decide.result c.in-Decide.moves c.in-Decide.budget
+    (subst IsOrdered c.in-Decide.is c.in-Ok.ensures.ordered) c.decide.ensures.ends
+
+pub returns-in-Decide-clause-nothing_read : goal.returns-in-Decide-clause-nothing_read
+returns-in-Decide-clause-nothing_read g c = λ usage.
+    absurd (not_usage c.decide.result _ _ _ _ (decide_status c.in-Decide.moves c.in-Decide.budget c.in-Ok-read_problem.problem no_files) (c.decide.ensures.ends no_files) usage)
+
+pub returns-in-Least-clause-ends : goal.returns-in-Least-clause-ends
+returns-in-Least-clause-ends g c =
+    let words = map string_bytes c.args.words.now.items in
+    let IsOrdered : Order → Type 0 = λ order. Ordered words (Ok order) in
+    least_ends words _ _ refl _ c.in-Ok-read_problem.problem c.in-Ok-read_problem.ensures.reads (c.in_default.ensures.ok.0 refl) c.least.result c.in-Least.limit c.in-Least.budget
+    (subst IsOrdered c.in-Least.is c.in-Ok.ensures.ordered) c.least.ensures.ends
+
+pub returns-in-Least-clause-nothing_read : goal.returns-in-Least-clause-nothing_read
+returns-in-Least-clause-nothing_read g c = λ usage.
+    absurd (not_usage c.least.result _ _ _ _ (least_status c.in-Least.limit c.in-Least.budget c.in-Ok-read_problem.problem no_files) (c.least.ensures.ends no_files) usage)
+
+pub returns-in-Show-clause-ends : goal.returns-in-Show-clause-ends
+returns-in-Show-clause-ends g c =
+    let words = map string_bytes c.args.words.now.items in
+    let IsOrdered : Order → Type 0 = λ order. Ordered words (Ok order) in
+    show_ends words _ _ refl _ c.in-Ok-read_problem.problem c.in-Ok-read_problem.ensures.reads (c.in_default.ensures.ok.0 refl) c.show.result
+    (subst IsOrdered c.in-Show.is c.in-Ok.ensures.ordered) c.show.ensures.ends
+
+pub returns-in-Show-clause-nothing_read : goal.returns-in-Show-clause-nothing_read
+returns-in-Show-clause-nothing_read g c = λ usage.
+    absurd (not_usage c.show.result _ _ _ _ (show_status c.in-Ok-read_problem.problem.position no_files) (c.show.ensures.ends no_files) usage)

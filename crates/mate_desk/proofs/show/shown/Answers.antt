@@ -1,6 +1,6 @@
 use Rattle.std.proofs.Common.{◌∙◌, ap, ◌++◌}
 use Rattle.chess_text.specs.PositionText.{position_text}
-use Rattle.mate_desk.proofs.answer.shown.Goals as goal
+use Rattle.mate_desk.proofs.show.shown.Goals as goal
 
 pub returns : goal.returns
 returns c =

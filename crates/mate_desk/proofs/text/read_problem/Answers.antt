@@ -1,6 +1,6 @@
 use Rattle.std.proofs.Common.{sym, ◌∙◌, arith}
 use Rattle.mate_desk.proofs.TextSteps.{fed_more, fed_whole, answer_more, answer_whole, line_read, goes_on, is_whole, is_wrong, is_missing, is_cut, is_long, is_fault}
-use Rattle.mate_desk.proofs.text.read_position.Goals as goal
+use Rattle.mate_desk.proofs.text.read_problem.Goals as goal
 
 pub loop-text-preserved : goal.loop-text-preserved
 loop-text-preserved g c =

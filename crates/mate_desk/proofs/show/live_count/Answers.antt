@@ -1,7 +1,7 @@
 use Rattle.std.proofs.Common.{◌≡◌, ◌+◌, Some, slice_get, sym, ap, ◌∙◌, add-one, arith}
 use Rattle.mate_desk.proofs.Values.{live_more, gone_more}
-use Rattle.mate_desk.proofs.answer.live_count.Goals as goal
-use Rattle.mate_desk.proofs.answer.live_count.Goals.{then-is_live, else-is_live}
+use Rattle.mate_desk.proofs.show.live_count.Goals as goal
+use Rattle.mate_desk.proofs.show.live_count.Goals.{then-is_live, else-is_live}
 
 pub loop-index-preserved : goal.loop-index-preserved
 loop-index-preserved c =

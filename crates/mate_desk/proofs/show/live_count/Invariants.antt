@@ -1,7 +1,7 @@
 use Rattle.std.proofs.Common.{◌≡◌, ◌≤◌, take}
 use Rattle.std.specs.Prelude.{count_by, is_some}
 use Rattle.game_rules.specs.Game.{square_of}
-use Rattle.mate_desk.proofs.answer.live_count.Given as goal
+use Rattle.mate_desk.proofs.show.live_count.Given as goal
 
 abbrev pub invariant-loop-index : goal.invariant-loop-index
 invariant-loop-index l = record {

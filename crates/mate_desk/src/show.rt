@@ -1,16 +1,13 @@
-//! What the commands answer of a sound position.
+//! A position, whether its side to move is in check, and how many men are live.
 
-ghost use Rattle.std.specs.Prelude.{IsTrue, IfOk, ◌≡◌, ◌≤◌, ◌↔◌, is_some, length};
-ghost use Rattle.desk_base.specs.Faults.{HasRisen};
+ghost use Rattle.std.specs.Prelude.{IfOk, ◌≡◌, ◌≤◌, is_some, length};
+ghost use Rattle.desk_base.specs.Files.{Files};
 ghost use Rattle.game_rules.specs.Game.{Sound, square_of};
-ghost use Rattle.mate_desk.specs.Order.{IsWithinLimits};
-ghost use Rattle.mate_desk.specs.Outcome.{CommandEnds};
-ghost use Rattle.mate_desk.specs.Report.{Answers, IsCheckLine, IsShown, TakesMemory, live_line};
-ghost use Rattle.mate_desk.specs.Report as reports;
+ghost use Rattle.mate_desk.specs.Outcome.{Ends, of_sink};
+ghost use Rattle.mate_desk.specs.Show.{IsCheckLine, IsShown, ShowReports, live_line};
+ghost use Rattle.mate_desk.specs.Show as specs;
 
 use crate::fault_line::refuse;
-use crate::mates::{decide, least};
-use crate::order::Order;
 use crate::output::print;
 use crate::status::Status;
 use chess_game::{Man, Place, Position, in_check};
@@ -19,27 +16,13 @@ use chess_text::position_bytes;
 use desk_base::Sink;
 use std::alloc::{AllocError, Global};
 
-/// Writes what the order asks for of the position.
-pub fn answer<K: Sink>(alloc: Global, order: Order, p: &Position, sink: &mut K) -> Status
-    requires sound { Sound p.now }
-    requires few { length p.now.men ≤ 5 }
-    requires within { IsWithinLimits order }
-    ensures ends { CommandEnds result (Answers order p.now) (TakesMemory order p.now) (HasRisen (K.faults sink.old) (K.faults sink.new)) (K.written sink.old) (K.written sink.new) }
-    ensures never_falls { K.faults sink.old ≤ K.faults sink.new }
-{
-    match order {
-        Order::Decide { moves, budget } => decide(alloc, p, moves, budget, sink),
-        Order::Least { limit, budget } => least(alloc, p, limit, budget, sink),
-        Order::Show => show(alloc, p, sink),
-    }
-}
-
 /// Writes the position, whether its side to move is in check, and how many men are live.
-fn show<K: Sink>(alloc: Global, p: &Position, sink: &mut K) -> Status
+pub fn show<K: Sink>(alloc: Global, p: &Position, sink: &mut K) -> Status
     requires sound { Sound p.now }
     requires few { length p.now.men ≤ 5 }
-    ensures ends { CommandEnds result (Answers Order.Show p.now) (Unit {0}) (HasRisen (K.faults sink.old) (K.faults sink.new)) (K.written sink.old) (K.written sink.new) }
-    ensures never_falls { K.faults sink.old ≤ K.faults sink.new }
+    ensures ends { (files : Files) →
+        Ends result (ShowReports p.now files) (Unit {0})
+        (of_sink files (K.written sink.old) (K.faults sink.old)) (of_sink files (K.written sink.new) (K.faults sink.new)) }
 {
     match shown(alloc, p) {
         Ok(text) => print(sink, text.as_slice()),
@@ -87,7 +70,7 @@ fn count_line(p: &Position) -> LineBuffer
 
 /// How many men are not captured.
 fn live_count(p: &Position) -> u8
-    ensures { result ≡ reports.live_count p.now }
+    ensures { result ≡ specs.live_count p.now }
 {
     let mut live = 0;
     for index in 0..p.count() {

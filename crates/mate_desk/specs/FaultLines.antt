@@ -1,14 +1,20 @@
--- What a command answers of a sound position.
-use Rattle.std.specs.Prelude.{ℕ, List, ◌++◌, codes}
+-- Fault lines of positions and of steps.
+use Rattle.std.specs.Prelude.{ℕ, List, ◌∷◌, ◌++◌, codes}
 use Rattle.std.specs.Fmt.{decimal}
+use Rattle.chess_game.specs.declared.unsoundness.Unsound.{Unsound}
+use Rattle.chess_game.specs.declared.unsoundness.Unsound.TheVariants.{NoKing, ManyKings, KingGone, SameSquare, OtherInCheck}
+use Rattle.chess_text.specs.ManLine.{side_letter}
 use Rattle.mate_plan.specs.declared.names.Part.{Part}
 use Rattle.mate_plan.specs.declared.names.Part.TheVariants as part
 use Rattle.winning_sets.specs.declared.names.StepName.{StepName}
 
--- A text that is written, or the first step that exceeds the budget.
-pub data Answer : Type 0 where
-  writes : List ℕ → Answer
-  exceeds : StepName → Answer
+-- the fault line of a position that is not sound
+abbrev pub unsound_line : Unsound → List ℕ
+unsound_line (NoKing s) = codes "unsound no king " ++ side_letter s ∷ codes "\n"
+unsound_line (ManyKings s) = codes "unsound many kings " ++ side_letter s ∷ codes "\n"
+unsound_line (KingGone s) = codes "unsound king gone " ++ side_letter s ∷ codes "\n"
+unsound_line (SameSquare i j) = codes "unsound same square " ++ decimal i ++ codes " " ++ decimal j ++ codes "\n"
+unsound_line OtherInCheck = codes "unsound other side in check\n"
 
 -- the word for a part of a plan
 abbrev pub part_word : Part → List ℕ

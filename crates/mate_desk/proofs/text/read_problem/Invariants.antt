@@ -1,6 +1,6 @@
 use Rattle.std.proofs.Common.{◌≡◌, ◌+◌, ◌≤◌, None}
 use Rattle.mate_desk.proofs.TextSteps.{SoFar, IsFew, lines_left}
-use Rattle.mate_desk.proofs.text.read_position.Given as goal
+use Rattle.mate_desk.proofs.text.read_problem.Given as goal
 
 abbrev pub invariant-loop-text : goal.invariant-loop-text
 invariant-loop-text g l =

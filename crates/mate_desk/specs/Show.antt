@@ -1,0 +1,27 @@
+-- What is reported of `show`.
+use Rattle.std.specs.Prelude.{◌≡◌, ◌⊎◌, ℕ, List, ◌++◌, codes, count_by, is_some}
+use Rattle.std.specs.Fmt.{decimal}
+use Rattle.desk_base.specs.Files.{Files}
+use Rattle.game_rules.specs.Game.{Position, InCheck, square_of}
+use Rattle.chess_text.specs.PositionText.{position_text}
+use Rattle.mate_desk.specs.Outcome.{Report, done_with}
+
+-- the line says whether the side to move is in check
+abbrev pub IsCheckLine : Position → List ℕ → Type 0
+IsCheckLine p line =
+    ((line ≡ codes "check yes\n") × InCheck p p.turn)
+    ⊎ ((line ≡ codes "check no\n") × (InCheck p p.turn → ⊥))
+
+-- how many men are not captured
+abbrev pub live_count : Position → ℕ
+live_count p = count_by (λ m. is_some (square_of m)) p.men
+
+abbrev pub live_line : Position → List ℕ
+live_line p = codes "live " ++ decimal (live_count p) ++ codes "\n"
+
+-- the text of the position, whether its side to move is in check, and how many men are live
+abbrev pub IsShown : Position → List ℕ → Type 0
+IsShown p text = (check : List ℕ) × IsCheckLine p check × (text ≡ position_text p ++ check ++ live_line p)
+
+abbrev pub ShowReports : Position → Files → Report → Type 0
+ShowReports p files report = (text : List ℕ) × IsShown p text × (report ≡ done_with files text)
