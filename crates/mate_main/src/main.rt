@@ -12,12 +12,25 @@ use std::process::ExitCode;
 use std::{env, io};
 
 impl From<AllocError> for WordsError {
+    ghost use Rattle.std.specs.Prelude.{◌≡◌};
+    ghost use Rattle.mate_main.specs.declared.program.WordsError.TheVariants.{Memory};
+
+    ghost from_gives = { λ _ why. why ≡ Memory };
+
     fn from(_error: AllocError) -> Self {
         WordsError::Memory
     }
 }
 
 impl From<io::Error> for WordsError {
+    ghost use Rattle.std.specs.Prelude.{◌≡◌, ◌↔◌};
+    ghost use Rattle.std.specs.IoError.{error_kind};
+    ghost use Rattle.std.specs.declared.io.ErrorKind.TheVariants.{OutOfMemory};
+    ghost use Rattle.mate_main.specs.declared.program.WordsError.TheVariants.{Memory};
+
+    // Memory is what is wanting exactly where the system says so.
+    ghost from_gives = { λ error why. (why ≡ Memory) ↔ (error_kind error ≡ OutOfMemory) };
+
     fn from(error: io::Error) -> Self {
         if error.kind() == io::ErrorKind::OutOfMemory {
             WordsError::Memory
