@@ -3,6 +3,8 @@ pub mod Exact
 pub mod Headline
 pub mod OneReport
 pub mod OneStep
+pub mod PlayRuns
+pub mod Playing
 pub mod Reporting
 pub mod RoundTrip
 pub mod Statuses
