@@ -18,7 +18,8 @@ use Rattle.game_session.specs.Choice.{target}
 use Rattle.white_player.specs.Game.{Game, Goes, IsGame, IsPicked, Plays, WinnerGoes, made_in, one_if_same, start_of}
 use Rattle.white_player.proofs.Games.{first_game, kept_reply, kept_turn, left_made, lost_in, picked_game, whole_game}
 use Rattle.game_report.specs.Laws.{first_seen, seen}
-use Rattle.game_report.specs.Report.{AtLine, AtLines, AtLoser, AtTyped, AtWinner, IsReport, Match, Report, Unless, all_squares, most_lines, mated}
+use Rattle.game_report.specs.Report.{AtLine, AtLines, AtLoser, AtTyped, AtWinner, IsReport, Match, Report, Unless, all_squares, most_lines}
+use Rattle.game_report.specs.declared.play.Ending.TheVariants.{Mated}
 
 -- where the property holds if no more is read, and else too, it holds
 unless : (P : Report → Type 0) (stop : Bool) (left : Lines) (r : Report) (Else : Type 0) → ((r.games ≡ []) → P r) → (Else → P r) → Unless stop left r Else → P r
@@ -115,7 +116,7 @@ module _ (s : Solution) where
   -- the winner makes no more moves than he has left, and fewer if he does not mate
   record IsInTime (g : Game) (r : Report) : Type 0 where
     few : length r.games + made_in g ≤ s.moves
-    fewer : (r.ending ≡ mated) ⊎ (length r.games + made_in g < s.moves)
+    fewer : (r.ending ≡ Mated) ⊎ (length r.games + made_in g < s.moves)
 
   none_yet : (g : Game) (r : Report) → r.games ≡ [] → made_in g < s.moves → IsInTime g r
   none_yet g r is low = let none : length r.games ≡ 0 = ap length is in record { few = omega (arith, none, low); fewer = inr (omega (arith, none, low)) }
@@ -195,14 +196,14 @@ module _ (s : Solution) where
       let low = moves_to_make p ply loses none in
       unless (IsInTime (at s p ply)) (read == most_lines) long r _ (λ is. none_yet (at s p ply) r is low) (λ is. none_yet (at s p ply) r (ap (λ x. x.games) is) low) h
 
-  from_start : (r : Report) → IsInTime (start_of s all_squares) r → (length r.games ≤ s.moves) × ((r.ending ≡ mated) ⊎ (length r.games < s.moves))
+  from_start : (r : Report) → IsInTime (start_of s all_squares) r → (length r.games ≤ s.moves) × ((r.ending ≡ Mated) ⊎ (length r.games < s.moves))
   from_start r h =
       let low = h.few in
       (omega (arith, low), elim (h.fewer) [ inl mate ↦ inl mate | inr less ↦ inr (omega (arith, less)) ])
 
   module _ (valid : IsSolution s) (value : Value s.winner s.moves s.position) where
     pub report_in_time : (before : ℕ) (lines : Lines) (r : Report) → IsReport before lines (first_seen s) r
-        → (length r.games ≤ s.moves) × ((r.ending ≡ mated) ⊎ (length r.games < s.moves))
+        → (length r.games ≤ s.moves) × ((r.ending ≡ Mated) ⊎ (length r.games < s.moves))
     report_in_time before lines r (inl (turn, goes)) =
         from_start r (winner_time (AtLines before 0 lines) (λ q n x his more on. lines_time before 0 lines q n x his more on) lines s.position 0 r
         (first_game s all_squares valid value) turn goes)

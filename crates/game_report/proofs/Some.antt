@@ -26,7 +26,8 @@ use Rattle.game_session.specs.declared.choice.Choice.{Choice}
 use Rattle.white_player.specs.Game.{Game, IsGame, IsKeptAt, moved_to}
 use Rattle.white_player.proofs.Games.{game_sound, kept_next, kept_reply, next_kept, table_of, winner_ply}
 use Rattle.game_report.specs.Laws.{seen}
-use Rattle.game_report.specs.Report.{AtLine, AtLines, AtLoser, AtTurn, AtTyped, AtWinner, IsReport, KeptPick, Match, Report, Unless, all_squares, cut_at, ends, long_at, many, mated, moved, most_lines, no_line, plays, quit, wide, writes}
+use Rattle.game_report.specs.Report.{AtLine, AtLines, AtLoser, AtTurn, AtTyped, AtWinner, IsReport, KeptPick, Match, Report, Unless, all_squares, ends, moved, most_lines, plays, writes}
+use Rattle.game_report.specs.declared.play.Ending.TheVariants.{CutAt, LongAt, Many, Mated, NoLine, Quit, Wide}
 use Rattle.game_report.proofs.Picking.{some_pick}
 use Rattle.game_report.proofs.Typing.{some_typed}
 
@@ -67,14 +68,14 @@ module _ (On : Match → Report → Type 0) (go : (g : Game) → IsGame g → g.
   at_loser left g game turn = by (mate_or_not g.position (game_sound g game))
     where
       by : Decided (Mate g.position) → Goes (AtLoser On left) g
-      by (inl mate) = (ends mated (codes "mate\n") left, inl (mate, refl))
+      by (inl mate) = (ends Mated (codes "mate\n") left, inl (mate, refl))
       by (inr none) = let on = go g game turn none in (on.0, inr (none, on.1))
 
   at_winner : (left : Lines) (g : Game) → IsGame g → g.position.turn ≡ g.solution.winner → Goes (AtWinner On left) g
   at_winner left g game turn = by (some_kept_pick g game turn)
     where
       by : ((o : Option Choice) × KeptPick (seen g) o) → Goes (AtWinner On left) g
-      by (None, none) = (ends wide [] left, inl (none, refl))
+      by (None, none) = (ends Wide [] left, inl (none, refl))
       by (Some c, pick) =
           let q = pick.position in
           let legal = pick.leads.legal in
@@ -85,7 +86,7 @@ module _ (On : Match → Report → Type 0) (go : (g : Game) → IsGame g → g.
   at_typed : (left : Lines) (g : Game) → IsGame g → g.position.turn ≡ other g.solution.winner → (Mate g.position → ⊥) → (reply : Option Typed)
       → (report : Report) × AtTyped On left (seen g) report reply
   at_typed left g game turn none None = let on = go g game turn none in (writes (codes "unreadable\n") on.0, (on.0, on.1, refl))
-  at_typed left g game turn none (Some typed.Quit) = (ends quit [] left, refl)
+  at_typed left g game turn none (Some typed.Quit) = (ends Quit [] left, refl)
   at_typed left g game turn none (Some (typed.Move mv)) = by (can_go g.position mv.man (target mv))
     where
       by : Decided (CanGo g.position mv.man (target mv)) → (report : Report) × AtTyped On left (seen g) report (Some (typed.Move mv))
@@ -105,7 +106,7 @@ module _ (On : Match → Report → Type 0) (go : (g : Game) → IsGame g → g.
       (on.0, (reply.0, reply.1, on.1))
 
 unless : (stop : Bool) (left : Lines) (P : Report → Type 0) → ((report : Report) × P report) → (report : Report) × Unless stop left report (P report)
-unless true left P h = (ends many [] left, refl)
+unless true left P h = (ends Many [] left, refl)
 unless false left P h = h
 
 pub at_lines : (before read : ℕ) (lines : Lines) (g : Game) → IsGame g → g.position.turn ≡ other g.solution.winner → (Mate g.position → ⊥) → Goes (AtLines before read lines) g
@@ -113,11 +114,11 @@ at_lines before read (full line rest) g game turn none =
     unless (read == most_lines) (full line rest) (λ report. AtLine (AtLines before (read + 1) rest) line rest (seen g) report)
     (at_line (AtLines before (read + 1) rest) (λ next on his not_mate. at_lines before (read + 1) rest next on his not_mate) line rest g game turn none)
 at_lines before read ended g game turn none =
-    unless (read == most_lines) ended (λ report. report ≡ ends no_line [] ended) (ends no_line [] ended, refl)
+    unless (read == most_lines) ended (λ report. report ≡ ends NoLine [] ended) (ends NoLine [] ended, refl)
 at_lines before read (cut front) g game turn none =
-    unless (read == most_lines) (cut front) (λ report. report ≡ ends (cut_at (before + read + 1)) [] (cut front)) (ends (cut_at (before + read + 1)) [] (cut front), refl)
+    unless (read == most_lines) (cut front) (λ report. report ≡ ends (CutAt (before + read + 1)) [] (cut front)) (ends (CutAt (before + read + 1)) [] (cut front), refl)
 at_lines before read long g game turn none =
-    unless (read == most_lines) long (λ report. report ≡ ends (long_at (before + read + 1)) [] long) (ends (long_at (before + read + 1)) [] long, refl)
+    unless (read == most_lines) long (λ report. report ≡ ends (LongAt (before + read + 1)) [] long) (ends (LongAt (before + read + 1)) [] long, refl)
 
 pub at_turn : (before read : ℕ) (lines : Lines) (g : Game) → IsGame g → g.position.turn ≡ other g.solution.winner → Goes (AtTurn before read lines) g
 at_turn before read lines g game turn =

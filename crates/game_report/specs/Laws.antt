@@ -5,7 +5,8 @@ use Rattle.game_rules.specs.Game.{Lost, Mate, Value, other}
 use Rattle.chess_game.specs.declared.moves.Move.{Move}
 use Rattle.winning_sets.specs.Solve.{IsSolution, Solution}
 use Rattle.white_player.specs.Game.{Game, IsGame, Plays, start_of}
-use Rattle.game_report.specs.Report.{AtLines, AtTurn, IsReport, Match, Report, all_squares, mated}
+use Rattle.game_report.specs.Report.{AtLines, AtTurn, IsReport, Match, Report, all_squares}
+use Rattle.game_report.specs.declared.play.Ending.TheVariants.{Mated}
 
 -- what a report tells of the game of a session
 abbrev pub seen : Game → Match
@@ -44,7 +45,7 @@ last_game g (next ∷ games) = last_game next games
 -- a report that ends by mate ends with the loser mated
 abbrev pub MatedIsMate : Type 0
 MatedIsMate =
-    (before : ℕ) (lines : Lines) (g : Match) (report : Report) → IsReport before lines g report → report.ending ≡ mated
+    (before : ℕ) (lines : Lines) (g : Match) (report : Report) → IsReport before lines g report → report.ending ≡ Mated
     → Mate (last_game g report.games).position
 
 -- after the k-th move of the winner, counted from 0, of a report of n, the loser is mated within n - (k + 1)
@@ -59,4 +60,4 @@ abbrev pub MatedInTime : Type 0
 MatedInTime =
     (before : ℕ) (lines : Lines) (s : Solution) (report : Report) → IsSolution s → Value s.winner s.moves s.position
     → IsReport before lines (first_seen s) report
-    → (length report.games ≤ s.moves) × ((report.ending ≡ mated) ⊎ (length report.games < s.moves))
+    → (length report.games ≤ s.moves) × ((report.ending ≡ Mated) ⊎ (length report.games < s.moves))

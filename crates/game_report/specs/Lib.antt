@@ -1,2 +1,4 @@
 pub mod Laws
+pub mod Played
 pub mod Report
+pub mod Turns

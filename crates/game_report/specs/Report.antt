@@ -14,23 +14,8 @@ use Rattle.chess_text.specs.declared.replies.Typed.TheVariants as typed
 use Rattle.winning_sets.specs.Kept.{Kept}
 use Rattle.game_session.specs.Choice.{Pick, target}
 use Rattle.game_session.specs.declared.choice.Choice.{Choice}
-
--- how the report of a game ends
-pub data Ending : Type 0 where
-  -- the loser is mated
-  mated : Ending
-  -- no move to a square of 64 bits keeps what was promised
-  wide : Ending
-  -- a line is `quit`
-  quit : Ending
-  -- the input ends where a line is due
-  no_line : Ending
-  -- as many lines were read as may be
-  many : Ending
-  -- the input ends within the line of this number
-  cut_at : ℕ → Ending
-  -- the line of this number is too long
-  long_at : ℕ → Ending
+use Rattle.game_report.specs.declared.play.Ending.{Ending}
+use Rattle.game_report.specs.declared.play.Ending.TheVariants.{Mated, Wide, Quit, NoLine, Many, CutAt, LongAt}
 
 -- a game: which side is to mate, from which position and within how many moves of its own, and the position after so many moves of both sides
 pub record Match : Type 0 where
@@ -58,13 +43,13 @@ all_squares = record { x_low = negsuc (2 ^ 63 - 1); x_high = pos (2 ^ 63 - 1); y
 
 -- the line that tells of an ending other than mate, apart from the text
 abbrev pub ending_line : Ending → List ℕ
-ending_line mated = []
-ending_line wide = codes "wide\n"
-ending_line quit = codes "ended\n"
-ending_line no_line = codes "ended\n"
-ending_line many = codes "too many lines\n"
-ending_line (cut_at number) = codes "text line " ++ decimal number ++ codes " cut\n"
-ending_line (long_at number) = codes "text line " ++ decimal number ++ codes " long\n"
+ending_line Mated = []
+ending_line Wide = codes "wide\n"
+ending_line Quit = codes "ended\n"
+ending_line NoLine = codes "ended\n"
+ending_line Many = codes "too many lines\n"
+ending_line (CutAt number) = codes "text line " ++ decimal number ++ codes " cut\n"
+ending_line (LongAt number) = codes "text line " ++ decimal number ++ codes " long\n"
 
 abbrev pub side_word : Side → List ℕ
 side_word White = codes "white "
@@ -98,13 +83,13 @@ KeptPick g choice = Pick (Kept g.winner g.start g.moves (suc g.ply)) all_squares
 -- with the loser to move, and these lines to come: he is mated, or the game goes on
 abbrev pub AtLoser : (Match → Report → Type 0) → Lines → Match → Report → Type 0
 AtLoser On left g report =
-    (Mate g.position × (report ≡ ends mated (codes "mate\n") left))
+    (Mate g.position × (report ≡ ends Mated (codes "mate\n") left))
     ⊎ ((Mate g.position → ⊥) × On g report)
 
 -- with the winner to move: there is no pick, or he makes it
 abbrev pub AtWinner : (Match → Report → Type 0) → Lines → Match → Report → Type 0
 AtWinner On left g report =
-    (KeptPick g None × (report ≡ ends wide [] left))
+    (KeptPick g None × (report ≡ ends Wide [] left))
     ⊎ ((choice : Choice) × (q : Position) × (later : Report)
     × KeptPick g (Some choice) × Legal g.position choice.mv.man (target choice.mv) q × AtLoser On left (moved g q) later
     × (report ≡ plays choice.mv (moved g q) later))
@@ -117,7 +102,7 @@ IsTyped line None = (why : MoveWhy) × IsReplyRefusal line why
 -- what comes of a line, with the loser to move
 abbrev pub AtTyped : (Match → Report → Type 0) → Lines → Match → Report → Option Typed → Type 0
 AtTyped On left g report None = (later : Report) × On g later × (report ≡ writes (codes "unreadable\n") later)
-AtTyped On left g report (Some typed.Quit) = report ≡ ends quit [] left
+AtTyped On left g report (Some typed.Quit) = report ≡ ends Quit [] left
 AtTyped On left g report (Some (typed.Move mv)) =
     ((later : Report)
     × ((q : Position) → Legal g.position mv.man (target mv) q → ⊥) × On g later
@@ -129,7 +114,7 @@ AtLine On line left g report = (reply : Option Typed) × IsTyped line reply × A
 
 -- no more lines are read where the first is true
 abbrev pub Unless : Bool → Lines → Report → Type 0 → Type 0
-Unless true left report Else = report ≡ ends many [] left
+Unless true left report Else = report ≡ ends Many [] left
 Unless false left report Else = Else
 
 -- the report of a game with the loser to move, who is not mated, where so many lines of the input stood before those of the game, and so many of
@@ -137,10 +122,10 @@ Unless false left report Else = Else
 abbrev pub AtLines : ℕ → ℕ → Lines → Match → Report → Type 0
 AtLines before read (full line rest) g report =
     Unless (read == most_lines) (full line rest) report (AtLine (λ next later. AtLines before (read + 1) rest next later) line rest g report)
-AtLines before read ended g report = Unless (read == most_lines) ended report (report ≡ ends no_line [] ended)
+AtLines before read ended g report = Unless (read == most_lines) ended report (report ≡ ends NoLine [] ended)
 AtLines before read (cut front) g report =
-    Unless (read == most_lines) (cut front) report (report ≡ ends (cut_at (before + read + 1)) [] (cut front))
-AtLines before read long g report = Unless (read == most_lines) long report (report ≡ ends (long_at (before + read + 1)) [] long)
+    Unless (read == most_lines) (cut front) report (report ≡ ends (CutAt (before + read + 1)) [] (cut front))
+AtLines before read long g report = Unless (read == most_lines) long report (report ≡ ends (LongAt (before + read + 1)) [] long)
 
 -- the report of a game with the loser to move, where so many lines stood before those of the game, and so many of the game were read
 abbrev pub AtTurn : ℕ → ℕ → Lines → Match → Report → Type 0

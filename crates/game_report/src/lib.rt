@@ -1,5 +1,9 @@
-//! What a run reports of a game that its winner plays, and whose other side's moves come as lines. `specs/Report` says what a report is, `laws` that
-//! there is exactly one, and what the winner's moves in it come to. There is no code yet.
+//! A game that its winner plays by a session, and whose other side's moves come as lines of a source: what a run reports of it (`specs/Report`), that
+//! there is exactly one report and what the winner's moves in it come to (`laws`), and the code that plays it, line by line (`specs/Played`).
 #![tactic(auto)]
 
 pub mod laws;
+mod play;
+mod turn;
+
+pub use play::{Ending, GameError, play_game};
