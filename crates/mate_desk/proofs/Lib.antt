@@ -1,5 +1,6 @@
 pub mod Commands
 pub mod Exact
+pub mod Following
 pub mod Headline
 pub mod OneReport
 pub mod OneStep

@@ -96,7 +96,7 @@ module _ (words : List (List ℕ)) (old new : Seen) (same : new.files ≡ old.fi
       few = p.takes.few;
     }
 
-    given : Given old new
+    abbrev given : Given old new
     given = record {
       taken = taken;
       rest = p.rest;
@@ -138,13 +138,13 @@ module _ (words : List (List ℕ)) (old new : Seen) (same : new.files ≡ old.fi
     ended_all s ends =
         ends_as s (λ report. PlayReports n budget problem (lines_of ((held ++ p.bytes) ++ p.rest)) files report) (λ report. Reports words (taken ++ p.rest) files report)
         (LacksAtFirst n problem p.bytes) (MayLackMemory words taken) old new all_says may_lack
-        (at_files files old new (known_files old.files) same mid new.left reads new.read_faults rises s _ _ ends)
+        (at_files files old new (known_files old.files) same mid new.left reads new.read_faults rises s (λ report. PlayReports n budget problem (lines_of ((held ++ p.bytes) ++ p.rest)) files report) (LacksAtFirst n problem p.bytes) ends)
 
     ended_taken : Ends is.ReadFault (λ report. PlayReports n budget problem (lines_of (held ++ p.bytes)) files report) (LacksAtFirst n problem p.bytes) before after → Ends is.ReadFault (λ report. Reports words taken files report) (MayLackMemory words taken) old new
     ended_taken ends =
         ends_as is.ReadFault (λ report. PlayReports n budget problem (lines_of (held ++ p.bytes)) files report) (λ report. Reports words taken files report)
         (LacksAtFirst n problem p.bytes) (MayLackMemory words taken) old new taken_says may_lack
-        (at_files files old new (known_files old.files) same mid new.left reads new.read_faults rises is.ReadFault _ _ ends)
+        (at_files files old new (known_files old.files) same mid new.left reads new.read_faults rises is.ReadFault (λ report. PlayReports n budget problem (lines_of (held ++ p.bytes)) files report) (LacksAtFirst n problem p.bytes) ends)
 
   -- the run ends as the command does
   pub play_ends : (status : Status) → PlayEnds n budget problem files status held pending before after → RunEnds words status old new

@@ -1,14 +1,18 @@
 -- How `play` ends, from how its game does, and how a run ends from how `play` does.
-use Rattle.std.proofs.Common.{◌≡◌, ℕ, ◌+◌, ◌<◌, ◌≤◌, List, [], ◌++◌, length, take, Option, Some, Result, Ok, Err, IsErrOf, inl, inr, refl, sym, ◌∙◌, ap, subst, append_assoc, arith}
-use Rattle.std.specs.Prelude.{codes}
+use Rattle.std.proofs.Common.{◌≡◌, ◌⊎◌, ℕ, ◌+◌, ◌<◌, ◌≤◌, List, [], ◌++◌, length, take, Option, Some, Result, Ok, Err, IsErrOf, inl, inr, refl, sym, ◌∙◌, ap, subst, append_assoc, arith}
+use Rattle.std.specs.Prelude.{codes, unwrap_or}
 use Rattle.std.specs.Io.KnownBytes.{Appends, Consumes}
-use Rattle.std.proofs.KnownBytes.{Appends-trans}
+use Rattle.std.proofs.KnownBytes.{Appends-trans, Consumes-nil}
+use Rattle.std.proofs.lemmas.List.{append-nil}
+use Rattle.std.proofs.lemmas.List.Elements.{All-nil}
 use Rattle.desk_base.specs.Faults.{HasRisen}
 use Rattle.desk_base.specs.Files.{Files}
-use Rattle.desk_base.specs.Lines.{Lines, lines_of}
+use Rattle.desk_base.specs.Lines.{IsLine, Lines, lines_of}
 use Rattle.desk_base.specs.Moves.{AppendsFront}
 use Rattle.game_rules.specs.Game.{Value}
 use Rattle.chess_text.specs.PositionText.{text_of_lines}
+use Rattle.chess_game.specs.declared.way.Frame.{Frame}
+use Rattle.game_report.specs.Laws.{seen}
 use Rattle.game_report.specs.Played as game_played
 use Rattle.game_report.specs.Played.{GameEnds, IsPlayed, Ports, is_short}
 use Rattle.game_report.specs.Report.{IsReport, Match, ending_line}
@@ -17,13 +21,17 @@ use Rattle.game_report.specs.declared.play.Ending.{Ending}
 use Rattle.game_report.specs.declared.play.Ending.TheVariants.{Mated, Wide, Quit, NoLine, Many, CutAt, LongAt}
 use Rattle.game_report.specs.declared.play.GameError.{GameError}
 use Rattle.game_report.specs.declared.play.GameError.TheVariants.{Read, Write}
-use Rattle.mate_desk.specs.Outcome.{DoesReport, Ends, Report, Seen, Writes}
+use Rattle.white_player.specs.Game.{Game, start_of}
+use Rattle.winning_sets.specs.Solve.{IsOf, Solution}
+use Rattle.mate_desk.specs.Outcome.{DoesReport, Ends, Report, Seen, Writes, of_sink}
 use Rattle.mate_desk.specs.Play.{Finishes, IsReplyDue, LacksAtFirst, PlayEnds, PlayReports, as_played, behind_text, first_match, status_of}
 use Rattle.mate_desk.specs.Taken.{TakesLines}
-use Rattle.mate_desk.specs.Verdict.{FitsBudget}
+use Rattle.mate_desk.specs.Verdict.{FitsBudget, HasNothingToPlay}
 use Rattle.mate_desk.specs.declared.problem.Problem.{Problem}
 use Rattle.mate_desk.specs.declared.status.Status.{Status}
 use Rattle.mate_desk.specs.declared.status.Status.TheVariants as is
+use Rattle.mate_desk.proofs.TextSteps.{known_rest}
+use Rattle.mate_desk.proofs.Writing.{at_sink, ends_as}
 
 -- a text, and a fault line behind it
 then_line : (text line : List ℕ) (before between after : Option (List ℕ)) (failed also : Type 0) → Appends before between text → (failed → also) → Writes [] line between after failed → Writes text line before after also
@@ -41,8 +49,41 @@ later_risen : (before between after : ℕ) → before ≤ between → HasRisen b
 later_risen before between after le risen = omega (arith, le, risen)
 
 -- the ports at a moment, with the files
-abbrev seen_at : Files → Option (List ℕ) → Option (List ℕ) → ℕ → ℕ → Seen
+abbrev pub seen_at : Files → Option (List ℕ) → Option (List ℕ) → ℕ → ℕ → Seen
 seen_at files left written reads writes = record { left = left; written = written; files = Some files; read_faults = reads; write_faults = writes }
+
+-- the game of a session that begins with a solved problem
+pub seen_first : (problem : Problem) (n : ℕ) (s : Solution) (f : Frame) (g : Game) → IsOf problem.position problem.winner n s → g ≡ start_of s f → seen g ≡ first_match n problem
+seen_first problem n s f g of is = ap seen is ∙ (λ i. record {
+  winner = of.winner_is i;
+  start = of.position i;
+  moves = of.moves_are i;
+  position = of.position i;
+  ply = 0;
+})
+
+-- so it is the game that was played
+pub first_played : (problem : Problem) (n : ℕ) (answer : Result Ending GameError) (g after : Match) (old new : Ports) → g ≡ first_match n problem → IsPlayed answer problem.lines g after old new → IsPlayed answer problem.lines (first_match n problem) after old new
+first_played problem n answer g after old new is played = let P : Match → Type 0 = λ m. IsPlayed answer problem.lines m after old new in subst P is played
+
+-- `play` ends as a command does that has the sink alone, and takes nothing more
+module _ (n budget : ℕ) (problem : Problem) (files : Files) (held : List ℕ) (few : length held ≤ 256) (left before after : Option (List ℕ)) (reads writes later : ℕ) where
+  pub still : (status : Status) (reports : Report → Type 0) (may_lack : Type 0) → ((report : Report) (lines : Lines) → reports report → PlayReports n budget problem lines files report) → (may_lack → ¬ HasNothingToPlay n problem) → Ends status reports may_lack (of_sink files before writes) (of_sink files after later) → PlayEnds n budget problem files status held held (seen_at files left before reads writes) (seen_at files left after reads later)
+  still status reports may_lack says lacks ends =
+      let old = seen_at files left before reads writes in
+      let new = seen_at files left after reads later in
+      let rest = unwrap_or left [] in
+      record {
+        bytes = [];
+        rest = rest;
+        taken = Consumes-nil left;
+        left = known_rest left;
+        takes = record { lines = []; are_lines = All-nil IsLine; due = λ k below. absurd (omega (arith, below)); bytes = append-nil held; few = few };
+        ends =
+            ends_as status reports (λ report. PlayReports n budget problem (lines_of (behind_text status (held ++ []) rest)) files report) may_lack (LacksAtFirst n problem []) old new
+            (λ report right. says report (lines_of (behind_text status (held ++ []) rest)) right) (λ lack. record { some = lacks lack; none = refl })
+            (at_sink files old new refl refl status reports may_lack ends);
+      }
 
 module _ (n budget : ℕ) (problem : Problem) (files : Files) (fits : FitsBudget problem budget n) (value : Value problem.winner n problem.position) where
   reports_game : (lines : Lines) (played : game.Report) → IsReport problem.lines lines (first_match n problem) played → PlayReports n budget problem lines files (as_played files played)

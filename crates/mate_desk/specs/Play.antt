@@ -73,8 +73,8 @@ pub record PlayEnds (n budget : ℕ) (problem : Problem) (files : Files) (status
   pub left : IfSome new.left (λ told. told ≡ rest)
   pub takes : TakesLines (IsReplyDue n budget problem files) (held ++ bytes) pending
   pub ends :
-    Ends status (λ report. PlayReports n budget problem (lines_of (behind_text status (held ++ bytes) rest)) files report)
-    (LacksAtFirst n problem bytes) old new
+      Ends status (λ report. PlayReports n budget problem (lines_of (behind_text status (held ++ bytes) rest)) files report)
+      (LacksAtFirst n problem bytes) old new
 
 -- what is written after a game was played, and the status then
 abbrev pub Finishes : Result Ending GameError → Status → (old new : Option (List ℕ)) → (failed : Type 0) → Type 0

@@ -1,6 +1,6 @@
 //! A game that the winner plays against replies that come behind the text.
 
-ghost use Rattle.std.specs.Prelude.{◌≡◌, ◌≤◌, [], None, Some};
+ghost use Rattle.std.specs.Prelude.{◌≡◌, ◌≤◌, [], None, Some, length};
 ghost use Rattle.desk_base.specs.Faults.{HasRisen};
 ghost use Rattle.desk_base.specs.Files.{Files};
 ghost use Rattle.game_report.specs.Report.{ending_line};
@@ -33,6 +33,7 @@ pub fn play<S: Source, K: Sink>(
 ) -> Status
     requires task { IsTask task.now }
     requires goes_on { reader.old.stopped ≡ None }
+    requires held { length reader.old.pending ≤ 256 }
     requires lines { task.now.problem.lines ≤ 8 }
     ensures ends { (files : Files) →
         PlayEnds task.now.moves task.now.budget task.now.problem files result reader.old.pending reader.new.pending
