@@ -3,17 +3,19 @@ use Rattle.std.proofs.Common.{◌≡◌, ℕ, List, Option, Some, None, if◌the
 use Rattle.std.specs.Prelude.{bytes_eq}
 use Rattle.mate_desk.specs.Order.{IsCommand, name_of}
 use Rattle.mate_desk.specs.declared.order.Command.{Command}
-use Rattle.mate_desk.specs.declared.order.Command.TheVariants.{Decide, Least, Show}
+use Rattle.mate_desk.specs.declared.order.Command.TheVariants.{Decide, Least, Play, Show}
 
 -- the command of a name
 abbrev named : List ℕ → Option Command
 named word =
     if bytes_eq word (codes "decide") then Some Decide
-    else (if bytes_eq word (codes "least") then Some Least else (if bytes_eq word (codes "show") then Some Show else None))
+    else (if bytes_eq word (codes "least") then Some Least
+    else (if bytes_eq word (codes "play") then Some Play else (if bytes_eq word (codes "show") then Some Show else None)))
 
 named_back : (command : Command) → named (name_of command) ≡ Some command
 named_back Decide = refl
 named_back Least = refl
+named_back Play = refl
 named_back Show = refl
 
 same_command : (one other : Command) → name_of one ≡ name_of other → one ≡ other

@@ -1,8 +1,11 @@
 pub mod Commands
 pub mod Exact
+pub mod Following
 pub mod Headline
 pub mod OneReport
 pub mod OneStep
+pub mod PlayRuns
+pub mod Playing
 pub mod Reporting
 pub mod RoundTrip
 pub mod Statuses

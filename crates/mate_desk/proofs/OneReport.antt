@@ -16,6 +16,7 @@ use Rattle.chess_text.specs.PositionText as turnouts
 use Rattle.chess_text.specs.declared.reader.Stage.{Stage}
 use Rattle.chess_text.specs.declared.reader.Stage.TheVariants.{Header}
 use Rattle.chess_text.proofs.PositionLemmas.{feeds_once}
+use Rattle.game_report.proofs.Once.{one_report as one_game}
 use Rattle.winning_sets.specs.declared.names.StepName.{StepName}
 use Rattle.mate_desk.specs.Decide.{DecideReports}
 use Rattle.mate_desk.specs.FaultLines.{unsound_line}
@@ -23,6 +24,7 @@ use Rattle.mate_desk.specs.Laws.{OneReport}
 use Rattle.mate_desk.specs.Least.{LeastFinds, LeastReports, LeastStops, least_line}
 use Rattle.mate_desk.specs.Order.{ReadsNumber, FromNumber, WithNumber, MovesOrdered, ReadsMoves, ShowOrdered, Ordered, OrderedBehind, order_for, most_moves, most_budget, default_budget}
 use Rattle.mate_desk.specs.Outcome.{Report, done_with, over_budget, refusal_as}
+use Rattle.mate_desk.specs.Play.{PlayReports, PlayedReports, as_played, first_match}
 use Rattle.mate_desk.specs.Report.{OfRead, OfSound, OfText, ReportsOrder, ReportsWords}
 use Rattle.mate_desk.specs.Show.{IsCheckLine, ShowReports, live_line}
 use Rattle.mate_desk.specs.Text.{Text, whole, refused, AfterLine, ReadsLines}
@@ -30,7 +32,7 @@ use Rattle.mate_desk.specs.Verdict.{ExceedsAt, IsVerdict}
 use Rattle.mate_desk.specs.declared.order.Command.{Command}
 use Rattle.mate_desk.specs.declared.order.Command.TheVariants as commands
 use Rattle.mate_desk.specs.declared.order.Order.{Order}
-use Rattle.mate_desk.specs.declared.order.Order.TheVariants.{Decide, Least, Show}
+use Rattle.mate_desk.specs.declared.order.Order.TheVariants.{Decide, Least, Play, Show}
 use Rattle.mate_desk.specs.declared.order.UsageWhy.{UsageWhy}
 use Rattle.mate_desk.specs.declared.order.UsageWhy.TheVariants.{NoCommand, Unknown, Count, Number, Limit}
 use Rattle.mate_desk.specs.declared.problem.Problem.{Problem}
@@ -94,6 +96,7 @@ module _ (one other : Result Order UsageWhy) where
   once_behind : (command : Option Command) (words : List (List ℕ)) → OrderedBehind command words one → OrderedBehind command words other → one ≡ other
   once_behind (Some commands.Decide) words a b = once_ordered (λ moves budget. Decide moves budget) words a b
   once_behind (Some commands.Least) words a b = once_ordered (λ limit budget. Least limit budget) words a b
+  once_behind (Some commands.Play) words a b = once_ordered (λ moves budget. Play moves budget) words a b
   once_behind (Some commands.Show) words a b = once_show words a b
   once_behind None words a b = a ∙ sym b
 
@@ -243,6 +246,19 @@ module _ (files : Files) (one other : Report) where
   once_least limit budget problem (inr (f, a, i)) (inr (g, b, j)) =
       i ∙ ap (λ found. done_with files (least_line limit found)) (once_found problem limit f g a.0 b.0) ∙ sym j
 
+  once_played : (n : ℕ) (problem : Problem) (rest : Lines) → PlayedReports n problem rest files one → PlayedReports n problem rest files other → one ≡ other
+  once_played n problem rest (inl (none, i)) (inl (also, j)) = i ∙ sym j
+  once_played n problem rest (inl (none, i)) (inr (value, b)) = absurd (none value)
+  once_played n problem rest (inr (value, a)) (inl (none, j)) = absurd (none value)
+  once_played n problem rest (inr (value, (g, a, i))) (inr (also, (h, b, j))) =
+      i ∙ ap (as_played files) (one_game problem.lines rest (first_match n problem) g h a b) ∙ sym j
+
+  once_play : (n budget : ℕ) (problem : Problem) (rest : Lines) → PlayReports n budget problem rest files one → PlayReports n budget problem rest files other → one ≡ other
+  once_play n budget problem rest (inl (s, a, i)) (inl (t, b, j)) = i ∙ ap (over_budget files) (exceeds_once problem budget n s t a b) ∙ sym j
+  once_play n budget problem rest (inl (s, a, i)) (inr (fits, b)) = absurd (fits_exceeds problem budget n s fits a)
+  once_play n budget problem rest (inr (fits, a)) (inl (t, b, j)) = absurd (fits_exceeds problem budget n t fits b)
+  once_play n budget problem rest (inr (fits, a)) (inr (also, b)) = once_played n problem rest a b
+
   once_shown : (p : Position) → ShowReports p files one → ShowReports p files other → one ≡ other
   once_shown p (t, a, i) (u, b, j) =
       let same : t ≡ u = a.2 ∙ ap (λ check. position_text p ++ check ++ live_line p) (once_check p a.0 b.0 a.1 b.1) ∙ sym b.2 in
@@ -271,6 +287,8 @@ module _ (files : Files) (one other : Report) where
       once_of_text (λ problem rest. DecideReports n budget problem files) (λ problem rest. once_decide n budget problem) bytes a b
   once_order (Least limit budget) words bytes a b =
       once_of_text (λ problem rest. LeastReports limit budget problem files) (λ problem rest. once_least limit budget problem) bytes a b
+  once_order (Play n budget) words bytes a b =
+      once_of_text (λ problem rest. PlayReports n budget problem rest files) (λ problem rest. once_play n budget problem rest) bytes a b
   once_order Show words bytes a b =
       once_of_text (λ problem rest. ShowReports problem.position files) (λ problem rest. once_shown problem.position) bytes a b
 

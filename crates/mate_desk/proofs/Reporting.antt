@@ -24,7 +24,7 @@ use Rattle.mate_desk.specs.Text.{TextAt, whole, refused, is_end, refusal_line}
 use Rattle.mate_desk.specs.TextRead.{IsMissing, IsShort, TextRead}
 use Rattle.mate_desk.specs.Verdict.{HasNothingToPlay}
 use Rattle.mate_desk.specs.declared.order.Order.{Order}
-use Rattle.mate_desk.specs.declared.order.Order.TheVariants.{Decide, Least, Show}
+use Rattle.mate_desk.specs.declared.order.Order.TheVariants.{Decide, Least, Play, Show}
 use Rattle.mate_desk.specs.declared.order.UsageWhy.{UsageWhy}
 use Rattle.mate_desk.specs.declared.problem.Problem.{Problem}
 use Rattle.mate_desk.specs.declared.status.Status.{Status}
@@ -41,7 +41,7 @@ use Rattle.mate_desk.proofs.Writing.{at_sink, ends_as}
 abbrev pub files_of : Option Files → Files
 files_of told = unwrap_or told no_files
 
-known_files : (told : Option Files) → IfSome told (λ files. files ≡ files_of told)
+pub known_files : (told : Option Files) → IfSome told (λ files. files ≡ files_of told)
 known_files None = tt
 known_files (Some files) = refl
 
@@ -57,6 +57,7 @@ same_files (Some files) = refl
 refused_order : (order : Order) (words : List (List ℕ)) (bytes : List ℕ) (files : Files) (number : ℕ) (why : LineWhy) → TextAt bytes (refused number why) → ReportsOrder order words bytes files (refusal_as files is.Text (refusal_line number why) (is_end why))
 refused_order (Decide n budget) words bytes files number why at = (refused number why, at, refl)
 refused_order (Least limit budget) words bytes files number why at = (refused number why, at, refl)
+refused_order (Play n budget) words bytes files number why at = (refused number why, at, refl)
 refused_order Show words bytes files number why at = (refused number why, at, refl)
 
 module _ (words : List (List ℕ)) (old new : Seen) (same : new.files ≡ old.files) where
@@ -92,7 +93,7 @@ module _ (words : List (List ℕ)) (old new : Seen) (same : new.files ≡ old.fi
     given_text answer t = record { taken = t.bytes; rest = t.rest; files = files; consumed = t.taken; left = t.left; kept = known_files old.files }
 
     -- each line of the text was due
-    line_due : (number : ℕ) (before : List ℕ) → IsMissing number before → IsLineDue words files number before
+    pub line_due : (number : ℕ) (before : List ℕ) → IsMissing number before → IsLineDue words files number before
     line_due number before at =
         (refusal_as files is.Text (refusal_line number Missing) (is_end Missing), (Ok order, ordered, refused_order order words before files number Missing at), refl)
 
@@ -161,6 +162,7 @@ module _ (words : List (List ℕ)) (old new : Seen) (same : new.files ≡ old.fi
       unsound_order : (o : Order) (why : Unsound) → IsFirstUnsoundness problem.position why → ReportsOrder o words (t.bytes ++ t.rest) files (refusal_as files is.Unsound (unsound_line why) false)
       unsound_order (Decide n budget) why fault = (whole problem (lines_of (pending ++ t.rest)), is_whole, inl (why, fault, refl))
       unsound_order (Least limit budget) why fault = (whole problem (lines_of (pending ++ t.rest)), is_whole, inl (why, fault, refl))
+      unsound_order (Play n budget) why fault = (whole problem (lines_of (pending ++ t.rest)), is_whole, inl (why, fault, refl))
       unsound_order Show why fault = (whole problem (lines_of (pending ++ t.rest)), is_whole, inl (why, fault, refl))
 
       pub unsound_ends : (why : Unsound) → IsFirstUnsoundness problem.position why → Writes [] (unsound_line why) old.written new.written (WriteFailed old new) → RunEnds words is.Unsound old new
@@ -189,6 +191,9 @@ module _ (words : List (List ℕ)) (old new : Seen) (same : new.files ≡ old.fi
         command_ends is.WriteFault ends =
             record { given = given_text (Ok problem) t; takes = (pending, lines_due t.bytes t.takes); ends = ended_as is.WriteFault ends }
         command_ends is.Budget ends = record { given = given_text (Ok problem) t; takes = (pending, lines_due t.bytes t.takes); ends = ended_as is.Budget ends }
+        command_ends is.Wide ends = record { given = given_text (Ok problem) t; takes = (pending, lines_due t.bytes t.takes); ends = ended_as is.Wide ends }
+        command_ends is.Ended ends = record { given = given_text (Ok problem) t; takes = (pending, lines_due t.bytes t.takes); ends = ended_as is.Ended ends }
+        command_ends is.TooMany ends = record { given = given_text (Ok problem) t; takes = (pending, lines_due t.bytes t.takes); ends = ended_as is.TooMany ends }
         command_ends is.Memory ends = record { given = given_text (Ok problem) t; takes = (pending, lines_due t.bytes t.takes); ends = ended_as is.Memory ends }
         command_ends is.Usage ends =
             absurd (order_status order words (t.bytes ++ t.rest) files ends.0 (says ends.0 ends.1) (sym ends.2.reported))

@@ -3,16 +3,19 @@ use Rattle.std.proofs.Common.{◌≡◌, ◌≢◌, ◌↔◌, ℕ, List, [], le
 use Rattle.desk_base.specs.Files.{Files}
 use Rattle.desk_base.specs.Lines.{Lines}
 use Rattle.game_rules.specs.Game.{Position, Sound}
+use Rattle.game_report.specs.declared.play.Ending.{Ending}
+use Rattle.game_report.specs.declared.play.Ending.TheVariants.{Mated, Wide, Quit, NoLine, Many, CutAt, LongAt}
 use Rattle.mate_desk.specs.Decide.{DecideReports}
 use Rattle.mate_desk.specs.Laws.{FaultsAreCounted, MemoryLast, UsageExactly}
 use Rattle.mate_desk.specs.Least.{LeastReports}
 use Rattle.mate_desk.specs.Order.{Ordered, usage_line}
 use Rattle.mate_desk.specs.Outcome.{Ends, Report, Seen, refusal_as}
+use Rattle.mate_desk.specs.Play.{PlayReports, status_of}
 use Rattle.mate_desk.specs.Report.{LacksBehindText, OfRead, OfSound, OfText, OrderMayLack, Reports, ReportsOrder, ReportsWords, TakesMemory}
 use Rattle.mate_desk.specs.Show.{ShowReports}
 use Rattle.mate_desk.specs.Text.{Text, whole, refused}
 use Rattle.mate_desk.specs.declared.order.Order.{Order}
-use Rattle.mate_desk.specs.declared.order.Order.TheVariants.{Decide, Least, Show}
+use Rattle.mate_desk.specs.declared.order.Order.TheVariants.{Decide, Least, Play, Show}
 use Rattle.mate_desk.specs.declared.order.UsageWhy.{UsageWhy}
 use Rattle.mate_desk.specs.declared.problem.Problem.{Problem}
 use Rattle.mate_desk.specs.declared.status.Status.{Status}
@@ -33,6 +36,21 @@ decide_status n budget problem files report (inr (line, fits, verdict, is')) = o
 pub least_status : (limit budget : ℕ) (problem : Problem) (files : Files) (report : Report) → LeastReports limit budget problem files report → IsNotUsage report
 least_status limit budget problem files report (inl (step, stops, is')) = other_status report _ is' (λ e. absurd (cc))
 least_status limit budget problem files report (inr (found, finds, is')) = other_status report _ is' (λ e. absurd (cc))
+
+-- a game has none of its own, nor has it that of a fault
+ending_status : (ending : Ending) → status_of ending ≢ is.Usage
+ending_status Mated e = absurd (cc)
+ending_status Wide e = absurd (cc)
+ending_status Quit e = absurd (cc)
+ending_status NoLine e = absurd (cc)
+ending_status Many e = absurd (cc)
+ending_status (CutAt number) e = absurd (cc)
+ending_status (LongAt number) e = absurd (cc)
+
+pub play_status : (n budget : ℕ) (problem : Problem) (lines : Lines) (files : Files) (report : Report) → PlayReports n budget problem lines files report → IsNotUsage report
+play_status n budget problem lines files report (inl (step, over, is')) = other_status report _ is' (λ e. absurd (cc))
+play_status n budget problem lines files report (inr (fits, inl (none, is'))) = other_status report _ is' (λ e. absurd (cc))
+play_status n budget problem lines files report (inr (fits, inr (value, (played, right, is')))) = other_status report _ is' (ending_status played.ending)
 
 pub show_status : (p : Position) (files : Files) (report : Report) → ShowReports p files report → IsNotUsage report
 show_status p files report (text, shown, is') = other_status report _ is' (λ e. absurd (cc))
@@ -61,10 +79,12 @@ order_status (Decide n budget) words bytes files report =
     text_status (λ problem rest. DecideReports n budget problem files) files report (λ problem rest. decide_status n budget problem files report) bytes
 order_status (Least limit budget) words bytes files report =
     text_status (λ problem rest. LeastReports limit budget problem files) files report (λ problem rest. least_status limit budget problem files report) bytes
+order_status (Play n budget) words bytes files report =
+    text_status (λ problem rest. PlayReports n budget problem rest files) files report (λ problem rest. play_status n budget problem rest files report) bytes
 order_status Show words bytes files report =
     text_status (λ problem rest. ShowReports problem.position files) files report (λ problem rest. show_status problem.position files report) bytes
 
-words_status : (words : List (List ℕ)) (files : Files) (answer : Result Order UsageWhy) (bytes : List ℕ) (report : Report) → Ordered words answer → ReportsWords answer words bytes files report → report.status ≡ is.Usage → (why : UsageWhy) × Ordered words (Err why)
+pub words_status : (words : List (List ℕ)) (files : Files) (answer : Result Order UsageWhy) (bytes : List ℕ) (report : Report) → Ordered words answer → ReportsWords answer words bytes files report → report.status ≡ is.Usage → (why : UsageWhy) × Ordered words (Err why)
 words_status words files (Err why) bytes report ordered reports same = (why, ordered)
 words_status words files (Ok order) bytes report ordered reports same = absurd (order_status order words bytes files report reports same)
 
@@ -98,6 +118,9 @@ usage_exactly words is.Usage old new run = done_usage words run.given.files _ ru
 usage_exactly words is.Text old new run = done_usage words run.given.files _ run.ends.0 run.ends.1 is.Text run.ends.2.reported
 usage_exactly words is.Unsound old new run = done_usage words run.given.files _ run.ends.0 run.ends.1 is.Unsound run.ends.2.reported
 usage_exactly words is.Budget old new run = done_usage words run.given.files _ run.ends.0 run.ends.1 is.Budget run.ends.2.reported
+usage_exactly words is.Wide old new run = done_usage words run.given.files _ run.ends.0 run.ends.1 is.Wide run.ends.2.reported
+usage_exactly words is.Ended old new run = done_usage words run.given.files _ run.ends.0 run.ends.1 is.Ended run.ends.2.reported
+usage_exactly words is.TooMany old new run = done_usage words run.given.files _ run.ends.0 run.ends.1 is.TooMany run.ends.2.reported
 usage_exactly words is.ReadFault old new run =
     other (λ same. absurd (cc)) (λ none. let short = run.ends.2.short in let not = not_short words run.given.files _ run.ends.0 run.ends.1 none in absurd (cc))
 usage_exactly words is.WriteFault old new run =
@@ -111,6 +134,7 @@ behind_text words order takes taken more ordered lack = (order, lack.problem, or
 order_lacks : (words : List (List ℕ)) (order : Order) (taken : List ℕ) → Ordered words (Ok order) → OrderMayLack order taken → (o : Order) × (problem : Problem) × Ordered words (Ok o) × Sound problem.position × TakesMemory o problem
 order_lacks words (Decide n budget) taken ordered lack = behind_text words (Decide n budget) _ taken (λ problem takes. takes) ordered lack
 order_lacks words (Least limit budget) taken ordered lack = behind_text words (Least limit budget) _ taken (λ problem takes. takes) ordered lack
+order_lacks words (Play n budget) taken ordered lack = behind_text words (Play n budget) _ taken (λ problem takes. takes) ordered lack
 order_lacks words Show taken ordered lack = behind_text words Show _ taken (λ problem takes. takes) ordered lack
 
 pub memory_last : MemoryLast

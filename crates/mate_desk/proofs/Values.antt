@@ -69,6 +69,10 @@ won_as problem q winner n s test due position same of is is_due =
     let P : Bool → Type 0 = λ t. IsTrue t ↔ Value problem.winner n problem.position in
     let value = value_of problem n s (of_problem problem q winner 0 n position same s of) in subst P is_due (λ t. value.0 (is.0 t), λ v. is.1 (value.1 v))
 
+-- so a solved position that the winner wins has its value
+pub solved_value : (problem : Problem) (n : ℕ) (s : Solution) → IsOf problem.position problem.winner n s → Value problem.winner n problem.position → Value s.winner s.moves s.position
+solved_value problem n s of value = (value_of problem n s of).1 value
+
 -- the winner mates within none of these numbers of moves, and their plans are within the budget
 abbrev pub ArePassed : Problem → ℕ → ℕ → Type 0
 ArePassed problem budget count = (n : ℕ) → n < count → FitsBudget problem budget n × (Value problem.winner n problem.position → ⊥)

@@ -2,6 +2,7 @@
 use Rattle.std.proofs.Common.{◌≡◌, ℕ, List, [], length, Option, Some, None, IfSome, Result, Ok, Err, OnOk, OnErr, inl, inr, refl, sym, ◌∙◌, subst, arith}
 use Rattle.std.specs.Io.KnownBytes.{Appends}
 use Rattle.std.proofs.lemmas.List.{take_all, append-nil}
+use Rattle.desk_base.specs.Faults.{HasRisen}
 use Rattle.desk_base.specs.Files.{Files, Go}
 use Rattle.desk_base.specs.Moves.{AppendsFront}
 use Rattle.mate_desk.specs.Outcome.{DoesReport, Ends, Report, Seen, Writes, of_sink}
@@ -34,6 +35,9 @@ ends_as is.Unsound reports more may_lack may_more old new says lacks ends = (end
 ends_as is.ReadFault reports more may_lack may_more old new says lacks ends = (ends.0, says ends.0 ends.1, ends.2)
 ends_as is.WriteFault reports more may_lack may_more old new says lacks ends = (ends.0, says ends.0 ends.1, ends.2)
 ends_as is.Budget reports more may_lack may_more old new says lacks ends = (ends.0, says ends.0 ends.1, ends.2)
+ends_as is.Wide reports more may_lack may_more old new says lacks ends = (ends.0, says ends.0 ends.1, ends.2)
+ends_as is.Ended reports more may_lack may_more old new says lacks ends = (ends.0, says ends.0 ends.1, ends.2)
+ends_as is.TooMany reports more may_lack may_more old new says lacks ends = (ends.0, says ends.0 ends.1, ends.2)
 ends_as is.Memory reports more may_lack may_more old new says lacks ends = (lacks ends.0, ends.1)
 
 -- what is printed is what is to be reported
@@ -41,14 +45,8 @@ pub printed : (status : Status) (reports : Report → Type 0) (may_lack : Type 0
 printed status reports may_lack old new due right =
     ends_as status (λ report. report ≡ due) reports ⊥ may_lack old new (λ report is'. subst reports (sym is') right) (λ none. absurd none)
 
--- The ports of a run of whom its command has the sink alone: what it leaves of the files, where the store tells them, is what they were.
+-- The files of a run stay, and its command sees them told. It begins when the source has failed so often.
 module _ (files : Files) (old new : Seen) (kept : IfSome old.files (λ told. told ≡ files)) (same : new.files ≡ old.files) where
-  abbrev sink_old : Seen
-  sink_old = of_sink files old.written old.write_faults
-
-  abbrev sink_new : Seen
-  sink_new = of_sink files new.written new.write_faults
-
   go_same : (way : Files → Files → Type 0) (before after : Option Files) → after ≡ before → IfSome before (λ told. told ≡ files) → way files files → Go before after way
   go_same way None after is' told holds = tt
   go_same way (Some x) (Some y) is' told holds =
@@ -58,23 +56,40 @@ module _ (files : Files) (old new : Seen) (kept : IfSome old.files (λ told. tol
       subst P (sym told) (subst Q (sym (y_is ∙ told)) holds)
   go_same way (Some x) None is' told holds = absurd (cc)
 
-  does : (status : Status) (report : Report) → DoesReport status report sink_old sink_new → DoesReport status report old new
-  does status report d =
-      record { reported = d.reported; written = d.written; files = go_same (λ before after. after ≡ report.files) old.files new.files same kept d.files }
+  -- what the command sees, with these bytes to come
+  abbrev told : Seen → Option (List ℕ) → ℕ → Seen
+  told seen left reads = record { left = left; written = seen.written; files = Some files; read_faults = reads; write_faults = seen.write_faults }
 
-  -- so the run ends as its command does
-  pub at_sink : (status : Status) (reports : Report → Type 0) (may_lack : Type 0) → Ends status reports may_lack sink_old sink_new → Ends status reports may_lack old new
-  at_sink is.Done reports may_lack ends = (ends.0, ends.1, does is.Done ends.0 ends.2)
-  at_sink is.Usage reports may_lack ends = (ends.0, ends.1, does is.Usage ends.0 ends.2)
-  at_sink is.Text reports may_lack ends = (ends.0, ends.1, does is.Text ends.0 ends.2)
-  at_sink is.Unsound reports may_lack ends = (ends.0, ends.1, does is.Unsound ends.0 ends.2)
-  at_sink is.Budget reports may_lack ends = (ends.0, ends.1, does is.Budget ends.0 ends.2)
-  at_sink is.ReadFault reports may_lack ends = absurd (omega (arith, ends.2.failed))
-  at_sink is.WriteFault reports may_lack ends =
-      let some = ends.2 in (
-        ends.0,
-        ends.1,
-        record { failed = some.failed; written = some.written; files = go_same (λ before after. after ≡ ends.0.files) old.files new.files same kept some.files },
-      )
-  at_sink is.Memory reports may_lack ends =
-      (ends.0, record { written = ends.1.written; files = go_same (λ before after. after ≡ before) old.files new.files same kept refl })
+  module _ (left_old left_new : Option (List ℕ)) (reads later : ℕ) where
+    does : (status : Status) (report : Report) → DoesReport status report (told old left_old reads) (told new left_new later) → DoesReport status report old new
+    does status report d =
+        record { reported = d.reported; written = d.written; files = go_same (λ before after. after ≡ report.files) old.files new.files same kept d.files }
+
+    -- so the run ends as its command does
+    pub at_files : (HasRisen reads later → HasRisen old.read_faults new.read_faults) → (status : Status) (reports : Report → Type 0) (may_lack : Type 0) → Ends status reports may_lack (told old left_old reads) (told new left_new later) → Ends status reports may_lack old new
+    at_files rises is.Done reports may_lack ends = (ends.0, ends.1, does is.Done ends.0 ends.2)
+    at_files rises is.Usage reports may_lack ends = (ends.0, ends.1, does is.Usage ends.0 ends.2)
+    at_files rises is.Text reports may_lack ends = (ends.0, ends.1, does is.Text ends.0 ends.2)
+    at_files rises is.Unsound reports may_lack ends = (ends.0, ends.1, does is.Unsound ends.0 ends.2)
+    at_files rises is.Budget reports may_lack ends = (ends.0, ends.1, does is.Budget ends.0 ends.2)
+    at_files rises is.Wide reports may_lack ends = (ends.0, ends.1, does is.Wide ends.0 ends.2)
+    at_files rises is.Ended reports may_lack ends = (ends.0, ends.1, does is.Ended ends.0 ends.2)
+    at_files rises is.TooMany reports may_lack ends = (ends.0, ends.1, does is.TooMany ends.0 ends.2)
+    at_files rises is.ReadFault reports may_lack ends =
+        let some = ends.2 in (
+          ends.0,
+          ends.1,
+          record { failed = rises some.failed; short = some.short; written = some.written; files = go_same (λ before after. after ≡ before) old.files new.files same kept refl },
+        )
+    at_files rises is.WriteFault reports may_lack ends =
+        let some = ends.2 in (
+          ends.0,
+          ends.1,
+          record { failed = some.failed; written = some.written; files = go_same (λ before after. after ≡ ends.0.files) old.files new.files same kept some.files },
+        )
+    at_files rises is.Memory reports may_lack ends =
+        (ends.0, record { written = ends.1.written; files = go_same (λ before after. after ≡ before) old.files new.files same kept refl })
+
+  -- and as one that has the sink alone, whose source does not fail
+  pub at_sink : (status : Status) (reports : Report → Type 0) (may_lack : Type 0) → Ends status reports may_lack (of_sink files old.written old.write_faults) (of_sink files new.written new.write_faults) → Ends status reports may_lack old new
+  at_sink status reports may_lack ends = at_files None None 0 0 (λ risen. absurd (omega (arith, risen))) status reports may_lack ends

@@ -1,19 +1,24 @@
 -- Laws of what a run does.
-use Rattle.std.specs.Prelude.{◌≡◌, ◌↔◌, ◌⊎◌, ℕ, List, ◌++◌, length, Option, Some, Ok, Err}
+use Rattle.std.specs.Prelude.{◌≡◌, ◌↔◌, ◌⊎◌, ℕ, ◌+◌, ◌-◌, List, ◌++◌, length, Option, Some, Ok, Err, slice_get}
 use Rattle.desk_base.specs.Faults.{HasRisen}
 use Rattle.desk_base.specs.Files.{Files}
 use Rattle.desk_base.specs.Lines.{Lines, lines_of}
 use Rattle.game_rules.specs.Game.{Position, Least, Sound, Value}
 use Rattle.game_rules.specs.declared.men.Side.TheVariants.{White}
 use Rattle.chess_text.specs.PositionText.{IsWritable, position_lines, position_text}
+use Rattle.game_report.specs.Report.{IsReport, Match}
+use Rattle.game_report.specs.Report as game
+use Rattle.winning_sets.specs.Reach.{Reach}
+use Rattle.winning_sets.specs.declared.names.StepName.{StepName}
 use Rattle.mate_desk.specs.Decide.{IsExact}
 use Rattle.mate_desk.specs.Least.{least_line}
 use Rattle.mate_desk.specs.Order.{Ordered}
-use Rattle.mate_desk.specs.Outcome.{Report, Seen, WriteFailed}
+use Rattle.mate_desk.specs.Outcome.{Report, Seen, WriteFailed, done_with, over_budget}
+use Rattle.mate_desk.specs.Play.{as_played, first_match}
 use Rattle.mate_desk.specs.Report.{Reports, TakesMemory}
 use Rattle.mate_desk.specs.Run.{RunEnds}
 use Rattle.mate_desk.specs.Text.{TextAt, white_mates, whole}
-use Rattle.mate_desk.specs.Verdict.{mate_line, no_mate_line}
+use Rattle.mate_desk.specs.Verdict.{ExceedsAt, mate_line, no_mate_line}
 use Rattle.mate_desk.specs.declared.order.Order.{Order}
 use Rattle.mate_desk.specs.declared.order.Order.TheVariants as orders
 use Rattle.mate_desk.specs.declared.order.UsageWhy.{UsageWhy}
@@ -104,3 +109,29 @@ DecidesExactly =
     → Sound problem.position
     → Reports words bytes files report
     → IsExact n budget problem report
+
+-- After the winner's move of this number, counted from 0, of a game that began with the problem: legal moves have led to the position, and the
+-- winner still mates within the moves that he has left.
+pub record IsKeptGame (n : ℕ) (problem : Problem) (number : ℕ) (after : Match) : Type 0 where
+  pub reached : Reach problem.position after.ply after.position
+  pub value : Value problem.winner (n - (number + 1)) after.position
+
+-- What `play` reports of a sound position: the first step that exceeds the budget, or that the winner does not mate within n moves of his own,
+-- or, where he does, the game with the lines behind the text, in which each of his moves is legal and keeps the count.
+abbrev pub PlaysGame : ℕ → ℕ → Problem → Lines → Files → Report → Type 0
+PlaysGame n budget problem lines files report =
+    ((step : StepName) × ExceedsAt problem budget n step × (report ≡ over_budget files step))
+    ⊎ (((Value problem.winner n problem.position → ⊥) × (report ≡ done_with files (no_mate_line n)))
+    ⊎ (Value problem.winner n problem.position
+    × ((played : game.Report) × IsReport problem.lines lines (first_match n problem) played × (report ≡ as_played files played)
+    × ((number : ℕ) (after : Match) → slice_get played.games number ≡ Some after → IsKeptGame n problem number after))))
+
+-- each report of `play` on the text of a sound position
+abbrev pub PlayKeeps : Type 0
+PlayKeeps =
+    (words : List (List ℕ)) (bytes : List ℕ) (files : Files) (n budget : ℕ) (problem : Problem) (rest : Lines) (report : Report)
+    → Ordered words (Ok (orders.Play n budget))
+    → TextAt bytes (whole problem rest)
+    → Sound problem.position
+    → Reports words bytes files report
+    → PlaysGame n budget problem rest files report

@@ -5,6 +5,7 @@ pub mod Laws
 pub mod Least
 pub mod Order
 pub mod Outcome
+pub mod Play
 pub mod Report
 pub mod Run
 pub mod Show

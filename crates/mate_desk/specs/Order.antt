@@ -6,7 +6,7 @@ use Rattle.std.specs.Str.Parse.{digits_value}
 use Rattle.mate_desk.specs.declared.order.Command.{Command}
 use Rattle.mate_desk.specs.declared.order.Command.TheVariants as commands
 use Rattle.mate_desk.specs.declared.order.Order.{Order}
-use Rattle.mate_desk.specs.declared.order.Order.TheVariants.{Decide, Least, Show}
+use Rattle.mate_desk.specs.declared.order.Order.TheVariants.{Decide, Least, Play, Show}
 use Rattle.mate_desk.specs.declared.order.UsageWhy.{UsageWhy}
 use Rattle.mate_desk.specs.declared.order.UsageWhy.TheVariants.{NoCommand, Unknown, Count, Number, Limit}
 
@@ -71,6 +71,7 @@ ShowOrdered (word ∷ words) answer = answer ≡ Err Count
 abbrev pub name_of : Command → List ℕ
 name_of commands.Decide = codes "decide"
 name_of commands.Least = codes "least"
+name_of commands.Play = codes "play"
 name_of commands.Show = codes "show"
 
 -- the command that the word names, or that it names none
@@ -82,6 +83,7 @@ IsCommand word None = (command : Command) → word ≢ name_of command
 abbrev pub OrderedBy : Command → List (List ℕ) → Result Order UsageWhy → Type 0
 OrderedBy commands.Decide words answer = MovesOrdered (λ moves budget. Decide moves budget) words answer
 OrderedBy commands.Least words answer = MovesOrdered (λ limit budget. Least limit budget) words answer
+OrderedBy commands.Play words answer = MovesOrdered (λ moves budget. Play moves budget) words answer
 OrderedBy commands.Show words answer = ShowOrdered words answer
 
 abbrev pub OrderedBehind : Option Command → List (List ℕ) → Result Order UsageWhy → Type 0
@@ -101,6 +103,7 @@ IsBudget budget = (1 ≤ budget) × (budget ≤ most_budget)
 abbrev pub IsWithinLimits : Order → Type 0
 IsWithinLimits (Decide moves budget) = (moves ≤ most_moves) × IsBudget budget
 IsWithinLimits (Least limit budget) = (limit ≤ most_moves) × IsBudget budget
+IsWithinLimits (Play moves budget) = (moves ≤ most_moves) × IsBudget budget
 IsWithinLimits Show = Unit {0}
 
 -- the fault line of words that are no order

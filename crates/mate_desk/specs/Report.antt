@@ -10,6 +10,7 @@ use Rattle.mate_desk.specs.FaultLines.{unsound_line}
 use Rattle.mate_desk.specs.Least.{LeastReports}
 use Rattle.mate_desk.specs.Order.{Ordered, usage_line}
 use Rattle.mate_desk.specs.Outcome.{Report, refusal_as}
+use Rattle.mate_desk.specs.Play.{PlayReports}
 use Rattle.mate_desk.specs.Show.{ShowReports}
 use Rattle.mate_desk.specs.Text.{Text, TextAt, whole, refused, is_end, refusal_line}
 use Rattle.mate_desk.specs.Verdict.{HasNothingToPlay}
@@ -38,6 +39,7 @@ OfText reports files bytes report = (text : Text) × TextAt bytes text × OfRead
 abbrev pub ReportsOrder : Order → (words : List (List ℕ)) → List ℕ → Files → Report → Type 0
 ReportsOrder (orders.Decide n budget) words bytes files = OfText (λ problem rest. DecideReports n budget problem files) files bytes
 ReportsOrder (orders.Least limit budget) words bytes files = OfText (λ problem rest. LeastReports limit budget problem files) files bytes
+ReportsOrder (orders.Play n budget) words bytes files = OfText (λ problem rest. PlayReports n budget problem rest files) files bytes
 ReportsOrder orders.Show words bytes files = OfText (λ problem rest. ShowReports problem.position files) files bytes
 
 abbrev pub ReportsWords : Result Order UsageWhy → (words : List (List ℕ)) → List ℕ → Files → Report → Type 0
@@ -52,6 +54,7 @@ Reports words bytes files report = (answer : Result Order UsageWhy) × Ordered w
 abbrev pub TakesMemory : Order → Problem → Type 0
 TakesMemory (orders.Decide n budget) problem = ¬ HasNothingToPlay n problem
 TakesMemory (orders.Least limit budget) problem = ¬ HasNothingToPlay limit problem
+TakesMemory (orders.Play n budget) problem = ¬ HasNothingToPlay n problem
 TakesMemory orders.Show problem = Unit {0}
 
 -- The bytes taken are the text of a sound position, of which the order asks for something that takes memory, and at most 256 behind it.
@@ -69,6 +72,7 @@ pub record LacksBehindText (takes : Problem → Type 0) (taken : List ℕ) : Typ
 abbrev pub OrderMayLack : Order → List ℕ → Type 0
 OrderMayLack (orders.Decide n budget) taken = LacksBehindText (TakesMemory (orders.Decide n budget)) taken
 OrderMayLack (orders.Least limit budget) taken = LacksBehindText (TakesMemory (orders.Least limit budget)) taken
+OrderMayLack (orders.Play n budget) taken = LacksBehindText (TakesMemory (orders.Play n budget)) taken
 OrderMayLack orders.Show taken = LacksBehindText (TakesMemory orders.Show) taken
 
 -- the words are an order, and memory may be wanting after these bytes were taken
@@ -79,4 +83,5 @@ MayLackMemory words taken = (order : Order) × Ordered words (Ok order) × Order
 abbrev pub UsesNoShelf : Order → Type 0
 UsesNoShelf (orders.Decide n budget) = Unit {0}
 UsesNoShelf (orders.Least limit budget) = Unit {0}
+UsesNoShelf (orders.Play n budget) = Unit {0}
 UsesNoShelf orders.Show = Unit {0}

@@ -9,6 +9,7 @@ use crate::decide::decide;
 use crate::fault_line::{refusal_line, refuse, unsound_line};
 use crate::least::least;
 use crate::order::{Order, UsageWhy, order_of};
+use crate::play::play;
 use crate::problem::Task;
 use crate::show::show;
 use crate::status::Status;
@@ -17,7 +18,7 @@ use chess_game::soundness;
 use desk_base::{LineReader, Shelf, Sink, Source};
 use std::alloc::Global;
 
-/// Does what the words say, with the position text at the front of the source, and writes the answer to the sink.
+/// Does what the words say, with the position text at the front of the source and the replies behind it, and writes the answer to the sink.
 ///
 /// The words come first, then the text line by line, then whether its position is sound, then the answer; the first refusal ends the
 /// run with its one fault line. Where writing that line fails, the status stays the refusal's. No command keeps a file yet.
@@ -90,6 +91,14 @@ pub fn run<S: Source, K: Sink, H: Shelf>(
                 budget,
             };
             least(alloc, &task, sink)
+        }
+        Order::Play { moves, budget } => {
+            let task = Task {
+                problem,
+                moves,
+                budget,
+            };
+            play(alloc, &task, &mut reader, source, sink)
         }
         Order::Show => show(alloc, &problem.position, sink),
     }

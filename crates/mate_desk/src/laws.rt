@@ -1,6 +1,6 @@
 //! Laws of a run, each the contract of a function that does nothing. They are of the relation that the contract of `run` names.
 
-ghost use Rattle.mate_desk.specs.Laws.{DecidesExactly, DecideWrites, FaultsAreCounted, LeastWrites, MemoryLast, OneReport, TextIsRead, UsageExactly, WhiteIsToMate};
+ghost use Rattle.mate_desk.specs.Laws.{DecidesExactly, DecideWrites, FaultsAreCounted, LeastWrites, MemoryLast, OneReport, PlayKeeps, TextIsRead, UsageExactly, WhiteIsToMate};
 
 /// A run of `decide` that is done, on the text of a sound position and whatever comes behind it, writes `mate in n` exactly where White
 /// mates within n moves of his own, whatever is replied on the whole board, and `no mate in n` exactly where he does not.
@@ -48,4 +48,10 @@ pub fn reports_once()
 /// on the whole board, and `no mate in n` exactly where he does not; or it names the first step that exceeds the budget.
 pub fn decides_exactly()
     ensures { DecidesExactly }
+{}
+
+/// Of the text of a sound position whose winner mates within n moves of his own, `play` reports a game with the lines behind the text, and each
+/// of the winner's moves in it is legal and keeps the count: after his k-th move, whatever was replied, he still mates within n - k.
+pub fn play_keeps()
+    ensures { PlayKeeps }
 {}

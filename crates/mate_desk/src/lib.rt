@@ -12,6 +12,7 @@ mod least;
 mod mates;
 mod order;
 mod output;
+mod play;
 mod problem;
 mod show;
 mod status;

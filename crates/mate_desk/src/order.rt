@@ -21,6 +21,8 @@ pub enum Order {
     Decide { moves: u8, budget: u32 },
     /// Say within how few moves of his own White mates, if he does within so many. The budget is that of each number of moves.
     Least { limit: u8, budget: u32 },
+    /// Play a game in which White mates within so many moves of his own, whatever is replied. The budget is that of `Decide`.
+    Play { moves: u8, budget: u32 },
     /// Write the position, whether its side to move is in check, and how many men are live.
     Show,
 }
@@ -74,6 +76,7 @@ pub fn order_of(words: &Vec<String>) -> Result<Order, UsageWhy>
 enum Command {
     Decide,
     Least,
+    Play,
     Show,
 }
 
@@ -86,6 +89,9 @@ fn command_named(word: &str) -> Option<Command>
     }
     if word == "least" {
         return Some(Command::Least);
+    }
+    if word == "play" {
+        return Some(Command::Play);
     }
     if word == "show" {
         return Some(Command::Show);
@@ -101,6 +107,7 @@ fn order_behind(command: Command, words: &[String]) -> Result<Order, UsageWhy>
     match command {
         Command::Decide => decide_order(words),
         Command::Least => least_order(words),
+        Command::Play => play_order(words),
         Command::Show => show_order(words),
     }
 }
@@ -121,6 +128,15 @@ fn least_order(words: &[String]) -> Result<Order, UsageWhy>
 {
     let (limit, budget) = read_moves_and_budget(words)?;
     Ok(Order::Least { limit, budget })
+}
+
+/// The order that the words behind `play` are.
+fn play_order(words: &[String]) -> Result<Order, UsageWhy>
+    ensures ordered { MovesOrdered (λ moves budget. Order.Play moves budget) (map string_bytes words.now) result }
+    ensures within { IfOk result IsWithinLimits }
+{
+    let (moves, budget) = read_moves_and_budget(words)?;
+    Ok(Order::Play { moves, budget })
 }
 
 /// The number of moves that the first word is, and the budget that the second is, if there is one.

@@ -20,8 +20,14 @@ pub enum Status {
     WriteFault,
     /// A step of the plan needs more states than the budget.
     Budget,
+    /// The winner is to move, and none of his moves to a square of 64 bits keeps the promised count.
+    Wide,
     /// There is no memory for the answer.
     Memory,
+    /// The replies have ended before mate, or one of them is `quit`.
+    Ended,
+    /// So many reply lines were read as may be, and there is no mate.
+    TooMany,
 }
 
 impl Status {
@@ -37,7 +43,10 @@ impl Status {
             Status::ReadFault => 5,
             Status::WriteFault => 6,
             Status::Budget => 8,
+            Status::Wide => 9,
             Status::Memory => 10,
+            Status::Ended => 12,
+            Status::TooMany => 13,
         }
     }
 }

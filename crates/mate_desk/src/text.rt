@@ -55,7 +55,9 @@ pub fn read_problem<S: Source>(reader: &mut LineReader, source: &mut S) -> Resul
     requires fresh { (reader.old.pending ≡ []) × (reader.old.stopped ≡ None) }
     ensures reads { TextRead result reader.new.pending (S.left source.old) (S.left source.new) }
     ensures goes_on { IfOk result (λ problem. reader.new.stopped ≡ None) }
+    ensures held { length reader.new.pending ≤ 256 }
     ensures few { IfOk result (λ problem. length problem.position.men ≤ 5) }
+    ensures lines { IfOk result (λ problem. problem.lines ≤ 8) }
     ensures failed { IsErrOf result TextEnd.Fault → HasRisen (S.faults source.old) (S.faults source.new) }
     ensures never_falls { S.faults source.old ≤ S.faults source.new }
 {

@@ -2,8 +2,9 @@ use Rattle.std.proofs.Common.{map, string_bytes, Ok, refl, subst, rules}
 use Rattle.desk_base.specs.Files.{no_files}
 use Rattle.mate_desk.specs.Order.{Ordered}
 use Rattle.mate_desk.specs.declared.order.Order.{Order}
-use Rattle.mate_desk.proofs.Reporting.{usage_ends, refused_ends, fault_ends, unsound_ends, decide_ends, least_ends, show_ends}
-use Rattle.mate_desk.proofs.Statuses.{decide_status, least_status, not_usage, show_status}
+use Rattle.mate_desk.proofs.PlayRuns.{play_ends}
+use Rattle.mate_desk.proofs.Reporting.{files_of, usage_ends, refused_ends, fault_ends, unsound_ends, decide_ends, least_ends, show_ends}
+use Rattle.mate_desk.proofs.Statuses.{decide_status, least_status, not_usage, play_status, show_status}
 use Rattle.mate_desk.proofs.desk.run.Goals as goal
 
 pub returns-in-Err-clause-ends : goal.returns-in-Err-clause-ends
@@ -59,3 +60,16 @@ returns-in-Show-clause-ends g c =
 pub returns-in-Show-clause-nothing_read : goal.returns-in-Show-clause-nothing_read
 returns-in-Show-clause-nothing_read g c = λ usage.
     absurd (not_usage c.show.result _ _ _ _ (show_status c.in-Ok-read_problem.problem.position no_files) (c.show.ensures.ends no_files) usage)
+
+pub returns-in-Play-clause-ends : goal.returns-in-Play-clause-ends
+returns-in-Play-clause-ends g c =
+    let words = map string_bytes c.args.words.now.items in
+    let IsOrdered : Order → Type 0 = λ order. Ordered words (Ok order) in
+    let source = g.S.Source in
+    play_ends words _ _ refl c.in-Play.moves c.in-Play.budget (subst IsOrdered c.in-Play.is c.in-Ok.ensures.ordered) _ _ (source.left c.read_problem.new.source) (source.faults c.read_problem.new.source) c.in-Ok-read_problem.ensures.never_falls
+    c.in-Ok-read_problem.problem c.in-Ok-read_problem.ensures.reads (c.in_default.ensures.ok.0 refl) c.play.result (c.play.ensures.ends (files_of (g.H.Shelf.files c.args.shelf.now)))
+
+pub returns-in-Play-clause-nothing_read : goal.returns-in-Play-clause-nothing_read
+returns-in-Play-clause-nothing_read g c = λ usage.
+    let play = c.play.ensures.ends no_files in
+    absurd (not_usage c.play.result _ _ _ _ (play_status c.in-Play.moves c.in-Play.budget c.in-Ok-read_problem.problem _ no_files) play.ends usage)

@@ -1,0 +1,163 @@
+-- How a run of `play` ends, from what was read of its text and how the command does.
+use Rattle.std.proofs.Common.{◌≡◌, ◌≢◌, ℕ, zero, suc, ◌+◌, ◌-◌, ◌<◌, ◌≤◌, List, [], ◌∷◌, ◌++◌, length, take, Option, Some, IfSome, Result, Ok, Err, inl, inr, refl, sym, ◌∙◌, ap, subst, append_assoc, length-append, arith}
+use Rattle.std.specs.Io.KnownBytes.{Consumes}
+use Rattle.std.proofs.KnownBytes.{Consumes-trans}
+use Rattle.std.proofs.lemmas.List.{append-nil, take-append-le}
+use Rattle.std.proofs.lemmas.List.Elements.{All-append}
+use Rattle.desk_base.specs.Faults.{HasRisen}
+use Rattle.desk_base.specs.Files.{Files}
+use Rattle.desk_base.specs.Lines.{IsLine, Lines, ended, lines_of}
+use Rattle.game_rules.specs.Game.{Sound}
+use Rattle.chess_game.proofs.UnsoundnessLemmas.{number_cases}
+use Rattle.chess_text.specs.PositionText.{text_of_lines}
+use Rattle.mate_desk.specs.Order.{Ordered}
+use Rattle.mate_desk.specs.Outcome.{Ends, Report, Seen}
+use Rattle.mate_desk.specs.Play.{IsReplyDue, LacksAtFirst, PlayEnds, PlayReports, behind_text}
+use Rattle.mate_desk.specs.Report.{LacksBehindText, MayLackMemory, OfText, Reports, TakesMemory}
+use Rattle.mate_desk.specs.Run.{Given, IsLineDue, RunEnds, reported_on}
+use Rattle.mate_desk.specs.Taken.{TakesLines}
+use Rattle.mate_desk.specs.Text.{TextAt, whole}
+use Rattle.mate_desk.specs.TextRead.{IsMissing, TextRead}
+use Rattle.mate_desk.specs.declared.order.Order.{Order}
+use Rattle.mate_desk.specs.declared.order.Order.TheVariants.{Play}
+use Rattle.mate_desk.specs.declared.problem.Problem.{Problem}
+use Rattle.mate_desk.specs.declared.status.Status.{Status}
+use Rattle.mate_desk.specs.declared.status.Status.TheVariants as is
+use Rattle.mate_desk.specs.declared.text.TextEnd.{TextEnd}
+use Rattle.mate_desk.proofs.Playing.{seen_at}
+use Rattle.mate_desk.proofs.Reporting.{files_of, known_files, line_due}
+use Rattle.mate_desk.proofs.Statuses.{play_status}
+use Rattle.mate_desk.proofs.Writing.{at_files, ends_as}
+
+take_behind : (a b : List (List ℕ)) (k j : ℕ) → k ≡ length a + j → take k (a ++ b) ≡ a ++ take j b
+take_behind [] b k j is = ap (λ n. take n b) (omega (arith, is))
+take_behind (x ∷ a) b zero j is = absurd (omega (arith, is))
+take_behind (x ∷ a) b (suc k) j is = ap (λ l. x ∷ l) (take_behind a b k j (omega (arith, is)))
+
+text_append : (a b : List (List ℕ)) → text_of_lines (a ++ b) ≡ text_of_lines a ++ text_of_lines b
+text_append [] b = refl
+text_append (l ∷ a) b = ap (λ bytes. (l ++ 10 ∷ []) ++ bytes) (text_append a b) ∙ sym (append_assoc (l ++ 10 ∷ []) (text_of_lines a) (text_of_lines b))
+
+module _ (words : List (List ℕ)) (old new : Seen) (same : new.files ≡ old.files) (n budget : ℕ) (ordered : Ordered words (Ok (Play n budget))) (held pending : List ℕ) (mid : Option (List ℕ)) (reads : ℕ) (later : old.read_faults ≤ reads) (problem : Problem) (t : TextRead (Ok problem) held old.left mid) (sound : Sound problem.position) where
+  abbrev files : Files
+  files = files_of old.files
+
+  abbrev before : Seen
+  before = seen_at files mid old.written reads old.write_faults
+
+  abbrev after : Seen
+  after = seen_at files new.left new.written new.read_faults new.write_faults
+
+  rises : HasRisen reads new.read_faults → HasRisen old.read_faults new.read_faults
+  rises risen = omega (arith, later, risen)
+
+  -- what is reported behind the text is reported of the whole input
+  behind : (more : List ℕ) (report : Report) → PlayReports n budget problem (lines_of more) files report → Reports words (text_of_lines t.takes.lines ++ more) files report
+  behind more report right = (Ok (Play n budget), ordered, (whole problem (lines_of more), t.reads more, inr (sound, right)))
+
+  module _ (status : Status) (p : PlayEnds n budget problem files status held pending before after) where
+    abbrev all : List (List ℕ)
+    all = t.takes.lines ++ p.takes.lines
+
+    abbrev taken : List ℕ
+    taken = t.bytes ++ p.bytes
+
+    -- the bytes taken are the lines of the text and those behind them
+    taken_are : taken ≡ text_of_lines t.takes.lines ++ (held ++ p.bytes)
+    taken_are = ap (λ b. b ++ p.bytes) t.takes.bytes ∙ append_assoc (text_of_lines t.takes.lines) held p.bytes
+
+    line_was_due : (k : ℕ) → k < length all → IsLineDue words files (k + 1) (text_of_lines (take k all))
+    line_was_due k below = elim (number_cases k (length t.takes.lines)) [
+      | inl less ↦
+          let P : List (List ℕ) → Type 0 = λ l. IsLineDue words files (k + 1) (text_of_lines l) in
+          subst P (sym (take-append-le k t.takes.lines p.takes.lines (omega (arith, less))))
+          (line_due words old new same (Play n budget) ordered held (k + 1) (text_of_lines (take k t.takes.lines)) (t.takes.due k less))
+      | inr (inl equal) ↦ later_due (omega (arith, equal))
+      | inr (inr more) ↦ later_due (omega (arith, more))
+    ]
+      where
+        later_due : length t.takes.lines ≤ k → IsLineDue words files (k + 1) (text_of_lines (take k all))
+        later_due le =
+            let j = k - length t.takes.lines in
+            let due = p.takes.due j (omega (arith, below, le, length-append t.takes.lines p.takes.lines)) in
+            let P : List ℕ → Type 0 = λ b. IsLineDue words files (k + 1) b in
+            let is : text_of_lines (take k all) ≡ text_of_lines t.takes.lines ++ text_of_lines (take j p.takes.lines) =
+            ap text_of_lines (take_behind t.takes.lines p.takes.lines k j (omega (arith, le))) ∙ text_append t.takes.lines (take j p.takes.lines) in
+            subst P (sym is) (due.0, behind (text_of_lines (take j p.takes.lines)) due.0 due.1, due.2)
+
+    takes_all : TakesLines (IsLineDue words files) taken pending
+    takes_all = record {
+      lines = all;
+      are_lines = All-append IsLine t.takes.lines p.takes.lines t.takes.are_lines p.takes.are_lines;
+      due = line_was_due;
+      bytes =
+          taken_are ∙ ap (λ b. text_of_lines t.takes.lines ++ b) p.takes.bytes ∙ sym (append_assoc (text_of_lines t.takes.lines) (text_of_lines p.takes.lines) pending)
+          ∙ ap (λ b. b ++ pending) (sym (text_append t.takes.lines p.takes.lines));
+      few = p.takes.few;
+    }
+
+    abbrev given : Given old new
+    given = record {
+      taken = taken;
+      rest = p.rest;
+      files = files;
+      consumed = Consumes-trans old.left mid new.left t.bytes p.bytes t.taken p.taken;
+      left = p.left;
+      kept = known_files old.files;
+    }
+
+    -- the report on what was given, or on what was taken
+    all_says : (report : Report) → PlayReports n budget problem (lines_of ((held ++ p.bytes) ++ p.rest)) files report → Reports words (taken ++ p.rest) files report
+    all_says report right =
+        let P : List ℕ → Type 0 = λ b. Reports words b files report in
+        let is : text_of_lines t.takes.lines ++ ((held ++ p.bytes) ++ p.rest) ≡ taken ++ p.rest =
+        sym (append_assoc (text_of_lines t.takes.lines) (held ++ p.bytes) p.rest) ∙ ap (λ b. b ++ p.rest) (sym taken_are) in
+        subst P is (behind ((held ++ p.bytes) ++ p.rest) report right)
+
+    taken_says : (report : Report) → PlayReports n budget problem (lines_of (held ++ p.bytes)) files report → Reports words taken files report
+    taken_says report right = let P : List ℕ → Type 0 = λ b. Reports words b files report in subst P (sym taken_are) (behind (held ++ p.bytes) report right)
+
+    may_lack : LacksAtFirst n problem p.bytes → MayLackMemory words taken
+    may_lack lack =
+        let P : List ℕ → Type 0 = λ b. TextAt b (whole problem ended) in (
+          Play n budget,
+          ordered,
+          record {
+            problem = problem;
+            sound = sound;
+            lacks = lack.some;
+            front = text_of_lines t.takes.lines;
+            pending = held;
+            text = subst P (append-nil (text_of_lines t.takes.lines)) (t.reads []);
+            bytes = ap (λ b. t.bytes ++ b) lack.none ∙ append-nil t.bytes ∙ t.takes.bytes;
+            few = t.takes.few;
+          },
+        )
+
+    ended_all : (s : Status) → Ends s (λ report. PlayReports n budget problem (lines_of ((held ++ p.bytes) ++ p.rest)) files report) (LacksAtFirst n problem p.bytes) before after → Ends s (λ report. Reports words (taken ++ p.rest) files report) (MayLackMemory words taken) old new
+    ended_all s ends =
+        ends_as s (λ report. PlayReports n budget problem (lines_of ((held ++ p.bytes) ++ p.rest)) files report) (λ report. Reports words (taken ++ p.rest) files report)
+        (LacksAtFirst n problem p.bytes) (MayLackMemory words taken) old new all_says may_lack
+        (at_files files old new (known_files old.files) same mid new.left reads new.read_faults rises s (λ report. PlayReports n budget problem (lines_of ((held ++ p.bytes) ++ p.rest)) files report) (LacksAtFirst n problem p.bytes) ends)
+
+    ended_taken : Ends is.ReadFault (λ report. PlayReports n budget problem (lines_of (held ++ p.bytes)) files report) (LacksAtFirst n problem p.bytes) before after → Ends is.ReadFault (λ report. Reports words taken files report) (MayLackMemory words taken) old new
+    ended_taken ends =
+        ends_as is.ReadFault (λ report. PlayReports n budget problem (lines_of (held ++ p.bytes)) files report) (λ report. Reports words taken files report)
+        (LacksAtFirst n problem p.bytes) (MayLackMemory words taken) old new taken_says may_lack
+        (at_files files old new (known_files old.files) same mid new.left reads new.read_faults rises is.ReadFault (λ report. PlayReports n budget problem (lines_of (held ++ p.bytes)) files report) (LacksAtFirst n problem p.bytes) ends)
+
+  -- the run ends as the command does
+  pub play_ends : (status : Status) → PlayEnds n budget problem files status held pending before after → RunEnds words status old new
+  play_ends is.Done p = record { given = given is.Done p; takes = (pending, takes_all is.Done p); ends = ended_all is.Done p is.Done p.ends }
+  play_ends is.Text p = record { given = given is.Text p; takes = (pending, takes_all is.Text p); ends = ended_all is.Text p is.Text p.ends }
+  play_ends is.Unsound p = record { given = given is.Unsound p; takes = (pending, takes_all is.Unsound p); ends = ended_all is.Unsound p is.Unsound p.ends }
+  play_ends is.WriteFault p = record { given = given is.WriteFault p; takes = (pending, takes_all is.WriteFault p); ends = ended_all is.WriteFault p is.WriteFault p.ends }
+  play_ends is.Budget p = record { given = given is.Budget p; takes = (pending, takes_all is.Budget p); ends = ended_all is.Budget p is.Budget p.ends }
+  play_ends is.Wide p = record { given = given is.Wide p; takes = (pending, takes_all is.Wide p); ends = ended_all is.Wide p is.Wide p.ends }
+  play_ends is.Memory p = record { given = given is.Memory p; takes = (pending, takes_all is.Memory p); ends = ended_all is.Memory p is.Memory p.ends }
+  play_ends is.Ended p = record { given = given is.Ended p; takes = (pending, takes_all is.Ended p); ends = ended_all is.Ended p is.Ended p.ends }
+  play_ends is.TooMany p = record { given = given is.TooMany p; takes = (pending, takes_all is.TooMany p); ends = ended_all is.TooMany p is.TooMany p.ends }
+  play_ends is.ReadFault p = record { given = given is.ReadFault p; takes = (pending, takes_all is.ReadFault p); ends = ended_taken is.ReadFault p p.ends }
+  play_ends is.Usage p =
+      let report = p.ends.0 in
+      absurd (play_status n budget problem (lines_of ((held ++ p.bytes) ++ p.rest)) files report p.ends.1 (sym p.ends.2.reported))
