@@ -1,11 +1,43 @@
 //! Another value for each value of a map.
-ghost use Rattle.std.specs.Prelude.{◌≡◌, ◌<◌, ◌≤◌, ℕ, length, slice_index, All, IfOk, OnOk};
-ghost use Rattle.letter_diagram.specs.Diagram.{map_at, top_track, Grows, IsMapped, RemembersMapped};
-ghost use Rattle.letter_diagram.specs.Listed.{EachAnswers};
+ghost use Rattle.std.specs.Prelude.{◌≡◌, ◌<◌, ℕ, None, length, slice_index, IfOk};
+ghost use Rattle.letter_diagram.specs.Diagram.{map_at, Grows};
 
+use crate::carry::{Carry, carried};
 use crate::diagrams::{Diagrams, Node, Shape};
 use std::alloc::AllocError;
 use std::collections::HashMap;
+
+/// Carries nodes to the entries of a table at their values.
+#[derive(Drop)]
+struct Mapping<'a> {
+    table: &'a [u32],
+}
+
+impl<'a> Carry for Mapping<'a> {
+    ghost carrier = { λ s. record { from = None; letters = λ letter. letter; values = slice_index s.table.now; tracks = 20 } };
+
+    ghost can = { λ s value. value < length s.table.now };
+
+    fn shape(&self, to: &Diagrams, node: Node) -> Shape {
+        to.shape(node)
+    }
+
+    fn leaf(&self, to: &mut Diagrams, value: u32) -> Result<Node, AllocError> {
+        let node = to.leaf(self.table[value as usize])?;
+        Ok(node)
+    }
+
+    fn test(
+        &self,
+        to: &mut Diagrams,
+        track: u8,
+        low: Node,
+        high: Node,
+    ) -> Result<Node, AllocError> {
+        let node = to.node(track, low, high)?;
+        Ok(node)
+    }
+}
 
 impl Diagrams {
     /// The map that gives the entry of `table` at each value of `a`.
@@ -17,50 +49,7 @@ impl Diagrams {
         ensures grows { Grows self.old self.new }
     {
         let mut memo = HashMap::new(self.alloc());
-        self.mapped(a, table, &mut memo)
-    }
-
-    /// `map_leaves` of several nodes by one table, in their order. What they share is done once.
-    pub fn map_leaves_all(&mut self, nodes: &[Node], table: &[u32]) -> Result<Vec<Node>, AllocError>
-        requires known { All (λ node. node < length self.old) nodes.now }
-        requires leaves { All (λ node. (letter : ℕ) → map_at self.old node letter < length table.now) nodes.now }
-        ensures mapped { IfOk result (λ answers. EachAnswers (IsMapped self.new table.now) nodes.now answers.items) }
-        ensures grows { Grows self.old self.new }
-    {
-        let mut memo = HashMap::new(self.alloc());
-        let mut answers = Vec::new(self.alloc());
-        for node in nodes {
-            let answer = self.mapped(*node, table, &mut memo)?;
-            answers.push(answer)?;
-        }
-        Ok(answers)
-    }
-
-    fn mapped(
-        &mut self,
-        a: Node,
-        table: &[u32],
-        memo: &mut HashMap<Node, Node>,
-    ) -> Result<Node, AllocError>
-        requires known { a < length self.old }
-        requires leaves { (letter : ℕ) → map_at self.old a letter < length table.now }
-        requires remembered { RemembersMapped self.old table.now memo.old }
-        ensures mapped { IfOk result (λ node. IsMapped self.new table.now a node) }
-        ensures remembered { OnOk result (RemembersMapped self.new table.now memo.new) }
-        ensures grows { Grows self.old self.new }
-    {
-        if let Some(node) = memo.get(&a) {
-            return Ok(*node);
-        }
-        let node = match self.shape(a) {
-            Shape::Leaf(value) => self.leaf(table[value as usize])?,
-            Shape::Test { track, low, high } => {
-                let low = self.mapped(low, table, memo)?;
-                let high = self.mapped(high, table, memo)?;
-                self.node(track, low, high)?
-            }
-        };
-        memo.insert(a, node)?;
+        let node = carried(&Mapping { table }, a, self, &mut memo)?;
         Ok(node)
     }
 }
