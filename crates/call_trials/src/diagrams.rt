@@ -34,7 +34,7 @@ fn node_of(bench: &Bench, fields: &mut Fields) -> Result<Node, RowError>
     let Some(node) = bench.nodes.get(place) else {
         return Err(RowError::Name);
     };
-    if !bench.diagrams.is_node(*node) {
+    if node.number() >= bench.diagrams.len() {
         return Err(RowError::Condition);
     }
     Ok(*node)
@@ -69,6 +69,15 @@ fn test_node(bench: &mut Bench, fields: &mut Fields) -> Result<Node, RowError> {
         return Err(RowError::Condition);
     }
     Ok(bench.diagrams.node(track, low, high)?)
+}
+
+/// `bit TRACK`: the map that is the bit of the track.
+fn bit_node(diagrams: &mut Diagrams, track: u8) -> Result<Node, RowError>
+    requires { track < 20 }
+{
+    let low = diagrams.leaf(0)?;
+    let high = diagrams.leaf(1)?;
+    Ok(diagrams.node(track, low, high)?)
 }
 
 /// `choose TRACK LOW HIGH`: the maps may look at any tracks.
@@ -135,17 +144,6 @@ fn relabelled(alloc: Global, bench: &mut Bench, fields: &mut Fields) -> Result<N
         return Err(RowError::Condition);
     }
     relabel(&mut bench.diagrams, node, tracks.as_slice())
-}
-
-/// `restrict TRACK BIT NODE`: the map with this bit on the track.
-fn restricted(bench: &mut Bench, fields: &mut Fields) -> Result<Node, RowError> {
-    let track = track_of(fields)?;
-    let bit = fields.u8()?;
-    let node = node_of(bench, fields)?;
-    if bit > 1 {
-        return Err(RowError::Condition);
-    }
-    Ok(bench.diagrams.restrict(node, track, bit)?)
 }
 
 /// Writes numbers, parted by commas, or `-` where there are none.
@@ -246,7 +244,7 @@ fn brought_step(
     let mut others = Diagrams::new(alloc);
     let nodes = others.bring(&bench.diagrams, &[node])?;
     match nodes.first() {
-        Some(brought) if others.is_node(*brought) => {
+        Some(brought) if brought.number() < others.len() => {
             write_values(&others, *brought, letters.as_slice(), out)
         }
         _ => Err(RowError::Condition),
@@ -326,14 +324,13 @@ fn made(
 ) -> Result<Option<Node>, RowError> {
     Ok(Some(match word {
         "leaf" => bench.diagrams.leaf(fields.u32()?)?,
-        "bit" => bench.diagrams.bit(track_of(fields)?)?,
+        "bit" => bit_node(&mut bench.diagrams, track_of(fields)?)?,
         "node" => test_node(bench, fields)?,
         "choose" => choice(bench, fields)?,
         "apply2" => pairs_node(bench, fields)?,
         "merge" => merged(bench, fields)?,
         "map" => mapped(alloc, bench, fields)?,
         "relabel" => relabelled(alloc, bench, fields)?,
-        "restrict" => restricted(bench, fields)?,
         _ => return Ok(None),
     }))
 }
