@@ -1,7 +1,7 @@
 -- A level that is made mask by mask.
 use Rattle.std.proofs.Common.{◌≡◌, ℕ, ◌+◌, ◌<◌, ◌≤◌, List, [], ◌∷◌, ◌++◌, length, drop, Option, get_or, refl, sym, ap, ◌∙◌, subst}
 use Rattle.std.specs.Prelude.{Contains}
-use Rattle.std.proofs.lemmas.List.{length_push, drop_all}
+use Rattle.std.proofs.lemmas.List.{length_push}
 use Rattle.std.proofs.lemmas.List.Elements.{Contains-get_or}
 use Rattle.auto_core.specs.Automaton.{Automaton}
 use Rattle.game_rules.specs.Game.{Position}
@@ -15,10 +15,12 @@ use Rattle.rule_formula.proofs.MasksTheorem.{masks_are}
 use Rattle.set_plan.specs.Outcome.{Ends, IsPlanError}
 use Rattle.set_plan.specs.Sets.{Grows, IsNameOn, set_at}
 use Rattle.set_plan.specs.declared.stop.PlanError.{PlanError}
-use Rattle.set_plan.proofs.Composition.{Ends-give, Error-bind, LeadsTo, LeadsTo-error, LeadsTo-later, LeadsTo-self}
+use Rattle.set_plan.specs.Program.{Give}
+use Rattle.set_plan.proofs.Composition.{Ends-bind, Ends-give, Error-bind}
+use Rattle.set_plan.proofs.Folds.{IsAfter, each_ends, each_error, each_more, each_none}
 use Rattle.set_plan.proofs.Items.{drop_front}
 use Rattle.mate_plan.specs.Levels.{AreNames, level_of}
-use Rattle.mate_plan.specs.Plan.{Level, Program, for_masks, level_with, no_sets}
+use Rattle.mate_plan.specs.Plan.{Level, Program, for_masks, level_with, no_sets, with_mask}
 use Rattle.mate_plan.specs.declared.names.PartName.{PartName}
 use Rattle.mate_plan.proofs.LevelLemmas.{HaveNames, are_from_have, from_none, grows-grows, grows_self, have-grows, have_level-grows, have_push, level_push}
 
@@ -28,17 +30,15 @@ module _ (stock : List Man) (masks : List ℕ) (f : ℕ → Program SetOf) (budg
     pub count : length names ≡ done
     pub have : HaveNames stock sets masks names
     pub grows : Grows old sets
-    pub left : LeadsTo (for_masks (drop done masks) f (level_of sets masks names)) (for_masks masks f no_sets) budget
+    pub left : IsAfter masks (with_mask f) no_sets budget done (level_of sets masks names)
 
   pub so_far_none : SoFar old 0 []
-  so_far_none =
-      let Left : Level → Type 0 = λ level. LeadsTo (for_masks masks f level) (for_masks masks f no_sets) budget in
-      record {
-        count = refl;
-        have = tt;
-        grows = grows_self old;
-        left = subst Left (sym (from_none old no_sets masks)) (LeadsTo-self (for_masks masks f no_sets) budget);
-      }
+  so_far_none = record {
+    count = refl;
+    have = tt;
+    grows = grows_self old;
+    left = subst (IsAfter masks (with_mask f) no_sets budget 0) (sym (from_none old no_sets masks)) (each_none masks (with_mask f) no_sets budget);
+  }
 
   as_planned : (g : ℕ → Program SetOf) (mask now : ℕ) (s : SetOf) → g ≡ f → now ≡ budget → Ends (g mask) now s → Ends (f mask) budget s
   as_planned g mask now s same kept made =
@@ -56,14 +56,14 @@ module _ (stock : List Man) (masks : List ℕ) (f : ℕ → Program SetOf) (budg
       let level = level_of sets masks names in
       let more : level_of new masks (names ++ id ∷ []) ≡ level_with level mask (set_at new id) =
       level_push new masks names mask (drop (done + 1) masks) id next ∙ ap (λ (l : Level). level_with l mask (set_at new id)) (have_level-grows stock sets new masks names grows so_far.have) in
-      let Left : List ℕ → Type 0 = λ left. LeadsTo (for_masks left f level) (for_masks masks f no_sets) budget in
-      let After : Level → Type 0 = λ l. LeadsTo (for_masks (drop (done + 1) masks) f l) (for_masks masks f no_sets) budget in
+      let one : Ends (with_mask f mask level) budget (level_with level mask (set_at new id)) =
+      Ends-bind (f mask) (λ s. Give (level_with level mask s)) budget (set_at new id) (level_with level mask (set_at new id)) ends (Ends-give budget (level_with level mask (set_at new id))) in
       record {
         count = length_push names id ∙ ap (λ n. n + 1) so_far.count;
         have = have_push stock new masks names mask (drop (done + 1) masks) id next have on;
         grows = grows-grows old sets new so_far.grows grows;
-        left = subst After (sym more)
-            (LeadsTo-later (f mask) (λ s. for_masks (drop (done + 1) masks) f (level_with level mask s)) (for_masks masks f no_sets) budget (set_at new id) ends (subst Left front so_far.left));
+        left = subst (IsAfter masks (with_mask f) no_sets budget (done + 1)) (sym more)
+            (each_more masks (with_mask f) no_sets budget done mask level so_far.left less is (level_with level mask (set_at new id)) one);
       }
 
   -- an error at the next set is one of the whole
@@ -72,18 +72,12 @@ module _ (stock : List Man) (masks : List ℕ) (f : ℕ → Program SetOf) (budg
       let Of : (ℕ → Program SetOf) → Type 0 = λ h. IsPlanError (h mask) now e in
       let Within : ℕ → Type 0 = λ b. IsPlanError (f mask) b e in
       let error : IsPlanError (f mask) budget e = subst Within kept (subst Of same found) in
-      let front : drop done masks ≡ mask ∷ drop (done + 1) masks = drop_front masks done mask less is in
       let level = level_of sets masks names in
-      let Left : List ℕ → Type 0 = λ left. LeadsTo (for_masks left f level) (for_masks masks f no_sets) budget in
-      LeadsTo-error (for_masks (mask ∷ drop (done + 1) masks) f level) (for_masks masks f no_sets) budget (subst Left front so_far.left) e
-      (Error-bind (f mask) (λ s. for_masks (drop (done + 1) masks) f (level_with level mask s)) budget e error)
+      each_error masks (with_mask f) no_sets budget done mask level so_far.left less is e (Error-bind (f mask) (λ s. Give (level_with level mask s)) budget e error)
 
   -- all sets
   pub so_far_ends : (sets : List Automaton) (done : ℕ) (names : List (Option SetId)) → SoFar sets done names → length masks ≤ done → Ends (for_masks masks f no_sets) budget (level_of sets masks names)
-  so_far_ends sets done names so_far all =
-      let level = level_of sets masks names in
-      let Left : List ℕ → Type 0 = λ left. LeadsTo (for_masks left f level) (for_masks masks f no_sets) budget in
-      (subst Left (drop_all done masks all) so_far.left).ends level (Ends-give budget level)
+  so_far_ends sets done names so_far all = each_ends masks (with_mask f) no_sets budget done (level_of sets masks names) so_far.left all
 
   pub so_far_names : (sets : List Automaton) (done : ℕ) (names : List (Option SetId)) → SoFar sets done names → done ≡ length masks → AreNames stock sets masks names
   so_far_names sets done names so_far all = are_from_have stock sets masks names (so_far.count ∙ all) so_far.have

@@ -82,7 +82,7 @@ pub(crate) fn narrow(
     requires bearings { All (λ b. IsBearer p.now.men stage.mask b.man b.ray b.king) bearings.now }
     requires few { length bearings.now ≤ 1000 }
     requires set { IfSome moved (IsSetOn (tracks_at p.now stage.mask)) }
-    ensures answers { Answers (plan.narrow (rules_of p.now) stage.ply stage.mask bearings.now (as_set moved, 1)) memo.old.budget as_set result }
+    ensures answers { Answers (plan.narrow (rules_of p.now) stage.ply stage.mask bearings.now (as_set moved)) memo.old.budget as_set result }
     ensures set { IfOk result (λ set. IfSome set (IsSetOn (tracks_at p.now stage.mask))) }
     ensures grows { Grows sets.old sets.new }
     ensures budget { memo.new.budget ≡ memo.old.budget }

@@ -22,7 +22,7 @@ use chess_game::Position;
 use formula_auto::Memo;
 use game_rules::Side;
 use lin_formula::{Formula, SetId};
-use set_plan::{PlanError, Sets, unite};
+use set_plan::{PlanError, Sets, StepName, unite};
 use std::alloc::Global;
 
 /// The union of the sets of the formulas, which are over the men of the name's mask.
@@ -41,7 +41,9 @@ fn united(
     ensures budget { memo.new.budget ≡ memo.old.budget }
 {
     let tracks = mask_tracks(alloc, p, name.mask)?;
-    unite(alloc, memo, &tracks, name, formulas, sets.table())
+    let from = StepName { part: name, at: 1 };
+    let made = unite(alloc, memo, &tracks, from, formulas, sets.table())?;
+    Ok(made.set)
 }
 
 /// Where the side's moves lead from the sets of a level into the mask.

@@ -1,5 +1,5 @@
 //! Items, and the union of a list of items.
-ghost use Rattle.std.specs.Prelude.{ℕ, ◌≡◌, ◌<◌, ◌+◌, ◌≤◌, ◌^◌, length, map, All, IfOk, IfSome, ◌∷◌, []};
+ghost use Rattle.std.specs.Prelude.{ℕ, ◌≡◌, ◌<◌, ◌+◌, ◌*◌, ◌≤◌, ◌^◌, length, map, All, IfOk, IfSome, ◌∷◌, []};
 ghost use Rattle.auto_core.specs.Reduced.{IsReduced};
 ghost use Rattle.lin_formula.specs.Tree.{steps};
 ghost use Rattle.lin_formula.specs.TreeOf.{tree_of};
@@ -93,47 +93,33 @@ fn join<P: Copy>(
     }
 }
 
-/// The union of the sets of the formulas and the number of the step after it.
-fn unite_all<P: Copy>(
+/// The union of the sets of the formulas, which are over these tracks, by steps from this one on: an item is left out where a set that it
+/// needs is empty, the first set that is not empty is taken, and each further one is joined directly after its own steps.
+pub fn unite<P: Copy>(
     alloc: Global,
     memo: &mut Memo,
     tracks: &[Var],
-    part: P,
+    from: StepName<P>,
     formulas: &[Formula],
     sets: &SetTable,
 ) -> Result<Made, PlanError<P>>
     requires items { All (IsItemOn tracks.now sets.now) (map tree_of formulas.now) }
     requires few { length formulas.now < 2 ^ 20 }
-    ensures answers { Answers (plan.unite tracks.now part (Nothing, 1) (map (item_of sets.now) (map tree_of formulas.now))) memo.old.budget made_of result }
+    requires room { from.at < 2 ^ 30 }
+    ensures answers { Answers
+        (plan.unite tracks.now from.part (Nothing, from.at) (map (item_of sets.now) (map tree_of formulas.now)))
+        memo.old.budget made_of result }
     ensures set { IfOk result (λ made. IfSome made.set (IsSetOn tracks.now)) }
+    ensures room { IfOk result (λ made. made.at ≤ from.at + length formulas.now * 1001) }
     ensures budget { memo.new.budget ≡ memo.old.budget }
 {
-    let mut made = Made { set: None, at: 1 };
+    let StepName { part, at } = from;
+    let mut made = Made { set: None, at };
     for f in formulas {
         let next = make(alloc, memo, part, made.at, f, sets)?;
         made = join(alloc, tracks, part, made.set, next, memo.budget())?;
     }
     Ok(made)
-}
-
-/// The union of the sets of the formulas, which are over these tracks: an item is left out where a set that it needs is empty, the
-/// first set that is not empty is taken, and each further one is joined directly after its own steps.
-pub fn unite<P: Copy>(
-    alloc: Global,
-    memo: &mut Memo,
-    tracks: &[Var],
-    part: P,
-    formulas: &[Formula],
-    sets: &SetTable,
-) -> Result<Option<Auto>, PlanError<P>>
-    requires items { All (IsItemOn tracks.now sets.now) (map tree_of formulas.now) }
-    requires few { length formulas.now < 2 ^ 20 }
-    ensures answers { Answers (plan.union tracks.now part (map (item_of sets.now) (map tree_of formulas.now))) memo.old.budget as_set result }
-    ensures set { IfOk result (λ set. IfSome set (IsSetOn tracks.now)) }
-    ensures budget { memo.new.budget ≡ memo.old.budget }
-{
-    let made = unite_all(alloc, memo, tracks, part, formulas, sets)?;
-    Ok(made.set)
 }
 
 /// Two sets over these tracks together, in a part of their own.

@@ -34,13 +34,13 @@ returns-in_err-moved-clause-answers c =
     let p = err_from_is_err_and c.from_residual.result c.from_residual.ensures.1 in
     rw (p.1, p.2)
     (Error-bind (union (rules_of c.args.p.now) c.args.stage.ply c.args.stage.mask kind.Image (image_items (rules_of c.args.p.now) c.args.stage.side c.args.stage.mask (level_of c.args.sets.now (masks_of c.args.p.now) c.args.level.now)))
-    (λ moved. narrow (rules_of c.args.p.now) c.args.stage.ply c.args.stage.mask (bearings_of c.args.p.now.men c.args.stage.mask (other c.args.stage.side)) (moved, 1)) c.args.memo.now.budget c.in_err-moved.field-0.0 c.in_err-moved.ensures.answers)
+    (narrow (rules_of c.args.p.now) c.args.stage.ply c.args.stage.mask (bearings_of c.args.p.now.men c.args.stage.mask (other c.args.stage.side))) c.args.memo.now.budget c.in_err-moved.field-0.0 c.in_err-moved.ensures.answers)
 
 pub returns-clause-answers : goal.returns-clause-answers
 returns-clause-answers c =
     let are : c.as_slice.result.now ≡ bearings_of c.args.p.now.men c.args.stage.mask (other c.args.stage.side) =
     c.as_slice.ensures ∙ c.in_ok-attacks.ensures.list ∙ ap (λ s. bearings_of c.args.p.now.men c.args.stage.mask s) c.other.ensures in
     let narrowed = rw c.in_ok-moved.ensures.budget at c.narrow.ensures.answers in
-    let By : List Bearing → Type 0 = λ l. Answers (narrow (rules_of c.args.p.now) c.args.stage.ply c.args.stage.mask l (as_set c.in_ok-moved.moved, 1)) c.args.memo.now.budget as_set c.narrow.result in
+    let By : List Bearing → Type 0 = λ l. Answers (narrow (rules_of c.args.p.now) c.args.stage.ply c.args.stage.mask l (as_set c.in_ok-moved.moved)) c.args.memo.now.budget as_set c.narrow.result in
     Answers-later (union (rules_of c.args.p.now) c.args.stage.ply c.args.stage.mask kind.Image (image_items (rules_of c.args.p.now) c.args.stage.side c.args.stage.mask (level_of c.args.sets.now (masks_of c.args.p.now) c.args.level.now)))
-    (λ moved. narrow (rules_of c.args.p.now) c.args.stage.ply c.args.stage.mask (bearings_of c.args.p.now.men c.args.stage.mask (other c.args.stage.side)) (moved, 1)) c.args.memo.now.budget as_set (as_set c.in_ok-moved.moved) c.in_ok-moved.ensures.answers c.narrow.result (subst By are narrowed)
+    (narrow (rules_of c.args.p.now) c.args.stage.ply c.args.stage.mask (bearings_of c.args.p.now.men c.args.stage.mask (other c.args.stage.side))) c.args.memo.now.budget as_set (as_set c.in_ok-moved.moved) c.in_ok-moved.ensures.answers c.narrow.result (subst By are narrowed)
