@@ -7,10 +7,12 @@ ghost use Rattle.rule_formula.specs.Mean.{mask_tracks as tracks_at};
 ghost use Rattle.set_plan.specs.Outcome.{Answers};
 ghost use Rattle.set_plan.specs.Program.{bind};
 ghost use Rattle.set_plan.specs.Sets.{Grows, IsNameOn, IsSetOn, lent as lent_set, set_at};
-ghost use Rattle.mate_plan.specs.Levels.{AreNames, level_of};
+ghost use Rattle.mate_plan.specs.Levels.{AreNames, AreNamesIn, level_in, level_of};
 ghost use Rattle.mate_plan.specs.Plan as plan;
 ghost use Rattle.mate_plan.specs.PlanOf.{rules_of};
 
+use crate::bench::Bench;
+use crate::by_mask::{MaskSets, level_by};
 use crate::lending::{is_lacking, keep_left, left_without, lent};
 use crate::level::{LevelNames, name_at};
 use crate::names::{Part, PartName};
@@ -22,7 +24,6 @@ use chess_game::Position;
 use formula_auto::Memo;
 use game_rules::Side;
 use lin_formula::SetId;
-use rule_formula::masks;
 use set_plan::{PlanError, Sets, together};
 use std::alloc::Global;
 
@@ -52,35 +53,42 @@ fn rest_name(
     Ok(keep_left(sets, whole, left)?)
 }
 
-/// The names of what is reached and not kept at a ply.
-fn rest_level(
-    alloc: Global,
-    sets: &mut Sets,
-    p: &Position,
-    masks: &[u8],
+/// What is reached at a ply and not kept there.
+#[derive(Clone, Copy)]
+struct Resting<'a> {
     ply: u8,
-    reach: &LevelNames,
-    kept: &LevelNames,
-    budget: u32,
-) -> Result<LevelNames, PlanError<PartName>>
-    requires reach { AreNames p.now.men sets.old (masks_of p.now) reach.now }
-    requires kept { AreNames p.now.men sets.old (masks_of p.now) kept.now }
-    requires masks { masks.now ≡ masks_of p.now }
-    requires budget { (1 ≤ budget) × (budget ≤ 200000) }
-    ensures answers { Answers (plan.for_masks (masks_of p.now) (plan.rest_set (rules_of p.now) ply (level_of sets.old (masks_of p.now) reach.now) (level_of sets.old (masks_of p.now) kept.now)) plan.no_sets) budget (λ names. level_of sets.new (masks_of p.now) names) result }
-    ensures names { IfOk result (AreNames p.now.men sets.new (masks_of p.now)) }
-    ensures grows { Grows sets.old sets.new }
-{
-    let mut names = LevelNames::new(alloc);
-    for mask in masks {
+    reach: &'a LevelNames,
+    kept: &'a LevelNames,
+}
+
+impl MaskSets for Resting<'_> {
+    ghost program = { λ it p sets. plan.rest_set (rules_of p) it.ply (level_in p sets it.reach.now) (level_in p sets it.kept.now) };
+
+    ghost fits = { λ it p sets. AreNamesIn p sets it.reach.now × AreNamesIn p sets it.kept.now };
+
+    fn name(
+        &self,
+        bench: &Bench,
+        memo: &mut Memo,
+        sets: &mut Sets,
+        mask: u8,
+    ) -> Result<Option<SetId>, PlanError<PartName>> {
         let part = PartName {
-            ply,
-            mask: *mask,
+            ply: self.ply,
+            mask,
             part: Part::Rest,
         };
-        names.push(rest_name(alloc, sets, p, masks, part, reach, kept, budget)?)?;
+        rest_name(
+            bench.alloc,
+            sets,
+            bench.position,
+            bench.masks,
+            part,
+            self.reach,
+            self.kept,
+            memo.budget(),
+        )
     }
-    Ok(names)
 }
 
 /// The name of what is reached without a move into the rests.
@@ -259,79 +267,90 @@ fn lost_name(
     Ok(sets.keep(set)?)
 }
 
-/// The names of what is kept, where it is known what is reached at the next ply and not kept there.
-fn lost_masks(
-    alloc: Global,
-    memo: &mut Memo,
-    sets: &mut Sets,
-    p: &Position,
-    masks: &[u8],
+/// What is kept at a ply of the loser, where it is known what is reached at the next ply and not kept there.
+#[derive(Clone, Copy)]
+struct Lost<'a> {
     side: Side,
     ply: u8,
-    reach: &LevelNames,
-    next_reach: &LevelNames,
-    rests: &LevelNames,
-) -> Result<LevelNames, PlanError<PartName>>
-    requires sound { Sound p.now }
-    requires men { length p.now.men ≤ 8 }
-    requires masks { masks.now ≡ masks_of p.now }
-    requires reach { AreNames p.now.men sets.old (masks_of p.now) reach.now }
-    requires next_reach { AreNames p.now.men sets.old (masks_of p.now) next_reach.now }
-    requires rests { AreNames p.now.men sets.old (masks_of p.now) rests.now }
-    ensures answers { Answers (plan.for_masks (masks_of p.now) (plan.lost_set_if (rules_of p.now) side ply (level_of sets.old (masks_of p.now) reach.now) (level_of sets.old (masks_of p.now) next_reach.now) (level_of sets.old (masks_of p.now) rests.now)) plan.no_sets) memo.old.budget (λ names. level_of sets.new (masks_of p.now) names) result }
-    ensures names { IfOk result (AreNames p.now.men sets.new (masks_of p.now)) }
-    ensures grows { Grows sets.old sets.new }
-    ensures budget { memo.new.budget ≡ memo.old.budget }
-{
-    let mut names = LevelNames::new(alloc);
-    for mask in masks {
-        let stage = Stage {
-            side,
-            ply,
-            mask: *mask,
-        };
-        names.push(lost_name(alloc, memo, sets, p, masks, stage, reach, next_reach, rests)?)?;
-    }
-    Ok(names)
+    reach: &'a LevelNames,
+    next_reach: &'a LevelNames,
+    rests: &'a LevelNames,
 }
 
-/// What is kept at a ply at which the loser, the side, is to move, from what is reached at the ply and at the next one, and what is kept at the
-/// next one.
+impl MaskSets for Lost<'_> {
+    ghost program = { λ it p sets. plan.lost_set_if (rules_of p) it.side it.ply (level_in p sets it.reach.now) (level_in p sets it.next_reach.now) (level_in p sets it.rests.now) };
+
+    ghost fits = { λ it p sets. AreNamesIn p sets it.reach.now × AreNamesIn p sets it.next_reach.now × AreNamesIn p sets it.rests.now };
+
+    fn name(
+        &self,
+        bench: &Bench,
+        memo: &mut Memo,
+        sets: &mut Sets,
+        mask: u8,
+    ) -> Result<Option<SetId>, PlanError<PartName>> {
+        let stage = Stage {
+            side: self.side,
+            ply: self.ply,
+            mask,
+        };
+        lost_name(
+            bench.alloc,
+            memo,
+            sets,
+            bench.position,
+            bench.masks,
+            stage,
+            self.reach,
+            self.next_reach,
+            self.rests,
+        )
+    }
+}
+
+/// What is kept at a ply at which the loser, the side, is to move, from what is reached at the ply and at the next one, and what is kept at
+/// the next one.
+#[derive(Clone, Copy)]
+pub struct Losing<'a> {
+    pub side: Side,
+    pub ply: u8,
+    pub reach: &'a LevelNames,
+    pub next_reach: &'a LevelNames,
+    pub next_kept: &'a LevelNames,
+}
+
+/// What is kept at a ply of the loser.
 pub fn lost_level(
-    alloc: Global,
+    bench: &Bench,
     memo: &mut Memo,
     sets: &mut Sets,
-    p: &Position,
-    side: Side,
-    ply: u8,
-    reach: &LevelNames,
-    next_reach: &LevelNames,
-    next_kept: &LevelNames,
+    from: &Losing,
 ) -> Result<LevelNames, PlanError<PartName>>
-    requires sound { Sound p.now }
-    requires men { length p.now.men ≤ 8 }
-    requires ply { ply < 255 }
-    requires reach { AreNames p.now.men sets.old (masks_of p.now) reach.now }
-    requires next_reach { AreNames p.now.men sets.old (masks_of p.now) next_reach.now }
-    requires next_kept { AreNames p.now.men sets.old (masks_of p.now) next_kept.now }
-    ensures answers { Answers (plan.lost_level (rules_of p.now) side ply (level_of sets.old (masks_of p.now) reach.now) (level_of sets.old (masks_of p.now) next_reach.now) (level_of sets.old (masks_of p.now) next_kept.now)) memo.old.budget (λ names. level_of sets.new (masks_of p.now) names) result }
-    ensures names { IfOk result (AreNames p.now.men sets.new (masks_of p.now)) }
+    requires ply { from.now.ply < 255 }
+    requires reach { AreNamesIn bench.now.position.now sets.old from.now.reach.now }
+    requires next_reach { AreNamesIn bench.now.position.now sets.old from.now.next_reach.now }
+    requires next_kept { AreNamesIn bench.now.position.now sets.old from.now.next_kept.now }
+    ensures answers { Answers
+        (plan.lost_level (rules_of bench.now.position.now) from.now.side from.now.ply
+        (level_in bench.now.position.now sets.old from.now.reach.now) (level_in bench.now.position.now sets.old from.now.next_reach.now)
+        (level_in bench.now.position.now sets.old from.now.next_kept.now))
+        memo.old.budget (level_in bench.now.position.now sets.new) result }
+    ensures names { IfOk result (AreNamesIn bench.now.position.now sets.new) }
     ensures grows { Grows sets.old sets.new }
     ensures budget { memo.new.budget ≡ memo.old.budget }
 {
-    let all = masks(alloc, p)?;
-    let masks = all.as_slice();
-    let rests = rest_level(
-        alloc,
-        sets,
-        p,
-        masks,
-        ply + 1,
-        next_reach,
-        next_kept,
-        memo.budget(),
-    )?;
-    lost_masks(
-        alloc, memo, sets, p, masks, side, ply, reach, next_reach, &rests,
-    )
+    let resting = Resting {
+        ply: from.ply + 1,
+        reach: from.next_reach,
+        kept: from.next_kept,
+    };
+    let rests = level_by(bench, memo, sets, &resting)?;
+    let lost = Lost {
+        side: from.side,
+        ply: from.ply,
+        reach: from.reach,
+        next_reach: from.next_reach,
+        rests: &rests,
+    };
+    level_by(bench, memo, sets, &lost)
 }

@@ -6,10 +6,12 @@ ghost use Rattle.rule_formula.specs.Fits.{IsGameMask, mask_of, masks_of};
 ghost use Rattle.rule_formula.specs.Mean.{mask_tracks as tracks_at};
 ghost use Rattle.set_plan.specs.Outcome.{Answers};
 ghost use Rattle.set_plan.specs.Sets.{Grows, IsNameOn, IsSetOn, set_at};
-ghost use Rattle.mate_plan.specs.Levels.{AreNames, level_of};
+ghost use Rattle.mate_plan.specs.Levels.{AreNames, AreNamesIn, level_in, level_of};
 ghost use Rattle.mate_plan.specs.Plan as plan;
 ghost use Rattle.mate_plan.specs.PlanOf.{rules_of};
 
+use crate::bench::Bench;
+use crate::by_mask::{MaskSets, level_by};
 use crate::level::LevelNames;
 use crate::names::PartName;
 use crate::narrowing::narrow;
@@ -20,7 +22,7 @@ use chess_game::Position;
 use formula_auto::Memo;
 use game_rules::Side;
 use lin_formula::SetId;
-use rule_formula::{bearings, masks};
+use rule_formula::bearings;
 use set_plan::{PlanError, Sets};
 use std::alloc::Global;
 
@@ -73,56 +75,58 @@ fn reach_name(
     Ok(sets.keep(set)?)
 }
 
-/// What is reached at a ply, mask by mask.
-fn reach_masks(
-    alloc: Global,
-    memo: &mut Memo,
-    sets: &mut Sets,
-    p: &Position,
-    masks: &[u8],
-    side: Side,
-    ply: u8,
-    level: &LevelNames,
-) -> Result<LevelNames, PlanError<PartName>>
-    requires sound { Sound p.now }
-    requires men { length p.now.men ≤ 8 }
-    requires masks { masks.now ≡ masks_of p.now }
-    requires level { AreNames p.now.men sets.old (masks_of p.now) level.now }
-    ensures answers { Answers (plan.reach_level (rules_of p.now) side ply (level_of sets.old (masks_of p.now) level.now)) memo.old.budget (λ names. level_of sets.new (masks_of p.now) names) result }
-    ensures names { IfOk result (AreNames p.now.men sets.new (masks_of p.now)) }
-    ensures grows { Grows sets.old sets.new }
-    ensures budget { memo.new.budget ≡ memo.old.budget }
-{
-    let mut names = LevelNames::new(alloc);
-    for mask in masks {
-        let stage = Stage {
-            side,
-            ply,
-            mask: *mask,
-        };
-        names.push(reach_name(alloc, memo, sets, p, masks, stage, level)?)?;
-    }
-    Ok(names)
+/// What is reached at a ply, from what is reached at the ply before it, where the side moves.
+#[derive(Clone, Copy)]
+pub struct Reaching<'a> {
+    pub side: Side,
+    /// Step names have this ply.
+    pub ply: u8,
+    pub level: &'a LevelNames,
 }
 
-/// What is reached at a ply, from what is reached at the ply before it, where the side moves. Step names have this ply.
+impl MaskSets for Reaching<'_> {
+    ghost program = { λ it p sets. plan.reach_set (rules_of p) it.side it.ply (level_in p sets it.level.now) };
+
+    ghost fits = { λ it p sets. AreNamesIn p sets it.level.now };
+
+    fn name(
+        &self,
+        bench: &Bench,
+        memo: &mut Memo,
+        sets: &mut Sets,
+        mask: u8,
+    ) -> Result<Option<SetId>, PlanError<PartName>> {
+        let stage = Stage {
+            side: self.side,
+            ply: self.ply,
+            mask,
+        };
+        reach_name(
+            bench.alloc,
+            memo,
+            sets,
+            bench.position,
+            bench.masks,
+            stage,
+            self.level,
+        )
+    }
+}
+
+/// What is reached at a ply.
 pub fn reach_level(
-    alloc: Global,
+    bench: &Bench,
     memo: &mut Memo,
     sets: &mut Sets,
-    p: &Position,
-    side: Side,
-    ply: u8,
-    level: &LevelNames,
+    from: &Reaching,
 ) -> Result<LevelNames, PlanError<PartName>>
-    requires sound { Sound p.now }
-    requires men { length p.now.men ≤ 8 }
-    requires level { AreNames p.now.men sets.old (masks_of p.now) level.now }
-    ensures answers { Answers (plan.reach_level (rules_of p.now) side ply (level_of sets.old (masks_of p.now) level.now)) memo.old.budget (λ names. level_of sets.new (masks_of p.now) names) result }
-    ensures names { IfOk result (AreNames p.now.men sets.new (masks_of p.now)) }
+    requires level { AreNamesIn bench.now.position.now sets.old from.now.level.now }
+    ensures answers { Answers
+        (plan.reach_level (rules_of bench.now.position.now) from.now.side from.now.ply (level_in bench.now.position.now sets.old from.now.level.now))
+        memo.old.budget (level_in bench.now.position.now sets.new) result }
+    ensures names { IfOk result (AreNamesIn bench.now.position.now sets.new) }
     ensures grows { Grows sets.old sets.new }
     ensures budget { memo.new.budget ≡ memo.old.budget }
 {
-    let all = masks(alloc, p)?;
-    reach_masks(alloc, memo, sets, p, all.as_slice(), side, ply, level)
+    level_by(bench, memo, sets, from)
 }
