@@ -1,5 +1,5 @@
 -- States at the places of a ray: fronts, and what was found to lead nowhere.
-use Rattle.std.specs.Prelude.{◌≡◌, ℕ, ◌+◌, ◌*◌, ◌/◌, ◌%◌, ◌^◌, ◌<◌, ◌≤◌, Bool, List, length, if◌then◌else◌, slice_index, slice_index_or, Option, Some, None, option_map, option_and_then, ◌⊎◌, IsTrue, MatchOption, nat_eq}
+use Rattle.std.specs.Prelude.{◌≡◌, ◌≢◌, ℕ, ◌+◌, ◌*◌, ◌/◌, ◌%◌, ◌^◌, ◌<◌, ◌≤◌, Bool, List, length, if◌then◌else◌, slice_index, slice_index_or, Option, Some, None, option_map, option_and_then, ◌⊎◌, IsTrue, MatchOption, nat_eq}
 use Rattle.std.specs.Int.{bit_at}
 use Rattle.track_word.specs.Word.{integer_bit}
 use Rattle.auto_core.specs.Automaton.{Automaton, width, first_state, next_state, run, is_final}
@@ -50,6 +50,10 @@ cell_of a place state = place * length a.accept + state
 abbrev pub mark : Automaton → List ℕ → ℕ → ℕ → ℕ → ℕ
 mark a failed place state slot = bit_at (slice_index failed (cell_of a place state)) slot
 
+-- each state of the front has its mark
+abbrev pub AreMarked : Automaton → List ℕ → ℕ → List (Option ℕ) → Type 0
+AreMarked a failed place front = (slot state : ℕ) → slice_index_or front slot None ≡ Some state → mark a failed place state slot ≡ 1
+
 -- marked states do not lead to acceptance
 pub record Remembers (a : Automaton) (ray : Ray) (failed : List ℕ) : Type 0 where
   pub dead : (bits : List Bool) (state : ℕ) → state < length a.accept → mark a failed (length bits) state (slot_of ray bits) ≡ 1 → Leads a ray state bits → ⊥
@@ -58,6 +62,7 @@ pub record Remembers (a : Automaton) (ray : Ray) (failed : List ℕ) : Type 0 wh
 pub record IsLive (a : Automaton) (failed : List ℕ) (place : ℕ) (front live : List (Option ℕ)) : Type 0 where
   pub kept : (slot state : ℕ) → slice_index_or live slot None ≡ Some state → slice_index_or front slot None ≡ Some state
   pub others : (slot state : ℕ) → slice_index_or front slot None ≡ Some state → (slice_index_or live slot None ≡ Some state) ⊎ (mark a failed place state slot ≡ 1)
+  pub unmarked : (slot state : ℕ) → slice_index_or live slot None ≡ Some state → mark a failed place state slot ≢ 1
 
 -- no last bits of this number complete the front
 pub record IsDead (a : Automaton) (ray : Ray) (place : ℕ) (front : List (Option ℕ)) : Type 0 where

@@ -37,6 +37,14 @@ impl Axis {
         }
     }
 
+    /// How many carries there are: 0 to what a bit 0 and a bit 1 add together.
+    pub fn carries(self) -> u8
+        requires small { self.zero + self.one ≤ 2 }
+        ensures { result ≡ self.zero + self.one + 1 }
+    {
+        self.zero + self.one + 1
+    }
+
     /// What comes together at a place: what is carried over to it, the bit of the near end, and what the bit of the distance adds.
     pub fn sum(self, place: u8, carried: u8, bit: bool) -> u8
         requires small { self.zero + self.one ≤ 2 }

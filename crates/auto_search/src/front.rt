@@ -47,8 +47,11 @@ pub fn step(course: &Course, place: u8, bit: bool, front: &Front) -> Front
     ensures front { IsFront course.now.auto.now result }
 {
     let mut after = NO_STATES;
-    for slot in 0..SLOTS {
-        after[slot as usize] = next(course, place, bit, front, Carry::of_slot(slot));
+    for x in 0..course.ray.x.carries() {
+        for y in 0..course.ray.y.carries() {
+            let carry = Carry { x, y };
+            after[carry.slot() as usize] = next(course, place, bit, front, carry);
+        }
     }
     after
 }
@@ -57,16 +60,11 @@ pub fn step(course: &Course, place: u8, bit: bool, front: &Front) -> Front
 fn next(course: &Course, place: u8, bit: bool, front: &Front, carry: Carry) -> Option<u32>
     requires front { IsFront course.now.auto.now front.now }
     requires place { place ≤ course.now.ray.now.top }
-    ensures next { carry.x ≤ course.now.ray.now.x.zero + course.now.ray.now.x.one → carry.y ≤ course.now.ray.now.y.zero + course.now.ray.now.y.one → result ≡ stepped course.now.auto.now course.now.ray.now place bit front.now carry.x carry.y }
-    ensures only { IfSome result (λ state. (carry.x ≤ course.now.ray.now.x.zero + course.now.ray.now.x.one) × (carry.y ≤ course.now.ray.now.y.zero + course.now.ray.now.y.one)) }
+    requires x { carry.x ≤ course.now.ray.now.x.zero + course.now.ray.now.x.one }
+    requires y { carry.y ≤ course.now.ray.now.y.zero + course.now.ray.now.y.one }
+    ensures next { result ≡ stepped course.now.auto.now course.now.ray.now place bit front.now carry.x carry.y }
     ensures within { IfSome result (λ state. state < length course.now.auto.now.accept) }
 {
-    if carry.x > course.ray.x.zero + course.ray.x.one {
-        return None;
-    }
-    if carry.y > course.ray.y.zero + course.ray.y.one {
-        return None;
-    }
     let x = course.ray.x.sum(place, carry.x, bit);
     let y = course.ray.y.sum(place, carry.y, bit);
     let before = Carry { x: x / 2, y: y / 2 };
@@ -78,7 +76,7 @@ fn next(course: &Course, place: u8, bit: bool, front: &Front, carry: Carry) -> O
 
 /// Whether there is no state.
 pub fn is_empty(front: &Front) -> bool
-    ensures { IsTrue result → (slot : ℕ) → slice_index_or front.now slot None ≡ None }
+    ensures { IsTrue result ↔ ((slot : ℕ) → slice_index_or front.now slot None ≡ None) }
 {
     for state in front {
         if state.is_some() {

@@ -1,7 +1,7 @@
 //! Marks at states that lead nowhere.
 ghost use Rattle.std.specs.Prelude.{◌≡◌, ◌≤◌, ◌<◌, ◌*◌, ◌+◌, IsTrue, ◌↔◌, ℕ, length, All, slice_index};
 ghost use Rattle.std.specs.Int.{bit_at};
-ghost use Rattle.auto_search.specs.Search.{IsFront, IsLive, IsDead, cell_of};
+ghost use Rattle.auto_search.specs.Search.{IsFront, IsLive, IsDead, AreMarked, cell_of};
 ghost use Rattle.auto_search.specs.Marks.{Serves, SameRoom, IsClear, IsListed, IsMarked, HasCellFrom, HasCellBelow};
 
 use crate::carry::SLOTS;
@@ -80,12 +80,14 @@ impl Marks {
         requires place { place ≤ course.now.ray.now.top }
         requires front { IsFront course.now.auto.now front.now }
         requires dead { IsDead course.now.auto.now course.now.ray.now place front.now }
+        ensures marked { AreMarked course.now.auto.now self.new.failed.items place front.now }
         ensures serves { Serves course.now.auto.now course.now.ray.now self.new }
         ensures room { SameRoom self.old self.new }
     {
         for slot in 0..SLOTS {
-            if let Some(state) = front[slot as usize] {
-                self.add(cell_at(course.auto, place, state), slot);
+            match front[slot as usize] {
+                None => {}
+                Some(state) => self.add(cell_at(course.auto, place, state), slot),
             }
         }
     }

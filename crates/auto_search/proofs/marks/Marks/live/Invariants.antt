@@ -1,4 +1,4 @@
-use Rattle.std.proofs.Common.{◌≡◌, ◌⊎◌, ℕ, length, slice_index_or, Some, None}
+use Rattle.std.proofs.Common.{◌≡◌, ◌≢◌, ◌<◌, ◌⊎◌, ℕ, length, slice_index_or, Some, None}
 use Rattle.auto_search.specs.Search.{mark}
 use Rattle.auto_search.proofs.marks.Marks.live.Given as goal
 
@@ -7,4 +7,5 @@ invariant-loop-slot l = record {
   size : length l.left ≡ 9;
   kept : (slot state : ℕ) → slice_index_or l.left slot None ≡ Some state → slice_index_or l.front slot None ≡ Some state;
   others : (slot state : ℕ) → slice_index_or l.front slot None ≡ Some state → (slice_index_or l.left slot None ≡ Some state) ⊎ (mark l.course.auto.now l.self.failed.items l.place state slot ≡ 1);
+  unmarked : (slot state : ℕ) → slot < l.slot → slice_index_or l.left slot None ≡ Some state → mark l.course.auto.now l.self.failed.items l.place state slot ≢ 1;
 }
