@@ -375,6 +375,10 @@ most_read before read g now old pending left written so_far all few =
     at_most (cut front) = unless_true (read == most_lines) (cut front) (ends Many [] (cut front)) _ is_most refl
     at_most long = unless_true (read == most_lines) long (ends Many [] long) _ is_most refl
 
+-- with the loser to move, who is not mated, there is a report of the game, whatever lines come
+abbrev pub GoesOn : ℕ → ℕ → Match → Type 0
+GoesOn before read g = IsLosersTurn g → (Mate g.position → ⊥) → (more : Lines) → (later : Report) × AtLines before read more g later
+
 -- Something came of the start, or of a line: what is said of it where nothing comes behind, is said with other lines behind too.
 pub record Extends (Says : (Match → Report → Type 0) → Report → Type 0) (At : Lines → Report → Type 0) (before read : ℕ) (after : Match) : Type 0 where
   pub on : (r later : Report) (more : Lines) → Says (EndsAt after) r → r.ending ≡ NoLine → AtLines before read more after later → At more (joined r later)
@@ -411,7 +415,7 @@ module _ (Says : (Match → Report → Type 0) → Report → Type 0) (At : Line
         ends_so At before read g now old pending left written so_far few after last rest (known_rest left) (leaving lines r) ending
         (extends.over r lines says) refl is_ending wrote stops
 
-    pub came_failed : (why : Failed) → (IsLosersTurn after → (Mate after.position → ⊥) → (more : Lines) → (later : Report) × AtLines before read more after later)
+    pub came_failed : (why : Failed) → GoesOn before read after
         → Comes (Err why) Says now after written last → IsPlayed (Err error.Write) before g after old (ports pending left last)
     came_failed why go (r, says, wrote, turn) =
         writes_so At before read g now old pending left written so_far few after last r.text
@@ -451,7 +455,7 @@ module _ (before read : ℕ) (g now after : Match) (old : Ports) (pending : List
   pub reply_over : length rest ≤ 256 → (ending : Ending) → Comes (Ok (Some ending)) AtReply now after written last → IsPlayed (Ok ending) before g after old (ports rest mid last)
   reply_over few ending comes = came_over AtReply (AtRead before (read + 1) line now) before (read + 1) g now after old rest mid written last came extends few ending comes
 
-  pub reply_failed : length rest ≤ 256 → (why : Failed) → (IsLosersTurn after → (Mate after.position → ⊥) → (more : Lines) → (later : Report) × AtLines before (read + 1) more after later)
+  pub reply_failed : length rest ≤ 256 → (why : Failed) → GoesOn before (read + 1) after
       → Comes (Err why) AtReply now after written last → IsPlayed (Err error.Write) before g after old (ports rest mid last)
   reply_failed few why go comes = came_failed AtReply (AtRead before (read + 1) line now) before (read + 1) g now after old rest mid written last came extends few why go comes
 
@@ -470,9 +474,10 @@ module _ (before : ℕ) (g after : Match) (pending : List ℕ) (left written las
       → IsPlayed (Ok ending) before g after (ports pending left written) (ports pending left last)
   opening_over few ending comes = came_over AtOpening (AtFirst before g) before 0 g g after (ports pending left written) pending left written last begun (start_extends before g after) few ending comes
 
-  pub opening_failed : length pending ≤ 256 → (why : Failed) → (IsLosersTurn after → (Mate after.position → ⊥) → (more : Lines) → (later : Report) × AtLines before 0 more after later)
+  pub opening_failed : length pending ≤ 256 → (why : Failed) → GoesOn before 0 after
       → Comes (Err why) AtOpening g after written last → IsPlayed (Err error.Write) before g after (ports pending left written) (ports pending left last)
-  opening_failed few why go comes = came_failed AtOpening (AtFirst before g) before 0 g g after (ports pending left written) pending left written last begun (start_extends before g after) few why go comes
+  opening_failed few why go comes =
+      came_failed AtOpening (AtFirst before g) before 0 g g after (ports pending left written) pending left written last begun (start_extends before g after) few why go comes
 
 -- a count of faults has risen since before
 pub risen_from : (first before now : ℕ) → first ≤ before → HasRisen before now → HasRisen first now

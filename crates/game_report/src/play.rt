@@ -56,8 +56,10 @@ pub fn play_game<S: Source, K: Sink>(
     ensures plays { IsPlayed result before (seen session.old) (seen session.new)
         record { pending = reader.old.pending; left = S.left source.old; written = K.written sink.old }
         record { pending = reader.new.pending; left = S.left source.new; written = K.written sink.new } }
+    // Where no line is due, neither is touched.
     ensures settled { IsSettled before (seen session.old) → (source.new ≡ source.old) × (reader.new ≡ reader.old) }
     ensures same { (session.new.solution ≡ session.old.solution) × (session.new.frame ≡ session.old.frame) }
+    // A failure of a port is counted there.
     ensures read_failed { IsErrOf result GameError.Read → HasRisen (S.faults source.old) (S.faults source.new) }
     ensures write_failed { IsErrOf result GameError.Write → HasRisen (K.faults sink.old) (K.faults sink.new) }
     ensures reads_never_fall { S.faults source.old ≤ S.faults source.new }

@@ -38,7 +38,9 @@ loop-read-init g c =
       is_open = (rw c.in-Ok-None.field-0-is at c.in-Ok-None.ensures.comes).5;
       goes_on = c.requires.goes_on;
       few = c.requires.held;
-      first = first_due c.args.before (seen old) (seen c.open.new.session) (ports c.args.reader.now.pending (source.left c.args.source.now) (sink.written c.args.sink.now)) c.args.reader.now.pending (source.left c.args.source.now) (sink.written c.open.new.sink) so_far;
+      first =
+          first_due c.args.before (seen old) (seen c.open.new.session) (ports c.args.reader.now.pending (source.left c.args.source.now) (sink.written c.args.sink.now))
+          c.args.reader.now.pending (source.left c.args.source.now) (sink.written c.open.new.sink) so_far;
       so_far = so_far;
       reads = omega arith;
       writes = c.open.ensures.never_falls;
