@@ -10,14 +10,13 @@ ghost use Rattle.std.specs.Prelude.{◌≤◌, IfOk};
 use crate::built::{
     Built, Tables, both, comparison, complement, either, grown, least, renamed, tabled, without,
 };
-use crate::errors::RowError;
-use crate::fields::{Fields, MOST_DEPTH, numbers, vars};
 use crate::formula_text::atom_behind;
-use crate::sets::NamedSets;
+use crate::letters::{MOST_DEPTH, var, vars};
 use auto_core::Auto;
 use auto_walk::residue;
 use std::alloc::Global;
 use track_word::{Rel, Var};
+use trial_rows::{Fields, Named, RowError, numbers};
 
 fn linear(alloc: Global, fields: &mut Fields, rel: Rel) -> Result<Auto, RowError> {
     let parts = atom_behind(alloc, fields, rel)?;
@@ -25,13 +24,13 @@ fn linear(alloc: Global, fields: &mut Fields, rel: Rel) -> Result<Auto, RowError
 }
 
 fn value(alloc: Global, fields: &mut Fields) -> Result<Auto, RowError> {
-    let var = fields.var()?;
+    let var = var(fields)?;
     Ok(Auto::value(alloc, var, fields.i64()?)?)
 }
 
 fn remainder(alloc: Global, fields: &mut Fields) -> Result<Auto, RowError> {
     let budget = fields.budget()?;
-    let var = fields.var()?;
+    let var = var(fields)?;
     let modulus = fields.u32()?;
     let wanted = fields.u32()?;
     if modulus == 0 {
@@ -66,7 +65,7 @@ fn tables(alloc: Global, fields: &mut Fields) -> Result<Tables, RowError> {
 #[derive(Clone, Copy)]
 struct Reader<'a> {
     alloc: Global,
-    sets: &'a NamedSets,
+    sets: &'a Named<Built>,
     depth: u8,
 }
 
@@ -113,7 +112,7 @@ fn operator_of(
 
 fn forgetting(fields: &mut Fields) -> Result<Change, RowError> {
     let budget = fields.u32()?;
-    Ok(Change::Forget(budget, fields.var()?))
+    Ok(Change::Forget(budget, var(fields)?))
 }
 
 /// A number that is a budget of states.
@@ -191,7 +190,11 @@ fn read(reader: Reader, fields: &mut Fields) -> Result<Built, RowError> {
 }
 
 /// An automaton, whose text may name earlier ones.
-pub fn automaton(alloc: Global, sets: &NamedSets, fields: &mut Fields) -> Result<Built, RowError> {
+pub fn automaton(
+    alloc: Global,
+    sets: &Named<Built>,
+    fields: &mut Fields,
+) -> Result<Built, RowError> {
     let reader = Reader {
         alloc,
         sets,

@@ -6,19 +6,21 @@ ghost use Rattle.track_word.specs.Word.{IsWord};
 ghost use Rattle.auto_core.specs.Automaton.{IsAutomaton};
 
 use crate::auto_text::automaton;
-use crate::built::{are_below, width_of};
+use crate::built::{Built, are_below, width_of};
 use crate::compiled::is_member;
-use crate::errors::RowError;
-use crate::fields::{Fields, numbers, yes_or_no};
 use crate::formulas::{write_members, write_vars};
-use crate::sets::NamedSets;
 use auto_core::Auto;
 use auto_reduce::{is_empty, same_set, sign_stable};
 use std::alloc::Global;
 use track_word::Var;
+use trial_rows::{Fields, Named, RowError, numbers, yes_or_no};
 
 /// `set NAME A`: names an automaton.
-pub fn set_row(alloc: Global, sets: &mut NamedSets, fields: &mut Fields) -> Result<(), RowError> {
+pub fn set_row(
+    alloc: Global,
+    sets: &mut Named<Built>,
+    fields: &mut Fields,
+) -> Result<(), RowError> {
     let name = fields.word()?;
     let set = automaton(alloc, sets, fields)?;
     fields.end()?;
@@ -28,7 +30,7 @@ pub fn set_row(alloc: Global, sets: &mut NamedSets, fields: &mut Fields) -> Resu
 /// `states A`: how many states there are.
 pub fn states_row(
     alloc: Global,
-    sets: &NamedSets,
+    sets: &Named<Built>,
     fields: &mut Fields,
     out: &mut String,
 ) -> Result<(), RowError> {
@@ -42,7 +44,7 @@ pub fn states_row(
 /// `tracks A`: the variables.
 pub fn tracks_row(
     alloc: Global,
-    sets: &NamedSets,
+    sets: &Named<Built>,
     fields: &mut Fields,
     out: &mut String,
 ) -> Result<(), RowError> {
@@ -70,7 +72,7 @@ fn is_accepted(a: &Auto, word: &[u32]) -> Result<bool, RowError> {
 /// `accepts WORDS A`: which words are accepted. Words are parted by `/`, and the letters of a word by commas.
 pub fn accepts_row(
     alloc: Global,
-    sets: &NamedSets,
+    sets: &Named<Built>,
     fields: &mut Fields,
     out: &mut String,
 ) -> Result<(), RowError> {
@@ -90,7 +92,7 @@ pub fn accepts_row(
 /// `member TUPLES A`: which tuples of integers are in the set.
 pub fn member_row(
     alloc: Global,
-    sets: &NamedSets,
+    sets: &Named<Built>,
     fields: &mut Fields,
     out: &mut String,
 ) -> Result<(), RowError> {
@@ -103,7 +105,7 @@ pub fn member_row(
 /// `empty A`: whether a reduced automaton accepts no word.
 pub fn empty_row(
     alloc: Global,
-    sets: &NamedSets,
+    sets: &Named<Built>,
     fields: &mut Fields,
     out: &mut String,
 ) -> Result<(), RowError> {
@@ -135,7 +137,7 @@ fn are_same(alloc: Global, a: &Auto, b: &Auto) -> Result<bool, RowError> {
 /// `same A A`: whether two automata over the same variables accept the same words.
 pub fn same_row(
     alloc: Global,
-    sets: &NamedSets,
+    sets: &Named<Built>,
     fields: &mut Fields,
     out: &mut String,
 ) -> Result<(), RowError> {
@@ -149,7 +151,7 @@ pub fn same_row(
 /// `stable A`: whether a repeated first letter never matters.
 pub fn stable_row(
     alloc: Global,
-    sets: &NamedSets,
+    sets: &Named<Built>,
     fields: &mut Fields,
     out: &mut String,
 ) -> Result<(), RowError> {
@@ -209,7 +211,7 @@ fn write_table(out: &mut String, a: &Auto, width: u32) -> Result<(), RowError>
 /// `table A`: the first row, the rows of the states, and their flags.
 pub fn table_row(
     alloc: Global,
-    sets: &NamedSets,
+    sets: &Named<Built>,
     fields: &mut Fields,
     out: &mut String,
 ) -> Result<(), RowError> {

@@ -6,7 +6,6 @@ ghost use Rattle.auto_core.specs.Reduced.{IsReduced};
 ghost use Rattle.auto_core.specs.Rows.{AreTables};
 ghost use Rattle.call_trials.specs.Small.{IsLow};
 
-use crate::errors::RowError;
 use auto_bool::{join, meet, not};
 use auto_core::Auto;
 use auto_project::forget;
@@ -16,6 +15,7 @@ use lin_formula::{LinWhy, lin};
 use std::alloc::Global;
 use std::marker::Model;
 use track_word::{Rel, Var};
+use trial_rows::RowError;
 
 /// An automaton with no state too many.
 #[derive(Drop)]

@@ -5,13 +5,13 @@ ghost use Rattle.lin_formula.specs.Tree.{steps};
 ghost use Rattle.lin_formula.specs.TreeOf.{tree_of};
 ghost use Rattle.call_trials.specs.Small.{IsSet};
 
-use crate::errors::RowError;
 use crate::small::{is_small, steps_of};
 use auto_core::Auto;
 use auto_reduce::sign_stable;
 use formula_auto::{CompileError, Memo, SetTable, compile};
 use lin_formula::Formula;
 use std::alloc::Global;
+use trial_rows::RowError;
 
 /// What became of a formula.
 #[derive(Drop)]

@@ -5,11 +5,10 @@ ghost use Rattle.std.specs.List.Sorted.{IsStrictlyIncreasing};
 ghost use Rattle.letter_diagram.specs.Diagram.{map_at, LooksBelow};
 
 use crate::built::are_below;
-use crate::errors::RowError;
-use crate::fields::{Fields, numbers, yes_or_no};
 use letter_diagram::laws::a_map_looks_from_its_top_track;
 use letter_diagram::{Diagrams, Node, Pairs, PairsError, Sets, Shape};
 use std::alloc::Global;
+use trial_rows::{Fields, RowError, numbers, yes_or_no};
 
 /// How many tracks there are.
 const TRACKS: u8 = 20;

@@ -4,11 +4,11 @@
 //! is at most B, or equal to it. A variable V is a letter from `a` to `p`. Two more atoms have no place in the text of a command:
 //! `is V N`, V has the value N, and `in K V,V`, the values are in the row's set of the number K.
 
-use crate::errors::RowError;
-use crate::fields::{Fields, MOST_DEPTH, number, vars};
+use crate::letters::{MOST_DEPTH, var, vars};
 use lin_formula::{Formula, LinWhy, SetId, among, and, ex, lin, not, or, value};
 use std::alloc::Global;
 use track_word::{Rel, Var};
+use trial_rows::{Fields, RowError, number};
 
 /// The parts of a linear comparison, whatever they are.
 #[derive(Drop)]
@@ -32,7 +32,7 @@ pub fn atom_behind(alloc: Global, fields: &mut Fields, rel: Rel) -> Result<Parts
     let mut terms = Vec::new(alloc);
     for _ in 0..count {
         let coefficient = number(fields.word()?)?;
-        terms.push((coefficient, fields.var()?))?;
+        terms.push((coefficient, var(fields)?))?;
     }
     let bound = number(fields.word()?)?;
     Ok(Parts { terms, rel, bound })
@@ -75,7 +75,7 @@ fn read(alloc: Global, fields: &mut Fields, depth: u8) -> Result<Formula, RowErr
         "le" => comparison(alloc, fields, Rel::Le),
         "eq" => comparison(alloc, fields, Rel::Eq),
         "is" => {
-            let var = fields.var()?;
+            let var = var(fields)?;
             Ok(value(var, fields.i64()?))
         }
         "in" => membership(alloc, fields),
@@ -89,11 +89,11 @@ fn read(alloc: Global, fields: &mut Fields, depth: u8) -> Result<Formula, RowErr
             joined(or(alloc, left, read(alloc, fields, depth - 1)?))
         }
         "ex" => {
-            let var = fields.var()?;
+            let var = var(fields)?;
             made(ex(alloc, var, read(alloc, fields, depth - 1)?))
         }
         "all" => {
-            let var = fields.var()?;
+            let var = var(fields)?;
             let some = made(ex(
                 alloc,
                 var,

@@ -4,14 +4,13 @@ ghost use Rattle.std.specs.Prelude.{All};
 ghost use Rattle.call_trials.specs.Small.{IsSet};
 
 use crate::compiled::{Fate, compiled, is_member, remembered};
-use crate::errors::RowError;
-use crate::fields::{Fields, numbers, yes_or_no};
 use crate::formula_text::{atom, formula};
 use auto_core::Auto;
 use formula_auto::{Memo, SetTable};
 use lin_formula::{LinWhy, copy, free_vars, lin, same};
 use std::alloc::Global;
 use track_word::Var;
+use trial_rows::{Fields, RowError, numbers, yes_or_no};
 
 /// Writes the letters of variables, parted by commas, or `-` where there are none.
 pub fn write_vars(out: &mut String, vars: &[Var]) -> Result<(), RowError> {

@@ -1,5 +1,6 @@
 //! The program `call_trials`: reads a script of rows from the standard input, makes the call of a library that each row names, and
-//! writes what it answers. The rows are calls that no command of the program `mate` makes. `docs/CALLS.md` says how rows are written.
+//! writes what it answers. The rows ask formulas, automata, diagrams and searches along rays, by calls that no command of the program
+//! `mate` makes. `docs/CALLS.md` says how rows are written.
 #![tactic(auto)]
 
 mod auto_text;
@@ -7,72 +8,92 @@ mod autos;
 mod built;
 mod compiled;
 mod diagrams;
-mod errors;
-mod fields;
 mod formula_text;
 mod formulas;
-mod games;
-mod ports;
+mod letters;
 mod random;
 mod rays;
-mod row;
-mod sessions;
-mod sets;
 mod small;
-mod solving;
 
-use errors::RowError;
-use row::{Names, answer};
+use autos::{
+    accepts_row, empty_row, member_row, same_row, set_row, stable_row, states_row, table_row,
+    tracks_row,
+};
+use built::Built;
+use diagrams::diagram_row;
+use formulas::{alike_row, ask_row, atom_row, formula_row, free_row, memo_row};
+use random::agree_row;
+use rays::rays_row;
 use std::alloc::Global;
-use std::io;
-use std::io::{BufRead, BufReader, BufWriter, Write};
 use std::process::ExitCode;
+use trial_rows::{Fields, Named, RowError, Rows, answer_script};
 
-/// The text of an answer: what the call answers, or `over` where a step that the row asks for is over its budget.
-fn text_of(alloc: Global, names: &mut Names, row: &str) -> Result<String, RowError> {
-    let mut out = String::new(alloc);
-    match answer(alloc, names, row, &mut out) {
-        Ok(()) => {}
-        Err(RowError::Over) => out.push_str("over")?,
-        Err(error) => return Err(error),
-    }
-    Ok(out)
+/// The automata that rows have named.
+#[derive(Drop)]
+struct Sets {
+    named: Named<Built>,
 }
 
-/// Whether a line has a row.
-fn is_row(line: &str) -> bool {
-    !line.is_empty() && !line.starts_with('#')
+/// Writes the answer of a row that asks an automaton.
+fn of_sets(
+    alloc: Global,
+    sets: &Named<Built>,
+    kind: &str,
+    fields: &mut Fields,
+    out: &mut String,
+) -> Result<(), RowError> {
+    match kind {
+        "states" => states_row(alloc, sets, fields, out),
+        "tracks" => tracks_row(alloc, sets, fields, out),
+        "accepts" => accepts_row(alloc, sets, fields, out),
+        "member" => member_row(alloc, sets, fields, out),
+        "empty" => empty_row(alloc, sets, fields, out),
+        "same" => same_row(alloc, sets, fields, out),
+        "stable" => stable_row(alloc, sets, fields, out),
+        "table" => table_row(alloc, sets, fields, out),
+        "rays" => rays_row(alloc, sets, fields, out),
+        _ => others(alloc, kind, fields, out),
+    }
 }
 
-/// Writes the answers of all rows, and for a row that can't be read its line's number and the reason. Says whether each was read.
-fn answer_all(rt: &HostRuntime) -> io::Result<bool> {
-    let mut names = Names::new(rt.alloc());
-    let mut writer = BufWriter::new(rt.alloc(), io::writer(rt))?;
-    let mut all_read = true;
-    let mut number = 0u64;
-    for line in BufReader::new(rt.alloc(), rt.reader())?.lines(rt.alloc()) {
-        let line = line?;
-        number = number.saturating_add(1);
-        if !is_row(line.as_str()) {
-            continue;
-        }
-        match text_of(rt.alloc(), &mut names, line.as_str()) {
-            Ok(text) if text.is_empty() => {}
-            Ok(text) => writeln!(writer, "{text}")?,
-            Err(error) => {
-                all_read = false;
-                writeln!(writer, "line {number} {error}")?;
-            }
-        }
+/// Writes the answer of a row that asks formulas, makes diagrams or draws sets.
+fn others(
+    alloc: Global,
+    kind: &str,
+    fields: &mut Fields,
+    out: &mut String,
+) -> Result<(), RowError> {
+    match kind {
+        "formula" => formula_row(alloc, fields, out),
+        "ask" => ask_row(alloc, fields, out),
+        "memo" => memo_row(alloc, fields, out),
+        "atom" => atom_row(alloc, fields, out),
+        "free" => free_row(alloc, fields, out),
+        "alike" => alike_row(alloc, fields, out),
+        "diagram" => diagram_row(alloc, fields, out),
+        "agree" => agree_row(alloc, fields, out),
+        _ => Err(RowError::Kind),
     }
-    writer.flush()?;
-    Ok(all_read)
+}
+
+impl Rows for Sets {
+    fn answer(
+        &mut self,
+        alloc: Global,
+        kind: &str,
+        fields: &mut Fields,
+        out: &mut String,
+    ) -> Result<(), RowError> {
+        if kind == "set" {
+            return set_row(alloc, &mut self.named, fields);
+        }
+        of_sets(alloc, &self.named, kind, fields, out)
+    }
 }
 
 fn main(rt: HostRuntime) -> ExitCode {
-    match answer_all(&rt) {
-        Ok(true) => ExitCode::SUCCESS,
-        Ok(false) => ExitCode::from(1),
-        Err(_) => ExitCode::from(2),
-    }
+    let mut sets = Sets {
+        named: Named::new(rt.alloc()),
+    };
+    answer_script(&rt, &mut sets)
 }

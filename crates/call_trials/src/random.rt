@@ -5,8 +5,6 @@ ghost use Rattle.auto_core.specs.Integers.{DecidesIntegers};
 ghost use Rattle.auto_search.specs.Way.{IsWay};
 
 use crate::built::{ReducedAuto, comparison, grown, joined, met, reduced_of};
-use crate::errors::RowError;
-use crate::fields::Fields;
 use crate::rays::is_way;
 use auto_core::Auto;
 use auto_reduce::sign_stable;
@@ -14,6 +12,7 @@ use auto_search::{Few, Search, Way, value_along};
 use auto_walk::residue;
 use std::alloc::Global;
 use track_word::{Rel, Var};
+use trial_rows::{Fields, RowError};
 
 /// The greatest distance of a plain search. A set that is drawn has comparisons, which no distance past 126 changes, and remainders,
 /// which repeat after 12 distances, so that a distance past this one is a hit only where several up to it are.

@@ -5,13 +5,12 @@ ghost use Rattle.auto_core.specs.Integers.{DecidesIntegers};
 ghost use Rattle.auto_search.specs.Way.{IsWay};
 
 use crate::auto_text::automaton;
-use crate::errors::RowError;
-use crate::fields::{Fields, number, numbers};
-use crate::sets::NamedSets;
+use crate::built::Built;
 use auto_core::Auto;
 use auto_reduce::sign_stable;
 use auto_search::{Few, Search, Way};
 use std::alloc::Global;
+use trial_rows::{Fields, Named, RowError, number, numbers};
 
 /// The greatest distance that may be asked for.
 const MOST_DISTANCE: u128 = 1 << 64;
@@ -139,7 +138,7 @@ fn ask_all(
 /// `rays STATES A QUESTION ..`: the answers of one search, which has room for so many states.
 pub fn rays_row(
     alloc: Global,
-    sets: &NamedSets,
+    sets: &Named<Built>,
     fields: &mut Fields,
     out: &mut String,
 ) -> Result<(), RowError> {

@@ -1,19 +1,22 @@
-"""Makes `stdout` from the answers that stand in the script beside its rows.
+"""Makes `stdout` of a program of trials from the answers that stand in its script beside the rows.
 
-Each row of `stdin` but one that names a position or an automaton is followed by a line `#= ANSWER`, or by several. Nothing is run.
+    python3 crates/trial_rows/answers.py crates/call_trials
+
+Each row of `stdin` but one that names something is followed by a line `#= ANSWER`, or by several. Nothing is run.
 """
 
 import pathlib
+import sys
 
-HERE = pathlib.Path(__file__).parent
 MARK = "#= "
 NAMING = ("position ", "set ")
 
 
 def main():
+    folder = pathlib.Path(sys.argv[1])
     answers = []
     open_row = None
-    for number, line in enumerate((HERE / "stdin").read_text().splitlines(), 1):
+    for number, line in enumerate((folder / "stdin").read_text().splitlines(), 1):
         if line.startswith(MARK):
             answers.append(line[len(MARK):])
             open_row = None
@@ -23,7 +26,7 @@ def main():
             open_row = None if line.startswith(NAMING) else number
     if open_row:
         raise SystemExit(f"line {open_row} has no answer")
-    (HERE / "stdout").write_text("".join(answer + "\n" for answer in answers))
+    (folder / "stdout").write_text("".join(answer + "\n" for answer in answers))
 
 
 main()

@@ -1,58 +1,76 @@
-//! The fields of a row, parted by one space.
+//! The fields of a row.
 
-ghost use Rattle.std.specs.Prelude.{◌≤◌, IfOk};
+ghost use Rattle.std.specs.Prelude.{◌≡◌, ◌≤◌, ◌↔◌, [], Some, None, Ok, Err, IsTrue, IsOk, IsOkAnd, IfOk, MatchOption, MatchResult, unwrap_or};
+ghost use Rattle.trial_rows.specs.Fields.{IsNextField};
 
 use crate::errors::RowError;
 use std::alloc::Global;
+use std::marker::Model;
 use std::num::ParseIntError;
 use std::str::FromStr;
-use track_word::Var;
 
-/// How deeply expressions may be nested.
-pub const MOST_DEPTH: u8 = 60;
-
-/// The fields that are still to be read.
-#[derive(Clone, Copy, Drop)]
+/// The fields that are still to be read, parted by one space each.
+#[derive(Drop)]
 pub struct Fields<'a> {
     rest: Option<&'a str>,
 }
 
+impl<'a> Model for Fields<'a> {
+    ghost use Rattle.std.specs.Prelude.{ℕ, List, Option, option_copied};
+
+    ghost Value = { Option (List ℕ) };
+
+    ghost view = { λ fields. option_copied fields.rest };
+}
+
 impl<'a> Fields<'a> {
-    pub fn new(row: &'a str) -> Self {
+    pub fn new(row: &'a str) -> Self
+        ensures { result ≡ Some row.now }
+    {
         Fields { rest: Some(row) }
     }
 
     /// The next field.
-    pub fn word(&mut self) -> Result<&'a str, RowError> {
-        let rest = self.rest.ok_or(RowError::Missing)?;
-        match rest.split_once(' ') {
+    pub fn word(&mut self) -> Result<&'a str, RowError>
+        ensures { MatchOption self.old ((result ≡ Err RowError.Missing) × (self.new ≡ None)) (λ text. IsOkAnd result (λ field. IsNextField text field.now self.new)) }
+    {
+        let Some(text) = self.rest else {
+            return Err(RowError::Missing);
+        };
+        match text.split_once(' ') {
             Some((field, rest)) => {
                 self.rest = Some(rest);
                 Ok(field)
             }
             None => {
                 self.rest = None;
-                Ok(rest)
+                Ok(text)
             }
         }
     }
 
     /// What is left, as it stands.
-    pub fn rest(&mut self) -> &'a str {
+    pub fn rest(&mut self) -> &'a str
+        ensures text { result.now ≡ unwrap_or self.old [] }
+        ensures done { self.new ≡ None }
+    {
         self.rest.take().unwrap_or("")
     }
 
     /// Whether no field is left.
-    pub fn is_done(&self) -> bool {
+    pub fn is_done(&self) -> bool
+        ensures { IsTrue result ↔ (self.now ≡ None) }
+    {
         self.rest.is_none()
     }
 
     /// Refuses fields that are left.
-    pub fn end(&self) -> Result<(), RowError> {
-        if self.is_done() {
-            Ok(())
-        } else {
-            Err(RowError::Rest)
+    pub fn end(&self) -> Result<(), RowError>
+        ensures { MatchOption self.now (IsOk result) (λ _. result ≡ Err RowError.Rest) }
+    {
+        match self.rest {
+            None => Ok(()),
+            Some(_) => Err(RowError::Rest),
         }
     }
 
@@ -68,7 +86,7 @@ impl<'a> Fields<'a> {
         number(self.word()?)
     }
 
-    /// A budget of states.
+    /// A budget of states, from 1 to 200000.
     pub fn budget(&mut self) -> Result<u32, RowError>
         ensures { IfOk result (λ budget. (1 ≤ budget) × (budget ≤ 200000)) }
     {
@@ -78,26 +96,15 @@ impl<'a> Fields<'a> {
         }
         Ok(budget)
     }
-
-    /// A variable, by its letter.
-    pub fn var(&mut self) -> Result<Var, RowError> {
-        var_of(self.word()?)
-    }
 }
 
 /// The number that a field spells.
-pub fn number<T: FromStr<Err = ParseIntError>>(field: &str) -> Result<T, RowError> {
+pub fn number<T: FromStr<Err = ParseIntError>>(field: &str) -> Result<T, RowError>
+    ensures { MatchResult result (λ number. T.from_str_gives field.now (Ok number)) (λ why. (why ≡ RowError.Number) × (error : ParseIntError) × T.from_str_gives field.now (Err error)) }
+{
     match field.parse::<T>() {
         Ok(number) => Ok(number),
         Err(_) => Err(RowError::Number),
-    }
-}
-
-/// The variable of a letter from `a` to `p`.
-pub fn var_of(field: &str) -> Result<Var, RowError> {
-    match field.as_bytes() {
-        [letter] if *letter >= b'a' && *letter <= b'p' => Ok(Var(*letter - b'a')),
-        _ => Err(RowError::Word),
     }
 }
 
@@ -112,18 +119,6 @@ pub fn numbers<T: FromStr<Err = ParseIntError> + Drop>(
     }
     for part in field.split(',') {
         list.push(number(part)?)?;
-    }
-    Ok(list)
-}
-
-/// The variables of a field, parted by commas. The field `-` has none.
-pub fn vars(alloc: Global, field: &str) -> Result<Vec<Var>, RowError> {
-    let mut list = Vec::new(alloc);
-    if field == "-" {
-        return Ok(list);
-    }
-    for part in field.split(',') {
-        list.push(var_of(part)?)?;
     }
     Ok(list)
 }

@@ -1,7 +1,5 @@
 //! Why a row has no answer.
 
-ghost use Rattle.std.specs.Prelude.{◌≡◌};
-
 use std::alloc::{AllocError, AllocFailed};
 use thiserror::Error;
 
@@ -23,7 +21,7 @@ pub enum RowError {
     /// A field is no number, or one past the limits.
     #[error("number")]
     Number,
-    /// No position has the name.
+    /// Nothing has the name.
     #[error("name")]
     Name,
     /// An expression is nested too deeply.

@@ -2,18 +2,21 @@
 
 ghost use Rattle.std.specs.Prelude.{◌≤◌, ◌≡◌};
 
-use crate::errors::RowError;
-use crate::fields::{Fields, yes_or_no};
-use crate::games::{Stocks, frame_of, illegal_words, side_of};
+use crate::positions::{frame_of, illegal_words, side_of, sound_named};
 use chess_game::{Frame, Move, Position};
 use chess_text::position_bytes;
 use std::alloc::Global;
+use trial_rows::{Fields, Named, RowError, yes_or_no};
 use white_player::{Session, TooWide};
 use winning_sets::{SolveError, Solved, solve};
 
 /// A solved position, where the budget sufficed.
-fn solved(alloc: Global, stocks: &Stocks, fields: &mut Fields) -> Result<Solved, RowError> {
-    let position = stocks.sound(fields.word()?)?;
+fn solved(
+    alloc: Global,
+    positions: &Named<Position>,
+    fields: &mut Fields,
+) -> Result<Solved, RowError> {
+    let position = sound_named(positions, fields)?;
     let winner = side_of(fields.word()?)?;
     let moves = fields.u8()?;
     let budget = fields.budget()?;
@@ -123,11 +126,11 @@ fn step(
 /// `game NAME WINNER MOVES BUDGET FRAME STEP/STEP ..`: what the steps answer, parted by `/`.
 pub fn game_row(
     alloc: Global,
-    stocks: &Stocks,
+    positions: &Named<Position>,
     fields: &mut Fields,
     out: &mut String,
 ) -> Result<(), RowError> {
-    let solved = solved(alloc, stocks, fields)?;
+    let solved = solved(alloc, positions, fields)?;
     let frame = frame_of(alloc, fields.word()?)?;
     let mut session = session_of(alloc, solved, frame)?;
     for text in fields.rest().split('/') {

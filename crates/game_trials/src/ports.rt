@@ -2,10 +2,9 @@
 
 ghost use Rattle.std.specs.Prelude.{◌<◌, IfOk};
 
-use crate::errors::RowError;
-use crate::fields::{Fields, number, numbers};
 use desk_base::{BareShelf, FetchError, KeepError, MemSink, Shelf, Sink, put_all};
 use std::alloc::Global;
+use trial_rows::{Fields, RowError, number, numbers};
 
 /// A sink: the calls that are to fail, the most that a call writes, and the room.
 fn sink_of(alloc: Global, fields: &mut Fields) -> Result<MemSink, RowError> {

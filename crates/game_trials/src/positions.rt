@@ -4,8 +4,6 @@
 ghost use Rattle.std.specs.Prelude.{◌≡◌, IfOk};
 ghost use Rattle.game_rules.specs.Game.{Sound};
 
-use crate::errors::RowError;
-use crate::fields::{Fields, numbers, yes_or_no};
 use chess_game::{
     Frame, Illegal, Kind, Move, Place, Position, Side, Unsound, attacked, free_way, in_check,
     mated, ray, soundness, try_move,
@@ -13,48 +11,25 @@ use chess_game::{
 use chess_text::{MoveText, MoveWhy, PositionReader, Typed, read_move};
 use rule_formula::{masks, options};
 use std::alloc::Global;
+use trial_rows::{Fields, Named, RowError, numbers, yes_or_no};
 
-/// A position and its name.
-#[derive(Drop)]
-struct Named {
-    name: String,
-    position: Position,
+/// The position of the name that the next field is.
+pub fn position_named(
+    positions: &Named<Position>,
+    fields: &mut Fields,
+) -> Result<Position, RowError> {
+    Ok(*positions.get(fields.word()?)?)
 }
 
-/// The positions that were named.
-#[derive(Drop)]
-pub struct Stocks {
-    named: Vec<Named>,
-}
-
-impl Stocks {
-    pub fn new(alloc: Global) -> Self {
-        Stocks {
-            named: Vec::new(alloc),
-        }
+/// The same, where it is sound.
+pub fn sound_named(positions: &Named<Position>, fields: &mut Fields) -> Result<Position, RowError>
+    ensures { IfOk result Sound }
+{
+    let position = position_named(positions, fields)?;
+    if soundness(&position).is_err() {
+        return Err(RowError::Condition);
     }
-
-    /// The position of a name, the last where several have it.
-    pub fn position(&self, name: &str) -> Result<Position, RowError> {
-        let mut found = Err(RowError::Name);
-        for named in self.named.as_slice() {
-            if named.name.as_str() == name {
-                found = Ok(named.position);
-            }
-        }
-        found
-    }
-
-    /// The sound position of a name.
-    pub fn sound(&self, name: &str) -> Result<Position, RowError>
-        ensures { IfOk result Sound }
-    {
-        let position = self.position(name)?;
-        if soundness(&position).is_err() {
-            return Err(RowError::Condition);
-        }
-        Ok(position)
-    }
+    Ok(position)
 }
 
 pub fn side_of(word: &str) -> Result<Side, RowError> {
@@ -100,22 +75,21 @@ fn position_of(lines: &str) -> Result<Position, RowError> {
 /// `position NAME LINES`: names a position.
 pub fn position_row(
     alloc: Global,
-    stocks: &mut Stocks,
+    positions: &mut Named<Position>,
     fields: &mut Fields,
 ) -> Result<(), RowError> {
-    let name = String::from_str(alloc, fields.word()?)?;
+    let name = fields.word()?;
     let position = position_of(fields.rest())?;
-    stocks.named.push(Named { name, position })?;
-    Ok(())
+    positions.put(alloc, name, position)
 }
 
 /// `soundness NAME`: whether the position is sound, or the first reason why not.
 pub fn soundness_row(
-    stocks: &Stocks,
+    positions: &Named<Position>,
     fields: &mut Fields,
     out: &mut String,
 ) -> Result<(), RowError> {
-    let position = stocks.position(fields.word()?)?;
+    let position = position_named(positions, fields)?;
     fields.end()?;
     match soundness(&position) {
         Ok(()) => out.push_str("sound")?,
@@ -140,8 +114,12 @@ pub fn illegal_words(why: Illegal) -> &'static str {
 }
 
 /// `move NAME M X Y`: the reason why the move is refused, or the live men behind it, the side to move, and whether it is mated.
-pub fn move_row(stocks: &Stocks, fields: &mut Fields, out: &mut String) -> Result<(), RowError> {
-    let position = stocks.sound(fields.word()?)?;
+pub fn move_row(
+    positions: &Named<Position>,
+    fields: &mut Fields,
+    out: &mut String,
+) -> Result<(), RowError> {
+    let position = sound_named(positions, fields)?;
     let man = fields.u8()?;
     let x = fields.i64()?;
     let y = fields.i64()?;
@@ -165,8 +143,12 @@ pub fn move_row(stocks: &Stocks, fields: &mut Fields, out: &mut String) -> Resul
 }
 
 /// `king NAME`: whether the side to move is in check, and whether it is mated.
-pub fn king_row(stocks: &Stocks, fields: &mut Fields, out: &mut String) -> Result<(), RowError> {
-    let position = stocks.sound(fields.word()?)?;
+pub fn king_row(
+    positions: &Named<Position>,
+    fields: &mut Fields,
+    out: &mut String,
+) -> Result<(), RowError> {
+    let position = sound_named(positions, fields)?;
     fields.end()?;
     let check = yes_or_no(in_check(&position));
     let mate = yes_or_no(mated(&position));
@@ -176,11 +158,11 @@ pub fn king_row(stocks: &Stocks, fields: &mut Fields, out: &mut String) -> Resul
 
 /// `attacked NAME SIDE X Y`: whether a man of the side bears on the square.
 pub fn attacked_row(
-    stocks: &Stocks,
+    positions: &Named<Position>,
     fields: &mut Fields,
     out: &mut String,
 ) -> Result<(), RowError> {
-    let position = stocks.position(fields.word()?)?;
+    let position = position_named(positions, fields)?;
     let side = side_of(fields.word()?)?;
     let x = fields.i64()?;
     let y = fields.i64()?;
@@ -227,11 +209,11 @@ pub fn frame_of(alloc: Global, field: &str) -> Result<Frame, RowError> {
 /// `way NAME MAN RAY FRAME`: the distances that the man may go along the ray, and whom he meets.
 pub fn way_row(
     alloc: Global,
-    stocks: &Stocks,
+    positions: &Named<Position>,
     fields: &mut Fields,
     out: &mut String,
 ) -> Result<(), RowError> {
-    let position = stocks.position(fields.word()?)?;
+    let position = position_named(positions, fields)?;
     let number = fields.u8()?;
     let index = fields.u8()?;
     let frame = frame_of(alloc, fields.word()?)?;
@@ -278,11 +260,11 @@ pub fn reply_row(fields: &mut Fields, out: &mut String) -> Result<(), RowError> 
 /// `options NAME MASK SIDE`: the ways in which the side's men may go, each as man, ray and who is taken.
 pub fn options_row(
     alloc: Global,
-    stocks: &Stocks,
+    positions: &Named<Position>,
     fields: &mut Fields,
     out: &mut String,
 ) -> Result<(), RowError> {
-    let position = stocks.position(fields.word()?)?;
+    let position = position_named(positions, fields)?;
     let mask = fields.u8()?;
     let side = side_of(fields.word()?)?;
     fields.end()?;
@@ -302,11 +284,11 @@ pub fn options_row(
 /// `masks NAME`: the sets of live men that there may be in a game from the position.
 pub fn mask_row(
     alloc: Global,
-    stocks: &Stocks,
+    positions: &Named<Position>,
     fields: &mut Fields,
     out: &mut String,
 ) -> Result<(), RowError> {
-    let position = stocks.position(fields.word()?)?;
+    let position = position_named(positions, fields)?;
     fields.end()?;
     for (place, mask) in masks(alloc, &position)?.as_slice().iter().enumerate() {
         if place > 0 {

@@ -2,13 +2,12 @@
 
 ghost use Rattle.std.specs.Prelude.{◌≤◌};
 
-use crate::compiled::is_member;
-use crate::errors::RowError;
-use crate::fields::{Fields, numbers, yes_or_no};
-use crate::games::{Stocks, side_letter, side_of};
+use crate::positions::{position_named, side_letter, side_of, sound_named};
 use auto_core::Auto;
+use auto_reduce::sign_stable;
 use chess_game::Position;
 use std::alloc::Global;
+use trial_rows::{Fields, Named, RowError, numbers, yes_or_no};
 use winning_sets::{SolveError, Solved, Solver};
 
 /// A solver of a row, and what it has solved last.
@@ -39,6 +38,14 @@ fn solve_step(bench: &mut Bench, fields: &mut Fields, out: &mut String) -> Resul
         Err(SolveError::Over(_)) => Err(RowError::Over),
         Err(SolveError::Memory) => Err(RowError::Memory),
     }
+}
+
+/// Whether a tuple is in a set.
+fn is_member(alloc: Global, a: &Auto, tuple: &[i64]) -> Result<bool, RowError> {
+    if tuple.len() != a.tracks().len() || !sign_stable(alloc, a)? {
+        return Err(RowError::Condition);
+    }
+    Ok(a.member(tuple))
 }
 
 /// Writes whether a tuple is in a set, or that there is none.
@@ -85,7 +92,7 @@ fn write_solved(solved: &Solved, word: &str, out: &mut String) -> Result<(), Row
 /// A question, and the positions that it may name.
 fn step(
     alloc: Global,
-    stocks: &Stocks,
+    positions: &Named<Position>,
     bench: &mut Bench,
     fields: &mut Fields,
     out: &mut String,
@@ -113,7 +120,7 @@ fn step(
         }
         "keeps" => {
             let ply = fields.u8()?;
-            let position = stocks.position(fields.word()?)?;
+            let position = position_named(positions, fields)?;
             out.push_str(yes_or_no(bench.solved()?.keeps(ply, &position)))?;
             Ok(())
         }
@@ -122,8 +129,12 @@ fn step(
 }
 
 /// A solver of a sound position.
-fn solver_of(alloc: Global, stocks: &Stocks, fields: &mut Fields) -> Result<Solver, RowError> {
-    let position = stocks.sound(fields.word()?)?;
+fn solver_of(
+    alloc: Global,
+    positions: &Named<Position>,
+    fields: &mut Fields,
+) -> Result<Solver, RowError> {
+    let position = sound_named(positions, fields)?;
     let winner = side_of(fields.word()?)?;
     let budget = fields.budget()?;
     let _ = position.count();
@@ -133,18 +144,18 @@ fn solver_of(alloc: Global, stocks: &Stocks, fields: &mut Fields) -> Result<Solv
 /// `solver NAME WINNER BUDGET STEP/STEP ..`: what the steps answer.
 pub fn solver_row(
     alloc: Global,
-    stocks: &Stocks,
+    positions: &Named<Position>,
     fields: &mut Fields,
     out: &mut String,
 ) -> Result<(), RowError> {
-    let solver = solver_of(alloc, stocks, fields)?;
+    let solver = solver_of(alloc, positions, fields)?;
     let mut bench = Bench { solver, last: None };
     for text in fields.rest().split('/') {
         if !out.is_empty() {
             out.push(' ')?;
         }
         let mut fields = Fields::new(text);
-        step(alloc, stocks, &mut bench, &mut fields, out)?;
+        step(alloc, positions, &mut bench, &mut fields, out)?;
         fields.end()?;
     }
     Ok(())

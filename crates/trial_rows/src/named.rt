@@ -1,0 +1,45 @@
+//! What rows have named.
+
+ghost use Rattle.std.specs.Prelude.{◌≡◌};
+
+use crate::errors::RowError;
+use std::alloc::Global;
+
+/// A thing and its name.
+#[derive(Drop)]
+struct Entry<T: Drop> {
+    name: String,
+    thing: T,
+}
+
+/// Things by their names.
+#[derive(Drop)]
+pub struct Named<T: Drop> {
+    entries: Vec<Entry<T>>,
+}
+
+impl<T: Drop> Named<T> {
+    pub fn new(alloc: Global) -> Self {
+        Named {
+            entries: Vec::new(alloc),
+        }
+    }
+
+    /// The thing of a name, the last where several have it.
+    pub fn get(&self, name: &str) -> Result<&T, RowError> {
+        let mut found = Err(RowError::Name);
+        for entry in self.entries.as_slice() {
+            if entry.name.as_str() == name {
+                found = Ok(&entry.thing);
+            }
+        }
+        found
+    }
+
+    /// Names a thing.
+    pub fn put(&mut self, alloc: Global, name: &str, thing: T) -> Result<(), RowError> {
+        let name = String::from_str(alloc, name)?;
+        self.entries.push(Entry { name, thing })?;
+        Ok(())
+    }
+}
