@@ -9,7 +9,7 @@ import pathlib
 import sys
 
 MARK = "#= "
-NAMING = ("position ", "set ")
+NAMING = ("position ", "set ", "file ", "noise ")
 
 
 def main():

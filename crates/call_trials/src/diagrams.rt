@@ -281,6 +281,14 @@ fn are_increasing(numbers: &[u32]) -> bool
     true
 }
 
+/// `empty`: whether no node was made, and whether no set was numbered.
+fn empty_step(bench: &Bench, out: &mut String) -> Result<(), RowError> {
+    out.push_str(yes_or_no(bench.diagrams.is_empty()))?;
+    out.push(' ')?;
+    out.push_str(yes_or_no(bench.sets.is_empty()))?;
+    Ok(())
+}
+
 /// `set LIST`: the number of a set.
 fn set_step(
     alloc: Global,
@@ -355,6 +363,7 @@ fn asked(
             let node = node_of(bench, fields)?;
             write_numbers(out, bench.diagrams.leaves(node)?.as_slice())
         }
+        "empty" => empty_step(bench, out),
         "set" => set_step(alloc, bench, fields, out),
         "elements" => elements_step(bench, fields, out),
         "pair" => pair_step(bench, fields, out),

@@ -1,8 +1,8 @@
 //! What comes of a file, as words.
 
-use crate::errors::RowError;
 use chess_game::{Position, Side};
 use strategy_file::{ByteWhy, Claim, FileError};
+use trial_rows::RowError;
 
 fn why_word(why: ByteWhy) -> &'static str {
     match why {

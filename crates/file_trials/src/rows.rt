@@ -4,32 +4,34 @@ ghost use Rattle.std.specs.Prelude.{IfOk};
 ghost use Rattle.strategy_file.specs.Claims.{claim_of};
 ghost use Rattle.strategy_file.specs.Fitting.{HasFile};
 
-use crate::errors::RowError;
-use crate::fields::{Fields, number};
-use crate::files::Files;
 use crate::outcome::write_outcome;
 use crate::spelling::spelled;
 use auto_core::Auto;
 use chess_game::Side;
 use std::alloc::Global;
 use strategy_file::{Claim, FileError, WriteFileError, read_file, write_file};
+use trial_rows::{Fields, Named, RowError, numbers, yes_or_no};
 use winning_sets::{SolveError, solve};
 
 /// `file NAME WORDS`: names a file.
-pub fn file_row(alloc: Global, files: &mut Files, fields: &mut Fields) -> Result<(), RowError> {
+pub fn file_row(
+    alloc: Global,
+    files: &mut Named<Vec<u8>>,
+    fields: &mut Fields,
+) -> Result<(), RowError> {
     let name = fields.word()?;
     let bytes = spelled(alloc, fields.rest())?;
-    files.add(alloc, name, bytes)
+    files.put(alloc, name, bytes)
 }
 
 /// `read NAME`: what comes of a file.
 pub fn read_row(
     alloc: Global,
-    files: &Files,
+    files: &Named<Vec<u8>>,
     fields: &mut Fields,
     out: &mut String,
 ) -> Result<(), RowError> {
-    let bytes = files.bytes(fields.word()?)?;
+    let bytes = files.get(fields.word()?)?.as_slice();
     fields.end()?;
     write_outcome(out, &read_file(alloc, bytes))
 }
@@ -37,11 +39,11 @@ pub fn read_row(
 /// `change NAME AT WORDS`: what comes of a file whose bytes from a place on are others.
 pub fn change_row(
     alloc: Global,
-    files: &Files,
+    files: &Named<Vec<u8>>,
     fields: &mut Fields,
     out: &mut String,
 ) -> Result<(), RowError> {
-    let bytes = files.bytes(fields.word()?)?;
+    let bytes = files.get(fields.word()?)?.as_slice();
     let at = fields.usize()?;
     let piece = spelled(alloc, fields.rest())?;
     if at > bytes.len() || piece.len() > bytes.len() - at {
@@ -56,11 +58,11 @@ pub fn change_row(
 /// `more NAME WORDS`: what comes of a file with more bytes behind it.
 pub fn more_row(
     alloc: Global,
-    files: &Files,
+    files: &Named<Vec<u8>>,
     fields: &mut Fields,
     out: &mut String,
 ) -> Result<(), RowError> {
-    let mut bytes = Vec::from_slice(alloc, files.bytes(fields.word()?)?)?;
+    let mut bytes = Vec::from_slice(alloc, files.get(fields.word()?)?.as_slice())?;
     let piece = spelled(alloc, fields.rest())?;
     bytes.extend_from_slice(piece.as_slice())?;
     write_outcome(out, &read_file(alloc, bytes.as_slice()))
@@ -81,11 +83,11 @@ fn is_cut_at(alloc: Global, bytes: &[u8], length: usize) -> Result<bool, RowErro
 /// `cuts NAME FROM TO`: how many of the cuts to a length from FROM on and below TO are told as that cut.
 pub fn cuts_row(
     alloc: Global,
-    files: &Files,
+    files: &Named<Vec<u8>>,
     fields: &mut Fields,
     out: &mut String,
 ) -> Result<(), RowError> {
-    let bytes = files.bytes(fields.word()?)?;
+    let bytes = files.get(fields.word()?)?.as_slice();
     let first = fields.u32()?;
     let last = fields.u32()?;
     fields.end()?;
@@ -128,34 +130,21 @@ fn accepts(set: &Auto, word: &[u32]) -> Result<bool, RowError> {
     Ok(set.accepts(word))
 }
 
-/// The letters of a field, parted by commas.
-fn letters_of(alloc: Global, field: &str) -> Result<Vec<u32>, RowError> {
-    let mut word = Vec::new(alloc);
-    for part in field.split(',') {
-        word.push(number(part)?)?;
-    }
-    Ok(word)
-}
-
 /// `accepts NAME PLY MASK LETTERS`: whether a set of the claim that is read accepts a word.
 pub fn accepts_row(
     alloc: Global,
-    files: &Files,
+    files: &Named<Vec<u8>>,
     fields: &mut Fields,
     out: &mut String,
 ) -> Result<(), RowError> {
-    let bytes = files.bytes(fields.word()?)?;
+    let bytes = files.get(fields.word()?)?.as_slice();
     let claim = claim_in(alloc, bytes)?;
     let ply = fields.u8()?;
     let mask = fields.u8()?;
-    let word = letters_of(alloc, fields.word()?)?;
+    let word = numbers::<u32>(alloc, fields.word()?)?;
     fields.end()?;
     let set = set_of(alloc, claim, ply, mask)?;
-    out.push_str(if accepts(&set, word.as_slice())? {
-        "yes"
-    } else {
-        "no"
-    })?;
+    out.push_str(yes_or_no(accepts(&set, word.as_slice())?))?;
     Ok(())
 }
 
@@ -173,12 +162,12 @@ fn solved_file(alloc: Global, claim: &Claim) -> Result<Result<Vec<u8>, WriteFile
 /// `write NAME OTHER`: how many bytes are written for the position and the number of moves of a file, and whether they are those of the other.
 pub fn write_row(
     alloc: Global,
-    files: &Files,
+    files: &Named<Vec<u8>>,
     fields: &mut Fields,
     out: &mut String,
 ) -> Result<(), RowError> {
-    let claim = claim_in(alloc, files.bytes(fields.word()?)?)?;
-    let other = files.bytes(fields.word()?)?;
+    let claim = claim_in(alloc, files.get(fields.word()?)?.as_slice())?;
+    let other = files.get(fields.word()?)?.as_slice();
     fields.end()?;
     match solved_file(alloc, &claim)? {
         Ok(bytes) => {
@@ -197,7 +186,11 @@ pub fn write_row(
 
 /// `noise NAME STATES LETTERS SEED WORDS`: names the file of the words and behind them so many states, each a flag 0 and a row of entries that
 /// are drawn.
-pub fn noise_row(alloc: Global, files: &mut Files, fields: &mut Fields) -> Result<(), RowError> {
+pub fn noise_row(
+    alloc: Global,
+    files: &mut Named<Vec<u8>>,
+    fields: &mut Fields,
+) -> Result<(), RowError> {
     let name = fields.word()?;
     let states = fields.u32()?;
     let letters = fields.u32()?;
@@ -216,5 +209,5 @@ pub fn noise_row(alloc: Global, files: &mut Files, fields: &mut Fields) -> Resul
             bytes.extend_from_slice(&entry.to_be_bytes())?;
         }
     }
-    files.add(alloc, name, bytes)
+    files.put(alloc, name, bytes)
 }

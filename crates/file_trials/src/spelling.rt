@@ -2,9 +2,8 @@
 
 ghost use Rattle.std.specs.Prelude.{◌<◌, IfOk};
 
-use crate::errors::RowError;
-use crate::fields::number;
 use std::alloc::Global;
+use trial_rows::{RowError, number};
 
 /// What a hexadecimal digit stands for.
 fn digit(byte: u8) -> Result<u8, RowError>

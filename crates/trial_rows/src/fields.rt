@@ -82,6 +82,14 @@ impl<'a> Fields<'a> {
         number(self.word()?)
     }
 
+    pub fn u64(&mut self) -> Result<u64, RowError> {
+        number(self.word()?)
+    }
+
+    pub fn usize(&mut self) -> Result<usize, RowError> {
+        number(self.word()?)
+    }
+
     pub fn i64(&mut self) -> Result<i64, RowError> {
         number(self.word()?)
     }
