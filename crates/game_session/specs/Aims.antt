@@ -36,6 +36,10 @@ pub record IsMover (p : Position) (i n : ℕ) (r : Ray) : Type 0 where
   pub stands : StandsOn man square
   pub is_ray : ray_of man.kind man.side n ≡ Some r
 
+-- man i is a live man of the side to move, and one of his rays has this number
+abbrev pub HasRay : Position → ℕ → ℕ → Type 0
+HasRay p i n = (r : Ray) × IsMover p i n r
+
 -- the first man whom man i meets on the ray, in the frame, stands on the square
 pub record IsMet (p : Position) (i : ℕ) (r : Ray) (f : Frame) (z : Square) : Type 0 where
   pub number : ℕ
