@@ -5,7 +5,10 @@ use Rattle.std.specs.Int.{w8}
 use Rattle.std.proofs.lemmas.Option.{same_Some, slice_get_within}
 use Rattle.auto_core.specs.Automaton.{Automaton}
 use Rattle.auto_core.specs.Integers.{IsAccepted}
-use Rattle.auto_search.specs.Way.{IsSlope, IsWay, tuple_at, value_after, IsLeastFound as IsWayFound}
+use Rattle.auto_search.specs.Fews.{HasFew}
+use Rattle.auto_search.specs.Way.{HasHits, IsHit as IsWayHit, IsSlope, IsWay, tuple_at, value_after, IsLeastFound as IsWayFound}
+use Rattle.auto_search.specs.declared.few.Few.{Few}
+use Rattle.auto_search.proofs.Tallies.{has-same}
 use Rattle.auto_search.specs.declared.way.Way.{Way}
 use Rattle.game_rules.specs.declared.men.Man.{Man}
 use Rattle.game_rules.specs.declared.men.Place.TheVariants.{Gone}
@@ -328,6 +331,13 @@ least_along a p i r way near far (Some t) along is = record {
   has = subst (IsAccepted a) (tuples_along p i r way along t) is.hit;
   least = λ u low hit. is.least u low (subst (IsAccepted a) (sym (tuples_along p i r way along u)) hit);
 }
+
+-- and as many of all distances
+pub count_along : (a : Automaton) (p : Position) (i : ℕ) (r : Ray) (way : Way) (few : Few) → IsAlong p i r way → HasHits a way few → HasFew few (λ t. (1 ≤ t) × IsHitAlong a p i r t)
+count_along a p i r way few along has =
+    has-same few (λ t. (1 ≤ t) × IsWayHit a way t) (λ t. (1 ≤ t) × IsHitAlong a p i r t) has
+    (λ t h. (h.0, subst (IsAccepted a) (tuples_along p i r way along t) h.1))
+    (λ t h. (h.0, subst (IsAccepted a) (sym (tuples_along p i r way along t)) h.1))
 
 -- a man who is met has a number
 pub met_number : (p : Position) (i : ℕ) (r : Ray) (f : Frame) (h : ℕ) → IsHit p i r f h → (m : Man) × (z : Square) × (man_at p h ≡ Some m) × StandsOn m z

@@ -94,6 +94,13 @@ module _ (p : Position) (i n : ℕ) (r : Ray) (mover : IsMover p i n r) where
           (from.leads.begun, omega (arith, less, is)),
     )
 
+    -- so one step less than to him is the farthest
+    pub before_hit : (t : ℕ) → IsSomeAnd (man_at p i) (λ m. IsLiveAnd m (λ b. (r.far ≡ true → t ≡ distance b z) × (r.far ≡ false → t ≡ 1))) → (1 ≤ t) × ((u : ℕ) → ((1 ≤ u) × (u ≤ t - 1)) ↔ IsClear p i r u)
+    before_hit t steps =
+        let right = steps_right t steps in
+        let begun = hit.leads.begun in
+        (omega (arith, right, begun), λ u. clear_before u (t - 1) (omega (arith, right, begun)))
+
   -- where nobody is met in a frame that holds all men, nobody stands on the ray
   module _ (f : Frame) (apart : IsApart p) (holds : HoldsMen f p) (none : (h : ℕ) → IsHit p i r f h → ⊥) where
     nobody_below : (k : ℕ) (l : ℕ) (z : Square) → l < k → IsAt r l mover.square z → IsEmptySquare p z
