@@ -7,8 +7,9 @@ ghost use Rattle.game_rules.specs.Rays.{serves_moves as serving};
 ghost use Rattle.rule_formula.specs.Placed.{tuple_of};
 ghost use Rattle.chess_game.specs.Way.{IsHit, IsInside};
 ghost use Rattle.mask_sets.specs.Sets.{HaveAtMost, IsIn};
-ghost use Rattle.game_session.specs.Aims.{HoldsMen, IsAim, IsHitAlong, IsMover};
+ghost use Rattle.game_session.specs.Aims.{HoldsMen, IsAim, IsHitAlong, IsMet, IsMover};
 ghost use Rattle.game_session.specs.Along.{IsClear, IsLeastOrNone, LeadsAlong, LeadsAnywhere};
+ghost use Rattle.game_session.specs.Choice.{target};
 
 use crate::aim::{Aim, ManRay};
 use crate::choice::steps_of;
@@ -77,6 +78,16 @@ fn count_all(search: &mut Search, set: &Auto, p: &Position, his: ManRay) -> Few
     search.count_on_ray(set, &along)
 }
 
+/// How far the man may go before the square of the move, where he meets the first man on the ray.
+fn steps_before(aim: &Aim, his: ManRay, mv: Move) -> u128
+    requires mover { IsMover aim.now.position.now his.man his.number his.ray }
+    requires met { IsMet aim.now.position.now his.man his.ray aim.now.frame (target mv) }
+    ensures clear { (t : ℕ) → ((1 ≤ t) × (t ≤ result)) ↔ IsClear aim.now.position.now his.man his.ray t }
+    ensures few { result ≤ 2 ^ 64 }
+{
+    steps_of(aim.position, his, mv) - 1
+}
+
 /// How far the man may go before he meets this one.
 fn last_before(aim: &Aim, his: ManRay, hit: u8) -> u128
     requires mover { IsMover aim.now.position.now his.man his.number his.ray }
@@ -85,7 +96,7 @@ fn last_before(aim: &Aim, his: ManRay, hit: u8) -> u128
     ensures few { result ≤ 2 ^ 64 }
 {
     match aim.position.man(hit).place {
-        Place::At { x, y } => steps_of(aim.position, his, Move { man: his.man, x, y }) - 1,
+        Place::At { x, y } => steps_before(aim, his, Move { man: his.man, x, y }),
         Place::Gone => unreachable!(),
     }
 }

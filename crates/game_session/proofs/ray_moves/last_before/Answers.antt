@@ -1,10 +1,4 @@
-use Rattle.std.proofs.Common.{◌≡◌, Some, ap, subst, sym, ◌∙◌}
-use Rattle.game_rules.specs.declared.men.Square.{Square}
-use Rattle.game_rules.specs.Game.{StandsOn, place_square}
-use Rattle.game_session.specs.Aims.{IsMet}
 use Rattle.game_session.proofs.Firsts.{man_high, man_low, met_number}
-use Rattle.game_session.proofs.Meets.{before_hit, stands_at}
-use Rattle.game_session.proofs.ray_moves.last_before.Goals.{In-At}
 use Rattle.game_session.proofs.ray_moves.last_before.Goals as goal
 
 pub man-requires-clause-first : goal.man-requires-clause-first
