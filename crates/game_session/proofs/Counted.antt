@@ -1,6 +1,6 @@
 -- How many moves along a ray lead into the sets: the quiet ones as the search counts its hits, and the capture.
-use Rattle.std.proofs.Common.{◌≡◌, ◌↔◌, ◌⊎◌, inl, inr, ℕ, zero, suc, ◌+◌, ◌<◌, ◌≤◌, false, Option, Some, None, refl, sym, ap, subst, ◌∙◌, arith}
-use Rattle.std.specs.Prelude.{IsTrue, IsSomeAnd}
+use Rattle.std.proofs.Common.{◌≡◌, ◌↔◌, ◌⊎◌, inl, inr, ℕ, zero, suc, ◌+◌, ◌<◌, ◌≤◌, false, Some, None, refl, sym, subst, ◌∙◌, arith}
+use Rattle.std.specs.Prelude.{IsTrue}
 use Rattle.std.proofs.lemmas.Bool.{cases_lt}
 use Rattle.auto_core.specs.Automaton.{Automaton}
 use Rattle.auto_search.specs.Fews.{HasFew, plus_of}
@@ -8,12 +8,10 @@ use Rattle.auto_search.specs.declared.few.Few.{Few}
 use Rattle.auto_search.specs.declared.few.Few.TheVariants.{Zero, One, More}
 use Rattle.auto_search.proofs.Counts.{plus-has}
 use Rattle.auto_search.proofs.Tallies.{has-same}
-use Rattle.game_rules.specs.declared.men.Man.{Man}
 use Rattle.game_rules.specs.declared.men.Ray.{Ray}
 use Rattle.game_rules.specs.declared.men.Square.{Square}
-use Rattle.game_rules.specs.Game.{Position, IsEmptySquare, IsHeldBy, StandsOn, after_steps, man_at, other}
+use Rattle.game_rules.specs.Game.{Position, IsEmptySquare, IsHeldBy, other}
 use Rattle.game_rules.specs.Rays.{IsAt, serves_moves}
-use Rattle.game_laws.specs.OnRay.{IsOnRay}
 use Rattle.game_laws.proofs.CheckLemmas.{any_is}
 use Rattle.chess_game.specs.Way.{IsInside}
 use Rattle.chess_game.specs.declared.way.Frame.{Frame}
@@ -21,7 +19,7 @@ use Rattle.rule_formula.specs.Fits.{mask_of}
 use Rattle.mask_sets.specs.Sets.{IsIn, Table, set_at}
 use Rattle.game_session.specs.Aims.{AreNext, HoldsMen, IsHitAlong, IsLeast, IsMover}
 use Rattle.game_session.specs.Along.{IsClear, IsClearFrom, LeadsAlong, LeadsAnywhere}
-use Rattle.game_session.specs.Choice.{FirstOf, IsCapture, IsBefore, Leads, target}
+use Rattle.game_session.specs.Choice.{FirstOf, IsCapture, Leads, target}
 use Rattle.game_session.specs.declared.choice.Choice.{Choice}
 use Rattle.game_session.proofs.Bridges.{along_of, choice_at, leads_of, led_to}
 use Rattle.game_session.proofs.Hits.{along_goes, going, going_at, hit_moves, leads_at, quiet_hit, quiet_unserved, quiet_unset}

@@ -21,7 +21,6 @@ use Rattle.game_laws.specs.OnRay.{IsOnRay}
 use Rattle.game_laws.proofs.CheckLemmas.{any_is}
 use Rattle.game_laws.proofs.MoveLemmas.{same_after}
 use Rattle.game_laws.proofs.SoundLemmas.{at_same, fate, fate_kind, fate_side}
-use Rattle.chess_game.specs.Unsoundness.{StandsAt}
 use Rattle.chess_game.specs.Way.{IsFree, IsFreeFrom, IsHit, IsHitFrom, IsInside}
 use Rattle.chess_game.specs.declared.moves.Move.{Move}
 use Rattle.chess_game.specs.declared.way.Frame.{Frame}

@@ -115,13 +115,7 @@ fn last_clear(aim: &Aim, his: ManRay, hits: Option<u8>) -> Option<u128>
 {
     match hits {
         Some(hit) => Some(last_before(aim, his, hit)),
-        None => {
-            if his.ray.far {
-                None
-            } else {
-                Some(1)
-            }
-        }
+        None => { if his.ray.far { None } else { Some(1) } }
     }
 }
 

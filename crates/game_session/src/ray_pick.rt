@@ -17,7 +17,13 @@ use chess_game::{Kind, Move, Place, Position, Way, free_way, try_move};
 use mask_sets::{coordinates, place_of_man};
 
 /// The least distance of the way at which the man's move along the ray leads to coordinates in the set.
-pub(crate) fn least_hit(search: &mut Search, set: &Auto, p: &Position, his: ManRay, way: Way) -> Option<u128>
+pub(crate) fn least_hit(
+    search: &mut Search,
+    set: &Auto,
+    p: &Position,
+    his: ManRay,
+    way: Way,
+) -> Option<u128>
     requires decides { DecidesIntegers set.now }
     requires room { length set.now.accept ≤ search.old }
     requires count { length (tuple_of p.now) ≡ length set.now.tracks }

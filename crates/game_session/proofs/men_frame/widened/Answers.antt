@@ -1,4 +1,4 @@
-use Rattle.std.proofs.Common.{◌≡◌, ◌≤ℤ◌, ℤ, Some, arith, rules, SFits, to_z, of_z, ap, subst, sym, ◌∙◌}
+use Rattle.std.proofs.Common.{◌≤ℤ◌, ℤ, arith, rules, SFits, to_z, of_z, ap, subst, sym, ◌∙◌}
 use Rattle.std.specs.Int.{w64}
 use Rattle.std.proofs.lemmas.Int.{ints, to_z-of_z}
 use Rattle.std.proofs.lemmas.Option.{same_Some}
