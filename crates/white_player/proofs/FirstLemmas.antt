@@ -84,6 +84,12 @@ module _ (s : Solution) (valid : IsSolution s) (turn : s.position.turn ≡ s.win
           led_to (Lost s.winner (s.moves - 1)) s.position i n T T (IsIn t) k w w.is_target
           (subst (λ u. IsIn u w.after) (sym is) (lost_in i w.to w.after w.legal w.is_in))
 
+      -- from the position and the numbers that were passed
+      pub passed_on : (Of : (ℕ → Type 0) → Type 0) (p : Position) (j m : ℕ) → p ≡ s.position → j ≡ i → m ≡ n → Of (LeadsAlong T (IsIn t) p j m) → Of InSets
+      passed_on Of p j m at man ray h =
+          subst (λ k. Of (LeadsAlong T (IsIn t) s.position i k)) ray
+          (subst (λ k. Of (LeadsAlong T (IsIn t) s.position k m)) man (subst (λ (q : Position). Of (LeadsAlong T (IsIn t) q j m)) at h))
+
       pub firsts_few : (few : Few) → HasFew few InSets → HasFew few IsLost
       firsts_few few has = has-same few InSets IsLost has sets_lost lost_sets
 
@@ -115,9 +121,8 @@ module _ (winner : Side) (n : ℕ) (p : Position) (man : ℕ) where
     -- nor along a ray past his last
     pub firsts_past : (ray : ℕ) → ray_of m.kind m.side ray ≡ None → (distance : ℕ) → Firsts winner n p man ray distance → ⊥
     firsts_past ray past distance w =
-        let mover = (firsts_ray winner n p man ray distance w).1 in
-        let same : mover.man ≡ m = same_Some mover.man m (sym mover.is_man ∙ is) in
-        let here : ray_of m.kind m.side ray ≡ Some w.on.ray = subst (λ k. ray_of k.kind k.side ray ≡ Some w.on.ray) same mover.is_ray in
+        let same : w.him ≡ m = same_Some w.him m (sym w.is_man ∙ is) in
+        let here : ray_of m.kind m.side ray ≡ Some w.on.ray = subst (λ k. ray_of k.kind k.side ray ≡ Some w.on.ray) same w.on.is_ray in
         let no : None ≡ Some w.on.ray = sym past ∙ here in
         cc
 
