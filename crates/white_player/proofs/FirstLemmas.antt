@@ -1,30 +1,27 @@
 -- The winner's first moves along a ray are those into the sets that are kept after it. The second half is for other crates: where there are none,
 -- what they tell of the value, and that a line of them is one.
-use Rattle.std.proofs.Common.{◌≡◌, ◌≢◌, ◌↔◌, ◌⊎◌, inl, inr, ℕ, zero, suc, ◌+◌, ◌-◌, ◌*◌, ◌/◌, ◌<◌, ◌≤◌, List, [], length, get_or, Option, Some, None, refl, sym, ap, subst, ◌∙◌, arith}
+use Rattle.std.proofs.Common.{◌≡◌, ◌≢◌, inl, inr, ℕ, zero, suc, ◌-◌, ◌*◌, ◌≤◌, Option, Some, None, refl, sym, ap, subst, ◌∙◌, arith}
 use Rattle.std.proofs.lemmas.Option.{same_Some}
-use Rattle.auto_core.specs.Automaton.{Automaton}
 use Rattle.auto_search.specs.Fews.{HasFew}
 use Rattle.auto_search.specs.declared.few.Few.{Few}
 use Rattle.auto_search.specs.declared.few.Few.TheVariants.{Zero, One, More}
 use Rattle.auto_search.proofs.Tallies.{has-same}
 use Rattle.game_rules.specs.declared.men.Man.{Man}
 use Rattle.game_rules.specs.declared.men.Place.TheVariants.{Gone}
-use Rattle.game_rules.specs.declared.men.Ray.{Ray}
 use Rattle.game_rules.specs.declared.men.Side.{Side}
 use Rattle.game_rules.specs.declared.men.Side.TheVariants.{White, Black}
 use Rattle.game_rules.specs.declared.men.Square.{Square}
-use Rattle.game_rules.specs.Game.{Position, Legal, Lost, Sound, Value, Win, man_at, other}
+use Rattle.game_rules.specs.Game.{Position, Legal, Lost, Value, man_at, other}
 use Rattle.game_rules.specs.Rays.{ray_of}
 use Rattle.game_laws.proofs.SoundLemmas.{other_other}
-use Rattle.chess_game.specs.Way.{IsInside}
 use Rattle.chess_game.specs.declared.way.Frame.{Frame}
 use Rattle.mate_plan.specs.PlanOf.{last_ply}
 use Rattle.mask_sets.specs.Sets.{HaveAtMost, IsIn, Table}
 use Rattle.winning_sets.specs.Kept.{moves_left}
 use Rattle.winning_sets.specs.Solve.{IsSolution, Solution, end_of}
 use Rattle.winning_sets.proofs.KeptParts.{value_lost}
-use Rattle.game_session.specs.Aims.{AreNext, HasRay, IsMover}
-use Rattle.game_session.specs.Along.{IsLeastOf, IsLeastOrNone, LeadsAlong, LeadsAnywhere}
+use Rattle.game_session.specs.Aims.{AreNext, HasRay}
+use Rattle.game_session.specs.Along.{IsLeastOrNone, LeadsAlong}
 use Rattle.game_session.proofs.Bridges.{led_to}
 use Rattle.game_session.proofs.Tuples.{stands_live}
 use Rattle.white_player.specs.Firsts.{Firsts, FirstsInside, IsFirstLine}
@@ -157,7 +154,16 @@ least_once P (Some m) (Some n) h k =
     let same : m ≡ n = omega (arith, low, high) in
     ap (λ t. Some t) same
 
--- so a line of a man, a ray and a frame is one
+-- a line tells of some distance
+pub line_first : (frame : Frame) (winner : Side) (n : ℕ) (p : Position) (man ray : ℕ) (line : FirstLine) → IsFirstLine frame winner n p man ray line → (distance : ℕ) × Firsts winner n p man ray distance
+line_first frame winner n p man ray line h = by line.few h.some h.few
+  where
+    by : (few : Few) → few ≢ Zero → HasFew few (Firsts winner n p man ray) → (distance : ℕ) × Firsts winner n p man ray distance
+    by Zero some has = absurd (some refl)
+    by One some has = (has.0, has.1)
+    by More some has = (has.0, has.3)
+
+-- and a line of a man, a ray and a frame is one
 pub line_once : (frame : Frame) (winner : Side) (n : ℕ) (p : Position) (man ray : ℕ) (a b : FirstLine) → IsFirstLine frame winner n p man ray a → IsFirstLine frame winner n p man ray b → a ≡ b
 line_once frame winner n p man ray a b h k =
     let him : h.him ≡ k.him = same_Some h.him k.him (sym h.is_man ∙ k.is_man) in

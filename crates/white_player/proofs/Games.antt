@@ -1,13 +1,13 @@
 -- What a session keeps, move by move.
-use Rattle.std.proofs.Common.{◌≡◌, ◌↔◌, ◌⊎◌, inl, inr, ℕ, zero, suc, ◌+◌, ◌-◌, ◌*◌, ◌/◌, ◌%◌, ◌<◌, ◌≤◌, ◌==◌, if◌then◌else◌, List, [], ◌∷◌, length, get_or, Option, Some, None, refl, sym, ap, subst, ◌∙◌, arith}
-use Rattle.std.specs.Prelude.{IsSomeAnd, option_and_then, slice_get}
+use Rattle.std.proofs.Common.{◌≡◌, inl, inr, ℕ, zero, suc, ◌+◌, ◌-◌, ◌/◌, ◌≤◌, List, [], ◌∷◌, length, get_or, Option, Some, None, refl, sym, ap, subst, ◌∙◌, arith}
+use Rattle.std.specs.Prelude.{IsSomeAnd, slice_get}
 use Rattle.std.proofs.lemmas.Option.{same_Some}
 use Rattle.auto_core.specs.Automaton.{Automaton}
 use Rattle.auto_core.specs.Integers.{IsAccepted}
 use Rattle.game_rules.specs.declared.men.Side.{Side}
 use Rattle.game_rules.specs.declared.men.Side.TheVariants.{White, Black}
 use Rattle.game_rules.specs.declared.men.Square.{Square}
-use Rattle.game_rules.specs.Game.{Position, InCheck, Legal, Lost, Mate, Sound, Step, Value, Win, other}
+use Rattle.game_rules.specs.Game.{Position, InCheck, Legal, Lost, Sound, Step, Value, Win, other}
 use Rattle.game_laws.proofs.MoveLemmas.{same_after}
 use Rattle.game_laws.proofs.SoundLemmas.{at_same, other_other}
 use Rattle.chess_game.specs.declared.moves.Move.{Move}
@@ -16,7 +16,7 @@ use Rattle.rule_formula.specs.Fits.{HasStock, mask_of, masks_of}
 use Rattle.rule_formula.specs.Placed.{tuple_of}
 use Rattle.mate_plan.specs.Plan.{turn_at}
 use Rattle.mate_plan.specs.PlanOf.{last_ply}
-use Rattle.winning_sets.specs.Kept.{Kept, moves_left}
+use Rattle.winning_sets.specs.Kept.{moves_left}
 use Rattle.winning_sets.specs.Reach.{Reach}
 use Rattle.winning_sets.specs.Solve.{IsKeptIn, IsSolution, Solution, end_of, kept_at}
 use Rattle.winning_sets.proofs.Answered.{start_kept}
@@ -24,7 +24,7 @@ use Rattle.winning_sets.proofs.KeptParts.{reached_sound, turn-reach, value_lost,
 use Rattle.winning_sets.proofs.MeaningLaws.{keeps_kept}
 use Rattle.winning_sets.proofs.Places.{sets_at-ply}
 use Rattle.winning_sets.proofs.Tuples.{tuple_count, turn_by}
-use Rattle.game_session.specs.Choice.{IsFirst, Leads, Pick, target}
+use Rattle.game_session.specs.Choice.{Pick, target}
 use Rattle.game_session.specs.Aims.{AreNext}
 use Rattle.mask_sets.specs.Sets.{HaveAtMost, IsIn, Table, set_at}
 use Rattle.game_session.specs.declared.choice.Choice.{Choice}

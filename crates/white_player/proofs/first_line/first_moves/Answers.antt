@@ -1,4 +1,4 @@
-use Rattle.std.proofs.Common.{◌≡◌, ℕ, suc, Option, sym, subst, refl}
+use Rattle.std.proofs.Common.{◌≡◌, sym, subst, refl}
 use Rattle.auto_search.specs.Fews.{HasFew}
 use Rattle.auto_search.specs.declared.few.Few.{Few}
 use Rattle.game_rules.specs.Game.{Position, Sound}
