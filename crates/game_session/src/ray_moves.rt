@@ -2,13 +2,13 @@
 ghost use Rattle.std.specs.Prelude.{◌≡◌, ◌↔◌, ◌≤◌, ◌^◌, ℕ, length, IfNone, IfSome, IsSomeAnd, IsTrue};
 ghost use Rattle.auto_core.specs.Integers.{DecidesIntegers};
 ghost use Rattle.auto_search.specs.Fews.{HasFew};
-ghost use Rattle.game_rules.specs.Game.{IsEmptySquare, IsHeldBy, man_at, other};
+ghost use Rattle.game_rules.specs.Game.{man_at};
 ghost use Rattle.game_rules.specs.Rays.{serves_moves as serving};
 ghost use Rattle.rule_formula.specs.Placed.{tuple_of};
-ghost use Rattle.chess_game.specs.Way.{IsHit, IsInside};
+ghost use Rattle.chess_game.specs.Way.{IsHit};
 ghost use Rattle.mask_sets.specs.Sets.{HaveAtMost, IsIn};
 ghost use Rattle.game_session.specs.Aims.{HoldsMen, IsAim, IsHitAlong, IsMet, IsMover};
-ghost use Rattle.game_session.specs.Along.{IsClear, IsLeastOrNone, LeadsAlong, LeadsAnywhere};
+ghost use Rattle.game_session.specs.Along.{CaptureAlong, IsClear, IsLeastOrNone, LeadsAnywhere, LeadsInside, QuietAlong};
 ghost use Rattle.game_session.specs.Choice.{target};
 
 use crate::aim::{Aim, ManRay};
@@ -128,7 +128,7 @@ fn count_served(search: &mut Search, aim: &Aim, his: ManRay, last: Option<u128>)
     requires last { IfSome last (λ last. (t : ℕ) → ((1 ≤ t) × (t ≤ last)) ↔ IsClear aim.now.position.now his.man his.ray t) }
     requires bound { IfSome last (λ last. last ≤ 2 ^ 64) }
     requires all { IfNone last ((t : ℕ) → (1 ≤ t) ↔ IsClear aim.now.position.now his.man his.ray t) }
-    ensures few { HasFew result (LeadsAlong (IsEmptySquare aim.now.position.now) (IsIn aim.now.sets.now) aim.now.position.now his.man his.number) }
+    ensures few { HasFew result (QuietAlong (IsIn aim.now.sets.now) aim.now.position.now his.man his.number) }
     ensures kept { search.new ≡ search.old }
 {
     let Some(set) = aim.sets.get(aim.position.mask()) else {
@@ -148,7 +148,7 @@ fn count_quiet(search: &mut Search, aim: &Aim, his: ManRay, hits: Option<u8>) ->
     requires holds { HoldsMen aim.now.frame aim.now.position.now }
     requires hit { IfSome hits (IsHit aim.now.position.now his.man his.ray aim.now.frame) }
     requires no_hit { IfNone hits ((i : ℕ) → IsHit aim.now.position.now his.man his.ray aim.now.frame i → ⊥) }
-    ensures few { HasFew result (LeadsAlong (IsEmptySquare aim.now.position.now) (IsIn aim.now.sets.now) aim.now.position.now his.man his.number) }
+    ensures few { HasFew result (QuietAlong (IsIn aim.now.sets.now) aim.now.position.now his.man his.number) }
     ensures kept { search.new ≡ search.old }
 {
     let kind = aim.position.man(his.man).kind;
@@ -166,7 +166,7 @@ fn count_captures(aim: &Aim, his: ManRay, hits: Option<u8>) -> Few
     requires holds { HoldsMen aim.now.frame aim.now.position.now }
     requires hit { IfSome hits (IsHit aim.now.position.now his.man his.ray aim.now.frame) }
     requires no_hit { IfNone hits ((i : ℕ) → IsHit aim.now.position.now his.man his.ray aim.now.frame i → ⊥) }
-    ensures few { HasFew result (LeadsAlong (IsHeldBy aim.now.position.now (other aim.now.position.now.turn)) (IsIn aim.now.sets.now) aim.now.position.now his.man his.number) }
+    ensures few { HasFew result (CaptureAlong (IsIn aim.now.sets.now) aim.now.position.now his.man his.number) }
 {
     match capture(aim, his, hits) {
         Some(_) => Few::One,
@@ -197,7 +197,7 @@ fn least_along(search: &mut Search, aim: &Aim, his: ManRay) -> Option<u128>
     requires mover { IsMover aim.now.position.now his.man his.number his.ray }
     requires aim { IsAim aim.now }
     requires few { HaveAtMost search.old aim.now.sets.now }
-    ensures least { IsLeastOrNone (LeadsAlong (IsInside aim.now.frame) (IsIn aim.now.sets.now) aim.now.position.now his.man his.number) result }
+    ensures least { IsLeastOrNone (LeadsInside aim.now.frame (IsIn aim.now.sets.now) aim.now.position.now his.man his.number) result }
     ensures kept { search.new ≡ search.old }
 {
     match along_ray(search, aim, his) {
@@ -213,7 +213,7 @@ pub fn moves_along(search: &mut Search, aim: &Aim, his: ManRay) -> RayMoves
     requires aim { IsAim aim.now }
     requires few { HaveAtMost search.old aim.now.sets.now }
     ensures few { HasFew result.few (LeadsAnywhere (IsIn aim.now.sets.now) aim.now.position.now his.man his.number) }
-    ensures least { IsLeastOrNone (LeadsAlong (IsInside aim.now.frame) (IsIn aim.now.sets.now) aim.now.position.now his.man his.number) result.least }
+    ensures least { IsLeastOrNone (LeadsInside aim.now.frame (IsIn aim.now.sets.now) aim.now.position.now his.man his.number) result.least }
     ensures kept { search.new ≡ search.old }
 {
     RayMoves {
