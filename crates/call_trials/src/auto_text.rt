@@ -61,6 +61,11 @@ fn tables(alloc: Global, fields: &mut Fields) -> Result<Tables, RowError> {
     })
 }
 
+fn rows(alloc: Global, fields: &mut Fields) -> Result<Auto, RowError> {
+    let tables = tables(alloc, fields)?;
+    tabled(alloc, tables)
+}
+
 /// What an automaton is read from: the automata that were named, and how deeply what is left may be nested.
 #[derive(Clone, Copy)]
 struct Reader<'a> {
@@ -151,15 +156,20 @@ fn changed(alloc: Global, change: &Change, part: &Built) -> Result<Built, RowErr
     }
 }
 
+/// An automaton that need not be reduced.
+fn any(auto: Result<Auto, RowError>) -> Result<Built, RowError> {
+    Ok(Built::Any(auto?))
+}
+
 /// An automaton that is made of no other one.
 fn plain(reader: Reader, word: &str, fields: &mut Fields) -> Result<Built, RowError> {
     let alloc = reader.alloc;
     match word {
-        "le" => Ok(Built::Any(linear(alloc, fields, Rel::Le)?)),
-        "eq" => Ok(Built::Any(linear(alloc, fields, Rel::Eq)?)),
-        "is" => Ok(Built::Any(value(alloc, fields)?)),
-        "residue" => Ok(Built::Any(remainder(alloc, fields)?)),
-        "rows" => Ok(Built::Any(tabled(alloc, tables(alloc, fields)?)?)),
+        "le" => any(linear(alloc, fields, Rel::Le)),
+        "eq" => any(linear(alloc, fields, Rel::Eq)),
+        "is" => any(value(alloc, fields)),
+        "residue" => any(remainder(alloc, fields)),
+        "rows" => any(rows(alloc, fields)),
         "the" => reader.sets.get(fields.word()?)?.copy(),
         _ => Err(RowError::Word),
     }

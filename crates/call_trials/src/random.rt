@@ -89,23 +89,45 @@ fn some_remainder(alloc: Global, random: &mut Random) -> Result<ReducedAuto, Row
     reduced_of(alloc, &a)
 }
 
+/// A comparison or a remainder.
+fn some_part(alloc: Global, random: &mut Random) -> Result<ReducedAuto, RowError> {
+    if random.is_heads() {
+        some_comparison(alloc, random)
+    } else {
+        some_remainder(alloc, random)
+    }
+}
+
+/// The tuples in both sets, or those in one of them.
+fn some_product(
+    alloc: Global,
+    random: &mut Random,
+    left: &ReducedAuto,
+    right: &ReducedAuto,
+) -> Result<Auto, RowError> {
+    if random.is_heads() {
+        met(alloc, left, right, ROOM)
+    } else {
+        joined(alloc, left, right, ROOM)
+    }
+}
+
+/// The set and one part more.
+fn with_part(
+    alloc: Global,
+    random: &mut Random,
+    set: &ReducedAuto,
+) -> Result<ReducedAuto, RowError> {
+    let part = some_part(alloc, random)?;
+    let product = some_product(alloc, random, set, &part)?;
+    reduced_of(alloc, &product)
+}
+
 /// A set that a comparison makes together with two others or with remainders.
 fn some_set(alloc: Global, random: &mut Random) -> Result<ReducedAuto, RowError> {
-    let mut set = some_comparison(alloc, random)?;
-    for _ in 0..2 {
-        let other = if random.is_heads() {
-            some_comparison(alloc, random)?
-        } else {
-            some_remainder(alloc, random)?
-        };
-        let product = if random.is_heads() {
-            met(alloc, &set, &other, ROOM)?
-        } else {
-            joined(alloc, &set, &other, ROOM)?
-        };
-        set = reduced_of(alloc, &product)?;
-    }
-    Ok(set)
+    let first = some_comparison(alloc, random)?;
+    let second = with_part(alloc, random, &first)?;
+    with_part(alloc, random, &second)
 }
 
 /// What a plain search from distance 1 on finds: the least distance of those from `near` to `far`, and how many there are of all.

@@ -76,6 +76,32 @@ fn write_few(out: &mut String, few: Few) -> Result<(), RowError> {
     Ok(())
 }
 
+/// The least distance of those that the next fields bound.
+fn ask_least(
+    search: &mut Search,
+    a: &Auto,
+    way: &Way,
+    fields: &mut Fields,
+    out: &mut String,
+) -> Result<(), RowError>
+    requires decides { DecidesIntegers a.now }
+    requires room { length a.now.accept ≤ search.old }
+    requires count { length way.now.fixed.now ≡ length a.now.tracks }
+    requires way { IsWay way.now }
+    ensures kept { search.new ≡ search.old }
+{
+    let near = number::<u128>(fields.word()?)?;
+    let far = number::<u128>(fields.word()?)?;
+    if far > MOST_DISTANCE {
+        return Err(RowError::Condition);
+    }
+    match search.least_on_ray(a, way, near, far) {
+        Some(distance) => write!(out, "{distance}")?,
+        None => out.push_str("none")?,
+    }
+    Ok(())
+}
+
 /// The next question about a set: `least FIXED TRACKS SLOPES NEAR FAR` or `count FIXED TRACKS SLOPES`.
 fn ask(
     alloc: Global,
@@ -95,18 +121,7 @@ fn ask(
         return Err(RowError::Condition);
     }
     match question {
-        "least" => {
-            let near = number::<u128>(fields.word()?)?;
-            let far = number::<u128>(fields.word()?)?;
-            if far > MOST_DISTANCE {
-                return Err(RowError::Condition);
-            }
-            match search.least_on_ray(a, &way, near, far) {
-                Some(distance) => write!(out, "{distance}")?,
-                None => out.push_str("none")?,
-            }
-            Ok(())
-        }
+        "least" => ask_least(search, a, &way, fields, out),
         "count" => write_few(out, search.count_on_ray(a, &way)),
         _ => Err(RowError::Word),
     }

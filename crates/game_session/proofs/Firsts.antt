@@ -5,7 +5,10 @@ use Rattle.std.specs.Int.{w8}
 use Rattle.std.proofs.lemmas.Option.{same_Some, slice_get_within}
 use Rattle.auto_core.specs.Automaton.{Automaton}
 use Rattle.auto_core.specs.Integers.{IsAccepted}
-use Rattle.auto_search.specs.Way.{IsSlope, IsWay, tuple_at, value_after, IsLeastFound as IsWayFound}
+use Rattle.auto_search.specs.Fews.{HasFew}
+use Rattle.auto_search.specs.Way.{HasHits, IsHit as IsWayHit, IsSlope, IsWay, tuple_at, value_after, IsLeastFound as IsWayFound}
+use Rattle.auto_search.specs.declared.few.Few.{Few}
+use Rattle.auto_search.proofs.Tallies.{has-same}
 use Rattle.auto_search.specs.declared.way.Way.{Way}
 use Rattle.game_rules.specs.declared.men.Man.{Man}
 use Rattle.game_rules.specs.declared.men.Place.TheVariants.{Gone}
@@ -15,13 +18,9 @@ use Rattle.game_rules.specs.Game.{Position, IsHeldBy, IsAfter, IsEmptySquare, Is
 use Rattle.game_rules.specs.Rays.{IsAt, serves_moves}
 use Rattle.game_laws.specs.Answer.{distance}
 use Rattle.game_laws.specs.OnRay.{IsOnRay}
-use Rattle.game_laws.proofs.CheckLemmas.{any_is, one_square}
-use Rattle.game_laws.proofs.LineLemmas.{steps_distance}
+use Rattle.game_laws.proofs.CheckLemmas.{any_is}
 use Rattle.game_laws.proofs.MoveLemmas.{same_after}
-use Rattle.game_laws.proofs.RayLemmas.{true_or_not}
 use Rattle.game_laws.proofs.SoundLemmas.{at_same, fate, fate_kind, fate_side}
-use Rattle.game_laws.proofs.TableLemmas.{ray_is}
-use Rattle.chess_game.specs.Unsoundness.{StandsAt}
 use Rattle.chess_game.specs.Way.{IsFree, IsFreeFrom, IsHit, IsHitFrom, IsInside}
 use Rattle.chess_game.specs.declared.moves.Move.{Move}
 use Rattle.chess_game.specs.declared.way.Frame.{Frame}
@@ -33,35 +32,18 @@ use Rattle.game_session.specs.Aims.{AreNext, IsHitAlong, IsLeast, IsLeastFound, 
 use Rattle.mask_sets.specs.Places.{coordinates_before}
 use Rattle.mask_sets.specs.Sets.{IsIn, Table, set_at}
 use Rattle.game_session.specs.declared.choice.Choice.{Choice}
-use Rattle.game_session.proofs.Hits.{going, hit_leads, leads_at, quiet_hit}
+use Rattle.game_session.proofs.Bridges.{along_of}
+use Rattle.game_session.proofs.Hits.{choice_hit, going, hit_leads, leads_at, quiet_unserved, quiet_unset}
+use Rattle.game_session.proofs.Meets.{hit, hit_held, hit_to, of_square, on_square, stands_is, steps_right}
 use Rattle.game_session.proofs.Slopes.{ray_slopes, slope_same}
-use Rattle.game_session.proofs.Tuples.{live_room, mask_moved, stands_live}
-use Rattle.game_session.proofs.Ways.{capture_hit, empty_or_held, nobody_before, serves_quiet}
+use Rattle.game_session.proofs.Tuples.{live_room, stands_live}
+use Rattle.game_session.proofs.Ways.{capture_hit, empty_or_held, nobody_before}
 
 -- of two moves along one ray the first is the nearer one
 pub nearer : (d c : Choice) → IsBefore d c → d.mv.man ≡ c.mv.man → d.ray ≡ c.ray → d.distance < c.distance
 nearer d c (inl less) man ray = absurd (omega (arith, less, man))
 nearer d c (inr (e, inl less)) man ray = absurd (omega (arith, less, ray))
 nearer d c (inr (e, inr h)) man ray = h.1
-
--- what is said of a live man's square
-module _ (p : Position) (i n : ℕ) (r : Ray) (mover : IsMover p i n r) (P : Square → Type 0) where
-  pub of_square : IsSomeAnd (man_at p i) (λ m. IsLiveAnd m P) → P mover.square
-  of_square h =
-      let live : IsLiveAnd mover.man P = subst (λ (o : Option Man). IsSomeAnd o (λ m. IsLiveAnd m P)) mover.is_man h in
-      subst (λ (o : Option Square). IsSomeAnd o P) mover.stands live
-
-  pub on_square : P mover.square → IsSomeAnd (man_at p i) (λ m. IsLiveAnd m P)
-  on_square h =
-      subst (λ (o : Option Man). IsSomeAnd o (λ m. IsLiveAnd m P)) (sym mover.is_man)
-      (subst (λ (o : Option Square). IsSomeAnd o P) (sym mover.stands) h)
-
-stands_is : (p : Position) (h : ℕ) (z : Square) → StandsAt p h z → (m : Man) × (man_at p h ≡ Some m) × StandsOn m z
-stands_is p h z s = by (man_at p h) s
-  where
-    by : (o : Option Man) → IsSomeAnd o (λ m. StandsOn m z) → (m : Man) × (o ≡ Some m) × StandsOn m z
-    by None s = absurd s
-    by (Some m) s = (m, refl, s)
 
 module _ (p : Position) (table : Table) (next : AreNext p table) (f : Frame) (j n : ℕ) (r : Ray) (mover : IsMover p (suc j) n r) where
   abbrev Quiet : Option Choice → Type 0
@@ -73,24 +55,18 @@ module _ (p : Position) (table : Table) (next : AreNext p table) (f : Frame) (j 
   -- without a set there is no quiet move into the sets
   pub none_there : set_at table (mask_of p) ≡ None → Quiet None
   none_there none d q (e, ray, empty) h =
-      let g = going p table next f j n r mover d q e ray h in
-      let mask : mask_of q ≡ mask_of p = mask_moved p q j (target d.mv) mover.square mover.man mover.is_man mover.stands g.2.after empty in
-      let no : set_at table (mask_of q) ≡ None = ap (set_at table) mask ∙ none in
-      subst (λ (o : Option Automaton). IsSomeAnd o (λ a. IsAccepted a (tuple_of q))) no h.is_in
+      quiet_unset p j n r mover table none d.distance (along_of (IsIn table) p (suc j) n f (IsEmptySquare p) d q e ray empty h)
 
   -- nor on a ray that does not serve moves
   pub none_served : serves_moves mover.man.kind n ≡ false → Quiet None
   none_served never d q (e, ray, empty) h =
-      let g = going p table next f j n r mover d q e ray h in
-      let serves : serves_moves mover.man.kind n ≡ true = serves_quiet p (suc j) (target d.mv) q g.2 mover.man mover.is_man mover.square mover.stands n d.distance g.0 empty in
-      let no : false ≡ true = sym never ∙ serves in
-      cc
+      quiet_unserved p j n r mover (IsIn table) never d.distance (along_of (IsIn table) p (suc j) n f (IsEmptySquare p) d q e ray empty h)
 
   module _ (a : Automaton) (set_is : set_at table (mask_of p) ≡ Some a) (near far : ℕ) (free : (t : ℕ) → ((near ≤ t) × (t ≤ far)) ↔ IsFree p (suc j) r f t) where
     -- a quiet move into the sets is hit
     found : (d : Choice) (q : Position) → IsQuiet p (suc j) n d → Leads (IsIn table) f p d q → (near ≤ d.distance) × (d.distance ≤ far) × IsHitAlong a p (suc j) r d.distance
     found d q has h =
-        let hit = quiet_hit p table next f j n r mover a d q set_is has h in
+        let hit = choice_hit p table next f j n r mover a d q set_is has h in
         let within = (free d.distance).1 (on_square p (suc j) n r mover (λ b. IsFreeFrom p b r f d.distance) hit.0) in
         (within.0, within.1, hit.1)
 
@@ -128,31 +104,26 @@ module _ (p : Position) (table : Table) (next : AreNext p table) (f : Frame) (j 
   none_met sound none d q has h = let w = capture_met sound d q has h in none w.0 w.1
 
   module _ (sound : Sound p) (mv : Move) (man : mv.man ≡ suc j) (met : IsMet p (suc j) r f (target mv)) where
-    hit : IsHitFrom p mover.square r f met.number
-    hit = of_square p (suc j) n r mover (λ b. IsHitFrom p b r f met.number) met.hit
+    abbrev there : IsHitFrom p mover.square r f met.number
+    there = hit p (suc j) n r mover f (target mv) met
 
-    hit_to : hit.to ≡ target mv
-    hit_to =
-        let v = stands_is p met.number hit.to hit.hit in
-        let w = stands_is p met.number (target mv) met.there in
-        one_square w.0 (target mv) hit.to w.2 (subst (λ m. StandsOn m hit.to) (same_Some v.0 w.0 (sym v.1 ∙ w.1)) v.2)
+    there_to : there.to ≡ target mv
+    there_to = hit_to p (suc j) n r mover f (target mv) met
 
-    hit_held : IsEmptySquare p hit.to → ⊥
-    hit_held none =
-        let v = stands_is p met.number hit.to hit.hit in
-        (all_men p (λ m. StandsOn m hit.to → ⊥)).0 none met.number v.0 v.1 v.2
+    there_held : IsEmptySquare p there.to → ⊥
+    there_held = hit_held p (suc j) n r mover f (target mv) met
 
     -- each capture along the ray goes there
-    where_it_goes : (d : Choice) (q : Position) → IsCapture p (suc j) n d → Leads (IsIn table) f p d q → (d.distance ≡ hit.distance) × (target d.mv ≡ target mv)
+    where_it_goes : (d : Choice) (q : Position) → IsCapture p (suc j) n d → Leads (IsIn table) f p d q → (d.distance ≡ there.distance) × (target d.mv ≡ target mv)
     where_it_goes d q (e, ray, held) h =
         let g = going p table next f j n r mover d q e ray h in
         let at : IsAt r d.distance mover.square (target d.mv) = leads_at p table next f j n r mover d q g in
-        let at_hit : IsAt g.0.ray hit.distance mover.square hit.to = subst (λ k. IsAt k hit.distance mover.square hit.to) (sym g.1) hit.leads in
-        let not_before : hit.distance < d.distance → ⊥ = λ less. hit_held (nobody_before p (suc j) (target d.mv) q g.2 mover.man mover.is_man mover.square mover.stands n d.distance g.0 hit.distance hit.to less at_hit) in
+        let at_there : IsAt g.0.ray there.distance mover.square there.to = subst (λ k. IsAt k there.distance mover.square there.to) (sym g.1) there.leads in
+        let not_before : there.distance < d.distance → ⊥ = λ less. there_held (nobody_before p (suc j) (target d.mv) q g.2 mover.man mover.is_man mover.square mover.stands n d.distance g.0 there.distance there.to less at_there) in
         let w = any_is p _ held in
-        let not_after : d.distance < hit.distance → ⊥ = λ less. (all_men p (λ m. StandsOn m (target d.mv) → ⊥)).0 (hit.first d.distance (target d.mv) less at) w.0 w.1 w.2 w.3.1 in
-        let same : d.distance ≡ hit.distance = same_number d.distance hit.distance not_after not_before in
-        (same, at.leads ∙ (ap (λ k. after_steps mover.square k r.dx r.dy) same ∙ (sym hit.leads.leads ∙ hit_to)))
+        let not_after : d.distance < there.distance → ⊥ = λ less. (all_men p (λ m. StandsOn m (target d.mv) → ⊥)).0 (there.first d.distance (target d.mv) less at) w.0 w.1 w.2 w.3.1 in
+        let same : d.distance ≡ there.distance = same_number d.distance there.distance not_after not_before in
+        (same, at.leads ∙ (ap (λ k. after_steps mover.square k r.dx r.dy) same ∙ (sym there.leads.leads ∙ there_to)))
       where
         same_number : (a b : ℕ) → (a < b → ⊥) → (b < a → ⊥) → a ≡ b
         same_number a b h k = elim (order a b) [ inl less ↦ absurd (h less) | inr (inl e) ↦ e | inr (inr more) ↦ absurd (k more) ]
@@ -173,19 +144,10 @@ module _ (p : Position) (table : Table) (next : AreNext p table) (f : Frame) (j 
         let same : q' ≡ q = same_after p mv.man (target mv) q' q (its_legal d q' has h).step.after legal.step.after in
         out (subst (IsIn table) same h.is_in)
 
-    -- the distance by the squares
-    steps_right : (t : ℕ) → (r.far ≡ true → t ≡ distance mover.square (target mv)) → (r.far ≡ false → t ≡ 1) → t ≡ hit.distance
-    steps_right t far near =
-        elim (true_or_not r.far) [
-          | inl is ↦ far is ∙ (ap (distance mover.square) (sym hit_to) ∙ steps_distance mover.square hit.to r.dx r.dy ((ray_is mover.man.side mover.man.kind n r mover.is_ray).direction is) hit.distance hit.leads.leads)
-          | inr is ↦ near is ∙ sym (hit.leads.one is)
-        ]
-
     pub some_in : (q : Position) → Legal p mv.man (target mv) q → IsIn table q → (t : ℕ) → IsSomeAnd (man_at p (suc j)) (λ m. IsLiveAnd m (λ b. (r.far ≡ true → t ≡ distance b (target mv)) × (r.far ≡ false → t ≡ 1))) → Capture (Some (record { mv = mv; ray = n; distance = t }))
     some_in q legal is_in t steps =
-        let by = of_square p (suc j) n r mover (λ b. (r.far ≡ true → t ≡ distance b (target mv)) × (r.far ≡ false → t ≡ 1)) steps in
-        let right : t ≡ hit.distance = steps_right t by.0 by.1 in
-        let at : IsAt r t mover.square (target mv) = subst (λ k. IsAt r k mover.square (target mv)) (sym right) (subst (IsAt r hit.distance mover.square) hit_to hit.leads) in
+        let right : t ≡ there.distance = steps_right p (suc j) n r mover f (target mv) met t steps in
+        let at : IsAt r t mover.square (target mv) = subst (λ k. IsAt r k mover.square (target mv)) (sym right) (subst (IsAt r there.distance mover.square) there_to there.leads) in
         let his : Step p (suc j) (target mv) q = subst (λ i. Step p i (target mv) q) man legal.step in
         let on : IsOnRay mover.man mover.square (target mv) n t = record { ray = r; is_ray = mover.is_ray; leads = at } in
         record {
@@ -197,7 +159,7 @@ module _ (p : Position) (table : Table) (next : AreNext p table) (f : Frame) (j 
             is_man = ap (man_at p) man ∙ mover.is_man;
             stands = mover.stands;
             on = on;
-            inside = subst (IsInside f) hit_to hit.inside;
+            inside = subst (IsInside f) there_to there.inside;
             legal = legal;
             is_in = is_in;
           };
@@ -208,7 +170,7 @@ module _ (p : Position) (table : Table) (next : AreNext p table) (f : Frame) (j 
         }
       where
         held : IsEmptySquare p (target mv) ⊎ IsHeldBy p (other p.turn) (target mv) → IsHeldBy p (other p.turn) (target mv)
-        held (inl none) = absurd (hit_held (subst (IsEmptySquare p) (sym hit_to) none))
+        held (inl none) = absurd (there_held (subst (IsEmptySquare p) (sym there_to) none))
         held (inr h) = h
 
   -- the moves along the ray are the quiet ones and the captures
@@ -368,6 +330,13 @@ least_along a p i r way near far (Some t) along is = record {
   has = subst (IsAccepted a) (tuples_along p i r way along t) is.hit;
   least = λ u low hit. is.least u low (subst (IsAccepted a) (sym (tuples_along p i r way along u)) hit);
 }
+
+-- and as many of all distances
+pub count_along : (a : Automaton) (p : Position) (i : ℕ) (r : Ray) (way : Way) (few : Few) → IsAlong p i r way → HasHits a way few → HasFew few (λ t. (1 ≤ t) × IsHitAlong a p i r t)
+count_along a p i r way few along has =
+    has-same few (λ t. (1 ≤ t) × IsWayHit a way t) (λ t. (1 ≤ t) × IsHitAlong a p i r t) has
+    (λ t h. (h.0, subst (IsAccepted a) (tuples_along p i r way along t) h.1))
+    (λ t h. (h.0, subst (IsAccepted a) (sym (tuples_along p i r way along t)) h.1))
 
 -- a man who is met has a number
 pub met_number : (p : Position) (i : ℕ) (r : Ray) (f : Frame) (h : ℕ) → IsHit p i r f h → (m : Man) × (z : Square) × (man_at p h ≡ Some m) × StandsOn m z

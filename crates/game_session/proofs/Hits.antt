@@ -1,5 +1,5 @@
 -- The moves along one ray that lead into the sets, and the hits of the search.
-use Rattle.std.proofs.Common.{◌≡◌, ◌↔◌, ℕ, suc, Option, Some, None, refl, sym, ap, subst, ◌∙◌, arith}
+use Rattle.std.proofs.Common.{◌≡◌, ◌↔◌, ℕ, suc, ◌≤◌, true, false, Option, Some, None, sym, ap, subst, ◌∙◌, arith}
 use Rattle.std.specs.Prelude.{IsTrue, IsSomeAnd}
 use Rattle.std.proofs.lemmas.Option.{same_Some}
 use Rattle.auto_core.specs.Automaton.{Automaton}
@@ -15,52 +15,58 @@ use Rattle.chess_game.specs.Way.{IsFreeFrom, IsInside}
 use Rattle.chess_game.specs.declared.way.Frame.{Frame}
 use Rattle.rule_formula.specs.Fits.{mask_of}
 use Rattle.rule_formula.specs.Placed.{tuple_of}
+use Rattle.game_session.specs.Along.{LeadsAlong}
 use Rattle.game_session.specs.Choice.{IsQuiet, Leads, target}
 use Rattle.game_session.specs.Aims.{AreNext, IsHitAlong, IsMover, tuple_along}
 use Rattle.mask_sets.specs.Sets.{IsIn, Table, set_at}
 use Rattle.game_session.specs.declared.choice.Choice.{Choice}
 use Rattle.game_session.proofs.Tuples.{mask_moved, tuple_hit}
-use Rattle.game_session.proofs.Ways.{free_step, quiet_free}
+use Rattle.game_session.proofs.Ways.{free_step, nobody_to, serves_quiet}
+use Rattle.game_session.proofs.Bridges.{along_of}
 
-some_is : {A : Type 0} (o : Option A) (P : A → Type 0) → IsSomeAnd o P → (a : A) × (o ≡ Some a) × P a
-some_is None P h = absurd h
-some_is (Some a) P h = (a, refl, h)
+-- a live man of the side to move, and one of his rays
+module _ (p : Position) (j n : ℕ) (r : Ray) (mover : IsMover p (suc j) n r) where
+  -- he goes along the ray itself
+  abbrev pub Going : Square → ℕ → Position → Type 0
+  Going z t q = (on : IsOnRay mover.man mover.square z n t) × (on.ray ≡ r) × Step p (suc j) z q
 
-is_some_and : {A : Type 0} (o : Option A) (P : A → Type 0) (a : A) → o ≡ Some a → P a → IsSomeAnd o P
-is_some_and o P a e h = subst (λ p. IsSomeAnd p P) (sym e) h
+  pub going_at : (z : Square) (t : ℕ) (q : Position) → Going z t q → IsAt r t mover.square z
+  going_at z t q g = subst (λ k. IsAt k t mover.square z) g.1 g.0.leads
 
-module _ (p : Position) (table : Table) (next : AreNext p table) (f : Frame) where
-  abbrev pub Into : Choice → Position → Type 0
-  Into c q = Leads (IsIn table) f p c q
+  -- what is known of a move along the ray
+  module _ (Set : Position → Type 0) (T : Square → Type 0) (t : ℕ) (w : LeadsAlong T Set p (suc j) n t) where
+    his_man : w.him ≡ mover.man
+    his_man = same_Some w.him mover.man (sym w.is_man ∙ mover.is_man)
 
-  module _ (j n : ℕ) (r : Ray) (mover : IsMover p (suc j) n r) where
-    -- what is known of a move along the ray
-    his_man : (d : Choice) (q : Position) → (d.mv.man ≡ suc j) → (h : Into d q) → h.man ≡ mover.man
-    his_man d q e h = same_Some h.man mover.man (sym h.is_man ∙ (ap (man_at p) e ∙ mover.is_man))
+    his_square : w.from ≡ mover.square
+    his_square = one_square mover.man mover.square w.from mover.stands (subst (λ m. StandsOn m w.from) his_man w.stands)
 
-    his_square : (d : Choice) (q : Position) → (d.mv.man ≡ suc j) → (h : Into d q) → h.from ≡ mover.square
-    his_square d q e h = one_square mover.man mover.square h.from mover.stands (subst (λ m. StandsOn m h.from) (his_man d q e h) h.stands)
+    pub along_goes : Going w.to t w.after
+    along_goes =
+        let on : IsOnRay mover.man mover.square w.to n t =
+        subst (λ a. IsOnRay mover.man a w.to n t) his_square (subst (λ m. IsOnRay m w.from w.to n t) his_man w.on) in
+        (on, same_Some on.ray r (sym on.is_ray ∙ mover.is_ray), w.legal.step)
 
-    on_ray : (d : Choice) (q : Position) → (d.mv.man ≡ suc j) → (h : Into d q) → IsOnRay mover.man mover.square (target d.mv) d.ray d.distance
-    on_ray d q e h =
-        subst (λ a. IsOnRay mover.man a (target d.mv) d.ray d.distance) (his_square d q e h)
-        (subst (λ m. IsOnRay m h.from (target d.mv) d.ray d.distance) (his_man d q e h) h.on)
+  -- without a set no quiet move leads into the sets
+  pub quiet_unset : (table : Table) → set_at table (mask_of p) ≡ None → (t : ℕ) → LeadsAlong (IsEmptySquare p) (IsIn table) p (suc j) n t → ⊥
+  quiet_unset table none t w =
+      let q = w.after in
+      let mask : mask_of q ≡ mask_of p = mask_moved p q j w.to mover.square mover.man mover.is_man mover.stands w.legal.step.after w.is_target in
+      let no : set_at table (mask_of q) ≡ None = ap (set_at table) mask ∙ none in
+      subst (λ (o : Option Automaton). IsSomeAnd o (λ a. IsAccepted a (tuple_of q))) no w.is_in
 
-    -- he goes along the ray itself
-    abbrev Going : Choice → Position → Type 0
-    Going d q = (on : IsOnRay mover.man mover.square (target d.mv) n d.distance) × (on.ray ≡ r) × Step p (suc j) (target d.mv) q
+  -- nor is there one on a ray that does not serve moves
+  pub quiet_unserved : (Set : Position → Type 0) → serves_moves mover.man.kind n ≡ false → (t : ℕ) → LeadsAlong (IsEmptySquare p) Set p (suc j) n t → ⊥
+  quiet_unserved Set never t w =
+      let g = along_goes Set (IsEmptySquare p) t w in
+      let serves : serves_moves mover.man.kind n ≡ true = serves_quiet p (suc j) w.to w.after g.2 mover.man mover.is_man mover.square mover.stands n t g.0 w.is_target in
+      let no : false ≡ true = sym never ∙ serves in
+      cc
 
-    pub going : (d : Choice) (q : Position) → d.mv.man ≡ suc j → d.ray ≡ n → Into d q → Going d q
-    going d q e ray h =
-        let on = subst (λ k. IsOnRay mover.man mover.square (target d.mv) k d.distance) ray (on_ray d q e h) in
-        (on, same_Some on.ray r (sym on.is_ray ∙ mover.is_ray), subst (λ i. Step p i (target d.mv) q) e h.legal.step)
-
-    pub leads_at : (d : Choice) (q : Position) → (g : Going d q) → IsAt r d.distance mover.square (target d.mv)
-    leads_at d q g = subst (λ k. IsAt k d.distance mover.square (target d.mv)) g.1 g.0.leads
-
+  module _ (table : Table) (next : AreNext p table) (a : Automaton) (set_is : set_at table (mask_of p) ≡ Some a) where
     -- a position after a quiet step along the ray is in the set where the search hits
-    pub hit_is : (a : Automaton) (q : Position) (z : Square) (t : ℕ) → set_at table (mask_of p) ≡ Some a → Step p (suc j) z q → IsEmptySquare p z → IsAt r t mover.square z → IsIn table q ↔ IsHitAlong a p (suc j) r t
-    hit_is a q z t set_is step none at =
+    pub hit_is : (q : Position) (z : Square) (t : ℕ) → Step p (suc j) z q → IsEmptySquare p z → IsAt r t mover.square z → IsIn table q ↔ IsHitAlong a p (suc j) r t
+    hit_is q z t step none at =
         let mask : mask_of q ≡ mask_of p = mask_moved p q j z mover.square mover.man mover.is_man mover.stands step.after none in
         let tuple : tuple_of q ≡ tuple_along p (suc j) r t = tuple_hit p q j z mover.square mover.man r t mover.is_man mover.stands step.after none at.leads in
         let there : set_at table (mask_of q) ≡ Some a = ap (set_at table) mask ∙ set_is in
@@ -69,27 +75,51 @@ module _ (p : Position) (table : Table) (next : AreNext p table) (f : Frame) whe
           λ hit. subst Has (sym there) (subst (IsAccepted a) (sym tuple) hit),
         )
 
-    -- a quiet move into the sets is at a free distance, and the search hits it
-    pub quiet_hit : (a : Automaton) (d : Choice) (q : Position) → set_at table (mask_of p) ≡ Some a → IsQuiet p (suc j) n d → Into d q → IsFreeFrom p mover.square r f d.distance × IsHitAlong a p (suc j) r d.distance
-    quiet_hit a d q set_is (e, ray, none) h =
-        let g = going d q e ray h in
-        let free = quiet_free p (suc j) (target d.mv) q g.2 mover.man mover.is_man mover.square mover.stands n d.distance g.0 f h.inside none in (
-          subst (λ k. IsFreeFrom p mover.square k f d.distance) g.1 free,
-          (hit_is a q (target d.mv) d.distance set_is g.2 none (leads_at d q g)).0 h.is_in,
+    -- a quiet move into the sets goes over empty squares, and the search hits it
+    pub quiet_hit : (T : Square → Type 0) (t : ℕ) (w : LeadsAlong T (IsIn table) p (suc j) n t) → IsEmptySquare p w.to → IsAt r t mover.square w.to × ((k : ℕ) (z : Square) → k ≤ t → IsAt r k mover.square z → IsEmptySquare p z) × IsHitAlong a p (suc j) r t
+    quiet_hit T t w none =
+        let g = along_goes (IsIn table) T t w in
+        let at = going_at w.to t w.after g in
+        let empty = nobody_to p (suc j) w.to w.after g.2 mover.man mover.is_man mover.square mover.stands n t g.0 none in (
+          at,
+          λ k z low on. empty k z low (subst (λ b. IsAt b k mover.square z) (sym g.1) on),
+          (hit_is w.after w.to t g.2 none at).0 w.is_in,
         )
 
-    -- a hit at a free distance is a move into the sets
+    -- a hit over empty squares is a move into the sets
+    pub hit_moves : (t : ℕ) (z : Square) → IsTrue (serves_moves mover.man.kind n) → IsAt r t mover.square z → ((k : ℕ) (b : Square) → k ≤ t → IsAt r k mover.square b → IsEmptySquare p b) → IsHitAlong a p (suc j) r t → (q : Position) × Legal p (suc j) z q × IsIn table q
+    hit_moves t z serves at empty hit =
+        let q : Position = position_after p j z in
+        let step : Step p (suc j) z q = free_step p mover.man n r mover.is_ray mover.square mover.stands t z at empty j mover.is_man mover.turn serves in
+        let is_in : IsIn table q = (hit_is q z t step (empty t z (omega arith) at) at).1 hit in
+        (q, record { step = step; safe = next.legal (suc j) z q step is_in }, is_in)
+
+-- the same for choices of moves to squares of a frame
+module _ (p : Position) (table : Table) (next : AreNext p table) (f : Frame) where
+  abbrev pub Into : Choice → Position → Type 0
+  Into c q = Leads (IsIn table) f p c q
+
+  module _ (j n : ℕ) (r : Ray) (mover : IsMover p (suc j) n r) where
+    pub going : (d : Choice) (q : Position) → d.mv.man ≡ suc j → d.ray ≡ n → Into d q → Going p j n r mover (target d.mv) d.distance q
+    going d q e ray h = along_goes p j n r mover (IsIn table) (IsInside f) d.distance (along_of (IsIn table) p (suc j) n f (IsInside f) d q e ray h.inside h)
+
+    pub leads_at : (d : Choice) (q : Position) → (g : Going p j n r mover (target d.mv) d.distance q) → IsAt r d.distance mover.square (target d.mv)
+    leads_at d q g = going_at p j n r mover (target d.mv) d.distance q g
+
+    -- a quiet choice is at a free distance, and the search hits it
+    pub choice_hit : (a : Automaton) (d : Choice) (q : Position) → set_at table (mask_of p) ≡ Some a → IsQuiet p (suc j) n d → Into d q → IsFreeFrom p mover.square r f d.distance × IsHitAlong a p (suc j) r d.distance
+    choice_hit a d q set_is (e, ray, none) h =
+        let quiet = quiet_hit p j n r mover table next a set_is (IsEmptySquare p) d.distance (along_of (IsIn table) p (suc j) n f (IsEmptySquare p) d q e ray none h) none in
+        (record { to = target d.mv; leads = quiet.0; inside = h.inside; empty = quiet.1 }, quiet.2)
+
+    -- a hit at a free distance is a quiet choice into the sets
     pub hit_leads : (a : Automaton) (c : Choice) → set_at table (mask_of p) ≡ Some a → c.mv.man ≡ suc j → c.ray ≡ n → IsTrue (serves_moves mover.man.kind n) → (w : IsFreeFrom p mover.square r f c.distance) → target c.mv ≡ w.to → IsHitAlong a p (suc j) r c.distance → IsQuiet p (suc j) n c × ((q : Position) × Into c q)
     hit_leads a c set_is e ray serves w to hit =
         let at : IsAt r c.distance mover.square (target c.mv) = subst (IsAt r c.distance mover.square) (sym to) w.leads in
-        let empty : IsEmptySquare p (target c.mv) = w.empty c.distance (target c.mv) (omega arith) at in
-        let q : Position = position_after p j (target c.mv) in
-        let step : Step p (suc j) (target c.mv) q = free_step p mover.man n r mover.is_ray mover.square mover.stands c.distance (target c.mv) at w.empty j mover.is_man mover.turn serves in
-        let is_in : IsIn table q = (hit_is a q (target c.mv) c.distance set_is step empty at).1 hit in
-        let legal : Legal p (suc j) (target c.mv) q = record { step = step; safe = next.legal (suc j) (target c.mv) q step is_in } in (
-          (e, ray, empty),
+        let moves = hit_moves p j n r mover table next a set_is c.distance (target c.mv) serves at w.empty hit in (
+          (e, ray, w.empty c.distance (target c.mv) (omega arith) at),
           (
-            q,
+            moves.0,
             record {
               man = mover.man;
               from = mover.square;
@@ -97,8 +127,8 @@ module _ (p : Position) (table : Table) (next : AreNext p table) (f : Frame) whe
               stands = mover.stands;
               on = record { ray = r; is_ray = ap (λ k. ray_of mover.man.kind mover.man.side k) ray ∙ mover.is_ray; leads = at };
               inside = subst (IsInside f) (sym to) w.inside;
-              legal = subst (λ i. Legal p i (target c.mv) q) (sym e) legal;
-              is_in = is_in;
+              legal = subst (λ i. Legal p i (target c.mv) moves.0) (sym e) moves.1;
+              is_in = moves.2;
             },
           ),
         )

@@ -19,7 +19,7 @@ use Rattle.game_laws.proofs.MoveLemmas.{stands_or_not}
 use Rattle.game_laws.proofs.RayLemmas.{borne_bears, step_one, true_or_not}
 use Rattle.game_laws.proofs.SoundLemmas.{any_at, live_at, side_or_other}
 use Rattle.game_laws.proofs.TableLemmas.{ray_is}
-use Rattle.chess_game.specs.Way.{IsFreeFrom, IsHitFrom, IsInside}
+use Rattle.chess_game.specs.Way.{IsHitFrom, IsInside}
 use Rattle.chess_game.specs.declared.way.Frame.{Frame}
 use Rattle.rule_formula.proofs.PlacedLemmas.{all_men}
 
@@ -117,6 +117,29 @@ module _ (p : Position) (m : Man) (n : ℕ) (r : Ray) (is_ray : ray_of m.kind m.
     after = is_after p j z;
   }
 
+-- a man before whom nobody stands on the ray is the first whom one meets there
+pub first_met : (p : Position) (a : Square) (r : Ray) (f : Frame) (t : ℕ) (z : Square) → IsAt r t a z → IsInside f z → ((k : ℕ) (b : Square) → k < t → IsAt r k a b → IsEmptySquare p b) → IsApart p → (h : ℕ) (c : Man) → man_at p h ≡ Some c → StandsOn c z → IsHitFrom p a r f h
+first_met p a r f t z leads inside before apart h c is_c on_c = record {
+  to = z;
+  distance = t;
+  leads = leads;
+  inside = inside;
+  hit = rw is_c on_c;
+  first = before;
+  least = λ j less there. let w = some_man (man_at p j) there in absurd (omega (arith, less, apart j h w.0 c z w.1 is_c w.2 on_c));
+} where
+  some_man : (o : Option Man) → IsSomeAnd o (λ d. StandsOn d z) → (d : Man) × (o ≡ Some d) × StandsOn d z
+  some_man None s = absurd s
+  some_man (Some d) s = (d, refl, s)
+
+-- a square is empty, or some man stands there
+pub any_or_none : (p : Position) (z : Square) → IsEmptySquare p z ⊎ ((k : ℕ) × (c : Man) × (man_at p k ≡ Some c) × StandsOn c z)
+any_or_none p z =
+    elim (any_decided (λ c. StandsOn c z) (λ c. stands_or_not c z) p.men) [
+      | inl some ↦ inr (any_is p (λ c. StandsOn c z) some)
+      | inr none ↦ inl ((all_men p (λ c. StandsOn c z → ⊥)).1 (λ k c is_c on_c. none (any_at p (λ d. StandsOn d z) k c is_c on_c)))
+    ]
+
 -- what a step along a ray is
 module _ (p : Position) (i : ℕ) (z : Square) (q : Position) (step : Step p i z q) (m : Man) (is : man_at p i ≡ Some m) (a : Square) (stands : StandsOn m a) (n t : ℕ) (on : IsOnRay m a z n t) where
   his : step.man ≡ m
@@ -157,35 +180,19 @@ module _ (p : Position) (i : ℕ) (z : Square) (q : Position) (step : Step p i z
   same_target : (b : Square) → IsAt on.ray t a b → b ≡ z
   same_target b at = at.leads ∙ sym on.leads.leads
 
-  -- to an empty square the ray is free
-  pub quiet_free : (f : Frame) → IsInside f z → IsEmptySquare p z → IsFreeFrom p a on.ray f t
-  quiet_free f inside none = record {
-    to = z;
-    leads = on.leads;
-    inside = inside;
-    empty = λ k b low at. elim (cases_lt k t) [
-      | inl less ↦ nobody_before k b less at
-      | inr high ↦
-          let e : k ≡ t = omega (arith, high, low) in
-          let same : b ≡ z = same_target b (subst (λ l. IsAt on.ray l a b) e at) in
-          subst (IsEmptySquare p) (sym same) none
-    ];
-  }
+  -- to an empty square, nobody stands up to it
+  pub nobody_to : IsEmptySquare p z → (k : ℕ) (b : Square) → k ≤ t → IsAt on.ray k a b → IsEmptySquare p b
+  nobody_to none k b low at = elim (cases_lt k t) [
+    | inl less ↦ nobody_before k b less at
+    | inr high ↦
+        let e : k ≡ t = omega (arith, high, low) in
+        let same : b ≡ z = same_target b (subst (λ l. IsAt on.ray l a b) e at) in
+        subst (IsEmptySquare p) (sym same) none
+  ]
 
   -- a man who stands there is the first on the ray
   pub capture_hit : (f : Frame) → IsInside f z → IsApart p → (h : ℕ) (c : Man) → man_at p h ≡ Some c → StandsOn c z → IsHitFrom p a on.ray f h
-  capture_hit f inside apart h c is_c on_c = record {
-    to = z;
-    distance = t;
-    leads = on.leads;
-    inside = inside;
-    hit = rw is_c on_c;
-    first = nobody_before;
-    least = λ j less there. let w = some_man (man_at p j) there in absurd (omega (arith, less, apart j h w.0 c z w.1 is_c w.2 on_c));
-  } where
-    some_man : (o : Option Man) → IsSomeAnd o (λ d. StandsOn d z) → (d : Man) × (o ≡ Some d) × StandsOn d z
-    some_man None s = absurd s
-    some_man (Some d) s = (d, refl, s)
+  capture_hit f inside apart h c is_c on_c = first_met p a on.ray f t z on.leads inside nobody_before apart h c is_c on_c
 
   -- a target is empty or held by the other side
   pub empty_or_held : IsEmptySquare p z ⊎ IsHeldBy p (other p.turn) z
@@ -197,10 +204,3 @@ module _ (p : Position) (i : ℕ) (z : Square) (q : Position) (step : Step p i z
           | inr enemy ↦ inr (any_at p _ k c is_c (enemy, on_c))
         ]
       ]
-    where
-      any_or_none : (p : Position) (z : Square) → IsEmptySquare p z ⊎ ((k : ℕ) × (c : Man) × (man_at p k ≡ Some c) × StandsOn c z)
-      any_or_none p z =
-          elim (any_decided (λ c. StandsOn c z) (λ c. stands_or_not c z) p.men) [
-            | inl some ↦ inr (any_is p (λ c. StandsOn c z) some)
-            | inr none ↦ inl ((all_men p (λ c. StandsOn c z → ⊥)).1 (λ k c is_c on_c. none (any_at p (λ d. StandsOn d z) k c is_c on_c)))
-          ]

@@ -4,7 +4,7 @@ use Rattle.auto_core.specs.Automaton.{Automaton}
 use Rattle.auto_core.specs.Integers.{IsAccepted}
 use Rattle.auto_search.specs.Way.{value_after}
 use Rattle.chess_game.specs.Unsoundness.{StandsAt}
-use Rattle.chess_game.specs.Way.{IsHit}
+use Rattle.chess_game.specs.Way.{IsHit, IsInside}
 use Rattle.chess_game.specs.declared.way.Frame.{Frame}
 use Rattle.game_rules.specs.Game.{InCheck, Position, Sound, StandsOn, Step, man_at}
 use Rattle.game_rules.specs.Rays.{ray_of}
@@ -35,6 +35,14 @@ pub record IsMover (p : Position) (i n : ℕ) (r : Ray) : Type 0 where
   pub square : Square
   pub stands : StandsOn man square
   pub is_ray : ray_of man.kind man.side n ≡ Some r
+
+-- man i is a live man of the side to move, and one of his rays has this number
+abbrev pub HasRay : Position → ℕ → ℕ → Type 0
+HasRay p i n = (r : Ray) × IsMover p i n r
+
+-- all live men stand in the frame
+abbrev pub HoldsMen : Frame → Position → Type 0
+HoldsMen f p = (i : ℕ) (z : Square) → StandsAt p i z → IsInside f z
 
 -- the first man whom man i meets on the ray, in the frame, stands on the square
 pub record IsMet (p : Position) (i : ℕ) (r : Ray) (f : Frame) (z : Square) : Type 0 where

@@ -57,7 +57,8 @@ pub(crate) fn choice_along(p: &Position, frame: Frame, his: ManRay, distance: u1
 
 /// How far two numbers are apart.
 fn apart(from: i64, to: i64) -> u128
-    ensures { result ≡ unsigned_abs (to -ℤ from) }
+    ensures value { result ≡ unsigned_abs (to -ℤ from) }
+    ensures few { result ≤ 2 ^ 64 }
 {
     (to as i128 - from as i128).unsigned_abs()
 }
@@ -66,6 +67,7 @@ fn apart(from: i64, to: i64) -> u128
 fn steps_between(ray: Ray, x: i64, y: i64, to_x: i64, to_y: i64) -> u128
     ensures far { ray.far ≡ true → result ≡ squares_apart (record { x = x; y = y }) (record { x = to_x; y = to_y }) }
     ensures near { ray.far ≡ false → result ≡ 1 }
+    ensures few { result ≤ 2 ^ 64 }
 {
     if ray.far {
         apart(x, to_x).max(apart(y, to_y))
@@ -77,7 +79,8 @@ fn steps_between(ray: Ray, x: i64, y: i64, to_x: i64, to_y: i64) -> u128
 /// How many steps of the ray the move goes, which leads along it.
 pub(crate) fn steps_of(p: &Position, his: ManRay, mv: Move) -> u128
     requires mover { IsMover p.now his.man his.number his.ray }
-    ensures { IsSomeAnd (man_at p.now his.man) (λ m. IsLiveAnd m (λ a. (his.ray.far ≡ true → result ≡ squares_apart a (target mv)) × (his.ray.far ≡ false → result ≡ 1))) }
+    ensures steps { IsSomeAnd (man_at p.now his.man) (λ m. IsLiveAnd m (λ a. (his.ray.far ≡ true → result ≡ squares_apart a (target mv)) × (his.ray.far ≡ false → result ≡ 1))) }
+    ensures few { result ≤ 2 ^ 64 }
 {
     match p.man(his.man).place {
         Place::At { x, y } => steps_between(his.ray, x, y, mv.x, mv.y),

@@ -1,12 +1,16 @@
-//! What a game needs, whoever plays: moves in the order of the rays, and the first of them that leads into a set of positions.
-//! `specs/Choice` says which move is the first, `specs/Aims` what is asked of the sets.
+//! What a game needs, whoever plays: moves in the order of the rays, the first of them that leads into a set of positions, and how many do along one
+//! ray. `specs/Choice` says which move is the first, `specs/Along` how far moves along a ray go, `specs/Aims` what is asked of the sets.
 #![tactic(auto)]
 
 mod aim;
 mod choice;
 pub mod laws;
+mod men_frame;
 mod pick;
+mod ray_moves;
 mod ray_pick;
 
+pub use aim::{Aim, ManRay};
 pub use choice::Choice;
 pub use pick::first_move;
+pub use ray_moves::{RayMoves, moves_along};

@@ -17,7 +17,13 @@ use chess_game::{Kind, Move, Place, Position, Way, free_way, try_move};
 use mask_sets::{coordinates, place_of_man};
 
 /// The least distance of the way at which the man's move along the ray leads to coordinates in the set.
-fn least_hit(search: &mut Search, set: &Auto, p: &Position, his: ManRay, way: Way) -> Option<u128>
+pub(crate) fn least_hit(
+    search: &mut Search,
+    set: &Auto,
+    p: &Position,
+    his: ManRay,
+    way: Way,
+) -> Option<u128>
     requires decides { DecidesIntegers set.now }
     requires room { length set.now.accept ≤ search.old }
     requires count { length (tuple_of p.now) ≡ length set.now.tracks }
@@ -60,7 +66,7 @@ fn quiet(search: &mut Search, aim: &Aim, his: ManRay, way: Way) -> Option<Choice
 }
 
 /// Whether the ray of this number serves moves onto an empty square.
-fn serves_moves(kind: Kind, number: u8) -> bool
+pub(crate) fn serves_moves(kind: Kind, number: u8) -> bool
     ensures { result ≡ serving kind number }
 {
     match kind {
@@ -108,7 +114,7 @@ fn take(aim: &Aim, his: ManRay, mv: Move) -> Option<Choice>
 }
 
 /// Of the man's captures along the ray, of which there is one at most, the one that leads into the sets.
-fn capture(aim: &Aim, his: ManRay, hits: Option<u8>) -> Option<Choice>
+pub(crate) fn capture(aim: &Aim, his: ManRay, hits: Option<u8>) -> Option<Choice>
     requires mover { IsMover aim.now.position.now his.man his.number his.ray }
     requires aim { IsAim aim.now }
     requires hit { IfSome hits (IsHit aim.now.position.now his.man his.ray aim.now.frame) }

@@ -1,5 +1,5 @@
 -- How a run ends, from how its parts do.
-use Rattle.std.proofs.Common.{◌≡◌, ◌+◌, ◌++◌, ℕ, List, [], take, Option, Some, None, IfSome, Result, Ok, Err, false, inl, inr, refl, sym, ap, ◌∙◌, subst, append_assoc, arith}
+use Rattle.std.proofs.Common.{◌≡◌, ◌+◌, ◌++◌, ℕ, List, [], length, take, Option, Some, None, IfSome, Result, Ok, Err, false, inl, inr, refl, sym, ap, ◌∙◌, subst, append_assoc, arith}
 use Rattle.std.specs.Prelude.{codes, unwrap_or}
 use Rattle.std.specs.Io.KnownBytes.{Consumes}
 use Rattle.std.proofs.KnownBytes.{Consumes-nil}
@@ -11,15 +11,15 @@ use Rattle.game_rules.specs.Game.{Sound}
 use Rattle.chess_game.specs.Unsoundness.{IsFirstUnsoundness}
 use Rattle.chess_game.specs.declared.unsoundness.Unsound.{Unsound}
 use Rattle.chess_text.specs.PositionText.{text_of_lines}
+use Rattle.game_report.specs.Taken.{TakesLines}
 use Rattle.mate_desk.specs.Decide.{DecideReports}
 use Rattle.mate_desk.specs.FaultLines.{unsound_line}
 use Rattle.mate_desk.specs.Least.{LeastReports}
 use Rattle.mate_desk.specs.Order.{Ordered, usage_line}
-use Rattle.mate_desk.specs.Outcome.{Ends, Leaves, KeepsFiles, Report, Seen, Writes, WriteFailed, of_sink, refusal_as}
-use Rattle.mate_desk.specs.Report.{LacksBehindText, MayLackMemory, OfText, OrderMayLack, Reports, ReportsOrder, TakesMemory}
+use Rattle.mate_desk.specs.Outcome.{Ends, Leaves, KeepsFiles, NeverMisses, Report, Seen, Writes, WriteFailed, of_sink, refusal_as}
+use Rattle.mate_desk.specs.Report.{LacksBehindText, MayLackMemory, MayMissShelf, OfText, OrderMayLack, Reports, ReportsOrder, TakesMemory}
 use Rattle.mate_desk.specs.Run.{Given, IsLineDue, RunEnds}
 use Rattle.mate_desk.specs.Show.{ShowReports}
-use Rattle.mate_desk.specs.Taken.{TakesLines}
 use Rattle.mate_desk.specs.Text.{TextAt, whole, refused, is_end, refusal_line}
 use Rattle.mate_desk.specs.TextRead.{IsMissing, IsShort, TextRead}
 use Rattle.mate_desk.specs.Verdict.{HasNothingToPlay}
@@ -93,15 +93,16 @@ module _ (words : List (List ℕ)) (old new : Seen) (same : new.files ≡ old.fi
     given_text answer t = record { taken = t.bytes; rest = t.rest; files = files; consumed = t.taken; left = t.left; kept = known_files old.files }
 
     -- each line of the text was due
-    pub line_due : (number : ℕ) (before : List ℕ) → IsMissing number before → IsLineDue words files number before
-    line_due number before at =
-        (refusal_as files is.Text (refusal_line number Missing) (is_end Missing), (Ok order, ordered, refused_order order words before files number Missing at), refl)
+    pub line_due : (before : List (List ℕ)) → IsMissing before → IsLineDue words files before
+    line_due before at =
+        let number = length before + 1 in
+        (refusal_as files is.Text (refusal_line number Missing) (is_end Missing), (Ok order, ordered, refused_order order words (text_of_lines before) files number Missing at), refl)
 
     lines_due : (bytes : List ℕ) → TakesLines IsMissing bytes pending → TakesLines (IsLineDue words files) bytes pending
     lines_due bytes t = record {
       lines = t.lines;
       are_lines = t.are_lines;
-      due = λ k below. line_due (k + 1) (text_of_lines (take k t.lines)) (t.due k below);
+      due = λ k below. line_due (take k t.lines) (t.due k below);
       bytes = t.bytes;
       few = t.few;
     }
@@ -178,13 +179,14 @@ module _ (words : List (List ℕ)) (old new : Seen) (same : new.files ≡ old.fi
 
       -- the run ends as its command does, which has the sink alone
       module _ (reports : Report → Type 0) (may_lack : Type 0) (says : (report : Report) → reports report → ReportsOrder order words (t.bytes ++ t.rest) files report) (lacks : may_lack → OrderMayLack order t.bytes) where
-        ended_as : (status : Status) → Ends status reports may_lack (of_sink files old.written old.write_faults) (of_sink files new.written new.write_faults) → Ends status (λ report. Reports words (t.bytes ++ t.rest) files report) (MayLackMemory words t.bytes) old new
+        ended_as : (status : Status) → Ends status reports may_lack NeverMisses (of_sink files old.written old.write_faults) (of_sink files new.written new.write_faults)
+            → Ends status (λ report. Reports words (t.bytes ++ t.rest) files report) (MayLackMemory words t.bytes) (MayMissShelf words t.bytes) old new
         ended_as status ends =
-            ends_as status reports (λ report. Reports words (t.bytes ++ t.rest) files report) may_lack (MayLackMemory words t.bytes) old new
-            (λ report right. (Ok order, ordered, says report right)) (λ lack. (order, ordered, lacks lack))
+            ends_as status reports (λ report. Reports words (t.bytes ++ t.rest) files report) may_lack (MayLackMemory words t.bytes) NeverMisses (MayMissShelf words t.bytes) old new
+            (λ report right. (Ok order, ordered, says report right)) (λ lack. (order, ordered, lacks lack)) (λ keeping never. absurd never)
             (at_sink files old new (known_files old.files) same status reports may_lack ends)
 
-        pub command_ends : (status : Status) → Ends status reports may_lack (of_sink files old.written old.write_faults) (of_sink files new.written new.write_faults) → RunEnds words status old new
+        pub command_ends : (status : Status) → Ends status reports may_lack NeverMisses (of_sink files old.written old.write_faults) (of_sink files new.written new.write_faults) → RunEnds words status old new
         command_ends is.Done ends = record { given = given_text (Ok problem) t; takes = (pending, lines_due t.bytes t.takes); ends = ended_as is.Done ends }
         command_ends is.Text ends = record { given = given_text (Ok problem) t; takes = (pending, lines_due t.bytes t.takes); ends = ended_as is.Text ends }
         command_ends is.Unsound ends = record { given = given_text (Ok problem) t; takes = (pending, lines_due t.bytes t.takes); ends = ended_as is.Unsound ends }
@@ -198,11 +200,12 @@ module _ (words : List (List ℕ)) (old new : Seen) (same : new.files ≡ old.fi
         command_ends is.Usage ends =
             absurd (order_status order words (t.bytes ++ t.rest) files ends.0 (says ends.0 ends.1) (sym ends.2.reported))
         command_ends is.ReadFault ends = absurd (omega (arith, ends.2.failed))
+        command_ends is.ShelfFault ends = absurd ends.1
 
 -- so it is with each command
 module _ (words : List (List ℕ)) (old new : Seen) (same : new.files ≡ old.files) (pending : List ℕ) (problem : Problem) (t : TextRead (Ok problem) pending old.left new.left) (sound : Sound problem.position) (status : Status) where
   abbrev EndsWithSink : (Files → Report → Type 0) → Type 0 → Type 0
-  EndsWithSink reports may_lack = (files : Files) → Ends status (reports files) may_lack (of_sink files old.written old.write_faults) (of_sink files new.written new.write_faults)
+  EndsWithSink reports may_lack = (files : Files) → Ends status (reports files) may_lack NeverMisses (of_sink files old.written old.write_faults) (of_sink files new.written new.write_faults)
 
   pub decide_ends : (n budget : ℕ) → Ordered words (Ok (Decide n budget)) → EndsWithSink (DecideReports n budget problem) (¬ HasNothingToPlay n problem) → RunEnds words status old new
   decide_ends n budget ordered ends =

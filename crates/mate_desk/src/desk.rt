@@ -2,6 +2,7 @@
 
 ghost use Rattle.std.specs.Prelude.{◌≡◌, IfOk, Result, map, string_bytes};
 ghost use Rattle.mate_desk.specs.Order.{Ordered};
+ghost use Rattle.mate_desk.specs.Outcome.{seen_of};
 ghost use Rattle.mate_desk.specs.Report.{UsesNoShelf};
 ghost use Rattle.mate_desk.specs.Run.{RunEnds};
 
@@ -30,20 +31,8 @@ pub fn run<S: Source, K: Sink, H: Shelf>(
     shelf: &mut H,
 ) -> Status
     ensures ends { RunEnds (map string_bytes words.now.items) result
-        record {
-          left = S.left source.old;
-          written = K.written sink.old;
-          files = H.files shelf.old;
-          read_faults = S.faults source.old;
-          write_faults = K.faults sink.old;
-        }
-        record {
-          left = S.left source.new;
-          written = K.written sink.new;
-          files = H.files shelf.new;
-          read_faults = S.faults source.new;
-          write_faults = K.faults sink.new;
-        } }
+        (seen_of (S.left source.old) (K.written sink.old) (H.files shelf.old) (S.faults source.old) (K.faults sink.old) (H.faults shelf.old))
+        (seen_of (S.left source.new) (K.written sink.new) (H.files shelf.new) (S.faults source.new) (K.faults sink.new) (H.faults shelf.new)) }
     // Where the words are no order, nothing is read.
     ensures nothing_read { result ≡ Status.Usage → source.new ≡ source.old }
     // Where they are none, or one that uses no file, the shelf is not called.

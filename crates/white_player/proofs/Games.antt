@@ -1,13 +1,13 @@
 -- What a session keeps, move by move.
-use Rattle.std.proofs.Common.{◌≡◌, ◌↔◌, ◌⊎◌, inl, inr, ℕ, zero, suc, ◌+◌, ◌-◌, ◌*◌, ◌/◌, ◌%◌, ◌<◌, ◌≤◌, ◌==◌, if◌then◌else◌, List, [], ◌∷◌, length, get_or, Option, Some, None, refl, sym, ap, subst, ◌∙◌, arith}
-use Rattle.std.specs.Prelude.{IsSomeAnd, option_and_then, slice_get}
+use Rattle.std.proofs.Common.{◌≡◌, inl, inr, ℕ, zero, suc, ◌+◌, ◌-◌, ◌/◌, ◌≤◌, List, [], ◌∷◌, length, get_or, Option, Some, None, refl, sym, ap, subst, ◌∙◌, arith}
+use Rattle.std.specs.Prelude.{IsSomeAnd, slice_get}
 use Rattle.std.proofs.lemmas.Option.{same_Some}
 use Rattle.auto_core.specs.Automaton.{Automaton}
 use Rattle.auto_core.specs.Integers.{IsAccepted}
 use Rattle.game_rules.specs.declared.men.Side.{Side}
 use Rattle.game_rules.specs.declared.men.Side.TheVariants.{White, Black}
 use Rattle.game_rules.specs.declared.men.Square.{Square}
-use Rattle.game_rules.specs.Game.{Position, InCheck, Legal, Lost, Mate, Sound, Step, Value, Win, other}
+use Rattle.game_rules.specs.Game.{Position, InCheck, Legal, Lost, Sound, Step, Value, Win, other}
 use Rattle.game_laws.proofs.MoveLemmas.{same_after}
 use Rattle.game_laws.proofs.SoundLemmas.{at_same, other_other}
 use Rattle.chess_game.specs.declared.moves.Move.{Move}
@@ -16,7 +16,7 @@ use Rattle.rule_formula.specs.Fits.{HasStock, mask_of, masks_of}
 use Rattle.rule_formula.specs.Placed.{tuple_of}
 use Rattle.mate_plan.specs.Plan.{turn_at}
 use Rattle.mate_plan.specs.PlanOf.{last_ply}
-use Rattle.winning_sets.specs.Kept.{Kept, moves_left}
+use Rattle.winning_sets.specs.Kept.{moves_left}
 use Rattle.winning_sets.specs.Reach.{Reach}
 use Rattle.winning_sets.specs.Solve.{IsKeptIn, IsSolution, Solution, end_of, kept_at}
 use Rattle.winning_sets.proofs.Answered.{start_kept}
@@ -24,7 +24,7 @@ use Rattle.winning_sets.proofs.KeptParts.{reached_sound, turn-reach, value_lost,
 use Rattle.winning_sets.proofs.MeaningLaws.{keeps_kept}
 use Rattle.winning_sets.proofs.Places.{sets_at-ply}
 use Rattle.winning_sets.proofs.Tuples.{tuple_count, turn_by}
-use Rattle.game_session.specs.Choice.{IsFirst, Leads, Pick, target}
+use Rattle.game_session.specs.Choice.{Pick, target}
 use Rattle.game_session.specs.Aims.{AreNext}
 use Rattle.mask_sets.specs.Sets.{HaveAtMost, IsIn, Table, set_at}
 use Rattle.game_session.specs.declared.choice.Choice.{Choice}
@@ -37,7 +37,7 @@ use Rattle.white_player.specs.Game.{Game, Goes, HasRoom, IsGame, IsKeptAt, IsLos
 abbrev pub table_of : Solution → ℕ → Table
 table_of s ply = record { masks = masks_of s.position; sets = get_or s.kept ply [] }
 
-kept_set : (s : Solution) (ply mask : ℕ) → set_at (table_of s ply) mask ≡ kept_at s ply mask
+pub kept_set : (s : Solution) (ply mask : ℕ) → set_at (table_of s ply) mask ≡ kept_at s ply mask
 kept_set s ply mask = sets_at-ply (masks_of s.position) s.kept ply mask
 
 pub table_is : (s : Solution) (ply next : ℕ) (masks : List ℕ) (sets : List Automaton) (t : Table) → next ≡ suc ply → masks ≡ masks_of s.position → sets ≡ get_or s.kept next [] → t ≡ record { masks = masks; sets = sets } → t ≡ table_of s (suc ply)
@@ -67,38 +67,50 @@ module _ (s : Solution) (valid : IsSolution s) where
   pub kept_turn : (ply : ℕ) (q : Position) → IsKeptAt s ply q → q.turn ≡ turn_at s.position.turn ply
   kept_turn ply q kept = turn-reach s.position q ply kept.reached
 
+  -- what is kept is in the sets that are lent
+  pub kept_in : (ply : ℕ) (q : Position) → ply ≤ end_of s → IsKeptAt s ply q → IsIn (table_of s ply) q
+  kept_in ply q within is =
+      let h = (keeps_kept s ply q valid.sound valid.few valid.kept).1 (within, is) in
+      subst (λ (o : Option Automaton). IsSomeAnd o (λ a. IsAccepted a (tuple_of q))) (sym (kept_set s ply (mask_of q))) h.is_in
+
+  -- the sets of the ply after that of a reached position
+  module _ (ply : ℕ) (p : Position) (reached : Reach s.position ply p) where
+    -- a step into the sets of the next ply
+    step_in : (i : ℕ) (z : Square) (q : Position) → Step p i z q → IsIn (table_of s (suc ply)) q → IsKeptIn s (suc ply) q
+    step_in i z q step is = record {
+      stock = step_stock s.position.men p q i z (reach_stock s.position ply p reached) step.after;
+      turn = step.after.turn ∙ ap other (turn-reach s.position p ply reached);
+      is_in = subst (λ (o : Option Automaton). IsSomeAnd o (λ a. IsAccepted a (tuple_of q))) (kept_set s (suc ply) (mask_of q)) is;
+    }
+
+    pub next_reached : (i : ℕ) (z : Square) (q : Position) → Step p i z q → IsIn (table_of s (suc ply)) q → IsKeptAt s (suc ply) q
+    next_reached i z q step is = ((keeps_kept s (suc ply) q valid.sound valid.few valid.kept).0 (step_in i z q step is)).1
+
+    pub are_reached : AreNext p (table_of s (suc ply))
+    are_reached = record {
+      askable = λ q stock a is.
+          let at : kept_at s (suc ply) (mask_of q) ≡ Some a = sym (kept_set s (suc ply) (mask_of q)) ∙ is in
+          let formed = valid.kept.formed (suc ply) (mask_of q) a at in
+          let whole = stock_trans s.position.men p q (reach_stock s.position ply p reached) stock in
+          record { integers = formed.integers; count = tuple_count s.position.men q whole ∙ sym (ap length formed.tracks) };
+      legal = λ i z q step is check.
+          let sound = kept_sound (suc ply) q (next_reached i z q step is) in
+          let mover : other q.turn ≡ p.turn = ap other step.after.turn ∙ other_other p.turn in
+          sound.other_safe (subst (InCheck q) (sym mover) check);
+    }
+
   module _ (ply : ℕ) (p : Position) (kept : IsKeptAt s ply p) where
     abbrev Next : Position → Type 0
     Next q = IsIn (table_of s (suc ply)) q
 
-    -- a step into the sets of the next ply
-    step_in : (i : ℕ) (z : Square) (q : Position) → Step p i z q → Next q → IsKeptIn s (suc ply) q
-    step_in i z q step is = record {
-      stock = step_stock s.position.men p q i z (reach_stock s.position ply p kept.reached) step.after;
-      turn = step.after.turn ∙ ap other (kept_turn ply p kept);
-      is_in = subst (λ (o : Option Automaton). IsSomeAnd o (λ a. IsAccepted a (tuple_of q))) (kept_set s (suc ply) (mask_of q)) is;
-    }
-
     pub next_kept : (i : ℕ) (z : Square) (q : Position) → Step p i z q → Next q → IsKeptAt s (suc ply) q
-    next_kept i z q step is = ((keeps_kept s (suc ply) q valid.sound valid.few valid.kept).0 (step_in i z q step is)).1
+    next_kept i z q step is = next_reached ply p kept.reached i z q step is
 
     pub kept_next : (q : Position) → suc ply ≤ end_of s → IsKeptAt s (suc ply) q → Next q
-    kept_next q within is =
-        let h = (keeps_kept s (suc ply) q valid.sound valid.few valid.kept).1 (within, is) in
-        subst (λ (o : Option Automaton). IsSomeAnd o (λ a. IsAccepted a (tuple_of q))) (sym (kept_set s (suc ply) (mask_of q))) h.is_in
+    kept_next q within is = kept_in (suc ply) q within is
 
     pub are_next : AreNext p (table_of s (suc ply))
-    are_next = record {
-      askable = λ q stock a is.
-          let at : kept_at s (suc ply) (mask_of q) ≡ Some a = sym (kept_set s (suc ply) (mask_of q)) ∙ is in
-          let formed = valid.kept.formed (suc ply) (mask_of q) a at in
-          let whole = stock_trans s.position.men p q (reach_stock s.position ply p kept.reached) stock in
-          record { integers = formed.integers; count = tuple_count s.position.men q whole ∙ sym (ap length formed.tracks) };
-      legal = λ i z q step is check.
-          let sound = kept_sound (suc ply) q (next_kept i z q step is) in
-          let mover : other q.turn ≡ p.turn = ap other step.after.turn ∙ other_other p.turn in
-          sound.other_safe (subst (InCheck q) (sym mover) check);
-    }
+    are_next = are_reached ply p kept.reached
 
     -- the first move into the sets is the first into what is kept
     pub pick_kept : suc ply ≤ end_of s → (f : Frame) (o : Option Choice) → Pick Next f p o → Pick (IsKeptAt s (suc ply)) f p o

@@ -2,7 +2,9 @@
 //! move is the winner's, and what comes of any list of replies.
 #![tactic(auto)]
 
+mod first_line;
 pub mod laws;
 mod session;
 
+pub use first_line::{FirstLine, first_moves};
 pub use session::{Played, Session, TooWide};

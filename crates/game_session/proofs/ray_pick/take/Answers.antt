@@ -17,5 +17,5 @@ returns-then-not-contains c = record {
 
 pub returns : goal.returns
 returns c = record {
-  first = capture_some_in c.args.aim.now.position.now c.args.aim.now.sets.now c.requires.aim.next c.args.aim.now.frame c.args.his.man c.args.his.number c.args.his.ray c.requires.mover c.requires.aim.sound c.args.mv c.requires.man c.requires.met c.in-Ok.after c.in-Ok.ensures.legal (c.contains.ensures.0 c.if-not-contains.false) c.steps_of.result c.steps_of.ensures;
+  first = capture_some_in c.args.aim.now.position.now c.args.aim.now.sets.now c.requires.aim.next c.args.aim.now.frame c.args.his.man c.args.his.number c.args.his.ray c.requires.mover c.requires.aim.sound c.args.mv c.requires.man c.requires.met c.in-Ok.after c.in-Ok.ensures.legal (c.contains.ensures.0 c.if-not-contains.false) c.steps_of.result c.steps_of.ensures.steps;
 }

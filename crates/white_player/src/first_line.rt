@@ -1,0 +1,74 @@
+//! All first moves of the winner along a ray.
+ghost use Rattle.std.specs.Prelude.{◌≡◌, ◌≤◌, ℕ, IfNone, IfSome};
+ghost use Rattle.game_session.specs.Aims.{HasRay, IsMover};
+ghost use Rattle.white_player.specs.Firsts.{Firsts, IsFirstLine};
+ghost use Rattle.white_player.specs.Game.{HasRoom};
+
+use auto_search::{Few, Search};
+use chess_game::{Frame, Position, ray as ray_of_kind};
+use game_session::{Aim, ManRay, moves_along};
+use mask_sets::MaskSets;
+use winning_sets::Solved;
+
+/// The first moves of a man along a ray that keep the promised count: the man, the step of the ray, the least distance among those whose square lies
+/// in the frame, and how many there are on the whole board.
+#[derive(Clone, Copy, Debug, PartialEq, Eq)]
+pub struct FirstLine {
+    pub man: u8,
+    pub dx: i8,
+    pub dy: i8,
+    pub least: Option<u128>,
+    pub few: Few,
+}
+
+/// The man's ray of this number.
+fn his_ray(p: &Position, man: u8, number: u8) -> ManRay
+    requires { HasRay p.now man number }
+    ensures man { result.man ≡ man }
+    ensures number { result.number ≡ number }
+    ensures mover { IsMover p.now man number result.ray }
+{
+    let him = p.man(man);
+    match ray_of_kind(him.kind, him.side, number) {
+        Some(ray) => ManRay { man, number, ray },
+        None => unreachable!(),
+    }
+}
+
+/// The winner's first moves along a ray that keep the promised count, captures included. It takes no memory: the search has room for each of the
+/// kept sets.
+pub fn first_moves(
+    solved: &Solved,
+    search: &mut Search,
+    frame: Frame,
+    man: u8,
+    ray: u8,
+) -> Option<FirstLine>
+    requires turn { solved.now.position.turn ≡ solved.now.winner }
+    requires moves { 1 ≤ solved.now.moves }
+    requires mover { HasRay solved.now.position man ray }
+    requires room { HasRoom search.old solved.now }
+    ensures none { IfNone result ((distance : ℕ) → Firsts solved.now.winner solved.now.moves solved.now.position man ray distance → ⊥) }
+    ensures line { IfSome result (IsFirstLine frame solved.now.winner solved.now.moves solved.now.position man ray) }
+    ensures kept { search.new ≡ search.old }
+{
+    let position = solved.position();
+    let sets = MaskSets::new(solved.masks(), solved.kept_sets(1));
+    let aim = Aim {
+        position: &position,
+        frame,
+        sets: &sets,
+    };
+    let his = his_ray(&position, man, ray);
+    let moves = moves_along(search, &aim, his);
+    if let Few::Zero = moves.few {
+        return None;
+    }
+    Some(FirstLine {
+        man,
+        dx: his.ray.dx,
+        dy: his.ray.dy,
+        least: moves.least,
+        few: moves.few,
+    })
+}
