@@ -71,7 +71,7 @@ module _ (words : List (List ℕ)) (old new : Seen) (same : new.files ≡ old.fi
       | inl less ↦
           let P : List (List ℕ) → Type 0 = λ l. IsLineDue words files (k + 1) (text_of_lines l) in
           subst P (sym (take-append-le k t.takes.lines p.takes.lines (omega (arith, less))))
-          (line_due words old new same (Play n budget) ordered held (k + 1) (text_of_lines (take k t.takes.lines)) (t.takes.due k less))
+          (line_due words old new same (Play n budget) ordered (λ none. none) held (k + 1) (text_of_lines (take k t.takes.lines)) (t.takes.due k less))
       | inr (inl equal) ↦ later_due (omega (arith, equal))
       | inr (inr more) ↦ later_due (omega (arith, more))
     ]

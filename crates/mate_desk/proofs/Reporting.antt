@@ -16,7 +16,7 @@ use Rattle.mate_desk.specs.FaultLines.{unsound_line}
 use Rattle.mate_desk.specs.Least.{LeastReports}
 use Rattle.mate_desk.specs.Order.{Ordered, usage_line}
 use Rattle.mate_desk.specs.Outcome.{Ends, Leaves, KeepsFiles, Report, Seen, Writes, WriteFailed, of_sink, refusal_as}
-use Rattle.mate_desk.specs.Report.{LacksBehindText, MayLackMemory, OfText, OrderMayLack, Reports, ReportsOrder, TakesMemory}
+use Rattle.mate_desk.specs.Report.{LacksBehindText, MayLackMemory, OfText, OrderMayLack, ReadsNoText, Reports, ReportsOrder, TakesMemory}
 use Rattle.mate_desk.specs.Run.{Given, IsLineDue, RunEnds}
 use Rattle.mate_desk.specs.Show.{ShowReports}
 use Rattle.mate_desk.specs.Taken.{TakesLines}
@@ -24,7 +24,7 @@ use Rattle.mate_desk.specs.Text.{TextAt, whole, refused, is_end, refusal_line}
 use Rattle.mate_desk.specs.TextRead.{IsMissing, IsShort, TextRead}
 use Rattle.mate_desk.specs.Verdict.{HasNothingToPlay}
 use Rattle.mate_desk.specs.declared.order.Order.{Order}
-use Rattle.mate_desk.specs.declared.order.Order.TheVariants.{Decide, Least, Play, Show}
+use Rattle.mate_desk.specs.declared.order.Order.TheVariants.{Decide, Least, First, Play, Show, Drill}
 use Rattle.mate_desk.specs.declared.order.UsageWhy.{UsageWhy}
 use Rattle.mate_desk.specs.declared.problem.Problem.{Problem}
 use Rattle.mate_desk.specs.declared.status.Status.{Status}
@@ -54,11 +54,13 @@ same_files None = tt
 same_files (Some files) = refl
 
 -- where the text is refused, each order that reads one has that refusal
-refused_order : (order : Order) (words : List (List ℕ)) (bytes : List ℕ) (files : Files) (number : ℕ) (why : LineWhy) → TextAt bytes (refused number why) → ReportsOrder order words bytes files (refusal_as files is.Text (refusal_line number why) (is_end why))
-refused_order (Decide n budget) words bytes files number why at = (refused number why, at, refl)
-refused_order (Least limit budget) words bytes files number why at = (refused number why, at, refl)
-refused_order (Play n budget) words bytes files number why at = (refused number why, at, refl)
-refused_order Show words bytes files number why at = (refused number why, at, refl)
+refused_order : (order : Order) → (ReadsNoText order → ⊥) → (words : List (List ℕ)) (bytes : List ℕ) (files : Files) (number : ℕ) (why : LineWhy) → TextAt bytes (refused number why) → ReportsOrder order words bytes files (refusal_as files is.Text (refusal_line number why) (is_end why))
+refused_order (Decide n budget) reads words bytes files number why at = (refused number why, at, refl)
+refused_order (Least limit budget) reads words bytes files number why at = (refused number why, at, refl)
+refused_order (First n budget) reads words bytes files number why at = (refused number why, at, refl)
+refused_order (Play n budget) reads words bytes files number why at = (refused number why, at, refl)
+refused_order Show reads words bytes files number why at = (refused number why, at, refl)
+refused_order (Drill seed count) reads words bytes files number why at = absurd (reads tt)
 
 module _ (words : List (List ℕ)) (old new : Seen) (same : new.files ≡ old.files) where
   leaves : Leaves (files_of old.files) old new
@@ -85,7 +87,7 @@ module _ (words : List (List ℕ)) (old new : Seen) (same : new.files ≡ old.fi
         ends = (refusal_as (files_of old.files) is.Usage (usage_line why) false, (Err why, ordered, refl), record { reported = refl; written = wrote; files = leaves });
       }
 
-  module _ (order : Order) (ordered : Ordered words (Ok order)) (pending : List ℕ) where
+  module _ (order : Order) (ordered : Ordered words (Ok order)) (reads : ReadsNoText order → ⊥) (pending : List ℕ) where
     abbrev files : Files
     files = files_of old.files
 
@@ -95,7 +97,7 @@ module _ (words : List (List ℕ)) (old new : Seen) (same : new.files ≡ old.fi
     -- each line of the text was due
     pub line_due : (number : ℕ) (before : List ℕ) → IsMissing number before → IsLineDue words files number before
     line_due number before at =
-        (refusal_as files is.Text (refusal_line number Missing) (is_end Missing), (Ok order, ordered, refused_order order words before files number Missing at), refl)
+        (refusal_as files is.Text (refusal_line number Missing) (is_end Missing), (Ok order, ordered, refused_order order reads words before files number Missing at), refl)
 
     lines_due : (bytes : List ℕ) → TakesLines IsMissing bytes pending → TakesLines (IsLineDue words files) bytes pending
     lines_due bytes t = record {
@@ -114,7 +116,7 @@ module _ (words : List (List ℕ)) (old new : Seen) (same : new.files ≡ old.fi
           takes = (pending, lines_due t.bytes t.takes);
           ends = (
             refusal_as files is.Text (refusal_line number why) (is_end why),
-            (Ok order, ordered, refused_order order words (t.bytes ++ t.rest) files number why (subst P (sym t.takes.bytes) t.reads)),
+            (Ok order, ordered, refused_order order reads words (t.bytes ++ t.rest) files number why (subst P (sym t.takes.bytes) t.reads)),
             record { reported = refl; written = wrote; files = leaves },
           );
         }
@@ -128,7 +130,7 @@ module _ (words : List (List ℕ)) (old new : Seen) (same : new.files ≡ old.fi
           takes = (pending, lines_due t.bytes t.takes);
           ends = (
             refusal_as files is.Text (refusal_line short.number short.why) (is_end short.why),
-            (Ok order, ordered, refused_order order words t.bytes files short.number short.why short.text),
+            (Ok order, ordered, refused_order order reads words t.bytes files short.number short.why short.text),
             record { failed = failed; short = short.short; written = wrote; files = keeps },
           );
         }
@@ -159,11 +161,13 @@ module _ (words : List (List ℕ)) (old new : Seen) (same : new.files ≡ old.fi
             few = t.takes.few;
           }
 
-      unsound_order : (o : Order) (why : Unsound) → IsFirstUnsoundness problem.position why → ReportsOrder o words (t.bytes ++ t.rest) files (refusal_as files is.Unsound (unsound_line why) false)
-      unsound_order (Decide n budget) why fault = (whole problem (lines_of (pending ++ t.rest)), is_whole, inl (why, fault, refl))
-      unsound_order (Least limit budget) why fault = (whole problem (lines_of (pending ++ t.rest)), is_whole, inl (why, fault, refl))
-      unsound_order (Play n budget) why fault = (whole problem (lines_of (pending ++ t.rest)), is_whole, inl (why, fault, refl))
-      unsound_order Show why fault = (whole problem (lines_of (pending ++ t.rest)), is_whole, inl (why, fault, refl))
+      unsound_order : (o : Order) → (ReadsNoText o → ⊥) → (why : Unsound) → IsFirstUnsoundness problem.position why → ReportsOrder o words (t.bytes ++ t.rest) files (refusal_as files is.Unsound (unsound_line why) false)
+      unsound_order (Decide n budget) some why fault = (whole problem (lines_of (pending ++ t.rest)), is_whole, inl (why, fault, refl))
+      unsound_order (Least limit budget) some why fault = (whole problem (lines_of (pending ++ t.rest)), is_whole, inl (why, fault, refl))
+      unsound_order (First n budget) some why fault = (whole problem (lines_of (pending ++ t.rest)), is_whole, inl (why, fault, refl))
+      unsound_order (Play n budget) some why fault = (whole problem (lines_of (pending ++ t.rest)), is_whole, inl (why, fault, refl))
+      unsound_order Show some why fault = (whole problem (lines_of (pending ++ t.rest)), is_whole, inl (why, fault, refl))
+      unsound_order (Drill seed count) some why fault = absurd (some tt)
 
       pub unsound_ends : (why : Unsound) → IsFirstUnsoundness problem.position why → Writes [] (unsound_line why) old.written new.written (WriteFailed old new) → RunEnds words is.Unsound old new
       unsound_ends why fault wrote = record {
@@ -171,7 +175,7 @@ module _ (words : List (List ℕ)) (old new : Seen) (same : new.files ≡ old.fi
         takes = (pending, lines_due t.bytes t.takes);
         ends = (
           refusal_as files is.Unsound (unsound_line why) false,
-          (Ok order, ordered, unsound_order order why fault),
+          (Ok order, ordered, unsound_order order reads why fault),
           record { reported = refl; written = wrote; files = leaves },
         );
       }
@@ -208,21 +212,21 @@ module _ (words : List (List ℕ)) (old new : Seen) (same : new.files ≡ old.fi
   decide_ends n budget ordered ends =
       let order = Decide n budget in
       let files = files_of old.files in
-      command_ends words old new same order ordered pending problem t (DecideReports n budget problem files) (¬ HasNothingToPlay n problem)
-      (of_problem words old new same order ordered pending problem t (λ r rest. DecideReports n budget r files) sound)
-      (lacks_behind words old new same order ordered pending problem t (TakesMemory order) sound) status (ends files)
+      command_ends words old new same order ordered (λ none. none) pending problem t (DecideReports n budget problem files) (¬ HasNothingToPlay n problem)
+      (of_problem words old new same order ordered (λ none. none) pending problem t (λ r rest. DecideReports n budget r files) sound)
+      (lacks_behind words old new same order ordered (λ none. none) pending problem t (TakesMemory order) sound) status (ends files)
 
   pub least_ends : (limit budget : ℕ) → Ordered words (Ok (Least limit budget)) → EndsWithSink (LeastReports limit budget problem) (¬ HasNothingToPlay limit problem) → RunEnds words status old new
   least_ends limit budget ordered ends =
       let order = Least limit budget in
       let files = files_of old.files in
-      command_ends words old new same order ordered pending problem t (LeastReports limit budget problem files) (¬ HasNothingToPlay limit problem)
-      (of_problem words old new same order ordered pending problem t (λ r rest. LeastReports limit budget r files) sound)
-      (lacks_behind words old new same order ordered pending problem t (TakesMemory order) sound) status (ends files)
+      command_ends words old new same order ordered (λ none. none) pending problem t (LeastReports limit budget problem files) (¬ HasNothingToPlay limit problem)
+      (of_problem words old new same order ordered (λ none. none) pending problem t (λ r rest. LeastReports limit budget r files) sound)
+      (lacks_behind words old new same order ordered (λ none. none) pending problem t (TakesMemory order) sound) status (ends files)
 
   pub show_ends : Ordered words (Ok Show) → EndsWithSink (ShowReports problem.position) (Unit {0}) → RunEnds words status old new
   show_ends ordered ends =
       let files = files_of old.files in
-      command_ends words old new same Show ordered pending problem t (ShowReports problem.position files) (Unit {0})
-      (of_problem words old new same Show ordered pending problem t (λ r rest. ShowReports r.position files) sound)
-      (lacks_behind words old new same Show ordered pending problem t (TakesMemory Show) sound) status (ends files)
+      command_ends words old new same Show ordered (λ none. none) pending problem t (ShowReports problem.position files) (Unit {0})
+      (of_problem words old new same Show ordered (λ none. none) pending problem t (λ r rest. ShowReports r.position files) sound)
+      (lacks_behind words old new same Show ordered (λ none. none) pending problem t (TakesMemory Show) sound) status (ends files)

@@ -100,6 +100,8 @@ pub fn run<S: Source, K: Sink, H: Shelf>(
             };
             play(alloc, &task, &mut reader, source, sink)
         }
+        Order::First { .. } => unreachable!(),
         Order::Show => show(alloc, &problem.position, sink),
+        Order::Drill { .. } => unreachable!(),
     }
 }
