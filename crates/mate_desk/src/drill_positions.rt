@@ -20,6 +20,7 @@ const CASES: u64 = 8;
 const OFFSETS: u64 = 4096;
 
 /// A linear congruential generator.
+#[derive(Drop)]
 pub struct Generator {
     pub state: u64,
 }
@@ -40,12 +41,12 @@ impl Generator {
 
 /// How far the board is moved, to the right and up.
 #[derive(Clone, Copy)]
-struct Offset {
+struct Displacement {
     x: i16,
     y: i16,
 }
 
-impl Offset {
+impl Displacement {
     /// Where the square goes.
     fn moved(self, x: i8, y: i8) -> Place
         ensures { result ≡ mapped_place (shift self.x self.y) (places.At x y) }
@@ -62,7 +63,7 @@ pub fn problem_of(state: u64) -> Problem
     ensures { result ≡ specs.problem_of state }
 {
     let case = state % CASES;
-    let by = Offset {
+    let by = Displacement {
         x: offset(state >> 16),
         y: offset(state >> 32),
     };
@@ -96,7 +97,7 @@ fn offset(bits: u64) -> i16
 }
 
 /// Where White's king stands.
-fn white_king(case: u64, by: Offset) -> Place
+fn white_king(case: u64, by: Displacement) -> Place
     ensures { result ≡ mapped_place (shift by.x by.y) (specs.white_king case) }
 {
     match case {
@@ -106,7 +107,7 @@ fn white_king(case: u64, by: Offset) -> Place
 }
 
 /// Where White's first rook stands.
-fn first_rook(case: u64, by: Offset) -> Place
+fn first_rook(case: u64, by: Displacement) -> Place
     ensures { result ≡ mapped_place (shift by.x by.y) (specs.first_rook case) }
 {
     match case {
@@ -118,7 +119,7 @@ fn first_rook(case: u64, by: Offset) -> Place
 }
 
 /// Where White's second rook stands.
-fn second_rook(case: u64, by: Offset) -> Place
+fn second_rook(case: u64, by: Displacement) -> Place
     ensures { result ≡ mapped_place (shift by.x by.y) (specs.second_rook case) }
 {
     match case {

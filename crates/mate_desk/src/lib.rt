@@ -6,6 +6,7 @@
 
 mod decide;
 mod desk;
+mod drill;
 mod drill_positions;
 mod fault_line;
 pub mod laws;
