@@ -46,9 +46,8 @@ fn count_mates(alloc: Global, seed: u64, count: u8) -> Result<u8, SolveError>
     let mut mates = 0;
     for _number in 0..count {
         let problem = problem_of(generator.next());
-        if is_mate_in_one(alloc, &problem)? {
-            mates += 1;
-        }
+        let won = is_mate_in_one(alloc, &problem)?;
+        mates += u8::from(won);
     }
     Ok(mates)
 }
