@@ -1,5 +1,5 @@
 -- How a run ends, from how its parts do.
-use Rattle.std.proofs.Common.{◌≡◌, ◌+◌, ◌++◌, ℕ, List, [], take, Option, Some, None, IfSome, Result, Ok, Err, false, inl, inr, refl, sym, ap, ◌∙◌, subst, append_assoc, arith}
+use Rattle.std.proofs.Common.{◌≡◌, ◌+◌, ◌++◌, ℕ, List, [], length, take, Option, Some, None, IfSome, Result, Ok, Err, false, inl, inr, refl, sym, ap, ◌∙◌, subst, append_assoc, arith}
 use Rattle.std.specs.Prelude.{codes, unwrap_or}
 use Rattle.std.specs.Io.KnownBytes.{Consumes}
 use Rattle.std.proofs.KnownBytes.{Consumes-nil}
@@ -11,15 +11,16 @@ use Rattle.game_rules.specs.Game.{Sound}
 use Rattle.chess_game.specs.Unsoundness.{IsFirstUnsoundness}
 use Rattle.chess_game.specs.declared.unsoundness.Unsound.{Unsound}
 use Rattle.chess_text.specs.PositionText.{text_of_lines}
+use Rattle.game_report.specs.Taken.{TakesLines}
 use Rattle.mate_desk.specs.Decide.{DecideReports}
+use Rattle.mate_desk.specs.Drill.{DrillReports}
 use Rattle.mate_desk.specs.FaultLines.{unsound_line}
 use Rattle.mate_desk.specs.Least.{LeastReports}
 use Rattle.mate_desk.specs.Order.{Ordered, usage_line}
-use Rattle.mate_desk.specs.Outcome.{Ends, Leaves, KeepsFiles, Report, Seen, Writes, WriteFailed, of_sink, refusal_as}
-use Rattle.mate_desk.specs.Report.{LacksBehindText, MayLackMemory, OfText, OrderMayLack, ReadsNoText, Reports, ReportsOrder, TakesMemory}
-use Rattle.mate_desk.specs.Run.{Given, IsLineDue, RunEnds}
+use Rattle.mate_desk.specs.Outcome.{Ends, Leaves, KeepsFiles, NeverMisses, Report, Seen, Writes, WriteFailed, of_sink, refusal_as}
+use Rattle.mate_desk.specs.Report.{LacksBehindText, MayLackMemory, MayMissShelf, OfText, OrderMayLack, ReadsNoText, Reports, ReportsOrder, TakesMemory}
+use Rattle.mate_desk.specs.Run.{Given, IsLineDue, RunEnds, Takes, reported_on}
 use Rattle.mate_desk.specs.Show.{ShowReports}
-use Rattle.mate_desk.specs.Taken.{TakesLines}
 use Rattle.mate_desk.specs.Text.{TextAt, whole, refused, is_end, refusal_line}
 use Rattle.mate_desk.specs.TextRead.{IsMissing, IsShort, TextRead}
 use Rattle.mate_desk.specs.Verdict.{HasNothingToPlay}
@@ -62,6 +63,24 @@ refused_order (Play n budget) reads words bytes files number why at = (refused n
 refused_order Show reads words bytes files number why at = (refused number why, at, refl)
 refused_order (Drill seed count) reads words bytes files number why at = absurd (reads tt)
 
+-- no line is taken
+no_lines : (IsDue : List (List ℕ) → Type 0) → TakesLines IsDue [] []
+no_lines IsDue = record { lines = []; are_lines = λ k d below. absurd (omega arith); due = λ k below. absurd (omega arith); bytes = refl; few = omega arith }
+
+takes_nothing : (words : List (List ℕ)) (files : Files) (status : Status) → Takes words files status []
+takes_nothing words files is.Usage = refl
+takes_nothing words files is.Done = ([], no_lines (IsLineDue words files))
+takes_nothing words files is.Text = ([], no_lines (IsLineDue words files))
+takes_nothing words files is.Unsound = ([], no_lines (IsLineDue words files))
+takes_nothing words files is.ReadFault = ([], no_lines (IsLineDue words files))
+takes_nothing words files is.WriteFault = ([], no_lines (IsLineDue words files))
+takes_nothing words files is.ShelfFault = ([], no_lines (IsLineDue words files))
+takes_nothing words files is.Budget = ([], no_lines (IsLineDue words files))
+takes_nothing words files is.Wide = ([], no_lines (IsLineDue words files))
+takes_nothing words files is.Memory = ([], no_lines (IsLineDue words files))
+takes_nothing words files is.Ended = ([], no_lines (IsLineDue words files))
+takes_nothing words files is.TooMany = ([], no_lines (IsLineDue words files))
+
 module _ (words : List (List ℕ)) (old new : Seen) (same : new.files ≡ old.files) where
   leaves : Leaves (files_of old.files) old new
   leaves = let P : Option Files → Type 0 = λ f. Go old.files f (λ before after. after ≡ files_of old.files) in subst P (sym same) (left_files old.files)
@@ -69,22 +88,42 @@ module _ (words : List (List ℕ)) (old new : Seen) (same : new.files ≡ old.fi
   keeps : KeepsFiles old new
   keeps = let P : Option Files → Type 0 = λ f. Go old.files f (λ before after. after ≡ before) in subst P (sym same) (same_files old.files)
 
-  -- the words are no order
-  pub usage_ends : (why : UsageWhy) → Ordered words (Err why) → new.left ≡ old.left → Writes [] (usage_line why) old.written new.written (WriteFailed old new) → RunEnds words is.Usage old new
-  usage_ends why ordered left wrote =
+  -- nothing was taken
+  abbrev given_nothing : new.left ≡ old.left → Given old new
+  given_nothing left =
       let P : Option (List ℕ) → Type 0 = λ l. IfSome l (λ told. told ≡ unwrap_or old.left []) in
       let C : Option (List ℕ) → Type 0 = λ l. Consumes old.left l [] in
       record {
-        given = record {
-          taken = [];
-          rest = unwrap_or old.left [];
-          files = files_of old.files;
-          consumed = subst C (sym left) (Consumes-nil old.left);
-          left = subst P (sym left) (known_rest old.left);
-          kept = known_files old.files;
-        };
-        takes = refl;
-        ends = (refusal_as (files_of old.files) is.Usage (usage_line why) false, (Err why, ordered, refl), record { reported = refl; written = wrote; files = leaves });
+        taken = [];
+        rest = unwrap_or old.left [];
+        files = files_of old.files;
+        consumed = subst C (sym left) (Consumes-nil old.left);
+        left = subst P (sym left) (known_rest old.left);
+        kept = known_files old.files;
+      }
+
+  -- the words are no order
+  pub usage_ends : (why : UsageWhy) → Ordered words (Err why) → new.left ≡ old.left → Writes [] (usage_line why) old.written new.written (WriteFailed old new) → RunEnds words is.Usage old new
+  usage_ends why ordered left wrote = record {
+    given = given_nothing left;
+    takes = refl;
+    ends = (refusal_as (files_of old.files) is.Usage (usage_line why) false, (Err why, ordered, refl), record { reported = refl; written = wrote; files = leaves });
+  }
+
+  -- a command that reads no text has the sink alone
+  pub drill_ends : (seed count : ℕ) (status : Status) → Ordered words (Ok (Drill seed count)) → new.left ≡ old.left
+      → ((files : Files) → Ends status (DrillReports seed count files) (0 < count) NeverMisses (of_sink files old.written old.write_faults) (of_sink files new.written new.write_faults))
+      → RunEnds words status old new
+  drill_ends seed count status ordered left ends =
+      let files = files_of old.files in
+      let bytes = reported_on status [] (unwrap_or old.left []) in
+      record {
+        given = given_nothing left;
+        takes = takes_nothing words files status;
+        ends =
+            ends_as status (DrillReports seed count files) (λ report. Reports words bytes files report) (0 < count) (MayLackMemory words []) NeverMisses (MayMissShelf words []) old new
+            (λ report right. (Ok (Drill seed count), ordered, right)) (λ some. (Drill seed count, ordered, (refl, some))) (λ keeping never. absurd never)
+            (at_sink files old new (known_files old.files) same status (DrillReports seed count files) (0 < count) (ends files));
       }
 
   module _ (order : Order) (ordered : Ordered words (Ok order)) (reads : ReadsNoText order → ⊥) (pending : List ℕ) where
@@ -95,15 +134,16 @@ module _ (words : List (List ℕ)) (old new : Seen) (same : new.files ≡ old.fi
     given_text answer t = record { taken = t.bytes; rest = t.rest; files = files; consumed = t.taken; left = t.left; kept = known_files old.files }
 
     -- each line of the text was due
-    pub line_due : (number : ℕ) (before : List ℕ) → IsMissing number before → IsLineDue words files number before
-    line_due number before at =
-        (refusal_as files is.Text (refusal_line number Missing) (is_end Missing), (Ok order, ordered, refused_order order reads words before files number Missing at), refl)
+    pub line_due : (before : List (List ℕ)) → IsMissing before → IsLineDue words files before
+    line_due before at =
+        let number = length before + 1 in
+        (refusal_as files is.Text (refusal_line number Missing) (is_end Missing), (Ok order, ordered, refused_order order reads words (text_of_lines before) files number Missing at), refl)
 
     lines_due : (bytes : List ℕ) → TakesLines IsMissing bytes pending → TakesLines (IsLineDue words files) bytes pending
     lines_due bytes t = record {
       lines = t.lines;
       are_lines = t.are_lines;
-      due = λ k below. line_due (k + 1) (text_of_lines (take k t.lines)) (t.due k below);
+      due = λ k below. line_due (take k t.lines) (t.due k below);
       bytes = t.bytes;
       few = t.few;
     }
@@ -182,13 +222,14 @@ module _ (words : List (List ℕ)) (old new : Seen) (same : new.files ≡ old.fi
 
       -- the run ends as its command does, which has the sink alone
       module _ (reports : Report → Type 0) (may_lack : Type 0) (says : (report : Report) → reports report → ReportsOrder order words (t.bytes ++ t.rest) files report) (lacks : may_lack → OrderMayLack order t.bytes) where
-        ended_as : (status : Status) → Ends status reports may_lack (of_sink files old.written old.write_faults) (of_sink files new.written new.write_faults) → Ends status (λ report. Reports words (t.bytes ++ t.rest) files report) (MayLackMemory words t.bytes) old new
+        ended_as : (status : Status) → Ends status reports may_lack NeverMisses (of_sink files old.written old.write_faults) (of_sink files new.written new.write_faults)
+            → Ends status (λ report. Reports words (t.bytes ++ t.rest) files report) (MayLackMemory words t.bytes) (MayMissShelf words t.bytes) old new
         ended_as status ends =
-            ends_as status reports (λ report. Reports words (t.bytes ++ t.rest) files report) may_lack (MayLackMemory words t.bytes) old new
-            (λ report right. (Ok order, ordered, says report right)) (λ lack. (order, ordered, lacks lack))
+            ends_as status reports (λ report. Reports words (t.bytes ++ t.rest) files report) may_lack (MayLackMemory words t.bytes) NeverMisses (MayMissShelf words t.bytes) old new
+            (λ report right. (Ok order, ordered, says report right)) (λ lack. (order, ordered, lacks lack)) (λ keeping never. absurd never)
             (at_sink files old new (known_files old.files) same status reports may_lack ends)
 
-        pub command_ends : (status : Status) → Ends status reports may_lack (of_sink files old.written old.write_faults) (of_sink files new.written new.write_faults) → RunEnds words status old new
+        pub command_ends : (status : Status) → Ends status reports may_lack NeverMisses (of_sink files old.written old.write_faults) (of_sink files new.written new.write_faults) → RunEnds words status old new
         command_ends is.Done ends = record { given = given_text (Ok problem) t; takes = (pending, lines_due t.bytes t.takes); ends = ended_as is.Done ends }
         command_ends is.Text ends = record { given = given_text (Ok problem) t; takes = (pending, lines_due t.bytes t.takes); ends = ended_as is.Text ends }
         command_ends is.Unsound ends = record { given = given_text (Ok problem) t; takes = (pending, lines_due t.bytes t.takes); ends = ended_as is.Unsound ends }
@@ -202,11 +243,12 @@ module _ (words : List (List ℕ)) (old new : Seen) (same : new.files ≡ old.fi
         command_ends is.Usage ends =
             absurd (order_status order words (t.bytes ++ t.rest) files ends.0 (says ends.0 ends.1) (sym ends.2.reported))
         command_ends is.ReadFault ends = absurd (omega (arith, ends.2.failed))
+        command_ends is.ShelfFault ends = absurd ends.1
 
 -- so it is with each command
 module _ (words : List (List ℕ)) (old new : Seen) (same : new.files ≡ old.files) (pending : List ℕ) (problem : Problem) (t : TextRead (Ok problem) pending old.left new.left) (sound : Sound problem.position) (status : Status) where
   abbrev EndsWithSink : (Files → Report → Type 0) → Type 0 → Type 0
-  EndsWithSink reports may_lack = (files : Files) → Ends status (reports files) may_lack (of_sink files old.written old.write_faults) (of_sink files new.written new.write_faults)
+  EndsWithSink reports may_lack = (files : Files) → Ends status (reports files) may_lack NeverMisses (of_sink files old.written old.write_faults) (of_sink files new.written new.write_faults)
 
   pub decide_ends : (n budget : ℕ) → Ordered words (Ok (Decide n budget)) → EndsWithSink (DecideReports n budget problem) (¬ HasNothingToPlay n problem) → RunEnds words status old new
   decide_ends n budget ordered ends =

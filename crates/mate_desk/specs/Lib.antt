@@ -10,7 +10,6 @@ pub mod Play
 pub mod Report
 pub mod Run
 pub mod Show
-pub mod Taken
 pub mod Text
 pub mod TextRead
 pub mod Verdict

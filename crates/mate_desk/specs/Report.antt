@@ -1,5 +1,5 @@
 -- What a run reports.
-use Rattle.std.specs.Prelude.{◌≡◌, ◌⊎◌, ℕ, ◌<◌, ◌≤◌, List, [], ◌++◌, length, false, Result, Ok, Err}
+use Rattle.std.specs.Prelude.{◌≡◌, ◌⊎◌, ℕ, ◌<◌, ◌≤◌, List, [], ◌++◌, length, false, Option, Result, Ok, Err}
 use Rattle.desk_base.specs.Files.{Files}
 use Rattle.desk_base.specs.Lines.{Lines, ended}
 use Rattle.game_rules.specs.Game.{Position, Sound}
@@ -10,7 +10,7 @@ use Rattle.mate_desk.specs.Drill.{DrillReports, IsDrilled}
 use Rattle.mate_desk.specs.FaultLines.{unsound_line}
 use Rattle.mate_desk.specs.Least.{LeastReports}
 use Rattle.mate_desk.specs.Order.{Ordered, usage_line}
-use Rattle.mate_desk.specs.Outcome.{Report, refusal_as}
+use Rattle.mate_desk.specs.Outcome.{NeverMisses, Report, refusal_as}
 use Rattle.mate_desk.specs.Play.{PlayReports}
 use Rattle.mate_desk.specs.Show.{ShowReports}
 use Rattle.mate_desk.specs.Text.{Text, TextAt, whole, refused, is_end, refusal_line}
@@ -86,6 +86,19 @@ OrderMayLack (orders.Drill seed count) taken = (taken ≡ []) × (0 < count)
 -- the words are an order, and memory may be wanting after these bytes were taken
 abbrev pub MayLackMemory : List (List ℕ) → (taken : List ℕ) → Type 0
 MayLackMemory words taken = (order : Order) × Ordered words (Ok order) × OrderMayLack order taken
+
+-- where the shelf may fail while the file of this name, or none, is being kept, by the order, its words and the bytes that were taken
+abbrev pub OrderMayMiss : Order → (words : List (List ℕ)) → (taken : List ℕ) → (keeping : Option (List ℕ)) → Type 0
+OrderMayMiss (orders.Decide n budget) words taken = NeverMisses
+OrderMayMiss (orders.Least limit budget) words taken = NeverMisses
+OrderMayMiss (orders.First n budget) words taken = NeverMisses
+OrderMayMiss (orders.Play n budget) words taken = NeverMisses
+OrderMayMiss orders.Show words taken = NeverMisses
+OrderMayMiss (orders.Drill seed count) words taken = NeverMisses
+
+-- the words are an order, and the shelf may fail so after these bytes were taken
+abbrev pub MayMissShelf : List (List ℕ) → (taken : List ℕ) → (keeping : Option (List ℕ)) → Type 0
+MayMissShelf words taken keeping = (order : Order) × Ordered words (Ok order) × OrderMayMiss order words taken keeping
 
 -- the order uses no file
 abbrev pub UsesNoShelf : Order → Type 0

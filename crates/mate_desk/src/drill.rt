@@ -7,7 +7,7 @@ ghost use Rattle.winning_sets.specs.declared.names.StepName.{StepName};
 ghost use Rattle.mate_desk.specs.Drill.{DrillFinds, DrillReports, DrillStops};
 ghost use Rattle.mate_desk.specs.Drill as specs;
 ghost use Rattle.mate_desk.specs.Order.{default_budget};
-ghost use Rattle.mate_desk.specs.Outcome.{Ends, of_sink};
+ghost use Rattle.mate_desk.specs.Outcome.{Ends, NeverMisses, of_sink};
 ghost use Rattle.mate_desk.specs.Verdict.{ExceedsAt, FitsBudget};
 
 use crate::drill_positions::{Generator, problem_of};
@@ -24,7 +24,7 @@ use winning_sets::{SolveError, Solver};
 /// Writes from how many of so many positions, which follow from the seed, White mates in one move.
 pub fn drill<K: Sink>(alloc: Global, seed: u64, count: u8, sink: &mut K) -> Status
     ensures ends { (files : Files) →
-        Ends result (DrillReports seed count files) (0 < count)
+        Ends result (DrillReports seed count files) (0 < count) NeverMisses
         (of_sink files (K.written sink.old) (K.faults sink.old)) (of_sink files (K.written sink.new) (K.faults sink.new)) }
 {
     match count_mates(alloc, seed, count) {
