@@ -69,7 +69,7 @@ module _ (words : List (List ℕ)) (old new : Seen) (same : new.files ≡ old.fi
     line_was_due k below = elim (number_cases k (length t.takes.lines)) [
       | inl less ↦
           subst (IsLineDue words files) (sym (take-append-le k t.takes.lines p.takes.lines (omega (arith, less))))
-          (line_due words old new same (Play n budget) ordered held (take k t.takes.lines) (t.takes.due k less))
+          (line_due words old new same (Play n budget) ordered (λ none. none) held (take k t.takes.lines) (t.takes.due k less))
       | inr (inl equal) ↦ later_due (omega (arith, equal))
       | inr (inr more) ↦ later_due (omega (arith, more))
     ]

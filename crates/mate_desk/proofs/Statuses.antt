@@ -1,5 +1,5 @@
 -- What the status of a run says of its words.
-use Rattle.std.proofs.Common.{◌≡◌, ◌≢◌, ◌↔◌, ℕ, List, [], length, Option, Result, Ok, Err, false, inl, inr, sym, ◌∙◌, ap, subst, arith}
+use Rattle.std.proofs.Common.{◌≡◌, ◌≢◌, ◌↔◌, ℕ, List, [], length, Option, Result, Ok, Err, false, inl, inr, sym, ◌∙◌, ap, subst, refl, arith}
 use Rattle.std.specs.Prelude.{IfOk}
 use Rattle.desk_base.specs.Files.{Files}
 use Rattle.desk_base.specs.Lines.{Lines}
@@ -7,22 +7,24 @@ use Rattle.game_rules.specs.Game.{Position, Sound}
 use Rattle.game_report.specs.declared.play.Ending.{Ending}
 use Rattle.game_report.specs.declared.play.Ending.TheVariants.{Mated, Wide, Quit, NoLine, Many, CutAt, LongAt}
 use Rattle.mate_desk.specs.Decide.{DecideReports}
+use Rattle.mate_desk.specs.Drill.{DrillReports, drilled, state_after}
 use Rattle.mate_desk.specs.Laws.{FaultsAreCounted, MemoryLast, NoShelfFault, UsageExactly}
 use Rattle.mate_desk.specs.Least.{LeastReports}
 use Rattle.mate_desk.specs.Order.{Ordered, usage_line}
 use Rattle.mate_desk.specs.Outcome.{Ends, Report, Seen, refusal_as}
 use Rattle.mate_desk.specs.Play.{PlayReports, status_of}
-use Rattle.mate_desk.specs.Report.{LacksBehindText, OfRead, OfSound, OfText, OrderMayLack, OrderMayMiss, Reports, ReportsOrder, ReportsWords, TakesMemory, UsesNoShelf}
+use Rattle.mate_desk.specs.Report.{LacksBehindText, OfRead, OfSound, OfText, OrderMayLack, OrderMayMiss, ReadsNoText, Reports, ReportsOrder, ReportsWords, TakesMemory, UsesNoShelf}
 use Rattle.mate_desk.specs.Run.{RunEnds}
 use Rattle.mate_desk.specs.Show.{ShowReports}
 use Rattle.mate_desk.specs.Text.{Text, whole, refused}
 use Rattle.mate_desk.specs.declared.order.Order.{Order}
-use Rattle.mate_desk.specs.declared.order.Order.TheVariants.{Decide, Least, Play, Show}
+use Rattle.mate_desk.specs.declared.order.Order.TheVariants.{Decide, Least, First, Play, Show, Drill}
 use Rattle.mate_desk.specs.declared.order.UsageWhy.{UsageWhy}
 use Rattle.mate_desk.specs.declared.problem.Problem.{Problem}
 use Rattle.mate_desk.specs.declared.status.Status.{Status}
 use Rattle.mate_desk.specs.declared.status.Status.TheVariants as is
 use Rattle.mate_desk.proofs.OneReport.{once_words}
+use Rattle.mate_desk.proofs.Rooks.{drill_sound}
 
 -- what is reported of an order has another status than words that are none
 abbrev pub IsNotUsage : Report → Type 0
@@ -57,6 +59,10 @@ play_status n budget problem lines files report (inr (fits, inr (value, (played,
 pub show_status : (p : Position) (files : Files) (report : Report) → ShowReports p files report → IsNotUsage report
 show_status p files report (text, shown, is') = other_status report _ is' (λ e. absurd (cc))
 
+pub drill_status : (seed count : ℕ) (files : Files) (report : Report) → DrillReports seed count files report → IsNotUsage report
+drill_status seed count files report (inl (step, stops, is')) = other_status report _ is' (λ e. absurd (cc))
+drill_status seed count files report (inr (mates, finds, is')) = other_status report _ is' (λ e. absurd (cc))
+
 -- so its run has
 pub not_usage : (status : Status) (reports : Report → Type 0) (may_lack : Type 0) (may_miss : Option (List ℕ) → Type 0) (old new : Seen) → ((report : Report) → reports report → IsNotUsage report)
     → Ends status reports may_lack may_miss old new → status ≢ is.Usage
@@ -82,14 +88,31 @@ order_status (Decide n budget) words bytes files report =
     text_status (λ problem rest. DecideReports n budget problem files) files report (λ problem rest. decide_status n budget problem files report) bytes
 order_status (Least limit budget) words bytes files report =
     text_status (λ problem rest. LeastReports limit budget problem files) files report (λ problem rest. least_status limit budget problem files report) bytes
+order_status (First n budget) words bytes files report = text_status (λ problem rest report. ⊥) files report (λ problem rest none. absurd none) bytes
 order_status (Play n budget) words bytes files report =
     text_status (λ problem rest. PlayReports n budget problem rest files) files report (λ problem rest. play_status n budget problem rest files report) bytes
 order_status Show words bytes files report =
     text_status (λ problem rest. ShowReports problem.position files) files report (λ problem rest. show_status problem.position files report) bytes
+order_status (Drill seed count) words bytes files report = drill_status seed count files report
 
 pub words_status : (words : List (List ℕ)) (files : Files) (answer : Result Order UsageWhy) (bytes : List ℕ) (report : Report) → Ordered words answer → ReportsWords answer words bytes files report → report.status ≡ is.Usage → (why : UsageWhy) × Ordered words (Err why)
 words_status words files (Err why) bytes report ordered reports same = (why, ordered)
 words_status words files (Ok order) bytes report ordered reports same = absurd (order_status order words bytes files report reports same)
+
+-- each order but a drill is of a text
+pub reads_text : (order : Order) → ((seed count : ℕ) → order ≡ Drill seed count → ⊥) → ReadsNoText order → ⊥
+reads_text (Decide n budget) not none = none
+reads_text (Least limit budget) not none = none
+reads_text (First n budget) not none = none
+reads_text (Play n budget) not none = none
+reads_text Show not none = none
+reads_text (Drill seed count) not none = not seed count refl
+
+-- words that are an order of a text are no order of none
+pub no_textless : (words : List (List ℕ)) (order : Order) → Ordered words (Ok order) → (ReadsNoText order → ⊥) → (other : Order) → Ordered words (Ok other) → ReadsNoText other → ⊥
+no_textless words order ordered reads other also none =
+    let same : order ≡ other = let e = once_words (Ok order) (Ok other) words ordered also in cc in
+    reads (subst ReadsNoText (sym same) none)
 
 -- of words that are no order one thing is reported
 usage_reported : (words : List (List ℕ)) (files : Files) (bytes : List ℕ) (report : Report) (why : UsageWhy) → Ordered words (Err why) → Reports words bytes files report → report ≡ refusal_as files is.Usage (usage_line why) false
@@ -139,8 +162,11 @@ behind_text words order takes taken more ordered lack = (order, lack.problem, or
 order_lacks : (words : List (List ℕ)) (order : Order) (taken : List ℕ) → Ordered words (Ok order) → OrderMayLack order taken → (o : Order) × (problem : Problem) × Ordered words (Ok o) × Sound problem.position × TakesMemory o problem
 order_lacks words (Decide n budget) taken ordered lack = behind_text words (Decide n budget) _ taken (λ problem takes. takes) ordered lack
 order_lacks words (Least limit budget) taken ordered lack = behind_text words (Least limit budget) _ taken (λ problem takes. takes) ordered lack
+order_lacks words (First n budget) taken ordered lack = behind_text words (First n budget) _ taken (λ problem takes. takes) ordered lack
 order_lacks words (Play n budget) taken ordered lack = behind_text words (Play n budget) _ taken (λ problem takes. takes) ordered lack
 order_lacks words Show taken ordered lack = behind_text words Show _ taken (λ problem takes. takes) ordered lack
+order_lacks words (Drill seed count) taken ordered lack =
+    (Drill seed count, drilled seed 0, ordered, drill_sound (state_after seed 1), (0, lack.1, refl))
 
 pub memory_last : MemoryLast
 memory_last words old new run = let lack = run.ends.0 in order_lacks words lack.0 run.given.taken lack.1 lack.2
@@ -148,8 +174,10 @@ memory_last words old new run = let lack = run.ends.0 in order_lacks words lack.
 order_misses : (order : Order) (words : List (List ℕ)) (taken : List ℕ) (keeping : Option (List ℕ)) → UsesNoShelf order → OrderMayMiss order words taken keeping → ⊥
 order_misses (Decide n budget) words taken keeping none misses = misses
 order_misses (Least limit budget) words taken keeping none misses = misses
+order_misses (First n budget) words taken keeping none misses = misses
 order_misses (Play n budget) words taken keeping none misses = misses
 order_misses Show words taken keeping none misses = misses
+order_misses (Drill seed count) words taken keeping none misses = misses
 
 pub no_shelf_fault : NoShelfFault
 no_shelf_fault words order status old new ordered none run same =
