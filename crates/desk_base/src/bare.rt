@@ -32,6 +32,13 @@ impl BareShelf {
     {
         BareShelf { faults: 0 }
     }
+
+    /// How often it has failed.
+    pub fn faults(self) -> u64
+        ensures { result ≡ self }
+    {
+        self.faults
+    }
 }
 
 impl Shelf for BareShelf {

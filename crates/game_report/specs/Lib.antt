@@ -1,4 +1,5 @@
 pub mod Laws
 pub mod Played
 pub mod Report
+pub mod Taken
 pub mod Turns

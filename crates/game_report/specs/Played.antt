@@ -1,8 +1,7 @@
 -- How a game that is played ends, and what it takes of its input and gives to its output.
-use Rattle.std.specs.Prelude.{◌≡◌, ◌⊎◌, ℕ, ◌<◌, ◌≤◌, List, [], ◌∷◌, ◌++◌, length, take, Bool, true, false, Option, IfSome, IsTrue, Result, Ok, Err}
-use Rattle.std.specs.List.{All}
+use Rattle.std.specs.Prelude.{◌≡◌, ◌⊎◌, ℕ, List, ◌++◌, Bool, true, false, Option, IfSome, IsTrue, Result, Ok, Err}
 use Rattle.std.specs.Io.KnownBytes.{Appends, Consumes}
-use Rattle.desk_base.specs.Lines.{IsLine, Lines, ended, lines_of}
+use Rattle.desk_base.specs.Lines.{ended, lines_of}
 use Rattle.desk_base.specs.Moves.{AppendsFront}
 use Rattle.game_rules.specs.Game.{Legal, other}
 use Rattle.chess_game.specs.declared.moves.Move.{Move}
@@ -10,6 +9,7 @@ use Rattle.chess_text.specs.PositionText.{text_of_lines}
 use Rattle.game_session.specs.Choice.{target}
 use Rattle.game_report.specs.Laws.{last_game}
 use Rattle.game_report.specs.Report.{IsReport, Match, Report, moved}
+use Rattle.game_report.specs.Taken.{TakesLines}
 use Rattle.game_report.specs.declared.play.Ending.{Ending}
 use Rattle.game_report.specs.declared.play.Ending.TheVariants.{Mated, Wide, Quit, NoLine, Many, CutAt, LongAt}
 use Rattle.game_report.specs.declared.play.GameError.{GameError}
@@ -34,14 +34,6 @@ is_short (LongAt number) = false
 -- a line is due behind these, before which so many lines stood: the report on them ends because they do
 abbrev pub IsDue : ℕ → Match → List (List ℕ) → Type 0
 IsDue before g lines = (report : Report) × IsReport before (lines_of (text_of_lines lines)) g report × (report.ending ≡ NoLine)
-
--- The bytes are the lines that were read, each of which was due, and at most 256 behind them, `pending`.
-pub record TakesLines (before : ℕ) (g : Match) (held pending : List ℕ) : Type 0 where
-  pub lines : List (List ℕ)
-  pub are_lines : All IsLine lines
-  pub due : (k : ℕ) → k < length lines → IsDue before g (take k lines)
-  pub bytes : held ≡ text_of_lines lines ++ pending
-  pub few : length pending ≤ 256
 
 -- the game ends at the last that is reported, or, where the winner has no move, at what a reply has made of that
 abbrev pub StopsAt : Match → Ending → Match → Type 0
@@ -77,7 +69,7 @@ pub record IsPlayed (answer : Result Ending GameError) (before : ℕ) (g after :
   pub rest : List ℕ
   pub taken : Consumes old.left new.left bytes
   pub left : IfSome new.left (λ told. told ≡ rest)
-  pub takes : TakesLines before g (old.pending ++ bytes) new.pending
+  pub takes : TakesLines (IsDue before g) (old.pending ++ bytes) new.pending
   pub ends : GameEnds answer before bytes rest g after old new
 
 -- no line is due: the report on no input ends otherwise than by its end

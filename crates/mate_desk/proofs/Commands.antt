@@ -3,20 +3,24 @@ use Rattle.std.proofs.Common.{◌≡◌, ℕ, List, Option, Some, None, if◌the
 use Rattle.std.specs.Prelude.{bytes_eq}
 use Rattle.mate_desk.specs.Order.{IsCommand, name_of}
 use Rattle.mate_desk.specs.declared.order.Command.{Command}
-use Rattle.mate_desk.specs.declared.order.Command.TheVariants.{Decide, Least, Play, Show}
+use Rattle.mate_desk.specs.declared.order.Command.TheVariants.{Decide, Least, First, Play, Show, Drill}
 
 -- the command of a name
 abbrev named : List ℕ → Option Command
 named word =
     if bytes_eq word (codes "decide") then Some Decide
     else (if bytes_eq word (codes "least") then Some Least
-    else (if bytes_eq word (codes "play") then Some Play else (if bytes_eq word (codes "show") then Some Show else None)))
+    else (if bytes_eq word (codes "first") then Some First
+    else (if bytes_eq word (codes "play") then Some Play
+    else (if bytes_eq word (codes "show") then Some Show else (if bytes_eq word (codes "drill") then Some Drill else None)))))
 
 named_back : (command : Command) → named (name_of command) ≡ Some command
 named_back Decide = refl
 named_back Least = refl
+named_back First = refl
 named_back Play = refl
 named_back Show = refl
+named_back Drill = refl
 
 same_command : (one other : Command) → name_of one ≡ name_of other → one ≡ other
 same_command one other same = let e : Some one ≡ Some other = sym (named_back one) ∙ ap named same ∙ named_back other in cc

@@ -1,4 +1,5 @@
 pub mod Commands
+pub mod Drilled
 pub mod Exact
 pub mod Following
 pub mod Headline
@@ -7,6 +8,7 @@ pub mod OneStep
 pub mod PlayRuns
 pub mod Playing
 pub mod Reporting
+pub mod Rooks
 pub mod RoundTrip
 pub mod Statuses
 pub mod TextSteps

@@ -22,7 +22,7 @@ use Rattle.mate_desk.specs.Decide.{DecideReports}
 use Rattle.mate_desk.specs.FaultLines.{unsound_line}
 use Rattle.mate_desk.specs.Laws.{OneReport}
 use Rattle.mate_desk.specs.Least.{LeastFinds, LeastReports, LeastStops, least_line}
-use Rattle.mate_desk.specs.Order.{ReadsNumber, FromNumber, WithNumber, MovesOrdered, ReadsMoves, ShowOrdered, Ordered, OrderedBehind, order_for, most_moves, most_budget, default_budget}
+use Rattle.mate_desk.specs.Order.{ReadsNumber, FromNumber, WithNumber, DrillOrdered, MovesOrdered, ReadsMoves, ShowOrdered, Ordered, OrderedBehind, order_for, most_moves, most_budget, most_positions, most_seed, default_budget}
 use Rattle.mate_desk.specs.Outcome.{Report, done_with, over_budget, refusal_as}
 use Rattle.mate_desk.specs.Play.{PlayReports, PlayedReports, as_played, first_match}
 use Rattle.mate_desk.specs.Report.{OfRead, OfSound, OfText, ReportsOrder, ReportsWords}
@@ -32,12 +32,13 @@ use Rattle.mate_desk.specs.Verdict.{ExceedsAt, IsVerdict}
 use Rattle.mate_desk.specs.declared.order.Command.{Command}
 use Rattle.mate_desk.specs.declared.order.Command.TheVariants as commands
 use Rattle.mate_desk.specs.declared.order.Order.{Order}
-use Rattle.mate_desk.specs.declared.order.Order.TheVariants.{Decide, Least, Play, Show}
+use Rattle.mate_desk.specs.declared.order.Order.TheVariants.{Decide, Least, First, Play, Show, Drill}
 use Rattle.mate_desk.specs.declared.order.UsageWhy.{UsageWhy}
 use Rattle.mate_desk.specs.declared.order.UsageWhy.TheVariants.{NoCommand, Unknown, Count, Number, Limit}
 use Rattle.mate_desk.specs.declared.problem.Problem.{Problem}
 use Rattle.mate_desk.specs.declared.status.Status.TheVariants as is
 use Rattle.mate_desk.proofs.Commands.{once_command}
+use Rattle.mate_desk.proofs.Drilled.{once_drill}
 use Rattle.mate_desk.proofs.OneStep.{exceeds_once, fits_exceeds}
 
 -- a word is one number, or none for one reason
@@ -93,11 +94,22 @@ module _ (one other : Result Order UsageWhy) where
   once_show [] a b = a ∙ sym b
   once_show (word ∷ words) a b = a ∙ sym b
 
+  once_drilled : (words : List (List ℕ)) → DrillOrdered words one → DrillOrdered words other → one ≡ other
+  once_drilled [] a b = a ∙ sym b
+  once_drilled (seed ∷ []) a b = a ∙ sym b
+  once_drilled (seed ∷ count ∷ []) a b =
+      with_number one other seed 0 most_seed (λ s. WithNumber count 0 most_positions one (λ k. one ≡ Ok (Drill s k))) (λ s. WithNumber count 0 most_positions other (λ k. other ≡ Ok (Drill s k)))
+      (λ s x y. with_number one other count 0 most_positions (λ k. one ≡ Ok (Drill s k)) (λ k. other ≡ Ok (Drill s k)) (λ k u v. u ∙ sym v) x y)
+      a b
+  once_drilled (seed ∷ count ∷ word ∷ words) a b = a ∙ sym b
+
   once_behind : (command : Option Command) (words : List (List ℕ)) → OrderedBehind command words one → OrderedBehind command words other → one ≡ other
   once_behind (Some commands.Decide) words a b = once_ordered (λ moves budget. Decide moves budget) words a b
   once_behind (Some commands.Least) words a b = once_ordered (λ limit budget. Least limit budget) words a b
+  once_behind (Some commands.First) words a b = once_ordered (λ moves budget. First moves budget) words a b
   once_behind (Some commands.Play) words a b = once_ordered (λ moves budget. Play moves budget) words a b
   once_behind (Some commands.Show) words a b = once_show words a b
+  once_behind (Some commands.Drill) words a b = once_drilled words a b
   once_behind None words a b = a ∙ sym b
 
   pub once_words : (words : List (List ℕ)) → Ordered words one → Ordered words other → one ≡ other
@@ -287,10 +299,12 @@ module _ (files : Files) (one other : Report) where
       once_of_text (λ problem rest. DecideReports n budget problem files) (λ problem rest. once_decide n budget problem) bytes a b
   once_order (Least limit budget) words bytes a b =
       once_of_text (λ problem rest. LeastReports limit budget problem files) (λ problem rest. once_least limit budget problem) bytes a b
+  once_order (First n budget) words bytes a b = once_of_text (λ problem rest report. ⊥) (λ problem rest none also. absurd none) bytes a b
   once_order (Play n budget) words bytes a b =
       once_of_text (λ problem rest. PlayReports n budget problem rest files) (λ problem rest. once_play n budget problem rest) bytes a b
   once_order Show words bytes a b =
       once_of_text (λ problem rest. ShowReports problem.position files) (λ problem rest. once_shown problem.position) bytes a b
+  once_order (Drill seed count) words bytes a b = once_drill files one other seed count a b
 
   once_answer : (answer : Result Order UsageWhy) (words : List (List ℕ)) (bytes : List ℕ) → ReportsWords answer words bytes files one → ReportsWords answer words bytes files other → one ≡ other
   once_answer (Err why) words bytes a b = a ∙ sym b

@@ -10,12 +10,12 @@ use Rattle.desk_base.specs.Lines.{IsLine, Lines, ended, lines_of}
 use Rattle.game_rules.specs.Game.{Sound}
 use Rattle.chess_game.proofs.UnsoundnessLemmas.{number_cases}
 use Rattle.chess_text.specs.PositionText.{text_of_lines}
+use Rattle.game_report.specs.Taken.{TakesLines}
 use Rattle.mate_desk.specs.Order.{Ordered}
-use Rattle.mate_desk.specs.Outcome.{Ends, Report, Seen}
+use Rattle.mate_desk.specs.Outcome.{Ends, NeverMisses, Report, Seen, of_streams}
 use Rattle.mate_desk.specs.Play.{IsReplyDue, LacksAtFirst, PlayEnds, PlayReports, behind_text}
-use Rattle.mate_desk.specs.Report.{LacksBehindText, MayLackMemory, OfText, Reports, TakesMemory}
+use Rattle.mate_desk.specs.Report.{LacksBehindText, MayLackMemory, MayMissShelf, OfText, Reports, TakesMemory}
 use Rattle.mate_desk.specs.Run.{Given, IsLineDue, RunEnds, reported_on}
-use Rattle.mate_desk.specs.Taken.{TakesLines}
 use Rattle.mate_desk.specs.Text.{TextAt, whole}
 use Rattle.mate_desk.specs.TextRead.{IsMissing, TextRead}
 use Rattle.mate_desk.specs.declared.order.Order.{Order}
@@ -24,7 +24,6 @@ use Rattle.mate_desk.specs.declared.problem.Problem.{Problem}
 use Rattle.mate_desk.specs.declared.status.Status.{Status}
 use Rattle.mate_desk.specs.declared.status.Status.TheVariants as is
 use Rattle.mate_desk.specs.declared.text.TextEnd.{TextEnd}
-use Rattle.mate_desk.proofs.Playing.{seen_at}
 use Rattle.mate_desk.proofs.Reporting.{files_of, known_files, line_due}
 use Rattle.mate_desk.proofs.Statuses.{play_status}
 use Rattle.mate_desk.proofs.Writing.{at_files, ends_as}
@@ -43,10 +42,10 @@ module _ (words : List (List ℕ)) (old new : Seen) (same : new.files ≡ old.fi
   files = files_of old.files
 
   abbrev before : Seen
-  before = seen_at files mid old.written reads old.write_faults
+  before = of_streams files mid old.written reads old.write_faults
 
   abbrev after : Seen
-  after = seen_at files new.left new.written new.read_faults new.write_faults
+  after = of_streams files new.left new.written new.read_faults new.write_faults
 
   rises : HasRisen reads new.read_faults → HasRisen old.read_faults new.read_faults
   rises risen = omega (arith, later, risen)
@@ -66,24 +65,23 @@ module _ (words : List (List ℕ)) (old new : Seen) (same : new.files ≡ old.fi
     taken_are : taken ≡ text_of_lines t.takes.lines ++ (held ++ p.bytes)
     taken_are = ap (λ b. b ++ p.bytes) t.takes.bytes ∙ append_assoc (text_of_lines t.takes.lines) held p.bytes
 
-    line_was_due : (k : ℕ) → k < length all → IsLineDue words files (k + 1) (text_of_lines (take k all))
+    line_was_due : (k : ℕ) → k < length all → IsLineDue words files (take k all)
     line_was_due k below = elim (number_cases k (length t.takes.lines)) [
       | inl less ↦
-          let P : List (List ℕ) → Type 0 = λ l. IsLineDue words files (k + 1) (text_of_lines l) in
-          subst P (sym (take-append-le k t.takes.lines p.takes.lines (omega (arith, less))))
-          (line_due words old new same (Play n budget) ordered held (k + 1) (text_of_lines (take k t.takes.lines)) (t.takes.due k less))
+          subst (IsLineDue words files) (sym (take-append-le k t.takes.lines p.takes.lines (omega (arith, less))))
+          (line_due words old new same (Play n budget) ordered (λ none. none) held (take k t.takes.lines) (t.takes.due k less))
       | inr (inl equal) ↦ later_due (omega (arith, equal))
       | inr (inr more) ↦ later_due (omega (arith, more))
     ]
       where
-        later_due : length t.takes.lines ≤ k → IsLineDue words files (k + 1) (text_of_lines (take k all))
+        later_due : length t.takes.lines ≤ k → IsLineDue words files (take k all)
         later_due le =
             let j = k - length t.takes.lines in
             let due = p.takes.due j (omega (arith, below, le, length-append t.takes.lines p.takes.lines)) in
-            let P : List ℕ → Type 0 = λ b. IsLineDue words files (k + 1) b in
+            let P : List ℕ → Type 0 = λ b. Reports words b files due.0 in
             let is : text_of_lines (take k all) ≡ text_of_lines t.takes.lines ++ text_of_lines (take j p.takes.lines) =
             ap text_of_lines (take_behind t.takes.lines p.takes.lines k j (omega (arith, le))) ∙ text_append t.takes.lines (take j p.takes.lines) in
-            subst P (sym is) (due.0, behind (text_of_lines (take j p.takes.lines)) due.0 due.1, due.2)
+            (due.0, subst P (sym is) (behind (text_of_lines (take j p.takes.lines)) due.0 due.1), due.2)
 
     takes_all : TakesLines (IsLineDue words files) taken pending
     takes_all = record {
@@ -134,16 +132,18 @@ module _ (words : List (List ℕ)) (old new : Seen) (same : new.files ≡ old.fi
           },
         )
 
-    ended_all : (s : Status) → Ends s (λ report. PlayReports n budget problem (lines_of ((held ++ p.bytes) ++ p.rest)) files report) (LacksAtFirst n problem p.bytes) before after → Ends s (λ report. Reports words (taken ++ p.rest) files report) (MayLackMemory words taken) old new
+    ended_all : (s : Status) → Ends s (λ report. PlayReports n budget problem (lines_of ((held ++ p.bytes) ++ p.rest)) files report) (LacksAtFirst n problem p.bytes) NeverMisses before after
+        → Ends s (λ report. Reports words (taken ++ p.rest) files report) (MayLackMemory words taken) (MayMissShelf words taken) old new
     ended_all s ends =
         ends_as s (λ report. PlayReports n budget problem (lines_of ((held ++ p.bytes) ++ p.rest)) files report) (λ report. Reports words (taken ++ p.rest) files report)
-        (LacksAtFirst n problem p.bytes) (MayLackMemory words taken) old new all_says may_lack
+        (LacksAtFirst n problem p.bytes) (MayLackMemory words taken) NeverMisses (MayMissShelf words taken) old new all_says may_lack (λ keeping never. absurd never)
         (at_files files old new (known_files old.files) same mid new.left reads new.read_faults rises s (λ report. PlayReports n budget problem (lines_of ((held ++ p.bytes) ++ p.rest)) files report) (LacksAtFirst n problem p.bytes) ends)
 
-    ended_taken : Ends is.ReadFault (λ report. PlayReports n budget problem (lines_of (held ++ p.bytes)) files report) (LacksAtFirst n problem p.bytes) before after → Ends is.ReadFault (λ report. Reports words taken files report) (MayLackMemory words taken) old new
+    ended_taken : Ends is.ReadFault (λ report. PlayReports n budget problem (lines_of (held ++ p.bytes)) files report) (LacksAtFirst n problem p.bytes) NeverMisses before after
+        → Ends is.ReadFault (λ report. Reports words taken files report) (MayLackMemory words taken) (MayMissShelf words taken) old new
     ended_taken ends =
         ends_as is.ReadFault (λ report. PlayReports n budget problem (lines_of (held ++ p.bytes)) files report) (λ report. Reports words taken files report)
-        (LacksAtFirst n problem p.bytes) (MayLackMemory words taken) old new taken_says may_lack
+        (LacksAtFirst n problem p.bytes) (MayLackMemory words taken) NeverMisses (MayMissShelf words taken) old new taken_says may_lack (λ keeping never. absurd never)
         (at_files files old new (known_files old.files) same mid new.left reads new.read_faults rises is.ReadFault (λ report. PlayReports n budget problem (lines_of (held ++ p.bytes)) files report) (LacksAtFirst n problem p.bytes) ends)
 
   -- the run ends as the command does
@@ -158,6 +158,7 @@ module _ (words : List (List ℕ)) (old new : Seen) (same : new.files ≡ old.fi
   play_ends is.Ended p = record { given = given is.Ended p; takes = (pending, takes_all is.Ended p); ends = ended_all is.Ended p is.Ended p.ends }
   play_ends is.TooMany p = record { given = given is.TooMany p; takes = (pending, takes_all is.TooMany p); ends = ended_all is.TooMany p is.TooMany p.ends }
   play_ends is.ReadFault p = record { given = given is.ReadFault p; takes = (pending, takes_all is.ReadFault p); ends = ended_taken is.ReadFault p p.ends }
+  play_ends is.ShelfFault p = absurd p.ends.1
   play_ends is.Usage p =
       let report = p.ends.0 in
       absurd (play_status n budget problem (lines_of ((held ++ p.bytes) ++ p.rest)) files report p.ends.1 (sym p.ends.2.reported))

@@ -13,19 +13,18 @@ use Rattle.game_rules.specs.Game.{Value}
 use Rattle.chess_text.specs.PositionText.{text_of_lines}
 use Rattle.chess_game.specs.declared.way.Frame.{Frame}
 use Rattle.game_report.specs.Laws.{seen}
-use Rattle.game_report.specs.Played as game_played
-use Rattle.game_report.specs.Played.{GameEnds, IsPlayed, Ports, is_short}
+use Rattle.game_report.specs.Played.{GameEnds, IsDue, IsPlayed, Ports, is_short}
 use Rattle.game_report.specs.Report.{IsReport, Match, ending_line}
 use Rattle.game_report.specs.Report as game
+use Rattle.game_report.specs.Taken.{TakesLines}
 use Rattle.game_report.specs.declared.play.Ending.{Ending}
 use Rattle.game_report.specs.declared.play.Ending.TheVariants.{Mated, Wide, Quit, NoLine, Many, CutAt, LongAt}
 use Rattle.game_report.specs.declared.play.GameError.{GameError}
 use Rattle.game_report.specs.declared.play.GameError.TheVariants.{Read, Write}
 use Rattle.white_player.specs.Game.{Game, start_of}
 use Rattle.winning_sets.specs.Solve.{IsOf, Solution}
-use Rattle.mate_desk.specs.Outcome.{DoesReport, Ends, Report, Seen, Writes, of_sink}
+use Rattle.mate_desk.specs.Outcome.{DoesReport, Ends, NeverMisses, Report, Seen, Writes, of_sink, of_streams}
 use Rattle.mate_desk.specs.Play.{Finishes, IsReplyDue, LacksAtFirst, PlayEnds, PlayReports, as_played, behind_text, first_match, status_of}
-use Rattle.mate_desk.specs.Taken.{TakesLines}
 use Rattle.mate_desk.specs.Verdict.{FitsBudget, HasNothingToPlay}
 use Rattle.mate_desk.specs.declared.problem.Problem.{Problem}
 use Rattle.mate_desk.specs.declared.status.Status.{Status}
@@ -48,10 +47,6 @@ then_line text line before between after failed also wrote more writes = record 
 later_risen : (before between after : ℕ) → before ≤ between → HasRisen between after → HasRisen before after
 later_risen before between after le risen = omega (arith, le, risen)
 
--- the ports at a moment, with the files
-abbrev pub seen_at : Files → Option (List ℕ) → Option (List ℕ) → ℕ → ℕ → Seen
-seen_at files left written reads writes = record { left = left; written = written; files = Some files; read_faults = reads; write_faults = writes }
-
 -- the game of a session that begins with a solved problem
 pub seen_first : (problem : Problem) (n : ℕ) (s : Solution) (f : Frame) (g : Game) → IsOf problem.position problem.winner n s → g ≡ start_of s f → seen g ≡ first_match n problem
 seen_first problem n s f g of is = ap seen is ∙ (λ i. record {
@@ -68,10 +63,10 @@ first_played problem n answer g after old new is played = let P : Match → Type
 
 -- `play` ends as a command does that has the sink alone, and takes nothing more
 module _ (n budget : ℕ) (problem : Problem) (files : Files) (held : List ℕ) (few : length held ≤ 256) (left before after : Option (List ℕ)) (reads writes later : ℕ) where
-  pub still : (status : Status) (reports : Report → Type 0) (may_lack : Type 0) → ((report : Report) (lines : Lines) → reports report → PlayReports n budget problem lines files report) → (may_lack → ¬ HasNothingToPlay n problem) → Ends status reports may_lack (of_sink files before writes) (of_sink files after later) → PlayEnds n budget problem files status held held (seen_at files left before reads writes) (seen_at files left after reads later)
+  pub still : (status : Status) (reports : Report → Type 0) (may_lack : Type 0) → ((report : Report) (lines : Lines) → reports report → PlayReports n budget problem lines files report) → (may_lack → ¬ HasNothingToPlay n problem) → Ends status reports may_lack NeverMisses (of_sink files before writes) (of_sink files after later) → PlayEnds n budget problem files status held held (of_streams files left before reads writes) (of_streams files left after reads later)
   still status reports may_lack says lacks ends =
-      let old = seen_at files left before reads writes in
-      let new = seen_at files left after reads later in
+      let old = of_streams files left before reads writes in
+      let new = of_streams files left after reads later in
       let rest = unwrap_or left [] in
       record {
         bytes = [];
@@ -80,8 +75,10 @@ module _ (n budget : ℕ) (problem : Problem) (files : Files) (held : List ℕ) 
         left = known_rest left;
         takes = record { lines = []; are_lines = All-nil IsLine; due = λ k below. absurd (omega (arith, below)); bytes = append-nil held; few = few };
         ends =
-            ends_as status reports (λ report. PlayReports n budget problem (lines_of (behind_text status (held ++ []) rest)) files report) may_lack (LacksAtFirst n problem []) old new
+            ends_as status reports (λ report. PlayReports n budget problem (lines_of (behind_text status (held ++ []) rest)) files report) may_lack (LacksAtFirst n problem [])
+            NeverMisses NeverMisses old new
             (λ report right. says report (lines_of (behind_text status (held ++ []) rest)) right) (λ lack. record { some = lacks lack; none = refl })
+            (λ keeping never. never)
             (at_sink files old new refl refl status reports may_lack ends);
       }
 
@@ -90,7 +87,7 @@ module _ (n budget : ℕ) (problem : Problem) (files : Files) (fits : FitsBudget
   reports_game lines played right = inr (fits, inr (value, (played, right, refl)))
 
   -- each line that the game has read was due
-  replies_due : (held pending : List ℕ) → game_played.TakesLines problem.lines (first_match n problem) held pending → TakesLines (IsReplyDue n budget problem files) held pending
+  replies_due : (held pending : List ℕ) → TakesLines (IsDue problem.lines (first_match n problem)) held pending → TakesLines (IsReplyDue n budget problem files) held pending
   replies_due held pending t = record {
     lines = t.lines;
     are_lines = t.are_lines;
@@ -103,7 +100,7 @@ module _ (n budget : ℕ) (problem : Problem) (files : Files) (fits : FitsBudget
     few = t.few;
   }
 
-  done_as : (ending : Ending) (reports : Report → Type 0) (may_lack : Type 0) (report : Report) (old new : Seen) → reports report → DoesReport (status_of ending) report old new → Ends (status_of ending) reports may_lack old new
+  done_as : (ending : Ending) (reports : Report → Type 0) (may_lack : Type 0) (report : Report) (old new : Seen) → reports report → DoesReport (status_of ending) report old new → Ends (status_of ending) reports may_lack NeverMisses old new
   done_as Mated reports may_lack report old new right does = (report, right, does)
   done_as Wide reports may_lack report old new right does = (report, right, does)
   done_as Quit reports may_lack report old new right does = (report, right, does)
@@ -123,10 +120,10 @@ module _ (n budget : ℕ) (problem : Problem) (files : Files) (fits : FitsBudget
 
   module _ (held pending : List ℕ) (after : Match) (left_old left_new before between done : Option (List ℕ)) (reads later_reads writes later_writes last_writes : ℕ) where
     abbrev old : Seen
-    old = seen_at files left_old before reads writes
+    old = of_streams files left_old before reads writes
 
     abbrev new : Seen
-    new = seen_at files left_new done later_reads last_writes
+    new = of_streams files left_new done later_reads last_writes
 
     abbrev Played : Result Ending GameError → Type 0
     Played answer =

@@ -1,26 +1,30 @@
 -- What the status of a run says of its words.
-use Rattle.std.proofs.Common.{◌≡◌, ◌≢◌, ◌↔◌, ℕ, List, [], length, Result, Ok, Err, false, inl, inr, sym, ◌∙◌, ap, subst, arith}
+use Rattle.std.proofs.Common.{◌≡◌, ◌≢◌, ◌↔◌, ℕ, List, [], length, Option, Result, Ok, Err, false, inl, inr, sym, ◌∙◌, ap, subst, refl, arith}
+use Rattle.std.specs.Prelude.{IfOk}
 use Rattle.desk_base.specs.Files.{Files}
 use Rattle.desk_base.specs.Lines.{Lines}
 use Rattle.game_rules.specs.Game.{Position, Sound}
 use Rattle.game_report.specs.declared.play.Ending.{Ending}
 use Rattle.game_report.specs.declared.play.Ending.TheVariants.{Mated, Wide, Quit, NoLine, Many, CutAt, LongAt}
 use Rattle.mate_desk.specs.Decide.{DecideReports}
-use Rattle.mate_desk.specs.Laws.{FaultsAreCounted, MemoryLast, UsageExactly}
+use Rattle.mate_desk.specs.Drill.{DrillReports, drilled, state_after}
+use Rattle.mate_desk.specs.Laws.{FaultsAreCounted, MemoryLast, NoShelfFault, UsageExactly}
 use Rattle.mate_desk.specs.Least.{LeastReports}
 use Rattle.mate_desk.specs.Order.{Ordered, usage_line}
 use Rattle.mate_desk.specs.Outcome.{Ends, Report, Seen, refusal_as}
 use Rattle.mate_desk.specs.Play.{PlayReports, status_of}
-use Rattle.mate_desk.specs.Report.{LacksBehindText, OfRead, OfSound, OfText, OrderMayLack, Reports, ReportsOrder, ReportsWords, TakesMemory}
+use Rattle.mate_desk.specs.Report.{LacksBehindText, OfRead, OfSound, OfText, OrderMayLack, OrderMayMiss, ReadsNoText, Reports, ReportsOrder, ReportsWords, TakesMemory, UsesNoShelf}
+use Rattle.mate_desk.specs.Run.{RunEnds}
 use Rattle.mate_desk.specs.Show.{ShowReports}
 use Rattle.mate_desk.specs.Text.{Text, whole, refused}
 use Rattle.mate_desk.specs.declared.order.Order.{Order}
-use Rattle.mate_desk.specs.declared.order.Order.TheVariants.{Decide, Least, Play, Show}
+use Rattle.mate_desk.specs.declared.order.Order.TheVariants.{Decide, Least, First, Play, Show, Drill}
 use Rattle.mate_desk.specs.declared.order.UsageWhy.{UsageWhy}
 use Rattle.mate_desk.specs.declared.problem.Problem.{Problem}
 use Rattle.mate_desk.specs.declared.status.Status.{Status}
 use Rattle.mate_desk.specs.declared.status.Status.TheVariants as is
 use Rattle.mate_desk.proofs.OneReport.{once_words}
+use Rattle.mate_desk.proofs.Rooks.{drill_sound}
 
 -- what is reported of an order has another status than words that are none
 abbrev pub IsNotUsage : Report → Type 0
@@ -55,11 +59,16 @@ play_status n budget problem lines files report (inr (fits, inr (value, (played,
 pub show_status : (p : Position) (files : Files) (report : Report) → ShowReports p files report → IsNotUsage report
 show_status p files report (text, shown, is') = other_status report _ is' (λ e. absurd (cc))
 
+pub drill_status : (seed count : ℕ) (files : Files) (report : Report) → DrillReports seed count files report → IsNotUsage report
+drill_status seed count files report (inl (step, stops, is')) = other_status report _ is' (λ e. absurd (cc))
+drill_status seed count files report (inr (mates, finds, is')) = other_status report _ is' (λ e. absurd (cc))
+
 -- so its run has
-pub not_usage : (status : Status) (reports : Report → Type 0) (may_lack : Type 0) (old new : Seen) → ((report : Report) → reports report → IsNotUsage report) → Ends status reports may_lack old new → status ≢ is.Usage
-not_usage status reports may_lack old new not ends same =
-    let P : Status → Type 0 = λ s. Ends s reports may_lack old new in
-    let ended : Ends is.Usage reports may_lack old new = subst P same ends in
+pub not_usage : (status : Status) (reports : Report → Type 0) (may_lack : Type 0) (may_miss : Option (List ℕ) → Type 0) (old new : Seen) → ((report : Report) → reports report → IsNotUsage report)
+    → Ends status reports may_lack may_miss old new → status ≢ is.Usage
+not_usage status reports may_lack may_miss old new not ends same =
+    let P : Status → Type 0 = λ s. Ends s reports may_lack may_miss old new in
+    let ended : Ends is.Usage reports may_lack may_miss old new = subst P same ends in
     not ended.0 ended.1 (sym ended.2.reported)
 
 module _ (says : Problem → Lines → Report → Type 0) (files : Files) (report : Report) (not : (problem : Problem) (rest : Lines) → says problem rest report → IsNotUsage report) where
@@ -79,14 +88,22 @@ order_status (Decide n budget) words bytes files report =
     text_status (λ problem rest. DecideReports n budget problem files) files report (λ problem rest. decide_status n budget problem files report) bytes
 order_status (Least limit budget) words bytes files report =
     text_status (λ problem rest. LeastReports limit budget problem files) files report (λ problem rest. least_status limit budget problem files report) bytes
+order_status (First n budget) words bytes files report = text_status (λ problem rest report. ⊥) files report (λ problem rest none. absurd none) bytes
 order_status (Play n budget) words bytes files report =
     text_status (λ problem rest. PlayReports n budget problem rest files) files report (λ problem rest. play_status n budget problem rest files report) bytes
 order_status Show words bytes files report =
     text_status (λ problem rest. ShowReports problem.position files) files report (λ problem rest. show_status problem.position files report) bytes
+order_status (Drill seed count) words bytes files report = drill_status seed count files report
 
 pub words_status : (words : List (List ℕ)) (files : Files) (answer : Result Order UsageWhy) (bytes : List ℕ) (report : Report) → Ordered words answer → ReportsWords answer words bytes files report → report.status ≡ is.Usage → (why : UsageWhy) × Ordered words (Err why)
 words_status words files (Err why) bytes report ordered reports same = (why, ordered)
 words_status words files (Ok order) bytes report ordered reports same = absurd (order_status order words bytes files report reports same)
+
+-- words that are an order of a text are no order of none
+pub no_textless : (words : List (List ℕ)) (order : Order) → Ordered words (Ok order) → (ReadsNoText order → ⊥) → (other : Order) → Ordered words (Ok other) → ReadsNoText other → ⊥
+no_textless words order ordered reads other also none =
+    let same : order ≡ other = let e = once_words (Ok order) (Ok other) words ordered also in cc in
+    reads (subst ReadsNoText (sym same) none)
 
 -- of words that are no order one thing is reported
 usage_reported : (words : List (List ℕ)) (files : Files) (bytes : List ℕ) (report : Report) (why : UsageWhy) → Ordered words (Err why) → Reports words bytes files report → report ≡ refusal_as files is.Usage (usage_line why) false
@@ -125,6 +142,8 @@ usage_exactly words is.ReadFault old new run =
     other (λ same. absurd (cc)) (λ none. let short = run.ends.2.short in let not = not_short words run.given.files _ run.ends.0 run.ends.1 none in absurd (cc))
 usage_exactly words is.WriteFault old new run =
     other (λ same. absurd (cc)) (λ none. let proper = run.ends.2.written.proper in absurd (omega (arith, proper, ap length (no_text words run.given.files _ run.ends.0 run.ends.1 none))))
+usage_exactly words is.ShelfFault old new run =
+    other (λ same. absurd (cc)) (λ none. let miss = run.ends.1 in let both = once_words (Ok miss.0) (Err none.0) words miss.1 none.1 in absurd (cc))
 usage_exactly words is.Memory old new run =
     other (λ same. absurd (cc)) (λ none. let lack = run.ends.0 in let both = once_words (Ok lack.0) (Err none.0) words lack.1 none.1 in absurd (cc))
 
@@ -134,14 +153,35 @@ behind_text words order takes taken more ordered lack = (order, lack.problem, or
 order_lacks : (words : List (List ℕ)) (order : Order) (taken : List ℕ) → Ordered words (Ok order) → OrderMayLack order taken → (o : Order) × (problem : Problem) × Ordered words (Ok o) × Sound problem.position × TakesMemory o problem
 order_lacks words (Decide n budget) taken ordered lack = behind_text words (Decide n budget) _ taken (λ problem takes. takes) ordered lack
 order_lacks words (Least limit budget) taken ordered lack = behind_text words (Least limit budget) _ taken (λ problem takes. takes) ordered lack
+order_lacks words (First n budget) taken ordered lack = behind_text words (First n budget) _ taken (λ problem takes. takes) ordered lack
 order_lacks words (Play n budget) taken ordered lack = behind_text words (Play n budget) _ taken (λ problem takes. takes) ordered lack
 order_lacks words Show taken ordered lack = behind_text words Show _ taken (λ problem takes. takes) ordered lack
+order_lacks words (Drill seed count) taken ordered lack =
+    (Drill seed count, drilled seed 0, ordered, drill_sound (state_after seed 1), (0, lack.1, refl))
 
 pub memory_last : MemoryLast
 memory_last words old new run = let lack = run.ends.0 in order_lacks words lack.0 run.given.taken lack.1 lack.2
+
+order_misses : (order : Order) (words : List (List ℕ)) (taken : List ℕ) (keeping : Option (List ℕ)) → UsesNoShelf order → OrderMayMiss order words taken keeping → ⊥
+order_misses (Decide n budget) words taken keeping none misses = misses
+order_misses (Least limit budget) words taken keeping none misses = misses
+order_misses (First n budget) words taken keeping none misses = misses
+order_misses (Play n budget) words taken keeping none misses = misses
+order_misses Show words taken keeping none misses = misses
+order_misses (Drill seed count) words taken keeping none misses = misses
+
+pub no_shelf_fault : NoShelfFault
+no_shelf_fault words order status old new ordered none run same =
+    let P : Status → Type 0 = λ s. RunEnds words s old new in
+    let ended : RunEnds words is.ShelfFault old new = subst P same run in
+    let miss = ended.ends.1 in
+    let Q : Result Order UsageWhy → Type 0 = λ r. IfOk r UsesNoShelf in
+    let unused : UsesNoShelf miss.0 = subst Q (once_words (Ok order) (Ok miss.0) words ordered miss.1) none in
+    order_misses miss.0 words ended.given.taken ended.ends.0 unused miss.2
 
 pub faults_are_counted : FaultsAreCounted
 faults_are_counted = record {
   read = λ words old new run. run.ends.2.failed;
   write = λ words old new run. run.ends.2.failed;
+  shelf = λ words old new run. run.ends.2.failed;
 }

@@ -21,7 +21,7 @@ use Rattle.chess_text.specs.declared.reader.Stage.{Stage}
 use Rattle.chess_text.specs.declared.reader.Stage.TheVariants as stages
 use Rattle.chess_text.specs.declared.reader.Fed.{Fed}
 use Rattle.chess_text.specs.declared.reader.Fed.TheVariants.{More, Whole}
-use Rattle.mate_desk.specs.Taken.{TakesLines}
+use Rattle.game_report.specs.Taken.{TakesLines}
 use Rattle.mate_desk.specs.Text.{Text, white_mates, whole, refused, AfterLine, ReadsLines, TextAt, is_end}
 use Rattle.mate_desk.specs.TextRead.{IsMissing, TextRead}
 use Rattle.mate_desk.specs.declared.text.LineWhy.{LineWhy}
@@ -114,7 +114,7 @@ line_read len old new keeps = record { free = keeps.2; short = omega (arith, kee
 pub record SoFar (stage : Stage) (number : ℕ) (pending : List ℕ) (before after : Option (List ℕ)) : Type 0 where
   pub lines : List (List ℕ)
   pub are_lines : All IsLine lines
-  pub due : (k : ℕ) → k < length lines → TextAt (text_of_lines (take k lines)) (refused (k + 1) Missing)
+  pub due : (k : ℕ) → k < length lines → IsMissing (take k lines)
   pub count : number ≡ length lines + 1
   pub taken : Consumes before after (text_of_lines lines ++ pending)
   pub text : (more : List ℕ) (text : Text) → ReadsLines stage number (lines_of more) text → TextAt (text_of_lines lines ++ more) text
@@ -151,19 +151,20 @@ module _ (stage : Stage) (number : ℕ) (pending : List ℕ) (before mid after :
     consumed : Consumes before after (text_of_lines now ++ rest)
     consumed = subst (Consumes before after) next_bytes (all_taken took.bytes took.taken)
 
-    due_now : (k : ℕ) → k < length now → TextAt (text_of_lines (take k now)) (refused (k + 1) Missing)
+    -- the line was due
+    due_here : IsMissing lines
+    due_here =
+        let P : List ℕ → Type 0 = λ b. TextAt b (refused number Missing) in
+        let Q : ℕ → Type 0 = λ n. TextAt (text_of_lines lines) (refused n Missing) in
+        subst Q so_far.count (subst P (append-nil (text_of_lines lines)) (so_far.text [] (refused number Missing) refl))
+
+    due_now : (k : ℕ) → k < length now → IsMissing (take k now)
     due_now k below = elim (number_cases k (length lines)) [
-      | inl less ↦
-          let P : List (List ℕ) → Type 0 = λ l. TextAt (text_of_lines l) (refused (k + 1) Missing) in
-          subst P (sym (take-append-le k lines (line ∷ []) (omega arith))) (so_far.due k less)
-      | inr (inr more) ↦ absurd (omega (arith, length-append lines (line ∷ [])))
+      | inl less ↦ subst IsMissing (sym (take-append-le k lines (line ∷ []) (omega (arith, less)))) (so_far.due k less)
+      | inr (inr more) ↦ absurd (omega (arith, more, below, length-append lines (line ∷ [])))
       | inr (inl last) ↦
-          let P : ℕ → List (List ℕ) → Type 0 = λ n l. TextAt (text_of_lines l) (refused n Missing) in
-          let front : take k now ≡ lines = take-append-le k lines (line ∷ []) (omega arith) ∙ take_all k lines (omega arith) in
-          let Q : List ℕ → Type 0 = λ b. TextAt b (refused number Missing) in
-          let here : TextAt (text_of_lines lines) (refused number Missing) = subst Q (append-nil (text_of_lines lines)) (so_far.text [] (refused number Missing) refl) in
-          let same : number ≡ k + 1 = omega (arith, so_far.count, last) in
-          subst (λ l. P (k + 1) l) (sym front) (subst (λ n. P n lines) same here)
+          let front : take k now ≡ lines = take-append-le k lines (line ∷ []) (omega (arith, last)) ∙ take_all k lines (omega (arith, last)) in
+          subst IsMissing (sym front) due_here
     ]
 
     takes_now : (few : length rest ≤ 256) → TakesLines IsMissing (text_of_lines now ++ rest) rest

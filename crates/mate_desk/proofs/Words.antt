@@ -26,11 +26,11 @@ natural_digits (first ∷ rest) (inl (zero', none)) =
 natural_digits (first ∷ rest) (inr (low, high, more)) =
     (tells_digits.more first rest (omega (arith, low), high) (all_digits rest more), omega arith, λ plus. omega (arith, plus, low))
 
--- a natural that is no u32 is too large
-pub no_number : {E : Type 0} (word : List ℕ) (why : E) → IsNaturalText word → ParsesUnsigned 32 10 word (Err why) → digits_value 10 word < 2 ^ 32 → ⊥
+-- a natural that is no u64 is too large
+pub no_number : {E : Type 0} (word : List ℕ) (why : E) → IsNaturalText word → ParsesUnsigned 64 10 word (Err why) → digits_value 10 word < 2 ^ 64 → ⊥
 no_number word why text parsed small =
     let shape = natural_digits word text in
-    parse_plain digits_model 32 word (Err why) parsed shape.2 (shape.0, shape.1, small)
+    parse_plain digits_model 64 word (Err why) parsed shape.2 (shape.0, shape.1, small)
 
 -- what the words order whose first names this command, or none
 pub behind : {A : Type 0} (f : A → List ℕ) (answer : Result Order UsageWhy) (command : Option Command) (words : List A) (first : A) → 1 ≤ length words → first ≡ get_or words 0 first → IsCommand (f first) command → OrderedBehind command (map f (take (length words - 1) (drop 1 words))) answer → Ordered (map f words) answer

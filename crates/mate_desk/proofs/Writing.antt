@@ -5,7 +5,7 @@ use Rattle.std.proofs.lemmas.List.{take_all, append-nil}
 use Rattle.desk_base.specs.Faults.{HasRisen}
 use Rattle.desk_base.specs.Files.{Files, Go}
 use Rattle.desk_base.specs.Moves.{AppendsFront}
-use Rattle.mate_desk.specs.Outcome.{DoesReport, Ends, Report, Seen, Writes, of_sink}
+use Rattle.mate_desk.specs.Outcome.{DoesReport, Ends, NeverMisses, Report, Seen, Writes, of_sink, of_streams}
 use Rattle.mate_desk.specs.declared.status.Status.{Status}
 use Rattle.mate_desk.specs.declared.status.Status.TheVariants as is
 
@@ -26,24 +26,29 @@ text_written text old new failed wrote = record {
   whole = inl (omega arith);
 }
 
--- what is reported may say less, and memory may lack more often
-pub ends_as : (status : Status) (reports more : Report → Type 0) (may_lack may_more : Type 0) (old new : Seen) → ((report : Report) → reports report → more report) → (may_lack → may_more) → Ends status reports may_lack old new → Ends status more may_more old new
-ends_as is.Done reports more may_lack may_more old new says lacks ends = (ends.0, says ends.0 ends.1, ends.2)
-ends_as is.Usage reports more may_lack may_more old new says lacks ends = (ends.0, says ends.0 ends.1, ends.2)
-ends_as is.Text reports more may_lack may_more old new says lacks ends = (ends.0, says ends.0 ends.1, ends.2)
-ends_as is.Unsound reports more may_lack may_more old new says lacks ends = (ends.0, says ends.0 ends.1, ends.2)
-ends_as is.ReadFault reports more may_lack may_more old new says lacks ends = (ends.0, says ends.0 ends.1, ends.2)
-ends_as is.WriteFault reports more may_lack may_more old new says lacks ends = (ends.0, says ends.0 ends.1, ends.2)
-ends_as is.Budget reports more may_lack may_more old new says lacks ends = (ends.0, says ends.0 ends.1, ends.2)
-ends_as is.Wide reports more may_lack may_more old new says lacks ends = (ends.0, says ends.0 ends.1, ends.2)
-ends_as is.Ended reports more may_lack may_more old new says lacks ends = (ends.0, says ends.0 ends.1, ends.2)
-ends_as is.TooMany reports more may_lack may_more old new says lacks ends = (ends.0, says ends.0 ends.1, ends.2)
-ends_as is.Memory reports more may_lack may_more old new says lacks ends = (lacks ends.0, ends.1)
+-- what is reported may say less, memory may lack more often, and so may the shelf fail
+pub ends_as : (status : Status) (reports more : Report → Type 0) (may_lack lacks_more : Type 0) (may_miss misses_more : Option (List ℕ) → Type 0) (old new : Seen)
+    → ((report : Report) → reports report → more report) → (may_lack → lacks_more) → ((keeping : Option (List ℕ)) → may_miss keeping → misses_more keeping)
+    → Ends status reports may_lack may_miss old new → Ends status more lacks_more misses_more old new
+ends_as is.Done reports more may_lack lacks_more may_miss misses_more old new says lacks misses ends = (ends.0, says ends.0 ends.1, ends.2)
+ends_as is.Usage reports more may_lack lacks_more may_miss misses_more old new says lacks misses ends = (ends.0, says ends.0 ends.1, ends.2)
+ends_as is.Text reports more may_lack lacks_more may_miss misses_more old new says lacks misses ends = (ends.0, says ends.0 ends.1, ends.2)
+ends_as is.Unsound reports more may_lack lacks_more may_miss misses_more old new says lacks misses ends = (ends.0, says ends.0 ends.1, ends.2)
+ends_as is.ReadFault reports more may_lack lacks_more may_miss misses_more old new says lacks misses ends = (ends.0, says ends.0 ends.1, ends.2)
+ends_as is.WriteFault reports more may_lack lacks_more may_miss misses_more old new says lacks misses ends = (ends.0, says ends.0 ends.1, ends.2)
+ends_as is.Budget reports more may_lack lacks_more may_miss misses_more old new says lacks misses ends = (ends.0, says ends.0 ends.1, ends.2)
+ends_as is.Wide reports more may_lack lacks_more may_miss misses_more old new says lacks misses ends = (ends.0, says ends.0 ends.1, ends.2)
+ends_as is.Ended reports more may_lack lacks_more may_miss misses_more old new says lacks misses ends = (ends.0, says ends.0 ends.1, ends.2)
+ends_as is.TooMany reports more may_lack lacks_more may_miss misses_more old new says lacks misses ends = (ends.0, says ends.0 ends.1, ends.2)
+ends_as is.Memory reports more may_lack lacks_more may_miss misses_more old new says lacks misses ends = (lacks ends.0, ends.1)
+ends_as is.ShelfFault reports more may_lack lacks_more may_miss misses_more old new says lacks misses ends = (ends.0, misses ends.0 ends.1, ends.2)
 
 -- what is printed is what is to be reported
-pub printed : (status : Status) (reports : Report → Type 0) (may_lack : Type 0) (old new : Seen) (due : Report) → reports due → Ends status (λ report. report ≡ due) ⊥ old new → Ends status reports may_lack old new
+pub printed : (status : Status) (reports : Report → Type 0) (may_lack : Type 0) (old new : Seen) (due : Report) → reports due
+    → Ends status (λ report. report ≡ due) ⊥ NeverMisses old new → Ends status reports may_lack NeverMisses old new
 printed status reports may_lack old new due right =
-    ends_as status (λ report. report ≡ due) reports ⊥ may_lack old new (λ report is'. subst reports (sym is') right) (λ none. absurd none)
+    ends_as status (λ report. report ≡ due) reports ⊥ may_lack NeverMisses NeverMisses old new (λ report is'. subst reports (sym is') right) (λ none. absurd none)
+    (λ keeping never. never)
 
 -- The files of a run stay, and its command sees them told. It begins when the source has failed so often.
 module _ (files : Files) (old new : Seen) (kept : IfSome old.files (λ told. told ≡ files)) (same : new.files ≡ old.files) where
@@ -58,7 +63,7 @@ module _ (files : Files) (old new : Seen) (kept : IfSome old.files (λ told. tol
 
   -- what the command sees, with these bytes to come
   abbrev told : Seen → Option (List ℕ) → ℕ → Seen
-  told seen left reads = record { left = left; written = seen.written; files = Some files; read_faults = reads; write_faults = seen.write_faults }
+  told seen left reads = of_streams files left seen.written reads seen.write_faults
 
   module _ (left_old left_new : Option (List ℕ)) (reads later : ℕ) where
     does : (status : Status) (report : Report) → DoesReport status report (told old left_old reads) (told new left_new later) → DoesReport status report old new
@@ -66,7 +71,8 @@ module _ (files : Files) (old new : Seen) (kept : IfSome old.files (λ told. tol
         record { reported = d.reported; written = d.written; files = go_same (λ before after. after ≡ report.files) old.files new.files same kept d.files }
 
     -- so the run ends as its command does
-    pub at_files : (HasRisen reads later → HasRisen old.read_faults new.read_faults) → (status : Status) (reports : Report → Type 0) (may_lack : Type 0) → Ends status reports may_lack (told old left_old reads) (told new left_new later) → Ends status reports may_lack old new
+    pub at_files : (HasRisen reads later → HasRisen old.read_faults new.read_faults) → (status : Status) (reports : Report → Type 0) (may_lack : Type 0)
+        → Ends status reports may_lack NeverMisses (told old left_old reads) (told new left_new later) → Ends status reports may_lack NeverMisses old new
     at_files rises is.Done reports may_lack ends = (ends.0, ends.1, does is.Done ends.0 ends.2)
     at_files rises is.Usage reports may_lack ends = (ends.0, ends.1, does is.Usage ends.0 ends.2)
     at_files rises is.Text reports may_lack ends = (ends.0, ends.1, does is.Text ends.0 ends.2)
@@ -87,9 +93,11 @@ module _ (files : Files) (old new : Seen) (kept : IfSome old.files (λ told. tol
           ends.1,
           record { failed = some.failed; written = some.written; files = go_same (λ before after. after ≡ ends.0.files) old.files new.files same kept some.files },
         )
+    at_files rises is.ShelfFault reports may_lack ends = absurd ends.1
     at_files rises is.Memory reports may_lack ends =
         (ends.0, record { written = ends.1.written; files = go_same (λ before after. after ≡ before) old.files new.files same kept refl })
 
   -- and as one that has the sink alone, whose source does not fail
-  pub at_sink : (status : Status) (reports : Report → Type 0) (may_lack : Type 0) → Ends status reports may_lack (of_sink files old.written old.write_faults) (of_sink files new.written new.write_faults) → Ends status reports may_lack old new
+  pub at_sink : (status : Status) (reports : Report → Type 0) (may_lack : Type 0) → Ends status reports may_lack NeverMisses (of_sink files old.written old.write_faults) (of_sink files new.written new.write_faults)
+      → Ends status reports may_lack NeverMisses old new
   at_sink status reports may_lack ends = at_files None None 0 0 (λ risen. absurd (omega (arith, risen))) status reports may_lack ends

@@ -1,5 +1,5 @@
 -- Laws of what a run does.
-use Rattle.std.specs.Prelude.{◌≡◌, ◌↔◌, ◌⊎◌, ℕ, ◌+◌, ◌-◌, List, ◌++◌, length, Option, Some, Ok, Err, slice_get}
+use Rattle.std.specs.Prelude.{◌≡◌, ◌≢◌, ◌↔◌, ◌⊎◌, ℕ, ◌+◌, ◌-◌, List, ◌++◌, length, Option, Some, Ok, Err, slice_get}
 use Rattle.desk_base.specs.Faults.{HasRisen}
 use Rattle.desk_base.specs.Files.{Files}
 use Rattle.desk_base.specs.Lines.{Lines, lines_of}
@@ -15,7 +15,7 @@ use Rattle.mate_desk.specs.Least.{least_line}
 use Rattle.mate_desk.specs.Order.{Ordered}
 use Rattle.mate_desk.specs.Outcome.{Report, Seen, WriteFailed, done_with, over_budget}
 use Rattle.mate_desk.specs.Play.{as_played, first_match}
-use Rattle.mate_desk.specs.Report.{Reports, TakesMemory}
+use Rattle.mate_desk.specs.Report.{Reports, TakesMemory, UsesNoShelf}
 use Rattle.mate_desk.specs.Run.{RunEnds}
 use Rattle.mate_desk.specs.Text.{TextAt, white_mates, whole}
 use Rattle.mate_desk.specs.Verdict.{ExceedsAt, mate_line, no_mate_line}
@@ -87,10 +87,17 @@ MemoryLast =
     → RunEnds words is.Memory old new
     → (order : Order) × (problem : Problem) × Ordered words (Ok order) × Sound problem.position × TakesMemory order problem
 
+-- a run of an order that uses no file has no fault of the shelf
+abbrev pub NoShelfFault : Type 0
+NoShelfFault =
+    (words : List (List ℕ)) (order : Order) (status : Status) (old new : Seen)
+    → Ordered words (Ok order) → UsesNoShelf order → RunEnds words status old new → status ≢ is.ShelfFault
+
 -- the statuses of a fault come only where its count has risen
 pub record FaultsAreCounted : Type 0 where
   pub read : (words : List (List ℕ)) (old new : Seen) → RunEnds words is.ReadFault old new → HasRisen old.read_faults new.read_faults
   pub write : (words : List (List ℕ)) (old new : Seen) → RunEnds words is.WriteFault old new → WriteFailed old new
+  pub shelf : (words : List (List ℕ)) (old new : Seen) → RunEnds words is.ShelfFault old new → HasRisen old.shelf_faults new.shelf_faults
 
 -- two reports of one input are equal
 abbrev pub OneReport : Type 0

@@ -1,5 +1,6 @@
 pub mod Codes
 pub mod Decide
+pub mod Drill
 pub mod FaultLines
 pub mod Laws
 pub mod Least
@@ -9,7 +10,6 @@ pub mod Play
 pub mod Report
 pub mod Run
 pub mod Show
-pub mod Taken
 pub mod Text
 pub mod TextRead
 pub mod Verdict
@@ -17,6 +17,7 @@ pub use Rattle.desk_base.specs.Faults
 pub use Rattle.desk_base.specs.Files
 pub use Rattle.desk_base.specs.Lines
 pub use Rattle.game_rules.specs.Game
+pub use Rattle.game_laws.specs.Symmetry
 pub use Rattle.chess_game.specs.Unsoundness
 pub use Rattle.chess_text.specs.ManLine
 pub use Rattle.chess_text.specs.PositionText

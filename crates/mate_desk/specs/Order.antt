@@ -1,12 +1,12 @@
 -- What words order.
-use Rattle.std.specs.Prelude.{◌≡◌, ◌≢◌, ◌⊎◌, ℕ, ◌≤◌, List, [], ◌∷◌, Option, Some, None, Result, Ok, Err, codes}
+use Rattle.std.specs.Prelude.{◌≡◌, ◌≢◌, ◌⊎◌, ℕ, ◌-◌, ◌^◌, ◌≤◌, List, [], ◌∷◌, Option, Some, None, Result, Ok, Err, codes}
 use Rattle.std.specs.Char.{IsAsciiDigit}
 use Rattle.std.specs.List.{All}
 use Rattle.std.specs.Str.Parse.{digits_value}
 use Rattle.mate_desk.specs.declared.order.Command.{Command}
 use Rattle.mate_desk.specs.declared.order.Command.TheVariants as commands
 use Rattle.mate_desk.specs.declared.order.Order.{Order}
-use Rattle.mate_desk.specs.declared.order.Order.TheVariants.{Decide, Least, Play, Show}
+use Rattle.mate_desk.specs.declared.order.Order.TheVariants.{Decide, Least, First, Play, Show, Drill}
 use Rattle.mate_desk.specs.declared.order.UsageWhy.{UsageWhy}
 use Rattle.mate_desk.specs.declared.order.UsageWhy.TheVariants.{NoCommand, Unknown, Count, Number, Limit}
 
@@ -20,6 +20,14 @@ most_budget = 200000
 
 abbrev pub default_budget : ℕ
 default_budget = 50000
+
+-- the greatest seed
+abbrev pub most_seed : ℕ
+most_seed = 2 ^ 64 - 1
+
+-- the greatest number of positions that can be asked for
+abbrev pub most_positions : ℕ
+most_positions = 100
 
 -- 0, or a digit from 1 to 9 and any digits
 abbrev pub IsNaturalText : List ℕ → Type 0
@@ -67,12 +75,22 @@ abbrev pub ShowOrdered : List (List ℕ) → Result Order UsageWhy → Type 0
 ShowOrdered [] answer = answer ≡ Ok Show
 ShowOrdered (word ∷ words) answer = answer ≡ Err Count
 
+-- what the words behind `drill` order
+abbrev pub DrillOrdered : List (List ℕ) → Result Order UsageWhy → Type 0
+DrillOrdered [] answer = answer ≡ Err Count
+DrillOrdered (seed ∷ []) answer = answer ≡ Err Count
+DrillOrdered (seed ∷ count ∷ []) answer =
+    WithNumber seed 0 most_seed answer (λ s. WithNumber count 0 most_positions answer (λ k. answer ≡ Ok (Drill s k)))
+DrillOrdered (seed ∷ count ∷ word ∷ words) answer = answer ≡ Err Count
+
 -- the name of a command
 abbrev pub name_of : Command → List ℕ
 name_of commands.Decide = codes "decide"
 name_of commands.Least = codes "least"
+name_of commands.First = codes "first"
 name_of commands.Play = codes "play"
 name_of commands.Show = codes "show"
+name_of commands.Drill = codes "drill"
 
 -- the command that the word names, or that it names none
 abbrev pub IsCommand : List ℕ → Option Command → Type 0
@@ -83,8 +101,10 @@ IsCommand word None = (command : Command) → word ≢ name_of command
 abbrev pub OrderedBy : Command → List (List ℕ) → Result Order UsageWhy → Type 0
 OrderedBy commands.Decide words answer = MovesOrdered (λ moves budget. Decide moves budget) words answer
 OrderedBy commands.Least words answer = MovesOrdered (λ limit budget. Least limit budget) words answer
+OrderedBy commands.First words answer = MovesOrdered (λ moves budget. First moves budget) words answer
 OrderedBy commands.Play words answer = MovesOrdered (λ moves budget. Play moves budget) words answer
 OrderedBy commands.Show words answer = ShowOrdered words answer
+OrderedBy commands.Drill words answer = DrillOrdered words answer
 
 abbrev pub OrderedBehind : Option Command → List (List ℕ) → Result Order UsageWhy → Type 0
 OrderedBehind (Some command) words answer = OrderedBy command words answer
@@ -103,8 +123,10 @@ IsBudget budget = (1 ≤ budget) × (budget ≤ most_budget)
 abbrev pub IsWithinLimits : Order → Type 0
 IsWithinLimits (Decide moves budget) = (moves ≤ most_moves) × IsBudget budget
 IsWithinLimits (Least limit budget) = (limit ≤ most_moves) × IsBudget budget
+IsWithinLimits (First moves budget) = (moves ≤ most_moves) × IsBudget budget
 IsWithinLimits (Play moves budget) = (moves ≤ most_moves) × IsBudget budget
 IsWithinLimits Show = Unit {0}
+IsWithinLimits (Drill seed count) = (seed ≤ most_seed) × (count ≤ most_positions)
 
 -- the fault line of words that are no order
 abbrev pub usage_line : UsageWhy → List ℕ

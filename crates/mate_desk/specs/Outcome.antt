@@ -1,5 +1,6 @@
 -- What a run does, and how it may end.
-use Rattle.std.specs.Prelude.{◌≡◌, ◌⊎◌, ℕ, ◌≤◌, List, [], ◌++◌, length, take, Bool, false, Option, Some, None, IsTrue, codes}
+use Rattle.std.specs.Prelude.{◌≡◌, ◌≢◌, ◌⊎◌, ℕ, ◌≤◌, List, [], ◌++◌, length, take, Bool, false, Option, Some, None, IsTrue, codes}
+use Rattle.std.specs.FinMap as map
 use Rattle.std.specs.Io.KnownBytes.{Appends}
 use Rattle.desk_base.specs.Faults.{HasRisen}
 use Rattle.desk_base.specs.Files.{Files, Go}
@@ -41,18 +42,27 @@ pub record Writes (text fault : List ℕ) (old new : Option (List ℕ)) (failed 
   pub whole : (length fault ≤ count) ⊎ failed
 
 -- What the ports of a run tell at a moment: the bytes still to come, those written and the files, each where its port tells it, and how
--- often the source and the sink have failed.
+-- often the source, the sink and the shelf have failed.
 pub record Seen : Type 0 where
   pub left : Option (List ℕ)
   pub written : Option (List ℕ)
   pub files : Option Files
   pub read_faults : ℕ
   pub write_faults : ℕ
+  pub shelf_faults : ℕ
 
--- what a command sees that has a sink alone: it reads nothing, and the files stay what they are
-abbrev pub of_sink : Files → Option (List ℕ) → ℕ → Seen
-of_sink files written faults =
-    record { left = None; written = written; files = Some files; read_faults = 0; write_faults = faults }
+-- what is seen where the ports tell this, and have failed so often
+abbrev pub seen_of : (left written : Option (List ℕ)) → Option Files → (reads writes shelf : ℕ) → Seen
+seen_of left written files reads writes shelf =
+    record { left = left; written = written; files = files; read_faults = reads; write_faults = writes; shelf_faults = shelf }
+
+-- what a command sees that has a source and a sink, and no shelf: the files stay what they are
+abbrev pub of_streams : Files → (left written : Option (List ℕ)) → (reads writes : ℕ) → Seen
+of_streams files left written reads writes = seen_of left written (Some files) reads writes 0
+
+-- what a command sees that has a sink alone: it reads nothing
+abbrev pub of_sink : Files → (written : Option (List ℕ)) → (writes : ℕ) → Seen
+of_sink files written writes = of_streams files None written 0 writes
 
 -- the sink has failed in the run
 abbrev pub WriteFailed : Seen → Seen → Type 0
@@ -90,11 +100,27 @@ pub record LacksMemory (old new : Seen) : Type 0 where
   pub written : Writes [] (codes "memory\n") old.written new.written (WriteFailed old new)
   pub files : KeepsFiles old new
 
--- How a run, or the command in it, ends with this status, where `reports` says what is reported, and `may_lack` that memory may be wanting.
--- A command that uses the shelf will have one case more, the status of a fault of the shelf. What it lacks is the count of the shelf's faults
--- in what is seen, and which file is then unknown.
-abbrev pub Ends : Status → (Report → Type 0) → Type 0 → Seen → Seen → Type 0
-Ends is.ReadFault reports may_lack old new = (report : Report) × reports report × ReadsSome report old new
-Ends is.WriteFault reports may_lack old new = (report : Report) × reports report × WritesSome report old new
-Ends is.Memory reports may_lack old new = may_lack × LacksMemory old new
-Ends status reports may_lack old new = (report : Report) × reports report × DoesReport status report old new
+-- The files are after the run what they were before it, but that the one that was being kept, if one was, is unknown.
+abbrev pub KeepsOthers : (keeping : Option (List ℕ)) → Seen → Seen → Type 0
+KeepsOthers None old new = KeepsFiles old new
+KeepsOthers (Some name) old new =
+    Go old.files new.files (λ before after. (other : List ℕ) → other ≢ name → map.get after other ≡ map.get before other)
+
+-- the shelf failed, and nothing else was written
+pub record MissesShelf (keeping : Option (List ℕ)) (old new : Seen) : Type 0 where
+  pub failed : HasRisen old.shelf_faults new.shelf_faults
+  pub written : Writes [] (codes "shelf fault\n") old.written new.written (WriteFailed old new)
+  pub files : KeepsOthers keeping old new
+
+-- a command without a shelf has no fault of one
+abbrev pub NeverMisses : (keeping : Option (List ℕ)) → Type 0
+NeverMisses keeping = ⊥
+
+-- How a run, or the command in it, ends with this status, where `reports` says what is reported, `may_lack` that memory may be wanting, and
+-- `may_miss` that the shelf may fail while the file of this name, or none, is being kept.
+abbrev pub Ends : Status → (Report → Type 0) → (may_lack : Type 0) → (may_miss : Option (List ℕ) → Type 0) → Seen → Seen → Type 0
+Ends is.ReadFault reports may_lack may_miss old new = (report : Report) × reports report × ReadsSome report old new
+Ends is.WriteFault reports may_lack may_miss old new = (report : Report) × reports report × WritesSome report old new
+Ends is.ShelfFault reports may_lack may_miss old new = (keeping : Option (List ℕ)) × may_miss keeping × MissesShelf keeping old new
+Ends is.Memory reports may_lack may_miss old new = may_lack × LacksMemory old new
+Ends status reports may_lack may_miss old new = (report : Report) × reports report × DoesReport status report old new

@@ -1,19 +1,20 @@
 -- What is reported of `play`, and how it ends.
 use Rattle.std.specs.Prelude.{◌≡◌, ◌⊎◌, ℕ, List, [], ◌++◌, Option, IfSome, Result, Ok, Err, IsTrue, codes}
 use Rattle.std.specs.Io.KnownBytes.{Consumes}
+use Rattle.chess_text.specs.PositionText.{text_of_lines}
 use Rattle.desk_base.specs.Files.{Files}
 use Rattle.desk_base.specs.Lines.{Lines, lines_of}
 use Rattle.game_rules.specs.Game.{Value}
 use Rattle.game_report.specs.Played.{is_short}
 use Rattle.game_report.specs.Report.{IsReport, Match, ending_line}
 use Rattle.game_report.specs.Report as game
+use Rattle.game_report.specs.Taken.{TakesLines}
 use Rattle.game_report.specs.declared.play.Ending.{Ending}
 use Rattle.game_report.specs.declared.play.Ending.TheVariants.{Mated, Wide, Quit, NoLine, Many, CutAt, LongAt}
 use Rattle.game_report.specs.declared.play.GameError.{GameError}
 use Rattle.game_report.specs.declared.play.GameError.TheVariants.{Read, Write}
 use Rattle.winning_sets.specs.declared.names.StepName.{StepName}
-use Rattle.mate_desk.specs.Outcome.{Ends, Report, Seen, Writes, done_with, over_budget}
-use Rattle.mate_desk.specs.Taken.{TakesLines}
+use Rattle.mate_desk.specs.Outcome.{Ends, NeverMisses, Report, Seen, Writes, done_with, over_budget}
 use Rattle.mate_desk.specs.Verdict.{ExceedsAt, FitsBudget, HasNothingToPlay, no_mate_line}
 use Rattle.mate_desk.specs.declared.problem.Problem.{Problem}
 use Rattle.mate_desk.specs.declared.status.Status.{Status}
@@ -51,9 +52,10 @@ PlayReports n budget problem lines files report =
     ((step : StepName) × ExceedsAt problem budget n step × (report ≡ over_budget files step))
     ⊎ (FitsBudget problem budget n × PlayedReports n problem lines files report)
 
--- a line is due behind these bytes that come behind the text: the report on them ends because they end
-abbrev pub IsReplyDue : ℕ → ℕ → Problem → Files → (number : ℕ) → (before : List ℕ) → Type 0
-IsReplyDue n budget problem files number before = (report : Report) × PlayReports n budget problem (lines_of before) files report × IsTrue report.short
+-- a line is due behind these that come behind the text: the report on them ends because they end
+abbrev pub IsReplyDue : ℕ → ℕ → Problem → Files → (before : List (List ℕ)) → Type 0
+IsReplyDue n budget problem files before =
+    (report : Report) × PlayReports n budget problem (lines_of (text_of_lines before)) files report × IsTrue report.short
 
 -- the bytes that the report is on
 abbrev pub behind_text : Status → (taken rest : List ℕ) → List ℕ
@@ -74,7 +76,7 @@ pub record PlayEnds (n budget : ℕ) (problem : Problem) (files : Files) (status
   pub takes : TakesLines (IsReplyDue n budget problem files) (held ++ bytes) pending
   pub ends :
       Ends status (λ report. PlayReports n budget problem (lines_of (behind_text status (held ++ bytes) rest)) files report)
-      (LacksAtFirst n problem bytes) old new
+      (LacksAtFirst n problem bytes) NeverMisses old new
 
 -- what is written after a game was played, and the status then
 abbrev pub Finishes : Result Ending GameError → Status → (old new : Option (List ℕ)) → (failed : Type 0) → Type 0

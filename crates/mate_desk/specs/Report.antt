@@ -1,15 +1,16 @@
 -- What a run reports.
-use Rattle.std.specs.Prelude.{◌≡◌, ◌⊎◌, ℕ, ◌≤◌, List, ◌++◌, length, false, Result, Ok, Err}
+use Rattle.std.specs.Prelude.{◌≡◌, ◌⊎◌, ℕ, ◌<◌, ◌≤◌, List, [], ◌++◌, length, false, Option, Result, Ok, Err}
 use Rattle.desk_base.specs.Files.{Files}
 use Rattle.desk_base.specs.Lines.{Lines, ended}
 use Rattle.game_rules.specs.Game.{Position, Sound}
 use Rattle.chess_game.specs.Unsoundness.{IsFirstUnsoundness}
 use Rattle.chess_game.specs.declared.unsoundness.Unsound.{Unsound}
 use Rattle.mate_desk.specs.Decide.{DecideReports}
+use Rattle.mate_desk.specs.Drill.{DrillReports, IsDrilled}
 use Rattle.mate_desk.specs.FaultLines.{unsound_line}
 use Rattle.mate_desk.specs.Least.{LeastReports}
 use Rattle.mate_desk.specs.Order.{Ordered, usage_line}
-use Rattle.mate_desk.specs.Outcome.{Report, refusal_as}
+use Rattle.mate_desk.specs.Outcome.{NeverMisses, Report, refusal_as}
 use Rattle.mate_desk.specs.Play.{PlayReports}
 use Rattle.mate_desk.specs.Show.{ShowReports}
 use Rattle.mate_desk.specs.Text.{Text, TextAt, whole, refused, is_end, refusal_line}
@@ -35,12 +36,15 @@ OfRead reports files (whole problem rest) report = OfSound (reports problem rest
 abbrev pub OfText : (Problem → Lines → Report → Type 0) → Files → List ℕ → Report → Type 0
 OfText reports files bytes report = (text : Text) × TextAt bytes text × OfRead reports files text report
 
--- What is reported of an order: the words that it is, the bytes of the input, and the files. Each order has a line of its own.
+-- What is reported of an order: the words that it is, the bytes of the input, and the files. Each order has a line of its own; that of `first`
+-- comes with its command.
 abbrev pub ReportsOrder : Order → (words : List (List ℕ)) → List ℕ → Files → Report → Type 0
 ReportsOrder (orders.Decide n budget) words bytes files = OfText (λ problem rest. DecideReports n budget problem files) files bytes
 ReportsOrder (orders.Least limit budget) words bytes files = OfText (λ problem rest. LeastReports limit budget problem files) files bytes
+ReportsOrder (orders.First n budget) words bytes files = OfText (λ problem rest report. ⊥) files bytes
 ReportsOrder (orders.Play n budget) words bytes files = OfText (λ problem rest. PlayReports n budget problem rest files) files bytes
 ReportsOrder orders.Show words bytes files = OfText (λ problem rest. ShowReports problem.position files) files bytes
+ReportsOrder (orders.Drill seed count) words bytes files = DrillReports seed count files
 
 abbrev pub ReportsWords : Result Order UsageWhy → (words : List (List ℕ)) → List ℕ → Files → Report → Type 0
 ReportsWords (Err why) words bytes files report = report ≡ refusal_as files is.Usage (usage_line why) false
@@ -50,12 +54,14 @@ ReportsWords (Ok order) words bytes files report = ReportsOrder order words byte
 abbrev pub Reports : List (List ℕ) → List ℕ → Files → Report → Type 0
 Reports words bytes files report = (answer : Result Order UsageWhy) × Ordered words answer × ReportsWords answer words bytes files report
 
--- what the order asks for takes memory
+-- what the order asks for takes memory, of the problem of a text or of one that follows from a seed
 abbrev pub TakesMemory : Order → Problem → Type 0
 TakesMemory (orders.Decide n budget) problem = ¬ HasNothingToPlay n problem
 TakesMemory (orders.Least limit budget) problem = ¬ HasNothingToPlay limit problem
+TakesMemory (orders.First n budget) problem = ¬ HasNothingToPlay n problem
 TakesMemory (orders.Play n budget) problem = ¬ HasNothingToPlay n problem
 TakesMemory orders.Show problem = Unit {0}
+TakesMemory (orders.Drill seed count) problem = IsDrilled seed count problem
 
 -- The bytes taken are the text of a sound position, of which the order asks for something that takes memory, and at most 256 behind it.
 pub record LacksBehindText (takes : Problem → Type 0) (taken : List ℕ) : Type 0 where
@@ -72,16 +78,42 @@ pub record LacksBehindText (takes : Problem → Type 0) (taken : List ℕ) : Typ
 abbrev pub OrderMayLack : Order → List ℕ → Type 0
 OrderMayLack (orders.Decide n budget) taken = LacksBehindText (TakesMemory (orders.Decide n budget)) taken
 OrderMayLack (orders.Least limit budget) taken = LacksBehindText (TakesMemory (orders.Least limit budget)) taken
+OrderMayLack (orders.First n budget) taken = LacksBehindText (TakesMemory (orders.First n budget)) taken
 OrderMayLack (orders.Play n budget) taken = LacksBehindText (TakesMemory (orders.Play n budget)) taken
 OrderMayLack orders.Show taken = LacksBehindText (TakesMemory orders.Show) taken
+OrderMayLack (orders.Drill seed count) taken = (taken ≡ []) × (0 < count)
 
 -- the words are an order, and memory may be wanting after these bytes were taken
 abbrev pub MayLackMemory : List (List ℕ) → (taken : List ℕ) → Type 0
 MayLackMemory words taken = (order : Order) × Ordered words (Ok order) × OrderMayLack order taken
 
+-- where the shelf may fail while the file of this name, or none, is being kept, by the order, its words and the bytes that were taken
+abbrev pub OrderMayMiss : Order → (words : List (List ℕ)) → (taken : List ℕ) → (keeping : Option (List ℕ)) → Type 0
+OrderMayMiss (orders.Decide n budget) words taken = NeverMisses
+OrderMayMiss (orders.Least limit budget) words taken = NeverMisses
+OrderMayMiss (orders.First n budget) words taken = NeverMisses
+OrderMayMiss (orders.Play n budget) words taken = NeverMisses
+OrderMayMiss orders.Show words taken = NeverMisses
+OrderMayMiss (orders.Drill seed count) words taken = NeverMisses
+
+-- the words are an order, and the shelf may fail so after these bytes were taken
+abbrev pub MayMissShelf : List (List ℕ) → (taken : List ℕ) → (keeping : Option (List ℕ)) → Type 0
+MayMissShelf words taken keeping = (order : Order) × Ordered words (Ok order) × OrderMayMiss order words taken keeping
+
 -- the order uses no file
 abbrev pub UsesNoShelf : Order → Type 0
 UsesNoShelf (orders.Decide n budget) = Unit {0}
 UsesNoShelf (orders.Least limit budget) = Unit {0}
+UsesNoShelf (orders.First n budget) = Unit {0}
 UsesNoShelf (orders.Play n budget) = Unit {0}
 UsesNoShelf orders.Show = Unit {0}
+UsesNoShelf (orders.Drill seed count) = Unit {0}
+
+-- the order is of no text
+abbrev pub ReadsNoText : Order → Type 0
+ReadsNoText (orders.Decide n budget) = ⊥
+ReadsNoText (orders.Least limit budget) = ⊥
+ReadsNoText (orders.First n budget) = ⊥
+ReadsNoText (orders.Play n budget) = ⊥
+ReadsNoText orders.Show = ⊥
+ReadsNoText (orders.Drill seed count) = Unit {0}

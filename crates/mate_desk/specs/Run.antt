@@ -1,10 +1,11 @@
 -- How a run ends.
 use Rattle.std.specs.Prelude.{◌≡◌, ℕ, List, [], ◌++◌, IfSome, IsTrue}
 use Rattle.std.specs.Io.KnownBytes.{Consumes}
+use Rattle.chess_text.specs.PositionText.{text_of_lines}
 use Rattle.desk_base.specs.Files.{Files}
+use Rattle.game_report.specs.Taken.{TakesLines}
 use Rattle.mate_desk.specs.Outcome.{Report, Seen, Ends}
-use Rattle.mate_desk.specs.Report.{Reports, MayLackMemory}
-use Rattle.mate_desk.specs.Taken.{TakesLines}
+use Rattle.mate_desk.specs.Report.{Reports, MayLackMemory, MayMissShelf}
 use Rattle.mate_desk.specs.declared.status.Status.{Status}
 use Rattle.mate_desk.specs.declared.status.Status.TheVariants as is
 
@@ -18,9 +19,9 @@ pub record Given (old new : Seen) : Type 0 where
   pub left : IfSome new.left (λ told. told ≡ rest)
   pub kept : IfSome old.files (λ told. told ≡ files)
 
--- a line is due behind these bytes: the report on them ends because they end
-abbrev pub IsLineDue : List (List ℕ) → Files → (number : ℕ) → (before : List ℕ) → Type 0
-IsLineDue words files number before = (report : Report) × Reports words before files report × IsTrue report.short
+-- a line is due behind these: the report on them ends because they end
+abbrev pub IsLineDue : List (List ℕ) → Files → (before : List (List ℕ)) → Type 0
+IsLineDue words files before = (report : Report) × Reports words (text_of_lines before) files report × IsTrue report.short
 
 -- what a run with this status takes: nothing where the words are no order, and else the lines that it reads
 abbrev pub Takes : List (List ℕ) → Files → Status → List ℕ → Type 0
@@ -38,4 +39,4 @@ pub record RunEnds (words : List (List ℕ)) (status : Status) (old new : Seen) 
   pub takes : Takes words given.files status given.taken
   pub ends :
       Ends status (λ report. Reports words (reported_on status given.taken given.rest) given.files report)
-      (MayLackMemory words given.taken) old new
+      (MayLackMemory words given.taken) (MayMissShelf words given.taken) old new

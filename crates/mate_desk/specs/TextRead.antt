@@ -1,9 +1,9 @@
 -- What was read of a text.
-use Rattle.std.specs.Prelude.{◌≡◌, ℕ, List, ◌++◌, Option, IfSome, Result, Ok, Err, IsTrue}
+use Rattle.std.specs.Prelude.{◌≡◌, ℕ, ◌+◌, List, ◌++◌, length, Option, IfSome, Result, Ok, Err, IsTrue}
 use Rattle.std.specs.Io.KnownBytes.{Consumes}
 use Rattle.chess_text.specs.PositionText.{text_of_lines}
 use Rattle.desk_base.specs.Lines.{lines_of}
-use Rattle.mate_desk.specs.Taken.{TakesLines}
+use Rattle.game_report.specs.Taken.{TakesLines}
 use Rattle.mate_desk.specs.Text.{TextAt, whole, refused, is_end}
 use Rattle.mate_desk.specs.declared.problem.Problem.{Problem}
 use Rattle.mate_desk.specs.declared.text.LineWhy.{LineWhy}
@@ -18,9 +18,9 @@ pub record IsShort (bytes : List ℕ) : Type 0 where
   pub text : TextAt bytes (refused number why)
   pub short : IsTrue (is_end why)
 
--- the line of this number is missing of a text that begins with the lines before it
-abbrev pub IsMissing : ℕ → List ℕ → Type 0
-IsMissing number before = TextAt before (refused number Missing)
+-- the next line is missing of a text that begins with these
+abbrev pub IsMissing : (before : List (List ℕ)) → Type 0
+IsMissing before = TextAt (text_of_lines before) (refused (length before + 1) Missing)
 
 -- The answer is right where these lines were read of an input, `pending` was taken behind them, and `rest` comes then.
 abbrev pub ReadsText : Result Problem TextEnd → (lines pending rest : List ℕ) → Type 0

@@ -4,7 +4,7 @@ ghost use Rattle.std.specs.Prelude.{◌≡◌, ◌++◌, IsTrue, codes};
 ghost use Rattle.std.specs.Fmt.{decimal};
 ghost use Rattle.desk_base.specs.Files.{Files};
 ghost use Rattle.mate_desk.specs.Decide.{DecideReports};
-ghost use Rattle.mate_desk.specs.Outcome.{Ends, of_sink};
+ghost use Rattle.mate_desk.specs.Outcome.{Ends, NeverMisses, of_sink};
 ghost use Rattle.mate_desk.specs.Verdict.{HasNothingToPlay, IsTask, mate_line, no_mate_line};
 
 use crate::mates::{number_line, won};
@@ -21,7 +21,7 @@ pub fn decide<K: Sink>(alloc: Global, task: &Task, sink: &mut K) -> Status
     requires { IsTask task.now }
     ensures ends { (files : Files) →
         Ends result (DecideReports task.now.moves task.now.budget task.now.problem files)
-        (¬ HasNothingToPlay task.now.moves task.now.problem)
+        (¬ HasNothingToPlay task.now.moves task.now.problem) NeverMisses
         (of_sink files (K.written sink.old) (K.faults sink.old)) (of_sink files (K.written sink.new) (K.faults sink.new)) }
 {
     let Task {

@@ -1,11 +1,13 @@
 //! The top call.
 
-ghost use Rattle.std.specs.Prelude.{◌≡◌, IfOk, Result, map, string_bytes};
+ghost use Rattle.std.specs.Prelude.{◌≡◌, IfOk, Ok, Result, map, string_bytes};
 ghost use Rattle.mate_desk.specs.Order.{Ordered};
-ghost use Rattle.mate_desk.specs.Report.{UsesNoShelf};
+ghost use Rattle.mate_desk.specs.Outcome.{seen_of};
+ghost use Rattle.mate_desk.specs.Report.{ReadsNoText, UsesNoShelf};
 ghost use Rattle.mate_desk.specs.Run.{RunEnds};
 
 use crate::decide::decide;
+use crate::drill::drill;
 use crate::fault_line::{refusal_line, refuse, unsound_line};
 use crate::least::least;
 use crate::order::{Order, UsageWhy, order_of};
@@ -20,8 +22,8 @@ use std::alloc::Global;
 
 /// Does what the words say, with the position text at the front of the source and the replies behind it, and writes the answer to the sink.
 ///
-/// The words come first, then the text line by line, then whether its position is sound, then the answer; the first refusal ends the
-/// run with its one fault line. Where writing that line fails, the status stays the refusal's. No command keeps a file yet.
+/// The words come first, then, where the order is of a text, the text line by line, then whether its position is sound, then the answer;
+/// the first refusal ends the run with its one fault line. Where writing that line fails, the status stays the refusal's. No command keeps a file yet.
 pub fn run<S: Source, K: Sink, H: Shelf>(
     alloc: Global,
     words: &Vec<String>,
@@ -30,22 +32,12 @@ pub fn run<S: Source, K: Sink, H: Shelf>(
     shelf: &mut H,
 ) -> Status
     ensures ends { RunEnds (map string_bytes words.now.items) result
-        record {
-          left = S.left source.old;
-          written = K.written sink.old;
-          files = H.files shelf.old;
-          read_faults = S.faults source.old;
-          write_faults = K.faults sink.old;
-        }
-        record {
-          left = S.left source.new;
-          written = K.written sink.new;
-          files = H.files shelf.new;
-          read_faults = S.faults source.new;
-          write_faults = K.faults sink.new;
-        } }
+        (seen_of (S.left source.old) (K.written sink.old) (H.files shelf.old) (S.faults source.old) (K.faults sink.old) (H.faults shelf.old))
+        (seen_of (S.left source.new) (K.written sink.new) (H.files shelf.new) (S.faults source.new) (K.faults sink.new) (H.faults shelf.new)) }
     // Where the words are no order, nothing is read.
     ensures nothing_read { result ≡ Status.Usage → source.new ≡ source.old }
+    // Nor where they are an order of no text.
+    ensures no_text_read { (order : Order) → Ordered (map string_bytes words.now.items) (Ok order) → ReadsNoText order → source.new ≡ source.old }
     // Where they are none, or one that uses no file, the shelf is not called.
     ensures shelf_untouched { (answer : Result Order UsageWhy) → Ordered (map string_bytes words.now.items) answer → IfOk answer UsesNoShelf → shelf.new ≡ shelf.old }
 {
@@ -57,6 +49,9 @@ pub fn run<S: Source, K: Sink, H: Shelf>(
             return Status::Usage;
         }
     };
+    if let Order::Drill { seed, count } = order {
+        return drill(alloc, seed, count, sink);
+    }
     let mut reader = LineReader::new();
     let problem = match read_problem(&mut reader, source) {
         Ok(problem) => problem,
@@ -100,6 +95,8 @@ pub fn run<S: Source, K: Sink, H: Shelf>(
             };
             play(alloc, &task, &mut reader, source, sink)
         }
+        Order::First { .. } => unreachable!(),
         Order::Show => show(alloc, &problem.position, sink),
+        Order::Drill { .. } => unreachable!(),
     }
 }

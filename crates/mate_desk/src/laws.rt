@@ -1,6 +1,6 @@
 //! Laws of a run, each the contract of a function that does nothing. They are of the relation that the contract of `run` names.
 
-ghost use Rattle.mate_desk.specs.Laws.{DecidesExactly, DecideWrites, FaultsAreCounted, LeastWrites, MemoryLast, OneReport, PlayKeeps, TextIsRead, UsageExactly, WhiteIsToMate};
+ghost use Rattle.mate_desk.specs.Laws.{DecidesExactly, DecideWrites, FaultsAreCounted, LeastWrites, MemoryLast, NoShelfFault, OneReport, PlayKeeps, TextIsRead, UsageExactly, WhiteIsToMate};
 
 /// A run of `decide` that is done, on the text of a sound position and whatever comes behind it, writes `mate in n` exactly where White
 /// mates within n moves of his own, whatever is replied on the whole board, and `no mate in n` exactly where he does not.
@@ -34,7 +34,12 @@ pub fn memory_last()
     ensures { MemoryLast }
 {}
 
-/// A run has the status of a fault only where the count of faults of its source, or of its sink, has risen.
+/// A run of an order that uses no file never has the status of a fault of the shelf.
+pub fn no_shelf_fault()
+    ensures { NoShelfFault }
+{}
+
+/// A run has the status of a fault only where the count of faults of its source, of its sink or of its shelf has risen.
 pub fn faults_are_counted()
     ensures { FaultsAreCounted }
 {}

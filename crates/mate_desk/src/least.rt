@@ -5,7 +5,7 @@ ghost use Rattle.desk_base.specs.Files.{Files};
 ghost use Rattle.winning_sets.specs.declared.names.StepName.{StepName};
 ghost use Rattle.mate_desk.specs.Least.{LeastFinds, LeastReports, LeastStops};
 ghost use Rattle.mate_desk.specs.Least as specs;
-ghost use Rattle.mate_desk.specs.Outcome.{Ends, of_sink};
+ghost use Rattle.mate_desk.specs.Outcome.{Ends, NeverMisses, of_sink};
 ghost use Rattle.mate_desk.specs.Verdict.{HasNothingToPlay, IsTask};
 
 use crate::mates::{number_line, won};
@@ -22,7 +22,7 @@ pub fn least<K: Sink>(alloc: Global, task: &Task, sink: &mut K) -> Status
     requires { IsTask task.now }
     ensures ends { (files : Files) →
         Ends result (LeastReports task.now.moves task.now.budget task.now.problem files)
-        (¬ HasNothingToPlay task.now.moves task.now.problem)
+        (¬ HasNothingToPlay task.now.moves task.now.problem) NeverMisses
         (of_sink files (K.written sink.old) (K.faults sink.old)) (of_sink files (K.written sink.new) (K.faults sink.new)) }
 {
     match least_moves(alloc, task) {

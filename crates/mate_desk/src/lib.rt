@@ -6,6 +6,8 @@
 
 mod decide;
 mod desk;
+mod drill;
+mod drill_positions;
 mod fault_line;
 pub mod laws;
 mod least;

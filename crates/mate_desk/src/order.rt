@@ -3,16 +3,19 @@
 ghost use Rattle.std.specs.Prelude.{◌≡◌, ◌↔◌, ◌≤◌, map, string_bytes, IsTrue, IfOk};
 ghost use Rattle.std.specs.Char.{IsAsciiDigit};
 ghost use Rattle.std.specs.List.{All};
-ghost use Rattle.mate_desk.specs.Order.{IsBudget, IsCommand, IsNaturalText, IsWithinLimits, MovesOrdered, Ordered, OrderedBy, ReadsMoves, ReadsNumber, ShowOrdered, most_moves, usage_line};
+ghost use Rattle.mate_desk.specs.Order.{DrillOrdered, IsBudget, IsCommand, IsNaturalText, IsWithinLimits, MovesOrdered, Ordered, OrderedBy, ReadsMoves, ReadsNumber, ShowOrdered, most_moves, most_seed, usage_line};
 
 /// The greatest number of moves that can be asked for.
-const MOST_MOVES: u32 = 20;
+const MOST_MOVES: u64 = 20;
 
 /// The greatest budget.
-const MOST_BUDGET: u32 = 200_000;
+const MOST_BUDGET: u64 = 200_000;
 
 /// The budget where no word names one.
-const DEFAULT_BUDGET: u32 = 50_000;
+pub const DEFAULT_BUDGET: u32 = 50_000;
+
+/// The greatest number of positions that can be asked for.
+const MOST_POSITIONS: u64 = 100;
 
 /// What is to be done.
 #[derive(Clone, Copy, Debug, PartialEq, Eq)]
@@ -21,10 +24,14 @@ pub enum Order {
     Decide { moves: u8, budget: u32 },
     /// Say within how few moves of his own White mates, if he does within so many. The budget is that of each number of moves.
     Least { limit: u8, budget: u32 },
+    /// Name, ray by ray, the first moves by which White mates within so many moves of his own. The budget is that of `Decide`.
+    First { moves: u8, budget: u32 },
     /// Play a game in which White mates within so many moves of his own, whatever is replied. The budget is that of `Decide`.
     Play { moves: u8, budget: u32 },
     /// Write the position, whether its side to move is in check, and how many men are live.
     Show,
+    /// Say from how many of so many positions, which follow from the seed, White mates in one move.
+    Drill { seed: u64, count: u8 },
 }
 
 /// Why words are no order. Words are looked at from the left.
@@ -76,8 +83,10 @@ pub fn order_of(words: &Vec<String>) -> Result<Order, UsageWhy>
 enum Command {
     Decide,
     Least,
+    First,
     Play,
     Show,
+    Drill,
 }
 
 /// The command of this name.
@@ -90,11 +99,17 @@ fn command_named(word: &str) -> Option<Command>
     if word == "least" {
         return Some(Command::Least);
     }
+    if word == "first" {
+        return Some(Command::First);
+    }
     if word == "play" {
         return Some(Command::Play);
     }
     if word == "show" {
         return Some(Command::Show);
+    }
+    if word == "drill" {
+        return Some(Command::Drill);
     }
     None
 }
@@ -107,8 +122,10 @@ fn order_behind(command: Command, words: &[String]) -> Result<Order, UsageWhy>
     match command {
         Command::Decide => decide_order(words),
         Command::Least => least_order(words),
+        Command::First => first_order(words),
         Command::Play => play_order(words),
         Command::Show => show_order(words),
+        Command::Drill => drill_order(words),
     }
 }
 
@@ -130,6 +147,15 @@ fn least_order(words: &[String]) -> Result<Order, UsageWhy>
     Ok(Order::Least { limit, budget })
 }
 
+/// The order that the words behind `first` are.
+fn first_order(words: &[String]) -> Result<Order, UsageWhy>
+    ensures ordered { MovesOrdered (λ moves budget. Order.First moves budget) (map string_bytes words.now) result }
+    ensures within { IfOk result IsWithinLimits }
+{
+    let (moves, budget) = read_moves_and_budget(words)?;
+    Ok(Order::First { moves, budget })
+}
+
 /// The order that the words behind `play` are.
 fn play_order(words: &[String]) -> Result<Order, UsageWhy>
     ensures ordered { MovesOrdered (λ moves budget. Order.Play moves budget) (map string_bytes words.now) result }
@@ -148,7 +174,7 @@ fn read_moves_and_budget(words: &[String]) -> Result<(u8, u32), UsageWhy>
         [moves] => Ok((read_moves(moves.as_str())?, DEFAULT_BUDGET)),
         [moves, budget] => Ok((
             read_moves(moves.as_str())?,
-            read_number(budget.as_str(), 1, MOST_BUDGET)?,
+            read_budget(budget.as_str())?,
         )),
         _ => Err(UsageWhy::Count),
     }
@@ -166,6 +192,20 @@ fn show_order(words: &[String]) -> Result<Order, UsageWhy>
     }
 }
 
+/// The order that the words behind `drill` are.
+fn drill_order(words: &[String]) -> Result<Order, UsageWhy>
+    ensures ordered { DrillOrdered (map string_bytes words.now) result }
+    ensures within { IfOk result IsWithinLimits }
+{
+    match words {
+        [seed, count] => Ok(Order::Drill {
+            seed: read_seed(seed.as_str())?,
+            count: read_count(count.as_str())?,
+        }),
+        _ => Err(UsageWhy::Count),
+    }
+}
+
 /// The number of moves that the word is.
 fn read_moves(word: &str) -> Result<u8, UsageWhy>
     ensures { ReadsNumber word.now 0 20 result }
@@ -173,14 +213,35 @@ fn read_moves(word: &str) -> Result<u8, UsageWhy>
     Ok(read_number(word, 0, MOST_MOVES)? as u8)
 }
 
+/// The budget that the word is.
+fn read_budget(word: &str) -> Result<u32, UsageWhy>
+    ensures { ReadsNumber word.now 1 200000 result }
+{
+    Ok(read_number(word, 1, MOST_BUDGET)? as u32)
+}
+
+/// The seed that the word is.
+fn read_seed(word: &str) -> Result<u64, UsageWhy>
+    ensures { ReadsNumber word.now 0 most_seed result }
+{
+    read_number(word, 0, u64::MAX)
+}
+
+/// The number of positions that the word is.
+fn read_count(word: &str) -> Result<u8, UsageWhy>
+    ensures { ReadsNumber word.now 0 100 result }
+{
+    Ok(read_number(word, 0, MOST_POSITIONS)? as u8)
+}
+
 /// The natural that the word is, if it lies within the limits.
-fn read_number(word: &str, low: u32, high: u32) -> Result<u32, UsageWhy>
+fn read_number(word: &str, low: u64, high: u64) -> Result<u64, UsageWhy>
     ensures { ReadsNumber word.now low high result }
 {
     if !is_natural(word.as_bytes()) {
         return Err(UsageWhy::Number);
     }
-    match word.parse::<u32>() {
+    match word.parse::<u64>() {
         Ok(number) => {
             if number < low || number > high {
                 return Err(UsageWhy::Limit);

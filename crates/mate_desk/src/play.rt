@@ -1,10 +1,10 @@
 //! A game that the winner plays against replies that come behind the text.
 
-ghost use Rattle.std.specs.Prelude.{◌≡◌, ◌≤◌, [], None, Some, length};
+ghost use Rattle.std.specs.Prelude.{◌≡◌, ◌≤◌, [], None, length};
 ghost use Rattle.desk_base.specs.Faults.{HasRisen};
 ghost use Rattle.desk_base.specs.Files.{Files};
 ghost use Rattle.game_report.specs.Report.{ending_line};
-ghost use Rattle.mate_desk.specs.Outcome.{Writes};
+ghost use Rattle.mate_desk.specs.Outcome.{Writes, of_streams};
 ghost use Rattle.mate_desk.specs.Play.{Finishes, PlayEnds, status_of};
 ghost use Rattle.mate_desk.specs.Verdict.{IsTask};
 
@@ -37,20 +37,8 @@ pub fn play<S: Source, K: Sink>(
     requires lines { task.now.problem.lines ≤ 8 }
     ensures ends { (files : Files) →
         PlayEnds task.now.moves task.now.budget task.now.problem files result reader.old.pending reader.new.pending
-        record {
-          left = S.left source.old;
-          written = K.written sink.old;
-          files = Some files;
-          read_faults = S.faults source.old;
-          write_faults = K.faults sink.old;
-        }
-        record {
-          left = S.left source.new;
-          written = K.written sink.new;
-          files = Some files;
-          read_faults = S.faults source.new;
-          write_faults = K.faults sink.new;
-        } }
+        (of_streams files (S.left source.old) (K.written sink.old) (S.faults source.old) (K.faults sink.old))
+        (of_streams files (S.left source.new) (K.written sink.new) (S.faults source.new) (K.faults sink.new)) }
 {
     let Task {
         problem,

@@ -3,7 +3,7 @@
 ghost use Rattle.std.specs.Prelude.{IfOk, ◌≡◌, ◌≤◌, is_some, length};
 ghost use Rattle.desk_base.specs.Files.{Files};
 ghost use Rattle.game_rules.specs.Game.{Sound, square_of};
-ghost use Rattle.mate_desk.specs.Outcome.{Ends, of_sink};
+ghost use Rattle.mate_desk.specs.Outcome.{Ends, NeverMisses, of_sink};
 ghost use Rattle.mate_desk.specs.Show.{IsCheckLine, IsShown, ShowReports, live_line};
 ghost use Rattle.mate_desk.specs.Show as specs;
 
@@ -21,7 +21,7 @@ pub fn show<K: Sink>(alloc: Global, p: &Position, sink: &mut K) -> Status
     requires sound { Sound p.now }
     requires few { length p.now.men ≤ 5 }
     ensures ends { (files : Files) →
-        Ends result (ShowReports p.now files) (Unit {0})
+        Ends result (ShowReports p.now files) (Unit {0}) NeverMisses
         (of_sink files (K.written sink.old) (K.faults sink.old)) (of_sink files (K.written sink.new) (K.faults sink.new)) }
 {
     match shown(alloc, p) {

@@ -18,6 +18,8 @@ pub enum Status {
     ReadFault,
     /// The sink has failed before the answer was out.
     WriteFault,
+    /// The shelf has failed.
+    ShelfFault,
     /// A step of the plan needs more states than the budget.
     Budget,
     /// The winner is to move, and none of his moves to a square of 64 bits keeps the promised count.
@@ -42,6 +44,7 @@ impl Status {
             Status::Unsound => 4,
             Status::ReadFault => 5,
             Status::WriteFault => 6,
+            Status::ShelfFault => 7,
             Status::Budget => 8,
             Status::Wide => 9,
             Status::Memory => 10,

@@ -19,3 +19,4 @@ pub record EndsWithoutWords (why : WordsError) (status : Status) (old new : Seen
   pub left : new.left ≡ old.left
   pub read_faults : new.read_faults ≡ old.read_faults
   pub files : new.files ≡ old.files
+  pub shelf_faults : new.shelf_faults ≡ old.shelf_faults

@@ -5,7 +5,7 @@ ghost use Rattle.std.specs.Process.{exit_status};
 ghost use Rattle.desk_base.specs.Faults.{HasRisen};
 ghost use Rattle.desk_base.specs.Files.{no_files};
 ghost use Rattle.mate_desk.specs.Codes.{code_of};
-ghost use Rattle.mate_desk.specs.Outcome.{Seen};
+ghost use Rattle.mate_desk.specs.Outcome.{seen_of};
 ghost use Rattle.mate_desk.specs.Run.{RunEnds};
 ghost use Rattle.mate_main.specs.Program.{EndsWithoutWords, RefusesWords};
 
@@ -32,20 +32,9 @@ pub fn perform<S: Source, K: Sink, H: Shelf>(
     shelf: &mut H,
     alloc: Global,
 ) -> Status
-    ensures { let old : Seen = record {
-      left = S.left source.old;
-      written = K.written sink.old;
-      files = H.files shelf.old;
-      read_faults = S.faults source.old;
-      write_faults = K.faults sink.old;
-    } in
-        let new : Seen = record {
-          left = S.left source.new;
-          written = K.written sink.new;
-          files = H.files shelf.new;
-          read_faults = S.faults source.new;
-          write_faults = K.faults sink.new;
-        } in
+    ensures {
+        let old = seen_of (S.left source.old) (K.written sink.old) (H.files shelf.old) (S.faults source.old) (K.faults sink.old) (H.faults shelf.old) in
+        let new = seen_of (S.left source.new) (K.written sink.new) (H.files shelf.new) (S.faults source.new) (K.faults sink.new) (H.faults shelf.new) in
         MatchResult words (λ given. RunEnds (map string_bytes given.items) result old new) (λ why. EndsWithoutWords why result old new) }
 {
     match words {
@@ -77,6 +66,7 @@ pub struct Ran<'a> {
     pub output: Vec<u8>,
     pub read_faults: u64,
     pub write_faults: u64,
+    pub shelf_faults: u64,
 }
 
 /// The body of the program over a slice as its input and a vector as its output, of which all bytes are told, with no files.
@@ -86,20 +76,9 @@ pub fn perform_in_memory<'a>(
     output: Vec<u8>,
     alloc: Global,
 ) -> Ran<'a>
-    ensures { let old : Seen = record {
-      left = Some input.now;
-      written = Some output.items;
-      files = Some no_files;
-      read_faults = 0;
-      write_faults = 0;
-    } in
-        let new : Seen = record {
-          left = Some result.rest.now;
-          written = Some result.output.items;
-          files = Some no_files;
-          read_faults = result.read_faults;
-          write_faults = result.write_faults;
-        } in
+    ensures {
+        let old = seen_of (Some input.now) (Some output.items) (Some no_files) 0 0 0 in
+        let new = seen_of (Some result.rest.now) (Some result.output.items) (Some no_files) result.read_faults result.write_faults result.shelf_faults in
         MatchResult words (λ given. RunEnds (map string_bytes given.items) result.status old new) (λ why. EndsWithoutWords why result.status old new) }
 {
     let mut source = StdSource::new(input);
@@ -114,6 +93,7 @@ pub fn perform_in_memory<'a>(
         output,
         read_faults,
         write_faults,
+        shelf_faults: shelf.faults(),
     }
 }
 

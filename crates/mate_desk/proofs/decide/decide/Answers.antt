@@ -1,7 +1,7 @@
 use Rattle.std.proofs.Common.{ap, inl, inr, refl, ◌∙◌}
 use Rattle.std.specs.Prelude.{Err}
 use Rattle.mate_desk.specs.Decide.{DecideReports}
-use Rattle.mate_desk.specs.Outcome.{done_with}
+use Rattle.mate_desk.specs.Outcome.{NeverMisses, done_with}
 use Rattle.mate_desk.specs.Verdict.{FitsBudget}
 use Rattle.mate_desk.proofs.Values.{verdict_is}
 use Rattle.mate_desk.proofs.Writing.{ends_as, printed}
@@ -20,8 +20,8 @@ returns-in-Ok g c = record {
 pub returns : goal.returns
 returns g c = record {
   ends = λ files. let task = c.args.task.now in
-      ends_as c.print_error.result _ (DecideReports task.moves task.budget task.problem files) _ _ _ _
+      ends_as c.print_error.result _ (DecideReports task.moves task.budget task.problem files) _ _ NeverMisses NeverMisses _ _
       (λ report step. inl (step.0, rw c.new-solver.ensures at (c.in-Err.ensures.step step.0 step.1), step.2))
-      (λ memory. c.in-Err.ensures.memory (ap Err memory))
+      (λ memory. c.in-Err.ensures.memory (ap Err memory)) (λ keeping never. never)
       (c.print_error.ensures.ends files);
 }

@@ -37,7 +37,7 @@ returns-in-Decide-clause-ends g c =
 
 pub returns-in-Decide-clause-nothing_read : goal.returns-in-Decide-clause-nothing_read
 returns-in-Decide-clause-nothing_read g c = λ usage.
-    absurd (not_usage c.decide.result _ _ _ _ (decide_status c.in-Decide.moves c.in-Decide.budget c.in-Ok-read_problem.problem no_files) (c.decide.ensures.ends no_files) usage)
+    absurd (not_usage c.decide.result _ _ _ _ _ (decide_status c.in-Decide.moves c.in-Decide.budget c.in-Ok-read_problem.problem no_files) (c.decide.ensures.ends no_files) usage)
 
 pub returns-in-Least-clause-ends : goal.returns-in-Least-clause-ends
 returns-in-Least-clause-ends g c =
@@ -48,7 +48,7 @@ returns-in-Least-clause-ends g c =
 
 pub returns-in-Least-clause-nothing_read : goal.returns-in-Least-clause-nothing_read
 returns-in-Least-clause-nothing_read g c = λ usage.
-    absurd (not_usage c.least.result _ _ _ _ (least_status c.in-Least.limit c.in-Least.budget c.in-Ok-read_problem.problem no_files) (c.least.ensures.ends no_files) usage)
+    absurd (not_usage c.least.result _ _ _ _ _ (least_status c.in-Least.limit c.in-Least.budget c.in-Ok-read_problem.problem no_files) (c.least.ensures.ends no_files) usage)
 
 pub returns-in-Show-clause-ends : goal.returns-in-Show-clause-ends
 returns-in-Show-clause-ends g c =
@@ -59,7 +59,7 @@ returns-in-Show-clause-ends g c =
 
 pub returns-in-Show-clause-nothing_read : goal.returns-in-Show-clause-nothing_read
 returns-in-Show-clause-nothing_read g c = λ usage.
-    absurd (not_usage c.show.result _ _ _ _ (show_status c.in-Ok-read_problem.problem.position no_files) (c.show.ensures.ends no_files) usage)
+    absurd (not_usage c.show.result _ _ _ _ _ (show_status c.in-Ok-read_problem.problem.position no_files) (c.show.ensures.ends no_files) usage)
 
 pub returns-in-Play-clause-ends : goal.returns-in-Play-clause-ends
 returns-in-Play-clause-ends g c =
@@ -72,4 +72,4 @@ returns-in-Play-clause-ends g c =
 pub returns-in-Play-clause-nothing_read : goal.returns-in-Play-clause-nothing_read
 returns-in-Play-clause-nothing_read g c = λ usage.
     let play = c.play.ensures.ends no_files in
-    absurd (not_usage c.play.result _ _ _ _ (play_status c.in-Play.moves c.in-Play.budget c.in-Ok-read_problem.problem _ no_files) play.ends usage)
+    absurd (not_usage c.play.result _ _ _ _ _ (play_status c.in-Play.moves c.in-Play.budget c.in-Ok-read_problem.problem _ no_files) play.ends usage)

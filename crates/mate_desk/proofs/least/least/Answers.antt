@@ -1,7 +1,7 @@
 use Rattle.std.proofs.Common.{ap, inl, inr, ◌∙◌}
 use Rattle.std.specs.Prelude.{Err}
 use Rattle.mate_desk.specs.Least.{LeastReports}
-use Rattle.mate_desk.specs.Outcome.{done_with}
+use Rattle.mate_desk.specs.Outcome.{NeverMisses, done_with}
 use Rattle.mate_desk.proofs.Writing.{ends_as, printed}
 use Rattle.mate_desk.proofs.least.least.Goals as goal
 
@@ -17,8 +17,8 @@ returns-in-Ok g c = record {
 pub returns-in-Err : goal.returns-in-Err
 returns-in-Err g c = record {
   ends = λ files. let task = c.args.task.now in
-      ends_as c.print_error.result _ (LeastReports task.moves task.budget task.problem files) _ _ _ _
+      ends_as c.print_error.result _ (LeastReports task.moves task.budget task.problem files) _ _ NeverMisses NeverMisses _ _
       (λ report step. inl (step.0, c.in-Err.ensures.step step.0 step.1, step.2))
-      (λ memory. c.in-Err.ensures.memory (ap Err memory))
+      (λ memory. c.in-Err.ensures.memory (ap Err memory)) (λ keeping never. never)
       (c.print_error.ensures.ends files);
 }
