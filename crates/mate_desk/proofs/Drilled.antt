@@ -2,7 +2,7 @@
 use Rattle.std.proofs.Common.{◌≡◌, ◌↔◌, ◌<◌, ◌≤◌, ◌+◌, ℕ, zero, suc, Bool, true, false, cond, IsTrue, List, [], ◌∷◌, ◌++◌, length, Some, inl, inr, refl, sym, ap, subst, ◌∙◌, below_more, add-one, arith}
 use Rattle.std.specs.Prelude.{count_by, slice_get}
 use Rattle.std.proofs.lemmas.List.{length-append}
-use Rattle.std.proofs.lemmas.List.Sums.{sum_by-append, count_by-le-length}
+use Rattle.std.proofs.lemmas.List.Sums.{sum_by_push}
 use Rattle.std.proofs.lemmas.Option.{same_Some, slice_get_within, slice_get-get_or}
 use Rattle.desk_base.specs.Files.{Files}
 use Rattle.game_rules.specs.Game.{Value}
@@ -26,14 +26,6 @@ pushed [] won w (suc k) is P before last = absurd (cc)
 pushed (v ∷ verdicts) won w zero is P before last = before 0 w is
 pushed (v ∷ verdicts) won w (suc k) is P before last = pushed verdicts won w k is (λ j. P (suc j)) (λ j u at. before (suc j) u at) last
 
-pub none_found : (seed : ℕ) → DrillFinds seed 0 0
-none_found seed = record {
-  fits = λ k below. absurd (omega arith);
-  verdicts = [];
-  are_verdicts = record { one_each = refl; right = λ k won is. absurd (cc) };
-  counted = refl;
-}
-
 -- one position more
 module _ (seed count mates : ℕ) (won : Bool) (finds : DrillFinds seed count mates) (fits : FitsBudget (drilled seed count) default_budget 1) (is : IsTrue won ↔ Value White 1 (drilled seed count).position) where
   more_verdicts : AreVerdicts seed (count + 1) (finds.verdicts ++ won ∷ [])
@@ -52,12 +44,8 @@ module _ (seed count mates : ℕ) (won : Bool) (finds : DrillFinds seed count ma
         fits = below_more Fits count finds.fits fits;
         verdicts = finds.verdicts ++ won ∷ [];
         are_verdicts = more_verdicts;
-        counted = ap (λ n. n + cond won 1 0) finds.counted ∙ sym (sum_by-append (λ w. cond w 1 0) finds.verdicts (won ∷ []));
+        counted = ap (λ n. n + cond won 1 0) finds.counted ∙ sym (sum_by_push (λ w. cond w 1 0) finds.verdicts won);
       }
-
--- no more than there are positions
-pub few_found : (seed count mates : ℕ) → DrillFinds seed count mates → mates ≤ count
-few_found seed count mates finds = omega (arith, finds.counted, finds.are_verdicts.one_each, count_by-le-length (λ won. won) finds.verdicts)
 
 same_bool : (a b : Bool) → IsTrue a ↔ IsTrue b → a ≡ b
 same_bool true true is = refl

@@ -99,6 +99,15 @@ pub words_status : (words : List (List ℕ)) (files : Files) (answer : Result Or
 words_status words files (Err why) bytes report ordered reports same = (why, ordered)
 words_status words files (Ok order) bytes report ordered reports same = absurd (order_status order words bytes files report reports same)
 
+-- each order but a drill is of a text
+pub reads_text : (order : Order) → ((seed count : ℕ) → order ≡ Drill seed count → ⊥) → ReadsNoText order → ⊥
+reads_text (Decide n budget) not none = none
+reads_text (Least limit budget) not none = none
+reads_text (First n budget) not none = none
+reads_text (Play n budget) not none = none
+reads_text Show not none = none
+reads_text (Drill seed count) not none = not seed count refl
+
 -- words that are an order of a text are no order of none
 pub no_textless : (words : List (List ℕ)) (order : Order) → Ordered words (Ok order) → (ReadsNoText order → ⊥) → (other : Order) → Ordered words (Ok other) → ReadsNoText other → ⊥
 no_textless words order ordered reads other also none =

@@ -32,8 +32,7 @@ pub fn perform<S: Source, K: Sink, H: Shelf>(
     shelf: &mut H,
     alloc: Global,
 ) -> Status
-    ensures {
-        let old = seen_of (S.left source.old) (K.written sink.old) (H.files shelf.old) (S.faults source.old) (K.faults sink.old) (H.faults shelf.old) in
+    ensures { let old = seen_of (S.left source.old) (K.written sink.old) (H.files shelf.old) (S.faults source.old) (K.faults sink.old) (H.faults shelf.old) in
         let new = seen_of (S.left source.new) (K.written sink.new) (H.files shelf.new) (S.faults source.new) (K.faults sink.new) (H.faults shelf.new) in
         MatchResult words (λ given. RunEnds (map string_bytes given.items) result old new) (λ why. EndsWithoutWords why result old new) }
 {
@@ -76,8 +75,7 @@ pub fn perform_in_memory<'a>(
     output: Vec<u8>,
     alloc: Global,
 ) -> Ran<'a>
-    ensures {
-        let old = seen_of (Some input.now) (Some output.items) (Some no_files) 0 0 0 in
+    ensures { let old = seen_of (Some input.now) (Some output.items) (Some no_files) 0 0 0 in
         let new = seen_of (Some result.rest.now) (Some result.output.items) (Some no_files) result.read_faults result.write_faults result.shelf_faults in
         MatchResult words (λ given. RunEnds (map string_bytes given.items) result.status old new) (λ why. EndsWithoutWords why result.status old new) }
 {
