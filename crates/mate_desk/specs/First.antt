@@ -76,8 +76,8 @@ FirstReports n budget problem files report =
 abbrev pub Adds : (List ℕ → Type 0) → (old new : List ℕ) → Type 0
 Adds Of old new = (added : List ℕ) × Of added × (new ≡ old ++ added)
 
--- the winner of a solved position is to move and has a move left, and a search of this room serves all its sets
-pub record IsServed (room : ℕ) (s : Solution) : Type 0 where
+-- the winner of a solved position is to move and has a move left, and a search for so many states serves all its sets
+pub record IsServed (states : ℕ) (s : Solution) : Type 0 where
   pub turn : s.position.turn ≡ s.winner
   pub moves : 1 ≤ s.moves
-  pub room : HasRoom room s
+  pub room : HasRoom states s

@@ -1,6 +1,6 @@
 //! The winner's first moves, ray by ray.
 
-ghost use Rattle.std.specs.Prelude.{◌≡◌, ◌↔◌, ◌≤◌, ◌+◌, ◌++◌, IfOk, IsTrue, OnOk, codes, length};
+ghost use Rattle.std.specs.Prelude.{◌≡◌, ◌≢◌, ◌↔◌, ◌≤◌, ◌+◌, ◌++◌, IfOk, IsTrue, OnOk, length, true, false};
 ghost use Rattle.desk_base.specs.Files.{Files};
 ghost use Rattle.game_session.specs.Aims.{HasRay};
 ghost use Rattle.mate_desk.specs.First.{Adds, AreLines, FirstReports, HasNoFirstMove, IsServed, ManText, MenText, RayText, line_of};
@@ -13,7 +13,7 @@ use crate::output::{print, print_error};
 use crate::problem::Task;
 use crate::status::Status;
 use auto_search::{Few, Search};
-use chess_game::{Frame, Place, Position, ray as ray_of_kind};
+use chess_game::{Frame, Man, Place, Position, Side, ray as ray_of_kind};
 use chess_text::line_buffer::LineBuffer;
 use desk_base::Sink;
 use itoa::Buffer;
@@ -77,7 +77,8 @@ fn push_men(text: &mut Vec<u8>, solved: &Solved, search: &mut Search) -> Result<
     requires { IsServed search.old solved.now }
     ensures { OnOk result (Adds (MenText solved.now.winner solved.now.moves solved.now.position) text.old.items text.new.items) }
 {
-    for index in 0..solved.position().count() {
+    let position = solved.position();
+    for index in 0..position.count() {
         push_man(text, solved, search, index + 1)?;
     }
     Ok(())
@@ -111,13 +112,26 @@ fn push_ray(
     ensures adds { OnOk result (Adds (RayText solved.now.winner solved.now.moves solved.now.position man ray) text.old.items text.new.items) }
     ensures kept { search.new ≡ search.old }
 {
-    if !has_ray(&solved.position(), man, ray) {
+    let position = solved.position();
+    if !has_ray(&position, man, ray) {
         return Ok(());
     }
     match first_moves(solved, search, Frame::whole(), man, ray) {
-        Some(line) => text.extend_from_slice(first_line(line).as_slice()),
+        Some(first) => {
+            let line = first_line(first);
+            text.extend_from_slice(line.as_slice())?;
+            Ok(())
+        }
         None => Ok(()),
     }
+}
+
+/// Whether the man is live and of the side.
+fn is_live_of(man: Man, side: Side) -> bool
+    ensures yes { result ≡ true → (man.side ≡ side) × (man.place ≢ Place.Gone) }
+    ensures no { result ≡ false → (man.side ≡ side) × (man.place ≢ Place.Gone) → ⊥ }
+{
+    man.side == side && man.place != Place::Gone
 }
 
 /// Whether the man is a live one of the side to move, and one of his rays has this number.
@@ -127,7 +141,7 @@ fn has_ray(p: &Position, man: u8, number: u8) -> bool
     ensures { IsTrue result ↔ HasRay p.now man number }
 {
     let him = p.man(man);
-    if him.side != p.turn() || him.place == Place::Gone {
+    if !is_live_of(him, p.turn()) {
         return false;
     }
     ray_of_kind(him.kind, him.side, number).is_some()
