@@ -15,4 +15,5 @@ push_men-requires c = record {
 pub returns : goal.returns
 returns c =
     let men = c.in_ok-push_men.ensures in
-    (men.0, men.1, c.in_ok-extend_from_slice.ensures.items ∙ ap (λ text. text ++ codes "end\n") men.2)
+    let from_none = ap (λ text. (text ++ men.0) ++ codes "end\n") c.new-text.ensures.items in
+    (men.0, men.1, c.in_ok-extend_from_slice.ensures.items ∙ ap (λ text. text ++ codes "end\n") men.2 ∙ from_none)

@@ -15,14 +15,14 @@ push_man-requires-clause-served c = subst (λ states. IsServed states c.args.sol
 pub push_man-requires-clause-last : goal.push_man-requires-clause-last
 push_man-requires-clause-last c =
     let men = ap (λ (p : Position). length p.men) c.position-position.ensures in
-    let count = c.count.ensures.count in
+    let count = c.count-index-end.ensures.count in
     omega (arith, men, count)
 
 pub loop-index-preserved : goal.loop-index-preserved
 loop-index-preserved c =
     let s = c.args.solved.now in
     let inv = c.loop-index.invariant in
-    let next : c.loop-index.index + 1 ≡ suc c.loop-index.index = add-one in
+    let next : c.loop-index.index + 1 ≡ suc c.loop-index.index = add-one c.loop-index.index in
     let more = subst (λ man. Adds (ManText s.winner s.moves s.position man) c.loop-index.text.items c.push_man.new.text.items) next c.in_ok-push_man.ensures.adds in
     record {
       kept = c.push_man.ensures.kept ∙ inv.kept;
@@ -33,6 +33,6 @@ pub returns : goal.returns
 returns c =
     let s = c.args.solved.now in
     let men = ap (λ (p : Position). length p.men) c.position-position.ensures in
-    let count = c.count.ensures.count in
+    let count = c.count-index-end.ensures.count in
     let all : c.loop-index.index ≡ length s.position.men = omega (arith, men, count) in
     subst (λ n. Adds (Listed (λ before. ManText s.winner s.moves s.position (suc before)) n) c.args.text.now.items c.loop-index.text.items) all c.loop-index.invariant.adds

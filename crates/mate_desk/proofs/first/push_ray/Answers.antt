@@ -18,8 +18,8 @@ pub first_moves-requires-clause-mover : goal.first_moves-requires-clause-mover
 first_moves-requires-clause-mover c =
     subst (λ (p : Position). HasRay p c.args.man c.args.ray) c.position-position.ensures (c.has_ray.ensures.0 c.if-not-has_ray.false)
 
-pub returns-in-Some-clause-adds : goal.returns-in-Some-clause-adds
-returns-in-Some-clause-adds c =
+pub returns-in_ok-extend_from_slice-in-Some-clause-adds : goal.returns-in_ok-extend_from_slice-in-Some-clause-adds
+returns-in_ok-extend_from_slice-in-Some-clause-adds c =
     let s = c.args.solved.now in
     let first = c.in-Some.first in
     let is = subst (λ (f : Frame). IsFirstLine f s.winner s.moves s.position c.args.man c.args.ray first) c.whole.ensures c.in-Some.ensures.line in (
