@@ -1,15 +1,15 @@
 -- How many of the positions of a seed are mates in one move, and that an input of `drill` has one report.
-use Rattle.std.proofs.Common.{◌≡◌, ◌↔◌, ◌<◌, ◌≤◌, ◌+◌, ℕ, zero, suc, Bool, true, false, cond, IsTrue, List, [], ◌∷◌, ◌++◌, length, Some, inl, inr, refl, sym, ap, subst, ◌∙◌, below_more, add-one, arith}
+use Rattle.std.proofs.Common.{◌≡◌, ◌↔◌, ◌+◌, ℕ, zero, suc, Bool, true, false, cond, IsTrue, List, [], ◌∷◌, ◌++◌, length, Some, inl, inr, refl, sym, ap, subst, ◌∙◌, below_more, arith}
 use Rattle.std.specs.Prelude.{count_by, slice_get}
 use Rattle.std.proofs.lemmas.List.{length-append}
 use Rattle.std.proofs.lemmas.List.Sums.{sum_by_push}
-use Rattle.std.proofs.lemmas.Option.{same_Some, slice_get_within, slice_get-get_or}
+use Rattle.std.proofs.lemmas.Option.{same_Some}
 use Rattle.desk_base.specs.Files.{Files}
 use Rattle.game_rules.specs.Game.{Value}
 use Rattle.game_rules.specs.declared.men.Side.TheVariants.{White}
 use Rattle.chess_game.proofs.UnsoundnessLemmas.{number_cases}
 use Rattle.winning_sets.specs.declared.names.StepName.{StepName}
-use Rattle.mate_desk.specs.Drill.{AreVerdicts, DrillFinds, DrillFits, DrillReports, DrillStops, drill_line, drilled}
+use Rattle.mate_desk.specs.Drill.{AreVerdicts, DrillFinds, DrillReports, DrillStops, drill_line, drilled}
 use Rattle.mate_desk.specs.Order.{default_budget}
 use Rattle.mate_desk.specs.Outcome.{Report, done_with, over_budget}
 use Rattle.mate_desk.specs.Verdict.{ExceedsAt, FitsBudget}

@@ -4,7 +4,7 @@ use Rattle.mate_desk.specs.Order.{Ordered}
 use Rattle.mate_desk.specs.declared.order.Order.{Order}
 use Rattle.mate_desk.proofs.PlayRuns.{play_ends}
 use Rattle.mate_desk.proofs.Reporting.{files_of, usage_ends, refused_ends, fault_ends, unsound_ends, decide_ends, least_ends, first_ends, show_ends, drill_ends}
-use Rattle.mate_desk.proofs.Statuses.{decide_status, drill_status, first_status, least_status, no_textless, not_usage, play_status, reads_text, show_status}
+use Rattle.mate_desk.proofs.Statuses.{decide_status, first_status, least_status, no_textless, not_usage, play_status, reads_text, show_status}
 use Rattle.mate_desk.proofs.desk.run.Goals as goal
 
 pub returns-in-Err-clause-ends : goal.returns-in-Err-clause-ends
@@ -90,3 +90,34 @@ returns-in-Drill-clause-ends g c =
     let words = map string_bytes c.args.words.now.items in
     let IsOrdered : Order → Type 0 = λ order. Ordered words (Ok order) in
     drill_ends words _ _ refl c.in-Drill.seed c.in-Drill.count c.drill.result (subst IsOrdered c.in-Drill.is c.in-Ok.ensures.ordered) refl c.drill.ensures.ends
+
+pub returns-in-Err-Fault-clause-no_text_read : goal.returns-in-Err-Fault-clause-no_text_read
+returns-in-Err-Fault-clause-no_text_read g c = λ other also none.
+    absurd (no_textless (map string_bytes c.args.words.now.items) c.in-Ok.order c.in-Ok.ensures.ordered (reads_text c.in-Ok.order c.in_default.not-Drill) other also none)
+
+pub returns-in-Err-Refused-clause-no_text_read : goal.returns-in-Err-Refused-clause-no_text_read
+returns-in-Err-Refused-clause-no_text_read g c = λ other also none.
+    absurd (no_textless (map string_bytes c.args.words.now.items) c.in-Ok.order c.in-Ok.ensures.ordered (reads_text c.in-Ok.order c.in_default.not-Drill) other also none)
+
+pub returns-in-Err-soundness-clause-no_text_read : goal.returns-in-Err-soundness-clause-no_text_read
+returns-in-Err-soundness-clause-no_text_read g c = λ other also none.
+    absurd (no_textless (map string_bytes c.args.words.now.items) c.in-Ok.order c.in-Ok.ensures.ordered (reads_text c.in-Ok.order c.in_default.not-Drill) other also none)
+
+pub returns-in-Decide-clause-no_text_read : goal.returns-in-Decide-clause-no_text_read
+returns-in-Decide-clause-no_text_read g c = λ other also none.
+    absurd (no_textless (map string_bytes c.args.words.now.items) c.in-Ok.order c.in-Ok.ensures.ordered (reads_text c.in-Ok.order c.in_default.not-Drill) other also none)
+
+pub returns-in-Least-clause-no_text_read : goal.returns-in-Least-clause-no_text_read
+returns-in-Least-clause-no_text_read g c = λ other also none.
+    absurd (no_textless (map string_bytes c.args.words.now.items) c.in-Ok.order c.in-Ok.ensures.ordered (reads_text c.in-Ok.order c.in_default.not-Drill) other also none)
+
+pub returns-in-Show-clause-no_text_read : goal.returns-in-Show-clause-no_text_read
+returns-in-Show-clause-no_text_read g c = λ other also none.
+    absurd (no_textless (map string_bytes c.args.words.now.items) c.in-Ok.order c.in-Ok.ensures.ordered (reads_text c.in-Ok.order c.in_default.not-Drill) other also none)
+
+pub returns-in-Play-clause-no_text_read : goal.returns-in-Play-clause-no_text_read
+returns-in-Play-clause-no_text_read g c = λ other also none.
+    absurd (no_textless (map string_bytes c.args.words.now.items) c.in-Ok.order c.in-Ok.ensures.ordered (reads_text c.in-Ok.order c.in_default.not-Drill) other also none)
+
+pub returns-in-Drill-clause-nothing_read : goal.returns-in-Drill-clause-nothing_read
+returns-in-Drill-clause-nothing_read g c = λ usage. refl

@@ -25,7 +25,7 @@ returns-in_ok-extend_from_slice-in-Some-clause-adds c =
     let is = subst (λ (f : Frame). IsFirstLine f s.winner s.moves s.position c.args.man c.args.ray first) c.whole.ensures c.in-Some.ensures.line in (
       line_of first,
       inr (first, is, refl),
-      c.in_ok-extend_from_slice.ensures.items ∙ ap (λ line. c.args.text.now.items ++ line) (c.as_slice.ensures ∙ c.first_line-line.ensures),
+      c.in_ok-extend_from_slice-in-Some.ensures.items ∙ ap (λ line. c.args.text.now.items ++ line) (c.as_slice.ensures ∙ c.first_line-line.ensures),
     )
 
 pub returns-in-None-clause-adds : goal.returns-in-None-clause-adds
