@@ -1,5 +1,5 @@
 -- The lines of the winner's first moves, and that an input of `first` has one report.
-use Rattle.std.proofs.Common.{◌≡◌, ◌≢◌, ◌↔◌, ◌⊎◌, ℕ, zero, suc, ◌+◌, ◌≤◌, Bool, true, false, IsTrue, List, [], ◌++◌, length, Option, Some, None, inl, inr, refl, sym, ap, subst, ◌∙◌, append_assoc, arith}
+use Rattle.std.proofs.Common.{◌≡◌, ◌≢◌, ◌↔◌, ℕ, zero, suc, ◌+◌, ◌≤◌, Bool, false, IsTrue, List, [], ◌++◌, length, Option, Some, None, inl, inr, refl, sym, ap, subst, ◌∙◌, append_assoc, arith}
 use Rattle.std.specs.Prelude.{IsSomeAnd, codes, is_some}
 use Rattle.std.proofs.lemmas.List.{append-nil}
 use Rattle.std.proofs.lemmas.Option.{same_Some}
@@ -18,7 +18,7 @@ use Rattle.game_session.proofs.Tuples.{stands_live}
 use Rattle.white_player.specs.Firsts.{Firsts}
 use Rattle.white_player.proofs.FirstLemmas.{firsts_ray, firsts_value, line_first, line_once}
 use Rattle.winning_sets.specs.Solve.{IsOf, Solution}
-use Rattle.mate_desk.specs.First.{Adds, AreLines, FirstReports, FirstsReport, HasNoFirstMove, Listed, ManText, MenText, RayText, line_of}
+use Rattle.mate_desk.specs.First.{Adds, AreLines, FirstReports, FirstsReport, HasNoFirstMove, Listed, ManText, RayText, line_of}
 use Rattle.mate_desk.specs.Outcome.{Report, done_with, over_budget}
 use Rattle.mate_desk.specs.declared.problem.Problem.{Problem}
 use Rattle.mate_desk.proofs.OneStep.{exceeds_once, fits_exceeds}

@@ -8,8 +8,8 @@ ghost use Rattle.mate_desk.specs.Run.{RunEnds};
 
 use crate::decide::decide;
 use crate::drill::drill;
-use crate::first::first;
 use crate::fault_line::{refusal_line, refuse, unsound_line};
+use crate::first::first;
 use crate::least::least;
 use crate::order::{Order, UsageWhy, order_of};
 use crate::play::play;

@@ -85,7 +85,12 @@ fn push_men(text: &mut Vec<u8>, solved: &Solved, search: &mut Search) -> Result<
 }
 
 /// Adds the lines of a man.
-fn push_man(text: &mut Vec<u8>, solved: &Solved, search: &mut Search, man: u8) -> Result<(), AllocError>
+fn push_man(
+    text: &mut Vec<u8>,
+    solved: &Solved,
+    search: &mut Search,
+    man: u8,
+) -> Result<(), AllocError>
     requires served { IsServed search.old solved.now }
     requires first { 1 ≤ man }
     requires last { man ≤ length solved.now.position.men }

@@ -1,6 +1,4 @@
-use Rattle.std.proofs.Common.{◌≡◌, inl, inr, refl, ap, ◌∙◌}
-use Rattle.std.specs.Prelude.{Err}
-use Rattle.game_rules.specs.Game.{Value}
+use Rattle.std.proofs.Common.{inl, inr, refl, ap}
 use Rattle.mate_desk.specs.First.{FirstReports, HasNoFirstMove}
 use Rattle.mate_desk.specs.Outcome.{NeverMisses, done_with}
 use Rattle.mate_desk.specs.Verdict.{FitsBudget}

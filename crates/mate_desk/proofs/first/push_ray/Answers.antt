@@ -1,4 +1,4 @@
-use Rattle.std.proofs.Common.{◌++◌, inr, refl, sym, subst, ap, ◌∙◌}
+use Rattle.std.proofs.Common.{◌++◌, inr, refl, subst, ap, ◌∙◌}
 use Rattle.game_rules.specs.Game.{Position}
 use Rattle.game_session.specs.Aims.{HasRay}
 use Rattle.chess_game.specs.declared.way.Frame.{Frame}
