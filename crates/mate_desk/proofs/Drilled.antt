@@ -68,7 +68,7 @@ once_found : (seed count one other : ℕ) → DrillFinds seed count one → Dril
 once_found seed count one other a b =
     let same : a.verdicts ≡ b.verdicts =
     same_list a.verdicts b.verdicts (a.are_verdicts.one_each ∙ sym b.are_verdicts.one_each)
-        (λ k v w is so. same_bool v w (through (a.are_verdicts.right k v is) (b.are_verdicts.right k w so))) in
+    (λ k v w is so. same_bool v w (through (a.are_verdicts.right k v is) (b.are_verdicts.right k w so))) in
     a.counted ∙ ap won_of same ∙ sym b.counted
 
 -- the positions are gone through to one end

@@ -3,6 +3,7 @@ pub mod Drilled
 pub mod Exact
 pub mod Following
 pub mod Headline
+pub mod Listing
 pub mod OneReport
 pub mod OneStep
 pub mod PlayRuns

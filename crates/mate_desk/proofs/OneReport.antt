@@ -1,6 +1,5 @@
 -- Words, a text and a position have one meaning each, and so an input has one report.
-use Rattle.std.proofs.Common.{◌≡◌, ◌⊎◌, ◌++◌, ℕ, ◌+◌, ◌<◌, ◌≤◌, List, [], ◌∷◌, Option, Some, None, Result, Ok, Err, false, inl, inr, refl, sym, ap, subst, ◌∙◌, arith}
-use Rattle.std.specs.Prelude.{unwrap_or}
+use Rattle.std.proofs.Common.{◌≡◌, ◌⊎◌, ◌++◌, ℕ, ◌+◌, ◌≤◌, List, [], ◌∷◌, Option, Some, None, Result, Ok, Err, false, inl, inr, refl, sym, ap, subst, ◌∙◌, arith}
 use Rattle.desk_base.specs.Files.{Files}
 use Rattle.desk_base.specs.Lines.{Lines, full, ended, cut, long, lines_of}
 use Rattle.game_rules.specs.Game.{Position}
@@ -20,6 +19,7 @@ use Rattle.game_report.proofs.Once.{one_report as one_game}
 use Rattle.winning_sets.specs.declared.names.StepName.{StepName}
 use Rattle.mate_desk.specs.Decide.{DecideReports}
 use Rattle.mate_desk.specs.FaultLines.{unsound_line}
+use Rattle.mate_desk.specs.First.{FirstReports}
 use Rattle.mate_desk.specs.Laws.{OneReport}
 use Rattle.mate_desk.specs.Least.{LeastFinds, LeastReports, LeastStops, least_line}
 use Rattle.mate_desk.specs.Order.{ReadsNumber, FromNumber, WithNumber, DrillOrdered, MovesOrdered, ReadsMoves, ShowOrdered, Ordered, OrderedBehind, order_for, most_moves, most_budget, most_positions, most_seed, default_budget}
@@ -39,6 +39,7 @@ use Rattle.mate_desk.specs.declared.problem.Problem.{Problem}
 use Rattle.mate_desk.specs.declared.status.Status.TheVariants as is
 use Rattle.mate_desk.proofs.Commands.{once_command}
 use Rattle.mate_desk.proofs.Drilled.{once_drill}
+use Rattle.mate_desk.proofs.Listing.{once_first}
 use Rattle.mate_desk.proofs.OneStep.{exceeds_once, fits_exceeds}
 
 -- a word is one number, or none for one reason
@@ -299,7 +300,8 @@ module _ (files : Files) (one other : Report) where
       once_of_text (λ problem rest. DecideReports n budget problem files) (λ problem rest. once_decide n budget problem) bytes a b
   once_order (Least limit budget) words bytes a b =
       once_of_text (λ problem rest. LeastReports limit budget problem files) (λ problem rest. once_least limit budget problem) bytes a b
-  once_order (First n budget) words bytes a b = once_of_text (λ problem rest report. ⊥) (λ problem rest none also. absurd none) bytes a b
+  once_order (First n budget) words bytes a b =
+      once_of_text (λ problem rest. FirstReports n budget problem files) (λ problem rest. once_first files one other n budget problem) bytes a b
   once_order (Play n budget) words bytes a b =
       once_of_text (λ problem rest. PlayReports n budget problem rest files) (λ problem rest. once_play n budget problem rest) bytes a b
   once_order Show words bytes a b =

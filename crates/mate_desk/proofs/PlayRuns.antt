@@ -1,29 +1,26 @@
 -- How a run of `play` ends, from what was read of its text and how the command does.
-use Rattle.std.proofs.Common.{◌≡◌, ◌≢◌, ℕ, zero, suc, ◌+◌, ◌-◌, ◌<◌, ◌≤◌, List, [], ◌∷◌, ◌++◌, length, take, Option, Some, IfSome, Result, Ok, Err, inl, inr, refl, sym, ◌∙◌, ap, subst, append_assoc, length-append, arith}
-use Rattle.std.specs.Io.KnownBytes.{Consumes}
+use Rattle.std.proofs.Common.{◌≡◌, ℕ, zero, suc, ◌+◌, ◌-◌, ◌<◌, ◌≤◌, List, [], ◌∷◌, ◌++◌, length, take, Option, Ok, inl, inr, refl, sym, ◌∙◌, ap, subst, append_assoc, length-append, arith}
 use Rattle.std.proofs.KnownBytes.{Consumes-trans}
 use Rattle.std.proofs.lemmas.List.{append-nil, take-append-le}
 use Rattle.std.proofs.lemmas.List.Elements.{All-append}
 use Rattle.desk_base.specs.Faults.{HasRisen}
 use Rattle.desk_base.specs.Files.{Files}
-use Rattle.desk_base.specs.Lines.{IsLine, Lines, ended, lines_of}
+use Rattle.desk_base.specs.Lines.{IsLine, ended, lines_of}
 use Rattle.game_rules.specs.Game.{Sound}
 use Rattle.chess_game.proofs.UnsoundnessLemmas.{number_cases}
 use Rattle.chess_text.specs.PositionText.{text_of_lines}
 use Rattle.game_report.specs.Taken.{TakesLines}
 use Rattle.mate_desk.specs.Order.{Ordered}
 use Rattle.mate_desk.specs.Outcome.{Ends, NeverMisses, Report, Seen, of_streams}
-use Rattle.mate_desk.specs.Play.{IsReplyDue, LacksAtFirst, PlayEnds, PlayReports, behind_text}
-use Rattle.mate_desk.specs.Report.{LacksBehindText, MayLackMemory, MayMissShelf, OfText, Reports, TakesMemory}
-use Rattle.mate_desk.specs.Run.{Given, IsLineDue, RunEnds, reported_on}
+use Rattle.mate_desk.specs.Play.{LacksAtFirst, PlayEnds, PlayReports}
+use Rattle.mate_desk.specs.Report.{MayLackMemory, MayMissShelf, Reports}
+use Rattle.mate_desk.specs.Run.{Given, IsLineDue, RunEnds}
 use Rattle.mate_desk.specs.Text.{TextAt, whole}
-use Rattle.mate_desk.specs.TextRead.{IsMissing, TextRead}
-use Rattle.mate_desk.specs.declared.order.Order.{Order}
+use Rattle.mate_desk.specs.TextRead.{TextRead}
 use Rattle.mate_desk.specs.declared.order.Order.TheVariants.{Play}
 use Rattle.mate_desk.specs.declared.problem.Problem.{Problem}
 use Rattle.mate_desk.specs.declared.status.Status.{Status}
 use Rattle.mate_desk.specs.declared.status.Status.TheVariants as is
-use Rattle.mate_desk.specs.declared.text.TextEnd.{TextEnd}
 use Rattle.mate_desk.proofs.Reporting.{files_of, known_files, line_due}
 use Rattle.mate_desk.proofs.Statuses.{play_status}
 use Rattle.mate_desk.proofs.Writing.{at_files, ends_as}

@@ -1,7 +1,7 @@
 -- How `play` ends, from how its game does, and how a run ends from how `play` does.
-use Rattle.std.proofs.Common.{◌≡◌, ◌⊎◌, ℕ, ◌+◌, ◌<◌, ◌≤◌, List, [], ◌++◌, length, take, Option, Some, Result, Ok, Err, IsErrOf, inl, inr, refl, sym, ◌∙◌, ap, subst, append_assoc, arith}
+use Rattle.std.proofs.Common.{◌≡◌, ◌⊎◌, ℕ, ◌≤◌, List, [], ◌++◌, length, take, Option, Result, Ok, Err, IsErrOf, inl, inr, refl, sym, ◌∙◌, ap, subst, append_assoc, arith}
 use Rattle.std.specs.Prelude.{codes, unwrap_or}
-use Rattle.std.specs.Io.KnownBytes.{Appends, Consumes}
+use Rattle.std.specs.Io.KnownBytes.{Appends}
 use Rattle.std.proofs.KnownBytes.{Appends-trans, Consumes-nil}
 use Rattle.std.proofs.lemmas.List.{append-nil}
 use Rattle.std.proofs.lemmas.List.Elements.{All-nil}
@@ -13,7 +13,7 @@ use Rattle.game_rules.specs.Game.{Value}
 use Rattle.chess_text.specs.PositionText.{text_of_lines}
 use Rattle.chess_game.specs.declared.way.Frame.{Frame}
 use Rattle.game_report.specs.Laws.{seen}
-use Rattle.game_report.specs.Played.{GameEnds, IsDue, IsPlayed, Ports, is_short}
+use Rattle.game_report.specs.Played.{IsDue, IsPlayed, Ports, is_short}
 use Rattle.game_report.specs.Report.{IsReport, Match, ending_line}
 use Rattle.game_report.specs.Report as game
 use Rattle.game_report.specs.Taken.{TakesLines}
@@ -28,7 +28,6 @@ use Rattle.mate_desk.specs.Play.{Finishes, IsReplyDue, LacksAtFirst, PlayEnds, P
 use Rattle.mate_desk.specs.Verdict.{FitsBudget, HasNothingToPlay}
 use Rattle.mate_desk.specs.declared.problem.Problem.{Problem}
 use Rattle.mate_desk.specs.declared.status.Status.{Status}
-use Rattle.mate_desk.specs.declared.status.Status.TheVariants as is
 use Rattle.mate_desk.proofs.TextSteps.{known_rest}
 use Rattle.mate_desk.proofs.Writing.{at_sink, ends_as}
 

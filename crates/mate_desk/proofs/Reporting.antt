@@ -15,6 +15,7 @@ use Rattle.game_report.specs.Taken.{TakesLines}
 use Rattle.mate_desk.specs.Decide.{DecideReports}
 use Rattle.mate_desk.specs.Drill.{DrillReports}
 use Rattle.mate_desk.specs.FaultLines.{unsound_line}
+use Rattle.mate_desk.specs.First.{FirstReports, HasNoFirstMove}
 use Rattle.mate_desk.specs.Least.{LeastReports}
 use Rattle.mate_desk.specs.Order.{Ordered, usage_line}
 use Rattle.mate_desk.specs.Outcome.{Ends, Leaves, KeepsFiles, NeverMisses, Report, Seen, Writes, WriteFailed, of_sink, refusal_as}
@@ -264,6 +265,14 @@ module _ (words : List (List ℕ)) (old new : Seen) (same : new.files ≡ old.fi
       let files = files_of old.files in
       command_ends words old new same order ordered (λ none. none) pending problem t (LeastReports limit budget problem files) (¬ HasNothingToPlay limit problem)
       (of_problem words old new same order ordered (λ none. none) pending problem t (λ r rest. LeastReports limit budget r files) sound)
+      (lacks_behind words old new same order ordered (λ none. none) pending problem t (TakesMemory order) sound) status (ends files)
+
+  pub first_ends : (n budget : ℕ) → Ordered words (Ok (First n budget)) → EndsWithSink (FirstReports n budget problem) (¬ HasNoFirstMove n problem) → RunEnds words status old new
+  first_ends n budget ordered ends =
+      let order = First n budget in
+      let files = files_of old.files in
+      command_ends words old new same order ordered (λ none. none) pending problem t (FirstReports n budget problem files) (¬ HasNoFirstMove n problem)
+      (of_problem words old new same order ordered (λ none. none) pending problem t (λ r rest. FirstReports n budget r files) sound)
       (lacks_behind words old new same order ordered (λ none. none) pending problem t (TakesMemory order) sound) status (ends files)
 
   pub show_ends : Ordered words (Ok Show) → EndsWithSink (ShowReports problem.position) (Unit {0}) → RunEnds words status old new

@@ -8,6 +8,7 @@ use Rattle.game_report.specs.declared.play.Ending.{Ending}
 use Rattle.game_report.specs.declared.play.Ending.TheVariants.{Mated, Wide, Quit, NoLine, Many, CutAt, LongAt}
 use Rattle.mate_desk.specs.Decide.{DecideReports}
 use Rattle.mate_desk.specs.Drill.{DrillReports, drilled, state_after}
+use Rattle.mate_desk.specs.First.{FirstReports}
 use Rattle.mate_desk.specs.Laws.{FaultsAreCounted, MemoryLast, NoShelfFault, UsageExactly}
 use Rattle.mate_desk.specs.Least.{LeastReports}
 use Rattle.mate_desk.specs.Order.{Ordered, usage_line}
@@ -40,6 +41,11 @@ decide_status n budget problem files report (inr (line, fits, verdict, is')) = o
 pub least_status : (limit budget : ℕ) (problem : Problem) (files : Files) (report : Report) → LeastReports limit budget problem files report → IsNotUsage report
 least_status limit budget problem files report (inl (step, stops, is')) = other_status report _ is' (λ e. absurd (cc))
 least_status limit budget problem files report (inr (found, finds, is')) = other_status report _ is' (λ e. absurd (cc))
+
+pub first_status : (n budget : ℕ) (problem : Problem) (files : Files) (report : Report) → FirstReports n budget problem files report → IsNotUsage report
+first_status n budget problem files report (inl (none, is')) = other_status report _ is' (λ e. absurd (cc))
+first_status n budget problem files report (inr (some, inl (step, over, is'))) = other_status report _ is' (λ e. absurd (cc))
+first_status n budget problem files report (inr (some, inr (told, fits, are, is'))) = other_status report _ is' (λ e. absurd (cc))
 
 -- a game has none of its own, nor has it that of a fault
 ending_status : (ending : Ending) → status_of ending ≢ is.Usage
@@ -88,7 +94,8 @@ order_status (Decide n budget) words bytes files report =
     text_status (λ problem rest. DecideReports n budget problem files) files report (λ problem rest. decide_status n budget problem files report) bytes
 order_status (Least limit budget) words bytes files report =
     text_status (λ problem rest. LeastReports limit budget problem files) files report (λ problem rest. least_status limit budget problem files report) bytes
-order_status (First n budget) words bytes files report = text_status (λ problem rest report. ⊥) files report (λ problem rest none. absurd none) bytes
+order_status (First n budget) words bytes files report =
+    text_status (λ problem rest. FirstReports n budget problem files) files report (λ problem rest. first_status n budget problem files report) bytes
 order_status (Play n budget) words bytes files report =
     text_status (λ problem rest. PlayReports n budget problem rest files) files report (λ problem rest. play_status n budget problem rest files report) bytes
 order_status Show words bytes files report =

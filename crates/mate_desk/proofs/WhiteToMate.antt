@@ -1,5 +1,5 @@
 -- A text has White to mate.
-use Rattle.std.proofs.Common.{◌≡◌, ℕ, ◌+◌, List, ap}
+use Rattle.std.proofs.Common.{◌≡◌, ℕ, ◌+◌, ap}
 use Rattle.desk_base.specs.Lines.{Lines, full, ended, cut, long, lines_of}
 use Rattle.game_rules.specs.declared.men.Side.TheVariants.{White}
 use Rattle.chess_text.specs.PositionText.{Turnout}

@@ -2,6 +2,7 @@ pub mod Codes
 pub mod Decide
 pub mod Drill
 pub mod FaultLines
+pub mod First
 pub mod Laws
 pub mod Least
 pub mod Order

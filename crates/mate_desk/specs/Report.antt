@@ -8,6 +8,7 @@ use Rattle.chess_game.specs.declared.unsoundness.Unsound.{Unsound}
 use Rattle.mate_desk.specs.Decide.{DecideReports}
 use Rattle.mate_desk.specs.Drill.{DrillReports, IsDrilled}
 use Rattle.mate_desk.specs.FaultLines.{unsound_line}
+use Rattle.mate_desk.specs.First.{FirstReports, HasNoFirstMove}
 use Rattle.mate_desk.specs.Least.{LeastReports}
 use Rattle.mate_desk.specs.Order.{Ordered, usage_line}
 use Rattle.mate_desk.specs.Outcome.{NeverMisses, Report, refusal_as}
@@ -36,12 +37,11 @@ OfRead reports files (whole problem rest) report = OfSound (reports problem rest
 abbrev pub OfText : (Problem → Lines → Report → Type 0) → Files → List ℕ → Report → Type 0
 OfText reports files bytes report = (text : Text) × TextAt bytes text × OfRead reports files text report
 
--- What is reported of an order: the words that it is, the bytes of the input, and the files. Each order has a line of its own; that of `first`
--- comes with its command.
+-- What is reported of an order: the words that it is, the bytes of the input, and the files. Each order has a line of its own.
 abbrev pub ReportsOrder : Order → (words : List (List ℕ)) → List ℕ → Files → Report → Type 0
 ReportsOrder (orders.Decide n budget) words bytes files = OfText (λ problem rest. DecideReports n budget problem files) files bytes
 ReportsOrder (orders.Least limit budget) words bytes files = OfText (λ problem rest. LeastReports limit budget problem files) files bytes
-ReportsOrder (orders.First n budget) words bytes files = OfText (λ problem rest report. ⊥) files bytes
+ReportsOrder (orders.First n budget) words bytes files = OfText (λ problem rest. FirstReports n budget problem files) files bytes
 ReportsOrder (orders.Play n budget) words bytes files = OfText (λ problem rest. PlayReports n budget problem rest files) files bytes
 ReportsOrder orders.Show words bytes files = OfText (λ problem rest. ShowReports problem.position files) files bytes
 ReportsOrder (orders.Drill seed count) words bytes files = DrillReports seed count files
@@ -58,7 +58,7 @@ Reports words bytes files report = (answer : Result Order UsageWhy) × Ordered w
 abbrev pub TakesMemory : Order → Problem → Type 0
 TakesMemory (orders.Decide n budget) problem = ¬ HasNothingToPlay n problem
 TakesMemory (orders.Least limit budget) problem = ¬ HasNothingToPlay limit problem
-TakesMemory (orders.First n budget) problem = ¬ HasNothingToPlay n problem
+TakesMemory (orders.First n budget) problem = ¬ HasNoFirstMove n problem
 TakesMemory (orders.Play n budget) problem = ¬ HasNothingToPlay n problem
 TakesMemory orders.Show problem = Unit {0}
 TakesMemory (orders.Drill seed count) problem = IsDrilled seed count problem

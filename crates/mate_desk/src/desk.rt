@@ -9,6 +9,7 @@ ghost use Rattle.mate_desk.specs.Run.{RunEnds};
 use crate::decide::decide;
 use crate::drill::drill;
 use crate::fault_line::{refusal_line, refuse, unsound_line};
+use crate::first::first;
 use crate::least::least;
 use crate::order::{Order, UsageWhy, order_of};
 use crate::play::play;
@@ -95,7 +96,14 @@ pub fn run<S: Source, K: Sink, H: Shelf>(
             };
             play(alloc, &task, &mut reader, source, sink)
         }
-        Order::First { .. } => unreachable!(),
+        Order::First { moves, budget } => {
+            let task = Task {
+                problem,
+                moves,
+                budget,
+            };
+            first(alloc, &task, sink)
+        }
         Order::Show => show(alloc, &problem.position, sink),
         Order::Drill { .. } => unreachable!(),
     }

@@ -31,10 +31,7 @@ impl Generator {
         ensures next { result ≡ next_state self.old.state }
         ensures state { self.new.state ≡ result }
     {
-        self.state = self
-            .state
-            .wrapping_mul(MULTIPLIER)
-            .wrapping_add(INCREMENT);
+        self.state = self.state.wrapping_mul(MULTIPLIER).wrapping_add(INCREMENT);
         self.state
     }
 }

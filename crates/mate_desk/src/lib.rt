@@ -9,6 +9,7 @@ mod desk;
 mod drill;
 mod drill_positions;
 mod fault_line;
+mod first;
 pub mod laws;
 mod least;
 mod mates;

@@ -172,10 +172,7 @@ fn read_moves_and_budget(words: &[String]) -> Result<(u8, u32), UsageWhy>
 {
     match words {
         [moves] => Ok((read_moves(moves.as_str())?, DEFAULT_BUDGET)),
-        [moves, budget] => Ok((
-            read_moves(moves.as_str())?,
-            read_budget(budget.as_str())?,
-        )),
+        [moves, budget] => Ok((read_moves(moves.as_str())?, read_budget(budget.as_str())?)),
         _ => Err(UsageWhy::Count),
     }
 }

@@ -3,8 +3,8 @@ use Rattle.desk_base.specs.Files.{no_files}
 use Rattle.mate_desk.specs.Order.{Ordered}
 use Rattle.mate_desk.specs.declared.order.Order.{Order}
 use Rattle.mate_desk.proofs.PlayRuns.{play_ends}
-use Rattle.mate_desk.proofs.Reporting.{files_of, usage_ends, refused_ends, fault_ends, unsound_ends, decide_ends, least_ends, show_ends, drill_ends}
-use Rattle.mate_desk.proofs.Statuses.{decide_status, least_status, no_textless, not_usage, play_status, reads_text, show_status}
+use Rattle.mate_desk.proofs.Reporting.{files_of, usage_ends, refused_ends, fault_ends, unsound_ends, decide_ends, least_ends, first_ends, show_ends, drill_ends}
+use Rattle.mate_desk.proofs.Statuses.{decide_status, first_status, least_status, no_textless, not_usage, play_status, reads_text, show_status}
 use Rattle.mate_desk.proofs.desk.run.Goals as goal
 
 pub returns-in-Err-clause-ends : goal.returns-in-Err-clause-ends
@@ -49,6 +49,17 @@ returns-in-Least-clause-ends g c =
 pub returns-in-Least-clause-nothing_read : goal.returns-in-Least-clause-nothing_read
 returns-in-Least-clause-nothing_read g c = λ usage.
     absurd (not_usage c.least.result _ _ _ _ _ (least_status c.in-Least.limit c.in-Least.budget c.in-Ok-read_problem.problem no_files) (c.least.ensures.ends no_files) usage)
+
+pub returns-in-First-clause-ends : goal.returns-in-First-clause-ends
+returns-in-First-clause-ends g c =
+    let words = map string_bytes c.args.words.now.items in
+    let IsOrdered : Order → Type 0 = λ order. Ordered words (Ok order) in
+    first_ends words _ _ refl _ c.in-Ok-read_problem.problem c.in-Ok-read_problem.ensures.reads (c.in_default-soundness.ensures.ok.0 refl) c.first.result c.in-First.moves c.in-First.budget
+    (subst IsOrdered c.in-First.is c.in-Ok.ensures.ordered) c.first.ensures.ends
+
+pub returns-in-First-clause-nothing_read : goal.returns-in-First-clause-nothing_read
+returns-in-First-clause-nothing_read g c = λ usage.
+    absurd (not_usage c.first.result _ _ _ _ _ (first_status c.in-First.moves c.in-First.budget c.in-Ok-read_problem.problem no_files) (c.first.ensures.ends no_files) usage)
 
 pub returns-in-Show-clause-ends : goal.returns-in-Show-clause-ends
 returns-in-Show-clause-ends g c =

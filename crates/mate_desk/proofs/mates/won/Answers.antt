@@ -1,5 +1,5 @@
 use Rattle.std.proofs.Common.{true, false}
-use Rattle.mate_desk.proofs.Values.{exceeds_problem, fits_problem, none_fits, none_mates, of_problem, won_as}
+use Rattle.mate_desk.proofs.Values.{won_as}
 use Rattle.mate_desk.proofs.mates.won.Goals as goal
 
 pub returns-then-verdict-clause-won : goal.returns-then-verdict-clause-won

@@ -1,8 +1,7 @@
-use Rattle.std.proofs.Common.{◌≡◌, inl, inr, refl, sym, ap, subst, ◌∙◌}
+use Rattle.std.proofs.Common.{◌≡◌, inl, inr, refl, ap, ◌∙◌}
 use Rattle.std.specs.Prelude.{Err}
-use Rattle.game_rules.specs.Game.{Value}
 use Rattle.game_report.specs.Laws.{seen}
-use Rattle.mate_desk.specs.Outcome.{Report, done_with}
+use Rattle.mate_desk.specs.Outcome.{done_with}
 use Rattle.mate_desk.specs.Verdict.{FitsBudget, HasNothingToPlay}
 use Rattle.mate_desk.proofs.Playing.{first_played, game_ends, seen_first, still}
 use Rattle.mate_desk.proofs.Values.{none_mates, solved_value}
