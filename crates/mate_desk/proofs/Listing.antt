@@ -18,7 +18,7 @@ use Rattle.game_session.proofs.Tuples.{stands_live}
 use Rattle.white_player.specs.Firsts.{Firsts}
 use Rattle.white_player.proofs.FirstLemmas.{firsts_ray, firsts_value, line_first, line_once}
 use Rattle.winning_sets.specs.Solve.{IsOf, Solution}
-use Rattle.mate_desk.specs.First.{Adds, AreLines, FirstReports, FirstsReport, HasNoFirstMove, Listed, ManText, RayText, line_of}
+use Rattle.mate_desk.specs.First.{Adds, AreLines, FirstReports, LinesReport, HasNoFirstMove, Listed, ManText, RayText, line_of}
 use Rattle.mate_desk.specs.Outcome.{Report, done_with, over_budget}
 use Rattle.mate_desk.specs.declared.problem.Problem.{Problem}
 use Rattle.mate_desk.proofs.OneStep.{exceeds_once, fits_exceeds}
@@ -135,7 +135,7 @@ lines_of_problem n problem s told of are =
 
 -- of a problem one thing is reported
 module _ (files : Files) (one other : Report) (n budget : ℕ) (problem : Problem) where
-  once_lines : FirstsReport n budget problem files one → FirstsReport n budget problem files other → one ≡ other
+  once_lines : LinesReport n budget problem files one → LinesReport n budget problem files other → one ≡ other
   once_lines (inl (s, a, i)) (inl (t, b, j)) = i ∙ ap (over_budget files) (exceeds_once problem budget n s t a b) ∙ sym j
   once_lines (inl (s, a, i)) (inr (told, fits, are, j)) = absurd (fits_exceeds problem budget n s fits a)
   once_lines (inr (told, fits, are, i)) (inl (t, b, j)) = absurd (fits_exceeds problem budget n t fits b)

@@ -61,8 +61,8 @@ abbrev pub AreLines : Side → ℕ → Position → List ℕ → Type 0
 AreLines winner n p told = (text : List ℕ) × MenText winner n p text × (told ≡ text ++ codes "end\n")
 
 -- these, or the first step that exceeds the budget
-abbrev pub FirstsReport : ℕ → ℕ → Problem → Files → Report → Type 0
-FirstsReport n budget problem files report =
+abbrev pub LinesReport : ℕ → ℕ → Problem → Files → Report → Type 0
+LinesReport n budget problem files report =
     ((step : StepName) × ExceedsAt problem budget n step × (report ≡ over_budget files step))
     ⊎ ((told : List ℕ) × FitsBudget problem budget n × AreLines problem.winner n problem.position told × (report ≡ done_with files told))
 
@@ -70,7 +70,7 @@ FirstsReport n budget problem files report =
 abbrev pub FirstReports : ℕ → ℕ → Problem → Files → Report → Type 0
 FirstReports n budget problem files report =
     (HasNoFirstMove n problem × (report ≡ done_with files (codes "end\n")))
-    ⊎ ((¬ HasNoFirstMove n problem) × FirstsReport n budget problem files report)
+    ⊎ ((¬ HasNoFirstMove n problem) × LinesReport n budget problem files report)
 
 -- a text of this kind was added at the end
 abbrev pub Adds : (List ℕ → Type 0) → (old new : List ℕ) → Type 0

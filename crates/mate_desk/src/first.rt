@@ -21,6 +21,9 @@ use std::alloc::{AllocError, Global};
 use white_player::{FirstLine, first_moves};
 use winning_sets::{SolveError, Solved, Solver};
 
+/// The most rays that a kind has.
+const RAYS: u8 = 8;
+
 /// Writes for each man and ray the winner's first moves along it by which he mates within so many moves of his own, and a last line. All of it is
 /// known before the first byte is written.
 pub fn first<K: Sink>(alloc: Global, task: &Task, sink: &mut K) -> Status
@@ -97,7 +100,7 @@ fn push_man(
     ensures adds { OnOk result (Adds (ManText solved.now.winner solved.now.moves solved.now.position man) text.old.items text.new.items) }
     ensures kept { search.new ≡ search.old }
 {
-    for ray in 0..8 {
+    for ray in 0..RAYS {
         push_ray(text, solved, search, man, ray)?;
     }
     Ok(())
