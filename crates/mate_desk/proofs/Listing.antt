@@ -18,7 +18,7 @@ use Rattle.game_session.proofs.Tuples.{stands_live}
 use Rattle.white_player.specs.Firsts.{Firsts}
 use Rattle.white_player.proofs.FirstLemmas.{firsts_ray, firsts_value, line_first, line_once}
 use Rattle.winning_sets.specs.Solve.{IsOf, Solution}
-use Rattle.mate_desk.specs.First.{Adds, AreLines, FirstReports, LinesReport, HasNoFirstMove, Listed, ManText, RayText, line_of}
+use Rattle.mate_desk.specs.First.{Adds, AreLines, FirstReports, HasNoFirstMove, LinesReport, Listed, ManText, RayText, line_of}
 use Rattle.mate_desk.specs.Outcome.{Report, done_with, over_budget}
 use Rattle.mate_desk.specs.declared.problem.Problem.{Problem}
 use Rattle.mate_desk.proofs.OneStep.{exceeds_once, fits_exceeds}
