@@ -3,14 +3,32 @@ use Rattle.std.specs.Prelude.{◌≡◌, ◌⊎◌, ℕ, suc, ◌-◌, ◌<◌, 
 use Rattle.desk_base.specs.Lines.{Lines}
 use Rattle.game_rules.specs.Game.{Lost, Mate, Value, other}
 use Rattle.chess_game.specs.declared.moves.Move.{Move}
-use Rattle.winning_sets.specs.Solve.{IsSolution, Solution}
+use Rattle.winning_sets.specs.Claimed.{IsValid, claim_of}
+use Rattle.winning_sets.specs.Solve.{Solution}
+use Rattle.winning_sets.specs.declared.origin.Origin.{Origin}
+use Rattle.winning_sets.specs.declared.origin.Origin.TheVariants.{Plan, Claim as Claimed}
 use Rattle.white_player.specs.Game.{Game, IsGame, Plays, start_of}
-use Rattle.game_report.specs.Report.{AtLines, AtTurn, IsReport, Match, Report, all_squares}
+use Rattle.game_report.specs.Report.{AtLines, AtTurn, ByClaim, ByKept, IsReport, Match, Report, Strategy, all_squares}
 use Rattle.game_report.specs.declared.play.Ending.TheVariants.{Mated}
+
+-- by what the winner plays who has these sets
+abbrev pub strategy_by : Origin → Solution → Strategy
+strategy_by Plan s = ByKept
+strategy_by Claimed s = ByClaim (claim_of s)
+
+abbrev pub strategy_of : Solution → Strategy
+strategy_of s = strategy_by s.origin s
 
 -- what a report tells of the game of a session
 abbrev pub seen : Game → Match
-seen g = record { winner = g.solution.winner; start = g.solution.position; moves = g.solution.moves; position = g.position; ply = g.ply }
+seen g = record {
+  winner = g.solution.winner;
+  start = g.solution.position;
+  moves = g.solution.moves;
+  strategy = strategy_of g.solution;
+  position = g.position;
+  ply = g.ply;
+}
 
 -- what it tells of a solved position from which nothing was moved yet
 abbrev pub first_seen : Solution → Match
@@ -51,13 +69,13 @@ MatedIsMate =
 -- after the k-th move of the winner, counted from 0, of a report of n, the loser is mated within n - (k + 1)
 abbrev pub ReportIsLost : Type 0
 ReportIsLost =
-    (before : ℕ) (lines : Lines) (s : Solution) (report : Report) → IsSolution s → Value s.winner s.moves s.position
+    (before : ℕ) (lines : Lines) (s : Solution) (report : Report) → IsValid s → Value s.winner s.moves s.position
     → IsReport before lines (first_seen s) report
     → (k : ℕ) (after : Match) → slice_get report.games k ≡ Some after → (suc k ≤ s.moves) × Lost s.winner (s.moves - suc k) after.position
 
 -- a report that ends otherwise than by mate has fewer of the winner's moves than were promised
 abbrev pub MatedInTime : Type 0
 MatedInTime =
-    (before : ℕ) (lines : Lines) (s : Solution) (report : Report) → IsSolution s → Value s.winner s.moves s.position
+    (before : ℕ) (lines : Lines) (s : Solution) (report : Report) → IsValid s → Value s.winner s.moves s.position
     → IsReport before lines (first_seen s) report
     → (length report.games ≤ s.moves) × ((report.ending ≡ Mated) ⊎ (length report.games < s.moves))

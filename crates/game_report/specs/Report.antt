@@ -11,17 +11,25 @@ use Rattle.chess_text.specs.Replies.{IsReply, IsReplyRefusal, move_text}
 use Rattle.chess_text.specs.declared.replies.MoveWhy.{MoveWhy}
 use Rattle.chess_text.specs.declared.replies.Typed.{Typed}
 use Rattle.chess_text.specs.declared.replies.Typed.TheVariants as typed
+use Rattle.mate_plan.specs.Claim.{Claim, IsClaimed}
 use Rattle.winning_sets.specs.Kept.{Kept}
 use Rattle.game_session.specs.Choice.{Pick, target}
 use Rattle.game_session.specs.declared.choice.Choice.{Choice}
 use Rattle.game_report.specs.declared.play.Ending.{Ending}
 use Rattle.game_report.specs.declared.play.Ending.TheVariants.{Mated, Wide, Quit, NoLine, Many, CutAt, LongAt}
 
--- a game: which side is to mate, from which position and within how many moves of its own, and the position after so many moves of both sides
+-- by what a winner plays: what is kept of the positions that are reached from the start of the game, or what is claimed
+pub data Strategy : Type 0 where
+  ByKept : Strategy
+  ByClaim : Claim → Strategy
+
+-- a game: which side is to mate, from which position and within how many moves of its own, by what it plays, and the position after so many
+-- moves of both sides
 pub record Match : Type 0 where
   pub winner : Side
   pub start : Position
   pub moves : ℕ
+  pub strategy : Strategy
   pub position : Position
   pub ply : ℕ
 
@@ -74,11 +82,16 @@ plays mv after later =
 
 -- the game after a move to this position
 abbrev pub moved : Match → Position → Match
-moved g q = record { winner = g.winner; start = g.start; moves = g.moves; position = q; ply = suc g.ply }
+moved g q = record { winner = g.winner; start = g.start; moves = g.moves; strategy = g.strategy; position = q; ply = suc g.ply }
 
--- the winner's first move, by man, ray and distance, to a square of 64 bits, that leads to a position from which he still mates in time
-abbrev pub KeptPick : Match → Option Choice → Type 0
-KeptPick g choice = Pick (Kept g.winner g.start g.moves (suc g.ply)) all_squares g.position choice
+-- the position is one of those that the winner's moves are to lead into at the ply: it is kept, or it is claimed
+abbrev pub IsHeldBy : Strategy → Match → ℕ → Position → Type 0
+IsHeldBy ByKept g ply q = Kept g.winner g.start g.moves ply q
+IsHeldBy (ByClaim c) g ply q = IsClaimed c ply q
+
+-- the winner's first move, by man, ray and distance, to a square of 64 bits, that leads to such a position
+abbrev pub HeldPick : Match → Option Choice → Type 0
+HeldPick g choice = Pick (IsHeldBy g.strategy g (suc g.ply)) all_squares g.position choice
 
 -- with the loser to move, and these lines to come: he is mated, or the game goes on
 abbrev pub AtLoser : (Match → Report → Type 0) → Lines → Match → Report → Type 0
@@ -89,9 +102,9 @@ AtLoser On left g report =
 -- with the winner to move: there is no pick, or he makes it
 abbrev pub AtWinner : (Match → Report → Type 0) → Lines → Match → Report → Type 0
 AtWinner On left g report =
-    (KeptPick g None × (report ≡ ends Wide [] left))
+    (HeldPick g None × (report ≡ ends Wide [] left))
     ⊎ ((choice : Choice) × (q : Position) × (later : Report)
-    × KeptPick g (Some choice) × Legal g.position choice.mv.man (target choice.mv) q × AtLoser On left (moved g q) later
+    × HeldPick g (Some choice) × Legal g.position choice.mv.man (target choice.mv) q × AtLoser On left (moved g q) later
     × (report ≡ plays choice.mv (moved g q) later))
 
 -- the line is this reply, or, where there is none, no reply

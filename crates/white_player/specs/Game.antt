@@ -7,8 +7,10 @@ use Rattle.game_rules.specs.declared.men.Side.TheVariants.{White, Black}
 use Rattle.chess_game.specs.declared.moves.Move.{Move}
 use Rattle.chess_game.specs.declared.way.Frame.{Frame}
 use Rattle.mate_plan.specs.Plan.{turn_at}
-use Rattle.winning_sets.specs.Kept.{Kept}
-use Rattle.winning_sets.specs.Solve.{IsSolution, Solution, end_of, kept_at}
+use Rattle.mate_plan.specs.Won.{LeadsInto}
+use Rattle.winning_sets.specs.Claimed.{IsHeld, IsValid}
+use Rattle.winning_sets.specs.Reach.{Reach}
+use Rattle.winning_sets.specs.Solve.{Solution, kept_at}
 use Rattle.game_session.specs.Choice.{OnePick, Pick, target}
 use Rattle.game_session.specs.declared.choice.Choice.{Choice}
 use Rattle.white_player.specs.declared.session.Played.{Played}
@@ -28,15 +30,18 @@ start_of s f = record { solution = s; frame = f; position = s.position; ply = 0 
 abbrev pub moved_to : Game → Position → Game
 moved_to g q = record { solution = g.solution; frame = g.frame; position = q; ply = suc g.ply }
 
--- the position is kept at a ply of a solved position
-abbrev pub IsKeptAt : Solution → ℕ → Position → Type 0
-IsKeptAt s ply q = Kept s.winner s.position s.moves ply q
+-- with the loser to move, the position is held; with the winner to move, a legal move of his leads into what is held at the next ply
+abbrev pub Stands : Game → Type 0
+Stands g =
+    ((g.position.turn ≡ other g.solution.winner) × IsHeld g.solution g.ply g.position)
+    ⊎ ((g.position.turn ≡ g.solution.winner) × LeadsInto (IsHeld g.solution (suc g.ply)) g.position)
 
--- what a session keeps true: the winner still mates in time
+-- what a session keeps true: legal moves have led to the position of its ply, and from there the winner still mates in time by what is held
 pub record IsGame (g : Game) : Type 0 where
-  pub valid : IsSolution g.solution
-  pub kept : IsKeptAt g.solution g.ply g.position
-  pub ply : g.ply ≤ end_of g.solution
+  pub valid : IsValid g.solution
+  pub value : Value g.solution.winner g.solution.moves g.solution.position
+  pub reached : Reach g.solution.position g.ply g.position
+  pub stands : Stands g
 
 abbrev pub one_if_same : Side → Side → ℕ
 one_if_same White White = 1
@@ -53,13 +58,13 @@ made winner first (suc ply) = made winner first ply + one_if_same winner (turn_a
 abbrev pub made_in : Game → ℕ
 made_in g = made g.solution.winner g.solution.position.turn g.ply
 
--- the winner's first move, by man, ray and distance, to a square of the frame, that leads to a position from which he still mates in time
+-- the winner's first move, by man, ray and distance, to a square of the frame, that leads to a position that is held
 abbrev pub WinPick : Game → Option Choice → Type 0
-WinPick g choice = Pick (IsKeptAt g.solution (suc g.ply)) g.frame g.position choice
+WinPick g choice = Pick (IsHeld g.solution (suc g.ply)) g.frame g.position choice
 
 -- there is one such move at most, and not both one and none
 abbrev pub OneWinPick : Type 0
-OneWinPick = (g : Game) → OnePick (IsKeptAt g.solution (suc g.ply)) g.frame g.position
+OneWinPick = (g : Game) → OnePick (IsHeld g.solution (suc g.ply)) g.frame g.position
 
 -- the move is the winner's pick, and has led to this game
 pub record IsPicked (g : Game) (choice : Choice) (after : Game) : Type 0 where
@@ -108,7 +113,7 @@ AllLost =
 -- from the start of a game with n moves: after the k-th move of the winner, counted from 0, the loser is mated within n - (k + 1)
 abbrev pub WholeGameIsLost : Type 0
 WholeGameIsLost =
-    (s : Solution) (f : Frame) (typed : List Move) (games : List Game) → IsSolution s → Value s.winner s.moves s.position → Plays (start_of s f) typed games
+    (s : Solution) (f : Frame) (typed : List Move) (games : List Game) → IsValid s → Value s.winner s.moves s.position → Plays (start_of s f) typed games
     → (k : ℕ) (after : Game) → slice_get games k ≡ Some after → (suc k ≤ s.moves) × Lost s.winner (s.moves - suc k) after.position
 
 -- what is told of the move that was made

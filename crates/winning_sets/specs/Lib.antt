@@ -22,3 +22,4 @@ pub mod Solve
 pub mod Lent
 pub mod Finished
 pub mod PlanMeans
+pub mod Claimed

@@ -19,6 +19,8 @@ use Rattle.mate_plan.specs.Plan.{Program, turn_at}
 use Rattle.mate_plan.specs.declared.names.PartName.{PartName}
 use Rattle.winning_sets.specs.Reach.{Reach}
 use Rattle.winning_sets.specs.declared.names.SolveError.{SolveError}
+use Rattle.winning_sets.specs.declared.origin.Origin.{Origin}
+use Rattle.winning_sets.specs.declared.origin.Origin.TheVariants.{Plan}
 use Rattle.winning_sets.specs.declared.names.SolveError.TheVariants as solve_error
 
 -- a position of the set has these live men, and they have these coordinates
@@ -48,8 +50,10 @@ Sets = ℕ → ℕ → Option Automaton
 abbrev pub sets_at : List ℕ → List (List Automaton) → Sets
 sets_at masks plies ply mask = option_and_then (λ sets. set_of masks sets mask) (slice_get plies ply)
 
--- what a solved position is seen as: the sets ply by ply, and in each ply in the order of the masks of the position
+-- what a solved position is seen as: where its sets come from, and the sets ply by ply, in each ply in the order of the masks of the
+-- position, or none of them
 pub record Solution : Type 0 where
+  pub origin : Origin
   pub position : Position
   pub winner : Side
   pub moves : ℕ
@@ -126,8 +130,9 @@ pub record IsMostStates (s : Solution) (count : ℕ) : Type 0 where
   pub within : (ply mask : ℕ) (a : Automaton) → kept_at s ply mask ≡ Some a → length a.accept ≤ count
   pub least : (n : ℕ) → ((ply mask : ℕ) (a : Automaton) → kept_at s ply mask ≡ Some a → length a.accept ≤ n) → count ≤ n
 
--- the solution is one of this position
+-- the solution is one of this position, and its sets come of a plan
 pub record IsOf (p : Position) (winner : Side) (moves : ℕ) (s : Solution) : Type 0 where
+  pub origin : s.origin ≡ Plan
   pub position : s.position ≡ p
   pub winner_is : s.winner ≡ winner
   pub moves_are : s.moves ≡ moves

@@ -7,6 +7,7 @@ mod kept;
 pub mod laws;
 mod lent;
 mod names;
+mod origin;
 mod place;
 mod ply_sets;
 mod solved;
@@ -16,5 +17,6 @@ mod turns;
 
 pub use mate_plan::{Part, PartName};
 pub use names::{SolveError, StepName};
+pub use origin::Origin;
 pub use solved::Solved;
 pub use solver::{Solver, solve};

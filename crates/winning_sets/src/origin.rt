@@ -1,0 +1,10 @@
+//! Where sets come from.
+
+/// Where the kept sets of a solved position come from.
+#[derive(Clone, Copy, Debug, PartialEq, Eq)]
+pub enum Origin {
+    /// The plan: there is one for each ply and each mask.
+    Plan,
+    /// A claim that is won: there is one for each ply of the loser and each mask.
+    Claim,
+}
