@@ -28,7 +28,7 @@ use Rattle.rule_formula.specs.Fits.{HasStock, mask_of}
 use Rattle.rule_formula.specs.Placed.{tuple_of}
 use Rattle.rule_formula.proofs.PlacedLemmas.{all_men, stock_man-men}
 use Rattle.game_session.specs.Choice.{FirstOf, IsAlongRay, IsBefore, IsCapture, IsQuiet, Leads, target}
-use Rattle.game_session.specs.Aims.{AreNext, IsHitAlong, IsLeast, IsLeastFound, IsMet, IsMover, tuple_along}
+use Rattle.game_session.specs.Aims.{AreNext, IsAlong, IsHitAlong, IsLeast, IsLeastFound, IsMet, IsMover, tuple_along}
 use Rattle.mask_sets.specs.Places.{coordinates_before}
 use Rattle.mask_sets.specs.Sets.{IsIn, Table, set_at}
 use Rattle.game_session.specs.declared.choice.Choice.{Choice}
@@ -279,14 +279,7 @@ step_stock stock p q i z has after = record {
       (sym (fate_side fated) ∙ same.0, sym (fate_kind fated) ∙ same.1);
 }
 
--- the way that is searched is that of the man along the ray
-pub record IsAlong (p : Position) (i : ℕ) (r : Ray) (way : Way) : Type 0 where
-  pub fixed : way.fixed.now ≡ tuple_of p
-  pub x_track : way.x_track ≡ coordinates_before p i
-  pub y_track : way.y_track ≡ coordinates_before p i + 1
-  pub dx : way.dx ≡ r.dx
-  pub dy : way.dy ≡ r.dy
-
+-- the way of a man along a ray
 pub along_is : (p : Position) (i n : ℕ) (r : Ray) (fixed : Bor (List ℤ)) (place : ℕ) → IsMover p i n r → fixed.now ≡ tuple_of p → place ≡ coordinates_before p i → IsAlong p i r (record { fixed = fixed; x_track = place; y_track = place + 1; dx = to_z w8 (of_z w8 r.dx); dy = to_z w8 (of_z w8 r.dy) })
 along_is p i n r fixed place mover same at =
     let short = ray_slopes mover.man.kind mover.man.side n r mover.is_ray in

@@ -8,3 +8,4 @@ pub mod Firsts
 pub mod Counted
 pub mod Picks
 pub mod Once
+pub mod HisRays

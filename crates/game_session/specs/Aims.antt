@@ -3,6 +3,7 @@ use Rattle.std.specs.Prelude.{◌≡◌, ℕ, ◌+◌, ◌≤◌, List, ℤ, sli
 use Rattle.auto_core.specs.Automaton.{Automaton}
 use Rattle.auto_core.specs.Integers.{IsAccepted}
 use Rattle.auto_search.specs.Way.{value_after}
+use Rattle.auto_search.specs.declared.way.Way.{Way}
 use Rattle.chess_game.specs.Unsoundness.{StandsAt}
 use Rattle.chess_game.specs.Way.{IsHit, IsInside}
 use Rattle.chess_game.specs.declared.way.Frame.{Frame}
@@ -56,6 +57,14 @@ tuple_along p man r t =
     let x = coordinates_before p man in
     let y = coordinates_before p man + 1 in
     slice_set (slice_set (tuple_of p) x (value_after (tuple_of p) x r.dx t)) y (value_after (tuple_of p) y r.dy t)
+
+-- the way that is searched is that of the man along the ray
+pub record IsAlong (p : Position) (man : ℕ) (r : Ray) (way : Way) : Type 0 where
+  pub fixed : way.fixed.now ≡ tuple_of p
+  pub x_track : way.x_track ≡ coordinates_before p man
+  pub y_track : way.y_track ≡ coordinates_before p man + 1
+  pub dx : way.dx ≡ r.dx
+  pub dy : way.dy ≡ r.dy
 
 -- these coordinates are in the set
 abbrev pub IsHitAlong : Automaton → Position → ℕ → Ray → ℕ → Type 0

@@ -6,11 +6,14 @@ mod aim;
 mod choice;
 pub mod laws;
 mod men_frame;
+mod movers;
 mod pick;
 mod ray_moves;
 mod ray_pick;
+mod ray_way;
 
 pub use aim::{Aim, ManRay};
 pub use choice::Choice;
+pub use movers::has_ray;
 pub use pick::first_move;
 pub use ray_moves::{RayMoves, moves_along};

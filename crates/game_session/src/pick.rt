@@ -1,22 +1,24 @@
 //! The first move that leads into sets of positions.
-ghost use Rattle.std.specs.Prelude.{◌≡◌, ◌≢◌, ◌≤◌, IsSomeAnd, length, true, false};
+ghost use Rattle.std.specs.Prelude.{◌≡◌, ◌≢◌, ◌≤◌, IsSomeAnd, length};
 ghost use Rattle.game_rules.specs.Game.{Sound, man_at};
+ghost use Rattle.game_rules.specs.declared.men.Place.TheVariants.{Gone};
 ghost use Rattle.mask_sets.specs.Sets.{HaveAtMost, IsIn};
 ghost use Rattle.game_session.specs.Aims.{AreNext, IsAim};
 ghost use Rattle.game_session.specs.Choice.{FirstOf, IsOf, Pick};
 
 use crate::aim::{Aim, ManRay};
 use crate::choice::Choice;
+use crate::movers::is_live_of;
 use crate::ray_pick::along_ray;
 use auto_search::Search;
-use chess_game::{Frame, Man, Place, Position, Side, ray};
+use chess_game::{Frame, Position, ray};
 use mask_sets::MaskSets;
 
 /// Of the moves of a live man of the side to move, the first that leads into the sets.
 fn of_man(search: &mut Search, aim: &Aim, man: u8) -> Option<Choice>
     requires aim { IsAim aim.now }
     requires few { HaveAtMost search.old aim.now.sets.now }
-    requires mover { IsSomeAnd (man_at aim.now.position.now man) (λ m. (m.side ≡ aim.now.position.now.turn) × (m.place ≢ Place.Gone)) }
+    requires mover { IsSomeAnd (man_at aim.now.position.now man) (λ m. (m.side ≡ aim.now.position.now.turn) × (m.place ≢ Gone)) }
     ensures first { FirstOf (IsOf man) (IsIn aim.now.sets.now) aim.now.frame aim.now.position.now result }
     ensures kept { search.new ≡ search.old }
 {
@@ -37,15 +39,7 @@ fn of_man(search: &mut Search, aim: &Aim, man: u8) -> Option<Choice>
     None
 }
 
-/// Whether the man is live and of the side.
-fn is_live_of(man: Man, side: Side) -> bool
-    ensures yes { result ≡ true → (man.side ≡ side) × (man.place ≢ Place.Gone) }
-    ensures no { result ≡ false → (man.side ≡ side) × (man.place ≢ Place.Gone) → ⊥ }
-{
-    man.side == side && man.place != Place::Gone
-}
-
-/// The same for any man: one who is captured or of the other side has no move.
+/// Of the moves of any man, the first that leads into the sets: one who is captured or of the other side has none.
 fn of_any(search: &mut Search, aim: &Aim, man: u8) -> Option<Choice>
     requires aim { IsAim aim.now }
     requires few { HaveAtMost search.old aim.now.sets.now }

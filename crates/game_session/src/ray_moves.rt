@@ -15,10 +15,11 @@ use crate::aim::{Aim, ManRay};
 use crate::choice::steps_of;
 use crate::men_frame::frame_of_men;
 use crate::ray_pick::{along_ray, capture, least_hit, serves_moves};
+use crate::ray_way::way_along;
 use auto_core::Auto;
 use auto_search::{Few, Search};
 use chess_game::{Move, Place, Position, Way, free_way};
-use mask_sets::{coordinates, place_of_man};
+use mask_sets::coordinates;
 
 /// Of the moves along a ray that lead into sets: how many there are on the whole board, and the least distance of those whose square lies in a frame.
 #[derive(Clone, Copy, Debug, PartialEq, Eq)]
@@ -65,16 +66,8 @@ fn count_all(search: &mut Search, set: &Auto, p: &Position, his: ManRay) -> Few
     ensures few { HasFew result (λ t. (1 ≤ t) × IsHitAlong set.now p.now his.man his.ray t) }
     ensures kept { search.new ≡ search.old }
 {
-    let _man = p.man(his.man);
-    let place = place_of_man(p, his.man);
     let tuple = coordinates(p);
-    let along = auto_search::Way {
-        fixed: tuple.as_slice(),
-        x_track: place,
-        y_track: place + 1,
-        dx: his.ray.dx,
-        dy: his.ray.dy,
-    };
+    let along = way_along(p, tuple.as_slice(), his);
     search.count_on_ray(set, &along)
 }
 

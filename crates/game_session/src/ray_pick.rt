@@ -11,10 +11,11 @@ ghost use Rattle.game_session.specs.Choice.{FirstOf, IsAlongRay, IsCapture, IsQu
 
 use crate::aim::{Aim, ManRay};
 use crate::choice::{Choice, choice_along, steps_of};
+use crate::ray_way::way_along;
 use auto_core::Auto;
 use auto_search::Search;
 use chess_game::{Kind, Move, Place, Position, Way, free_way, try_move};
-use mask_sets::{coordinates, place_of_man};
+use mask_sets::coordinates;
 
 /// The least distance of the way at which the man's move along the ray leads to coordinates in the set.
 pub(crate) fn least_hit(
@@ -32,16 +33,8 @@ pub(crate) fn least_hit(
     ensures least { IsLeastFound (IsHitAlong set.now p.now his.man his.ray) way.near way.far result }
     ensures kept { search.new ≡ search.old }
 {
-    let _man = p.man(his.man);
-    let place = place_of_man(p, his.man);
     let tuple = coordinates(p);
-    let along = auto_search::Way {
-        fixed: tuple.as_slice(),
-        x_track: place,
-        y_track: place + 1,
-        dx: his.ray.dx,
-        dy: his.ray.dy,
-    };
+    let along = way_along(p, tuple.as_slice(), his);
     search.least_on_ray(set, &along, way.near, way.far)
 }
 

@@ -1,0 +1,26 @@
+//! Who may move, and along which rays.
+ghost use Rattle.std.specs.Prelude.{◌≡◌, ◌≢◌, ◌↔◌, ◌≤◌, IsTrue, length, true, false};
+ghost use Rattle.game_session.specs.Aims.{HasRay};
+
+use chess_game::{Man, Place, Position, Side, ray as ray_of_kind};
+
+/// Whether the man is live and of the side.
+pub(crate) fn is_live_of(man: Man, side: Side) -> bool
+    ensures yes { result ≡ true → (man.side ≡ side) × (man.place ≢ Place.Gone) }
+    ensures no { result ≡ false → (man.side ≡ side) × (man.place ≢ Place.Gone) → ⊥ }
+{
+    man.side == side && man.place != Place::Gone
+}
+
+/// Whether the man is a live one of the side to move, and one of his rays has this number, counted from 0.
+pub fn has_ray(p: &Position, man: u8, number: u8) -> bool
+    requires first { 1 ≤ man }
+    requires last { man ≤ length p.now.men }
+    ensures { IsTrue result ↔ HasRay p.now man number }
+{
+    let him = p.man(man);
+    if !is_live_of(him, p.turn()) {
+        return false;
+    }
+    ray_of_kind(him.kind, him.side, number).is_some()
+}
