@@ -118,8 +118,8 @@ module _ (c : Claim) (is : IsClaim c) (mean : RulesMean c.position) (some_point 
         ],
         given,
       )
-  moves-checks (suc n) some turn =
-      told-checks (KeepsRule c) f (has_first_move (rules_of p) c.winner (mask_of p) (tuple_of p) (claimed_level c 1)) (starts-tell turn)
+  moves-checks (suc n) some turn xs found t =
+      told-checks (KeepsRule c) f (has_first_move (rules_of p) c.winner (mask_of p) (tuple_of p) (claimed_level c 1)) (starts-tell turn) xs found t
 
   starting-checks : c.position.turn ≡ other c.winner → Checks (KeepsRule c) (rule_at 0 (mask_of c.position) rule.First ∷ []) (check_waiting c)
   starting-checks turn xs found t =

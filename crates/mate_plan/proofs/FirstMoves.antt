@@ -1,12 +1,11 @@
 -- The parts of the question whether a first move leads into a level.
-use Rattle.std.proofs.Common.{◌≡◌, ◌↔◌, ℕ, Bool, true, false, List, length, ℤ, Option, Some, None, refl, sym, ap, ◌∙◌, subst}
-use Rattle.std.specs.Prelude.{IfSome, IsTrue}
+use Rattle.std.proofs.Common.{◌≡◌, ◌↔◌, ℕ, Bool, true, false, List, length, ℤ, refl, sym, ap, ◌∙◌}
+use Rattle.std.specs.Prelude.{IsTrue}
 use Rattle.std.proofs.lemmas.List.{length-map}
 use Rattle.track_word.specs.Tracks.{Values}
-use Rattle.auto_core.specs.Automaton.{Automaton}
 use Rattle.game_rules.specs.Game.{Position, Sound}
 use Rattle.game_rules.specs.declared.men.Side.{Side}
-use Rattle.lin_formula.specs.SetOf.{Member, SetOf, as_set}
+use Rattle.lin_formula.specs.SetOf.{Member, SetOf}
 use Rattle.rule_formula.specs.Fits.{mask_of}
 use Rattle.rule_formula.specs.Mean.{mask_tracks}
 use Rattle.rule_formula.specs.Placed.{is_live, placed, tuple_of}

@@ -1,11 +1,11 @@
-use Rattle.std.proofs.Common.{ℕ, refl, sym, ap, ◌∙◌, subst}
+use Rattle.std.proofs.Common.{ℕ, refl, ◌∙◌, subst}
 use Rattle.std.specs.Prelude.{IfOk, IfSome}
 use Rattle.lin_formula.specs.SetOf.{SetOf, as_set}
-use Rattle.rule_formula.specs.Fits.{mask_of, masks_of}
+use Rattle.rule_formula.specs.Fits.{masks_of}
 use Rattle.rule_formula.specs.Mean.{mask_tracks}
 use Rattle.rule_formula.proofs.FitLemmas.{mask_one}
 use Rattle.set_plan.specs.Outcome.{Answers}
-use Rattle.set_plan.specs.Sets.{IsSetOn, set_at}
+use Rattle.set_plan.specs.Sets.{IsSetOn}
 use Rattle.mate_plan.specs.Levels.{level_of}
 use Rattle.mate_plan.specs.Plan.{pre_items, union}
 use Rattle.mate_plan.specs.PlanOf.{rules_of}

@@ -17,6 +17,6 @@ pub returns-in-Some : goal.returns-in-Some
 returns-in-Some c =
     let same = c.as_slice.ensures.value ∙ c.coordinates.ensures in
     rw c.in-Some.is (
-      λ is. subst (IsAccepted c.in-Some.a.now) same (c.member.ensures.member.0 is),
-      λ has. c.member.ensures.member.1 (subst (IsAccepted c.in-Some.a.now) (sym same) has),
+      λ is. subst (IsAccepted c.in-Some.a) same (c.member.ensures.member.0 is),
+      λ has. c.member.ensures.member.1 (subst (IsAccepted c.in-Some.a) (sym same) has),
     )

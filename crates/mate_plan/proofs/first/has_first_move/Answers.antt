@@ -1,4 +1,4 @@
-use Rattle.std.proofs.Common.{ℕ, sym, ◌∙◌, subst, arith}
+use Rattle.std.proofs.Common.{ℕ, ◌∙◌, subst, arith}
 use Rattle.std.proofs.lemmas.Result.{err_from_is_err_and}
 use Rattle.lin_formula.specs.SetOf.{as_set}
 use Rattle.rule_formula.specs.Fits.{mask_of, masks_of}
@@ -22,7 +22,7 @@ truncate-requires c =
 
 pub returns-in_err-start-clause-answers : goal.returns-in_err-start-clause-answers
 returns-in_err-start-clause-answers c =
-    let e = err_from_is_err_and c.from_residual-in_err-start.result c.from_residual-in_err-start.ensures.1 in
+    let e = err_from_is_err_and c.from_residual.result c.from_residual.ensures.1 in
     let p = c.args.p.now in
     rw (e.1, e.2) (start_error (rules_of p) p.turn (mask_of p) c.args.memo.now.budget (tuple_of p) (level_of c.args.sets.now (masks_of p) c.args.into.now) c.in_err-start.field-0.0 c.in_err-start.ensures.answers)
 
