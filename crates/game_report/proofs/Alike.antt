@@ -1,6 +1,6 @@
 -- Reports of games by claims that claim the same positions: a report by the one is a report by the other, with the same text, ending and lines left,
 -- and its games are the same but for what the winner plays by. Other crates may cite `report_alike`, and the words that it is said in.
-use Rattle.std.proofs.Common.{◌≡◌, ◌↔◌, inl, inr, ℕ, suc, ◌+◌, ◌==◌, List, [], ◌++◌, map, Bool, true, false, Option, Some, None, ap, codes}
+use Rattle.std.proofs.Common.{◌↔◌, inl, inr, ℕ, suc, ◌+◌, ◌==◌, List, map, Bool, true, false, Option, Some, None, ap}
 use Rattle.desk_base.specs.Lines.{Lines, full, ended, cut, long}
 use Rattle.game_rules.specs.Game.{Position}
 use Rattle.chess_game.specs.declared.way.Frame.{Frame}

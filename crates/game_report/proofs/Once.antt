@@ -5,7 +5,6 @@ use Rattle.desk_base.specs.Lines.{Lines, full, ended, cut, long}
 use Rattle.game_rules.specs.Game.{Legal}
 use Rattle.game_laws.proofs.MoveLemmas.{same_after}
 use Rattle.game_laws.proofs.SoundLemmas.{other_differs}
-use Rattle.chess_game.specs.declared.moves.Move.{Move}
 use Rattle.chess_text.proofs.ReplyLemmas.{reply_once}
 use Rattle.chess_text.specs.declared.replies.Typed.{Typed}
 use Rattle.chess_text.specs.declared.replies.Typed.TheVariants as typed

@@ -12,8 +12,7 @@ use Rattle.chess_text.specs.declared.replies.Typed.{Typed}
 use Rattle.chess_text.specs.declared.replies.Typed.TheVariants as typed
 use Rattle.mate_plan.specs.Plan.{turn_at}
 use Rattle.winning_sets.specs.Claimed.{IsValid}
-use Rattle.winning_sets.specs.Kept.{moves_left}
-use Rattle.winning_sets.specs.Solve.{Solution, end_of}
+use Rattle.winning_sets.specs.Solve.{Solution}
 use Rattle.game_session.specs.Choice.{target}
 use Rattle.white_player.specs.Game.{Game, Goes, IsGame, IsPicked, Plays, WinnerGoes, made_in, one_if_same, start_of}
 use Rattle.white_player.proofs.Games.{first_game, game_turn, game_within, held_reply, left_made, lost_in, picked_game, whole_game, winner_ply}

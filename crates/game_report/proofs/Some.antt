@@ -1,5 +1,5 @@
 -- There is a report.
-use Rattle.std.proofs.Common.{◌≡◌, ◌⊎◌, inl, inr, ℕ, suc, ◌+◌, ◌≤◌, ◌==◌, List, [], Bool, true, false, Option, Some, None, refl, sym, ap, subst, ◌∙◌, arith, codes}
+use Rattle.std.proofs.Common.{◌≡◌, ◌⊎◌, inl, inr, ℕ, suc, ◌+◌, ◌==◌, List, [], Bool, true, false, Option, Some, None, refl, sym, ap, subst, ◌∙◌, arith, codes}
 use Rattle.std.specs.Prelude.{IsSomeAnd}
 use Rattle.track_word.specs.Tracks.{IsAscending}
 use Rattle.auto_core.specs.Automaton.{Automaton}
@@ -11,7 +11,6 @@ use Rattle.game_laws.specs.Answer.{CanGo}
 use Rattle.game_laws.proofs.DecideLemmas.{Decided, can_go, in_check, map_decided}
 use Rattle.game_laws.proofs.MateLemmas.{mate_or_move}
 use Rattle.game_laws.proofs.SoundLemmas.{other_other, side_or_other}
-use Rattle.chess_game.specs.declared.moves.Move.{Move}
 use Rattle.chess_text.specs.declared.replies.Typed.{Typed}
 use Rattle.chess_text.specs.declared.replies.Typed.TheVariants as typed
 use Rattle.mask_sets.specs.Sets.{IsIn, set_at}

@@ -1,5 +1,5 @@
 -- What a session's winner plays by, in the words of its sets and in those of a report.
-use Rattle.std.proofs.Common.{◌≡◌, ◌↔◌, ℕ, suc, Option, sym, subst}
+use Rattle.std.proofs.Common.{◌≡◌, ◌↔◌, ℕ, suc, Option, subst}
 use Rattle.game_rules.specs.Game.{Position}
 use Rattle.chess_game.specs.declared.way.Frame.{Frame}
 use Rattle.winning_sets.specs.Claimed.{IsHeld, IsHeldBy as IsHeldOf}
@@ -10,7 +10,7 @@ use Rattle.game_session.specs.Choice.{Pick}
 use Rattle.game_session.specs.declared.choice.Choice.{Choice}
 use Rattle.white_player.specs.Game.{Game, WinPick}
 use Rattle.game_report.specs.Laws.{seen, strategy_by}
-use Rattle.game_report.specs.Report.{HeldPick, Match, all_squares}
+use Rattle.game_report.specs.Report.{HeldPick, all_squares}
 
 pick_by : (o : Origin) (s : Solution) (p : Position) (ply : ℕ) (choice : Option Choice)
     → Pick (IsHeldOf o s (suc ply)) all_squares p choice

@@ -1,5 +1,5 @@
 -- What comes of a line, and of the start of a game: its report as it is, and what it is where more lines come behind.
-use Rattle.std.proofs.Common.{◌≡◌, ◌↔◌, ◌⊎◌, inl, inr, ℕ, zero, suc, ◌+◌, ◌<◌, ◌≤◌, List, [], ◌∷◌, ◌++◌, length, take, Bool, true, false, Option, Some, None, Result, Ok, Err, OnErr, OnOk, IfOk, IsTrue, FitsSigned, refl, sym, ap, subst, ◌∙◌, arith, codes, append_assoc, append-nil, length-append}
+use Rattle.std.proofs.Common.{◌≡◌, ◌↔◌, inl, inr, ℕ, zero, suc, ◌+◌, ◌≤◌, List, [], ◌∷◌, ◌++◌, length, take, Bool, true, false, Option, Some, None, Result, Ok, Err, OnErr, OnOk, IfOk, IsTrue, FitsSigned, refl, sym, ap, subst, ◌∙◌, arith, codes, append_assoc, append-nil, length-append}
 use Rattle.std.specs.Io.KnownBytes.{Appends}
 use Rattle.std.proofs.KnownBytes.{Appends-nil, Appends-trans}
 use Rattle.std.proofs.lemmas.List.{take-append-le}
@@ -23,7 +23,7 @@ use Rattle.chess_text.specs.declared.replies.Typed.{Typed}
 use Rattle.chess_text.specs.declared.replies.Typed.TheVariants as typed
 use Rattle.game_session.specs.Choice.{target}
 use Rattle.game_session.specs.declared.choice.Choice.{Choice}
-use Rattle.game_report.specs.Laws.{last_game, seen}
+use Rattle.game_report.specs.Laws.{last_game}
 use Rattle.game_report.specs.Played.{StopsAt}
 use Rattle.game_report.specs.Report.{AtLine, AtLoser, AtTyped, AtWinner, HeldPick, IsTyped, Match, Report, ends, move_line, moved, plays, writes}
 use Rattle.game_report.specs.Turns.{AtStart, Comes, EndsAt, IsLosersTurn, IsOpen, Never}

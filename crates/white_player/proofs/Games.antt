@@ -19,7 +19,7 @@ use Rattle.rule_formula.proofs.PlacedLemmas.{stock_man-men}
 use Rattle.mask_sets.specs.Sets.{HaveAtMost, IsIn, Table, set_at}
 use Rattle.mate_plan.specs.Plan.{turn_at}
 use Rattle.mate_plan.specs.PlanOf.{last_ply}
-use Rattle.mate_plan.specs.Won.{IsBegun, IsWonBy, LeadsInto}
+use Rattle.mate_plan.specs.Won.{IsBegun, IsWonBy}
 use Rattle.winning_sets.specs.Claimed.{IsHeld, IsValid}
 use Rattle.winning_sets.specs.Kept.{moves_left}
 use Rattle.winning_sets.specs.Reach.{Reach}

@@ -1,6 +1,6 @@
 -- What a session rests on, wherever its sets come from: the positions that are held where the loser is to move are of the game, they are those of
 -- the sets, and where the winner mates in time they are won.
-use Rattle.std.proofs.Common.{◌≡◌, inl, inr, ℕ, ◌+◌, ◌*◌, ◌-◌, ◌/◌, ◌<◌, ◌≤◌, Option, refl, sym, subst, ◌∙◌, arith}
+use Rattle.std.proofs.Common.{◌≡◌, inl, inr, ℕ, ◌+◌, ◌*◌, ◌-◌, ◌/◌, ◌≤◌, Option, sym, subst, ◌∙◌, arith}
 use Rattle.std.specs.Prelude.{IsSomeAnd}
 use Rattle.auto_core.specs.Automaton.{Automaton}
 use Rattle.auto_core.specs.Integers.{IsAccepted}
@@ -9,14 +9,14 @@ use Rattle.game_rules.specs.declared.men.Side.TheVariants.{White, Black}
 use Rattle.game_rules.specs.Game.{Position, Lost, Value, other}
 use Rattle.rule_formula.specs.Fits.{HasStock, mask_of}
 use Rattle.rule_formula.specs.Placed.{tuple_of}
-use Rattle.mate_plan.specs.Claim.{Claim, IsClaimed, IsLosersPly, claimed_at}
+use Rattle.mate_plan.specs.Claim.{IsClaimed, IsLosersPly}
 use Rattle.mate_plan.specs.Plan.{turn_at}
 use Rattle.mate_plan.specs.PlanOf.{last_ply}
 use Rattle.mate_plan.specs.Won.{IsWonBy}
 use Rattle.claim_plan.specs.WonLaws.{KeptByLoser}
 use Rattle.claim_plan.proofs.KeptClaims.{kept_are_of_game, kept_is_won}
 use Rattle.winning_sets.specs.Claimed.{IsHeldBy, IsValid, IsValidBy, IsWonClaim, claim_of}
-use Rattle.winning_sets.specs.Kept.{Kept, moves_left}
+use Rattle.winning_sets.specs.Kept.{moves_left}
 use Rattle.winning_sets.specs.OfGame.{AreOfGame}
 use Rattle.winning_sets.specs.Solve.{IsKeptIn, IsSolution, Solution, end_of, kept_at}
 use Rattle.winning_sets.specs.declared.origin.Origin.{Origin}
