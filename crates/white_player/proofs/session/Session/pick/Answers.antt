@@ -1,4 +1,4 @@
-use Rattle.std.proofs.Common.{◌≡◌, ◌+◌, suc, subst, sym, arith}
+use Rattle.std.proofs.Common.{◌≡◌, ◌+◌, subst, sym, arith}
 use Rattle.white_player.specs.Game.{Game, WinPick}
 use Rattle.white_player.proofs.Games.{game_sound, lent_few, lent_next, lent_pick, table_is}
 use Rattle.white_player.proofs.session.Session.pick.Goals as goal
