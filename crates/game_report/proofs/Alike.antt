@@ -1,19 +1,36 @@
 -- Reports of games by claims that claim the same positions: a report by the one is a report by the other, with the same text, ending and lines left,
 -- and its games are the same but for what the winner plays by. Other crates may cite `report_alike`, and the words that it is said in.
-use Rattle.std.proofs.Common.{◌↔◌, inl, inr, ℕ, suc, ◌+◌, ◌==◌, List, map, Bool, true, false, Option, Some, None, ap}
+use Rattle.std.proofs.Common.{◌≡◌, ◌↔◌, inl, inr, ℕ, suc, ◌+◌, ◌==◌, List, map, Bool, true, false, Option, Some, None, ap}
 use Rattle.desk_base.specs.Lines.{Lines, full, ended, cut, long}
 use Rattle.game_rules.specs.Game.{Position}
 use Rattle.chess_game.specs.declared.way.Frame.{Frame}
 use Rattle.chess_text.specs.declared.replies.Typed.{Typed}
 use Rattle.chess_text.specs.declared.replies.Typed.TheVariants as typed
 use Rattle.mate_plan.specs.Claim.{Claim, IsClaimed}
+use Rattle.winning_sets.specs.Claimed.{claim_of}
+use Rattle.winning_sets.specs.declared.origin.Origin.{Origin}
+use Rattle.winning_sets.specs.declared.origin.Origin.TheVariants.{Claim as Claimed}
 use Rattle.game_session.specs.Choice.{Leads, Pick}
 use Rattle.game_session.specs.declared.choice.Choice.{Choice}
+use Rattle.white_player.specs.Game.{Game}
+use Rattle.game_report.specs.Laws.{seen, strategy_by}
 use Rattle.game_report.specs.Report.{AtLine, AtLines, AtLoser, AtTyped, AtWinner, ByClaim, IsReport, Match, Report, Unless, all_squares, most_lines}
 
 -- the game, where the winner plays by the claim
 abbrev pub by_claim : Claim → Match → Match
 by_claim c g = record { winner = g.winner; start = g.start; moves = g.moves; strategy = ByClaim c; position = g.position; ply = g.ply }
+
+-- so it is with a session whose sets are those of a claim
+pub seen_claim : (g : Game) → g.solution.origin ≡ Claimed → seen g ≡ by_claim (claim_of g.solution) (seen g)
+seen_claim g is =
+    ap (λ (o : Origin). record {
+      winner = g.solution.winner;
+      start = g.solution.position;
+      moves = g.solution.moves;
+      strategy = strategy_by o g.solution;
+      position = g.position;
+      ply = g.ply;
+    }) is
 
 -- the report, where he plays by it
 abbrev pub report_by : Claim → Report → Report

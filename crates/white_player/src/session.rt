@@ -22,7 +22,7 @@ pub struct Played {
     pub mated: bool,
 }
 
-/// No move to a square of the frame keeps the promised count.
+/// No move to a square of the frame leads into the sets of the next ply.
 #[derive(Clone, Copy, Debug, PartialEq, Eq)]
 pub struct TooWide;
 
@@ -98,7 +98,7 @@ impl Session {
         mated(&self.position)
     }
 
-    /// The winner's first move, by man, ray and distance, that keeps the promised count.
+    /// The winner's first move, by man, ray and distance, that leads into the sets of the next ply.
     fn pick(&mut self) -> Option<Choice>
         requires { self.old.position.turn ≡ self.old.solution.winner }
         ensures pick { WinPick self.old result }
@@ -128,8 +128,8 @@ impl Session {
         }
     }
 
-    /// The winner makes his first move, by man, ray and distance, to a square of the frame that keeps the promised count, captures included. It takes
-    /// no memory.
+    /// The winner makes his first move, by man, ray and distance, to a square of the frame that leads into the sets of the next ply, captures included.
+    /// After it he still mates within the moves that he has left. It takes no memory.
     pub fn win_move(&mut self) -> Result<Played, TooWide>
         requires turn { self.old.position.turn ≡ self.old.solution.winner }
         ensures picked { IfOk result (λ played. IsPicked self.old (choice_of played) self.new) }
