@@ -1,20 +1,17 @@
 -- What the check answers of the reduced sets holds of the claim.
-use Rattle.std.proofs.Common.{◌≡◌, ℕ, None, Some, Result, Ok, Err, refl, sym, ap, ◌∙◌, subst}
-use Rattle.set_plan.specs.Outcome.{Ends, Stops}
+use Rattle.std.proofs.Common.{◌≡◌, ℕ, None, Some, Err, refl, sym, subst}
+use Rattle.set_plan.specs.Outcome.{Ends}
 use Rattle.set_plan.specs.declared.stop.PlanError.TheVariants as plan_error
-use Rattle.set_plan.specs.declared.stop.StepName.{StepName}
 use Rattle.mate_plan.specs.Claim.{Claim}
-use Rattle.mate_plan.specs.declared.names.PartName.{PartName}
-use Rattle.winning_sets.specs.Claimed.{claim_of, solution_of}
+use Rattle.winning_sets.specs.Claimed.{solution_of}
 use Rattle.winning_sets.specs.Solve.{Solution}
 use Rattle.winning_sets.specs.declared.claimed.ClaimedSets.{ClaimedSets}
-use Rattle.claim_plan.specs.CheckPlan.{Finding, check_plan}
+use Rattle.claim_plan.specs.CheckPlan.{check_plan}
 use Rattle.claim_plan.specs.SameClaims.{AreCheckedAlike, IsSameClaim}
 use Rattle.claim_plan.proofs.SameClaims.{same_claims_are_checked_alike}
 use Rattle.claim_check.specs.Check.{IsCheckError, IsChecked, check_error_of}
 use Rattle.claim_check.specs.Ready.{claim_in}
 use Rattle.claim_check.specs.Runs.{Runs}
-use Rattle.claim_check.specs.declared.error.CheckError.{CheckError}
 use Rattle.claim_check.specs.declared.error.Fault.{Fault}
 use Rattle.claim_check.specs.declared.error.Fault.TheVariants as fault
 

@@ -1,5 +1,5 @@
 -- The parts of the plan of a claim, one after another.
-use Rattle.std.proofs.Common.{◌≡◌, ℕ, List, None, Result, Ok, Err, subst}
+use Rattle.std.proofs.Common.{◌≡◌, ℕ, List, None, Result, Err, subst}
 use Rattle.set_plan.specs.Outcome.{Ends}
 use Rattle.mate_plan.specs.Claim.{Claim, losers_plies}
 use Rattle.mate_plan.specs.Plan.{Program}

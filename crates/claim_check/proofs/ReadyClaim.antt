@@ -1,11 +1,9 @@
 -- The reduced sets of a claim that has a file.
-use Rattle.std.proofs.Common.{◌≡◌, ℕ, ◌≤◌, List, [], ◌∷◌, length, map, refl, sym, ap, ◌∙◌, subst}
-use Rattle.auto_core.specs.Automaton.{Automaton}
-use Rattle.game_rules.specs.Game.{Position}
+use Rattle.std.proofs.Common.{◌≡◌, ℕ, ◌≤◌, List, [], ◌∷◌, map, refl, sym, ap, ◌∙◌, subst}
 use Rattle.rule_formula.specs.Fits.{masks_of}
 use Rattle.game_rules.specs.declared.men.Side.{Side}
 use Rattle.game_rules.specs.declared.men.Side.TheVariants.{White}
-use Rattle.mate_plan.specs.Claim.{Claim, ClaimedSet, IsClaim, every_second, losers_plies}
+use Rattle.mate_plan.specs.Claim.{Claim, every_second, losers_plies}
 use Rattle.claim_plan.specs.SameClaims.{IsSameClaim}
 use Rattle.claim_plan.proofs.SameClaims.{same_claims_are_checked_alike}
 use Rattle.strategy_file.specs.Claims.{claim_of, set_of}

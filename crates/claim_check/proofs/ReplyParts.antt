@@ -1,5 +1,5 @@
 -- The rules of the replies at a ply, one after another.
-use Rattle.std.proofs.Common.{◌≡◌, ℕ, suc, ◌+◌, List, Option, None, Result, Ok, Err, sym, ◌∙◌, subst}
+use Rattle.std.proofs.Common.{◌≡◌, ℕ, suc, ◌+◌, List, Option, None, Result, Err, sym, ◌∙◌, subst}
 use Rattle.game_laws.proofs.SoundLemmas.{other_other}
 use Rattle.game_rules.specs.declared.men.Side.{Side}
 use Rattle.lin_formula.specs.declared.formula.SetId.{SetId}

@@ -1,5 +1,5 @@
 -- Claimed sets with which the plan of their claim finds nothing are those of a won claim.
-use Rattle.std.proofs.Common.{◌≡◌, ℕ, ◌≤◌, [], List, Option, Some, None, option_and_then, refl, sym, ap, ◌∙◌, arith}
+use Rattle.std.proofs.Common.{◌≡◌, ℕ, [], List, None, option_and_then, ap, ◌∙◌, arith}
 use Rattle.std.specs.Prelude.{slice_get}
 use Rattle.std.proofs.lemmas.Option.{slice_get_past}
 use Rattle.auto_core.specs.Automaton.{Automaton}

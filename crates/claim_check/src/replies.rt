@@ -20,9 +20,7 @@ use crate::error::Fault;
 use crate::plies::Plies;
 use crate::rules::{kept_by, rule_at};
 use claim_plan::Rule;
-use mate_plan::{
-    LevelNames, MovesInto, PartName, Stage, are_answered, have_replies, reach_level,
-};
+use mate_plan::{LevelNames, MovesInto, PartName, Stage, are_answered, have_replies, reach_level};
 use set_plan::PlanError;
 use winning_sets::ClaimedSets;
 
@@ -171,11 +169,7 @@ fn check_all_left(bench: &mut Bench, claimed: &ClaimedSets, replies: &Replies) -
 }
 
 /// Whether the loser is in check or has a reply in each claimed position, mask by mask.
-fn check_all_stale(
-    bench: &mut Bench,
-    claimed: &ClaimedSets,
-    replies: &Replies,
-) -> Result<(), Fault>
+fn check_all_stale(bench: &mut Bench, claimed: &ClaimedSets, replies: &Replies) -> Result<(), Fault>
     requires ready { IsReady claimed.now }
     requires replies { AreReplies claimed.now replies.now.ply bench.old.sets replies.now }
     ensures runs { Runs

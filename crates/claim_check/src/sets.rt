@@ -48,7 +48,10 @@ fn check_same(bench: &mut Bench, p: &Position, at: &StageLevel) -> Result<(), Fa
     ensures budget { bench.new.memo.budget ≡ bench.old.memo.budget }
 {
     let rule = rule_at(at.stage.ply, at.stage.mask, Rule::Same);
-    kept_by(rule, are_apart(bench.alloc, &mut bench.memo, &bench.sets, p, at))
+    kept_by(
+        rule,
+        are_apart(bench.alloc, &mut bench.memo, &bench.sets, p, at),
+    )
 }
 
 /// Whether no man of the side of the stage bears on the other king in its set.
@@ -63,7 +66,10 @@ fn check_guard(bench: &mut Bench, p: &Position, at: &StageLevel) -> Result<(), F
     ensures budget { bench.new.memo.budget ≡ bench.old.memo.budget }
 {
     let rule = rule_at(at.stage.ply, at.stage.mask, Rule::Guard);
-    kept_by(rule, are_safe(bench.alloc, &mut bench.memo, &bench.sets, p, at))
+    kept_by(
+        rule,
+        are_safe(bench.alloc, &mut bench.memo, &bench.sets, p, at),
+    )
 }
 
 /// The rules of a claimed set. It is named only after its rule of signs is kept, since a named set is one of tuples of integers.

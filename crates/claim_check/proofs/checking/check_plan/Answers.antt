@@ -1,4 +1,4 @@
-use Rattle.std.proofs.Common.{ℕ, List, None, Err, sym, ap, ◌∙◌, subst}
+use Rattle.std.proofs.Common.{ℕ, List, None, Err, ap, ◌∙◌, subst}
 use Rattle.std.proofs.lemmas.Result.{err_from_is_err_and}
 use Rattle.game_rules.specs.declared.men.Side.{Side}
 use Rattle.set_plan.specs.Outcome.{Ends}

@@ -1,4 +1,4 @@
-use Rattle.std.proofs.Common.{◌≡◌, Some, None, ap, sym, ◌∙◌, subst, option_copied}
+use Rattle.std.proofs.Common.{◌≡◌, Some, ap, sym, ◌∙◌, subst, option_copied}
 use Rattle.lin_formula.specs.SetOf.{as_set}
 use Rattle.rule_formula.specs.Mean.{mask_tracks}
 use Rattle.set_plan.specs.Sets.{IsSetOn}

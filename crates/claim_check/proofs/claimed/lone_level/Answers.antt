@@ -1,7 +1,7 @@
-use Rattle.std.proofs.Common.{Some, ap, refl, sym, ◌∙◌, subst}
+use Rattle.std.proofs.Common.{Some, ap, sym, ◌∙◌, subst}
 use Rattle.std.proofs.lemmas.Result.{IfOk-weaker}
 use Rattle.rule_formula.specs.Mean.{mask_tracks}
-use Rattle.set_plan.specs.Sets.{IsNameOn, IsSetOn}
+use Rattle.set_plan.specs.Sets.{IsSetOn}
 use Rattle.claim_check.proofs.ClaimedLevels.{lone_set}
 use Rattle.claim_check.proofs.claimed.lone_level.Goals as goal
 

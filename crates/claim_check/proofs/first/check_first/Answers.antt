@@ -4,7 +4,7 @@ use Rattle.claim_plan.specs.CheckPlan.{Finding}
 use Rattle.mate_plan.specs.Plan.{Program}
 use Rattle.claim_check.specs.Ready.{claim_in}
 use Rattle.claim_check.specs.Runs.{Runs}
-use Rattle.claim_check.proofs.FirstParts.{first_moving, first_waiting}
+use Rattle.claim_check.proofs.FirstParts.{first_waiting}
 use Rattle.claim_check.proofs.first.check_first.Goals as goal
 
 pub returns-else-eq-clause-runs : goal.returns-else-eq-clause-runs

@@ -1,4 +1,4 @@
-use Rattle.std.proofs.Common.{ℕ, ◌≡◌, Err, sym, subst}
+use Rattle.std.proofs.Common.{ℕ, subst}
 use Rattle.std.proofs.lemmas.Result.{err_from_is_err_and}
 use Rattle.rule_formula.specs.Fits.{mask_of}
 use Rattle.rule_formula.specs.Placed.{tuple_of}
@@ -9,7 +9,7 @@ use Rattle.claim_plan.specs.CheckPlan.{holds_by}
 use Rattle.claim_plan.specs.declared.names.RuleAt.{RuleAt}
 use Rattle.claim_check.specs.Ready.{claim_in}
 use Rattle.claim_check.specs.Runs.{Runs}
-use Rattle.claim_check.proofs.FirstParts.{moving_runs, nothing_runs}
+use Rattle.claim_check.proofs.FirstParts.{moving_runs}
 use Rattle.claim_check.proofs.first.check_moving.Goals as goal
 
 pub returns-in_err-level-clause-runs : goal.returns-in_err-level-clause-runs

@@ -1,4 +1,3 @@
-use Rattle.std.proofs.Common.{ap, ◌∙◌}
 use Rattle.lin_formula.specs.SetOf.{Member}
 use Rattle.rule_formula.specs.Fits.{mask_of}
 use Rattle.rule_formula.specs.Placed.{tuple_of}

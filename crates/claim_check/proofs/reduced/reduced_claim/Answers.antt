@@ -1,9 +1,5 @@
-use Rattle.std.proofs.Common.{ap, refl, sym, ◌∙◌, subst, List, ℕ, map, ◌≡◌}
-use Rattle.game_rules.specs.declared.men.Side.{Side}
-use Rattle.mate_plan.specs.Claim.{ClaimedSet, losers_plies}
-use Rattle.rule_formula.specs.Fits.{masks_of}
+use Rattle.std.proofs.Common.{refl, ◌∙◌, subst, List, ℕ, map}
 use Rattle.strategy_file.specs.Claims.{claim_of, set_of}
-use Rattle.strategy_file.specs.StrategyFile.{places_with}
 use Rattle.winning_sets.specs.Claimed.{sets_from}
 use Rattle.winning_sets.specs.declared.claimed.ClaimedSets.{ClaimedSets}
 use Rattle.claim_check.specs.Reduced.{AreReduced}

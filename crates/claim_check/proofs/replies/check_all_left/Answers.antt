@@ -1,11 +1,11 @@
-use Rattle.std.proofs.Common.{◌≡◌, ℕ, suc, ◌+◌, ◌<◌, List, None, Err, get_or, length, refl, sym, ◌∙◌, subst}
+use Rattle.std.proofs.Common.{ℕ, suc, ◌+◌, ◌<◌, List, None, Err, get_or, length, refl, sym, ◌∙◌, subst}
 use Rattle.std.proofs.lemmas.List.{get_or_default}
 use Rattle.std.proofs.lemmas.Result.{err_from_is_err_and}
 use Rattle.auto_core.specs.Automaton.{Automaton}
 use Rattle.set_plan.specs.Outcome.{Ends}
 use Rattle.mate_plan.specs.Claim.{claimed_level}
 use Rattle.mate_plan.specs.Levels.{level_in}
-use Rattle.mate_plan.specs.Plan.{Level, Program}
+use Rattle.mate_plan.specs.Plan.{Program}
 use Rattle.mate_plan.specs.PlanOf.{rules_of}
 use Rattle.claim_plan.specs.CheckPlan.{Finding, check_left, for_each}
 use Rattle.claim_check.specs.Ready.{claim_in}

@@ -1,7 +1,6 @@
-use Rattle.std.proofs.Common.{◌≡◌, ℕ, suc, ◌+◌, ◌<◌, List, None, Err, get_or, length, refl, sym, ◌∙◌, subst}
+use Rattle.std.proofs.Common.{ℕ, ◌<◌, None, Err, get_or, length, refl, ◌∙◌, subst}
 use Rattle.std.proofs.lemmas.List.{get_or_default}
 use Rattle.std.proofs.lemmas.Result.{err_from_is_err_and}
-use Rattle.auto_core.specs.Automaton.{Automaton}
 use Rattle.set_plan.specs.Outcome.{Ends}
 use Rattle.mate_plan.specs.Claim.{claimed_level}
 use Rattle.mate_plan.specs.Levels.{level_in}
@@ -13,7 +12,6 @@ use Rattle.game_rules.specs.Game.{other}
 use Rattle.mate_plan.specs.PlanOf.{rules_of}
 use Rattle.claim_plan.specs.CheckPlan.{Finding, check_stale, for_each}
 use Rattle.claim_check.specs.Ready.{claim_in}
-use Rattle.claim_check.specs.Replies.{AreReplies}
 use Rattle.claim_check.proofs.ReplyParts.{replies_grow}
 use Rattle.claim_check.specs.Runs.{Runs}
 use Rattle.claim_check.specs.declared.replies.Replies.{Replies}

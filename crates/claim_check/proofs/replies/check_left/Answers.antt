@@ -1,4 +1,4 @@
-use Rattle.std.proofs.Common.{◌≡◌, ℕ, suc, ◌+◌, subst, ap, ◌∙◌, arith}
+use Rattle.std.proofs.Common.{◌≡◌, ℕ, suc, ◌+◌, subst, arith}
 use Rattle.mate_plan.specs.Claim.{claimed_level}
 use Rattle.mate_plan.specs.Levels.{level_in}
 use Rattle.mate_plan.specs.Plan.{Level}

@@ -1,13 +1,11 @@
-use Rattle.std.proofs.Common.{◌≡◌, ℕ, suc, ◌+◌, None, Err, Ok, refl, sym, ap, ◌∙◌, subst}
+use Rattle.std.proofs.Common.{ℕ, suc, ◌+◌, Err, Ok, sym, subst}
 use Rattle.std.proofs.lemmas.Result.{err_from_is_err_and}
-use Rattle.game_rules.specs.Game.{other}
 use Rattle.game_rules.specs.declared.men.Side.{Side}
 use Rattle.game_laws.proofs.SoundLemmas.{other_other}
-use Rattle.set_plan.specs.Outcome.{Ends}
 use Rattle.mate_plan.specs.Claim.{claimed_level}
 use Rattle.mate_plan.specs.Levels.{level_in}
 use Rattle.mate_plan.specs.PlanOf.{rules_of}
-use Rattle.claim_plan.specs.CheckPlan.{check_left, check_stale, for_each}
+use Rattle.claim_plan.specs.CheckPlan.{check_left, for_each}
 use Rattle.claim_check.specs.Ready.{claim_in}
 use Rattle.claim_check.specs.Runs.{Runs}
 use Rattle.claim_check.proofs.ReplyParts.{left_cut, reach_cut, replies_run}

@@ -1,6 +1,5 @@
-use Rattle.std.proofs.Common.{◌≡◌, ℕ, subst, ap, ◌∙◌}
+use Rattle.std.proofs.Common.{subst}
 use Rattle.game_rules.specs.Game.{other}
-use Rattle.mate_plan.specs.Claim.{claimed_level}
 use Rattle.mate_plan.specs.Levels.{level_in}
 use Rattle.mate_plan.specs.Plan.{Level}
 use Rattle.mate_plan.specs.PlanOf.{rules_of}
@@ -8,7 +7,6 @@ use Rattle.mate_plan.specs.Questions.{have_replies}
 use Rattle.claim_plan.specs.CheckPlan.{holds_by, rule_at}
 use Rattle.claim_plan.specs.declared.names.Rule.TheVariants as rule
 use Rattle.claim_plan.specs.declared.names.RuleAt.{RuleAt}
-use Rattle.claim_check.specs.Ready.{claim_in}
 use Rattle.claim_check.specs.Runs.{Runs}
 use Rattle.claim_check.proofs.replies.check_stale.Goals as goal
 

@@ -1,8 +1,7 @@
 use Rattle.std.proofs.Common.{◌≡◌, ℕ, suc, ◌+◌, refl, sym, ◌∙◌, subst, arith}
-use Rattle.std.proofs.lemmas.Result.{err_from_is_err_and}
 use Rattle.game_rules.specs.Game.{other}
 use Rattle.rule_formula.specs.Fits.{masks_of}
-use Rattle.set_plan.specs.Outcome.{Ends, IsPlanError}
+use Rattle.set_plan.specs.Outcome.{Ends}
 use Rattle.mate_plan.specs.Claim.{claimed_level}
 use Rattle.mate_plan.specs.Levels.{level_in}
 use Rattle.mate_plan.specs.Plan.{Level, reach_level}

@@ -1,5 +1,3 @@
-use Rattle.std.proofs.Common.{Result, subst, sym}
-use Rattle.claim_plan.specs.CheckPlan.{check_sign}
 use Rattle.claim_check.proofs.SetParts.{kept_tells, sign_runs}
 use Rattle.claim_check.proofs.sets.check_sign.Goals as goal
 
