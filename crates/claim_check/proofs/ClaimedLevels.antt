@@ -66,6 +66,7 @@ at_own : (mask : ℕ) (b : Bool) (s : SetOf) → mask == mask ≡ b → (if b th
 at_own mask true s e = refl
 at_own mask false s e = let t = eq-eqb mask mask refl in absurd (cc)
 
-pub lone_set : (p : Position) (mask : ℕ) (a : Automaton) (id : SetId) (sets : List Automaton) (names : List (Option SetId)) → level_in p sets names ≡ level_with no_sets mask (set_at sets (Some id)) → slice_get sets id.0 ≡ Some a → level_in p sets names mask ≡ Table a
+pub lone_set : (p : Position) (mask : ℕ) (a : Automaton) (id : SetId) (sets : List Automaton) (names : List (Option SetId))
+    → level_in p sets names ≡ level_with no_sets mask (set_at sets (Some id)) → slice_get sets id.0 ≡ Some a → level_in p sets names mask ≡ Table a
 lone_set p mask a id sets names is found =
     ap (λ (l : Level). l mask) is ∙ at_own mask (mask == mask) (set_at sets (Some id)) refl ∙ ap as_set found

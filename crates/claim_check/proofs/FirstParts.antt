@@ -39,5 +39,6 @@ module _ (c : Claim) where
     moving_runs zero r some turn level is h = absurd (some refl)
     moving_runs (suc moves) r some turn level is h =
         let By : Side → Type 0 = λ s. Runs (holds_by (rule_at 0 (mask_of c.position) rule.First) (has_first_move (rules_of c.position) s (mask_of c.position) (tuple_of c.position) level)) budget r in
-        let Into : Level → Type 0 = λ l. Runs (holds_by (rule_at 0 (mask_of c.position) rule.First) (has_first_move (rules_of c.position) c.winner (mask_of c.position) (tuple_of c.position) l)) budget r in
+        let Into : Level → Type 0 = λ l. Runs
+        (holds_by (rule_at 0 (mask_of c.position) rule.First) (has_first_move (rules_of c.position) c.winner (mask_of c.position) (tuple_of c.position) l)) budget r in
         subst Into is (subst By turn h)

@@ -19,7 +19,8 @@ abbrev table_of : SetHere → Automaton
 table_of s = s.set
 
 -- one more ply at the end
-from_push : (ply : ℕ) (masks : List ℕ) (plies : List (List Automaton)) (sets : List Automaton) → sets_from ply masks (plies ++ sets ∷ []) ≡ sets_from ply masks plies ++ sets_of_ply (ply + length plies) masks sets
+from_push : (ply : ℕ) (masks : List ℕ) (plies : List (List Automaton)) (sets : List Automaton)
+    → sets_from ply masks (plies ++ sets ∷ []) ≡ sets_from ply masks plies ++ sets_of_ply (ply + length plies) masks sets
 from_push ply masks [] sets =
     let here : ply ≡ ply + 0 = omega arith in
     append-nil (sets_of_ply ply masks sets) ∙ ap (λ n. sets_of_ply n masks sets) here

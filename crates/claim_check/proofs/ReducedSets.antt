@@ -103,7 +103,8 @@ module _ (cs ds : List ClaimedSet) (are : AreReduced cs ds) where
   pub reduced_are : (ply mask : ℕ) (b : Automaton) → claimed_in ds ply mask ≡ Some b → IsReduced b
   reduced_are ply mask b e = (from_some (claimed_in cs ply mask) (claimed_in ds ply mask) b (looked_up cs ds ply mask are) e).2.reduced
 
-  pub reduced_few : (P : ClaimedSet → Type 0) → ((s : ClaimedSet) → P s → length s.set.accept ≤ 200000) → All P cs → (ply mask : ℕ) (b : Automaton) → claimed_in ds ply mask ≡ Some b → length b.accept ≤ 200000
+  pub reduced_few : (P : ClaimedSet → Type 0) → ((s : ClaimedSet) → P s → length s.set.accept ≤ 200000) → All P cs → (ply mask : ℕ) (b : Automaton)
+      → claimed_in ds ply mask ≡ Some b → length b.accept ≤ 200000
   reduced_few P few all ply mask b e =
       let (a, there, is) = from_some (claimed_in cs ply mask) (claimed_in ds ply mask) b (looked_up cs ds ply mask are) e in
       let (s, known, same) = one_of P cs ply mask a all there in

@@ -82,7 +82,8 @@ module _ (c : Claim) (ply budget : ℕ) (r : Result (Unit {0}) Fault) (k : ℕ) 
       let Left_within : ℕ → Type 0 = λ b. Ends (for_each (rules_of c.position).masks (check_left (rules_of c.position) c.winner (suc k) level (claimed_level c (k + 2)))) b None in
       let Stale_at : ℕ → Type 0 = λ n. Runs (for_each (rules_of c.position).masks (check_stale (rules_of c.position) (other c.winner) n (claimed_level c n) level)) budget r in
       let Stale_within : ℕ → Type 0 = λ b. Runs (for_each (rules_of c.position).masks (check_stale (rules_of c.position) (other c.winner) k (claimed_level c k) level)) b r in
-      let Stale_in : List Automaton → Type 0 = λ t. Runs (for_each (rules_of c.position).masks (check_stale (rules_of c.position) (other c.winner) k (claimed_level c k) (level_in c.position t reached))) later r in
+      let Stale_in : List Automaton → Type 0 = λ t. Runs
+      (for_each (rules_of c.position).masks (check_stale (rules_of c.position) (other c.winner) k (claimed_level c k) (level_in c.position t reached))) later r in
       stale_runs c ply budget level ends r
       (subst By (sym (other_other c.winner)) (subst Left_at same (subst Left_within first_budget lefts_kept)))
       (subst Stale_at same (subst Stale_within (next_budget ∙ first_budget) (subst Stale_in kept stales_run)))

@@ -107,7 +107,8 @@ module _ (budget : ℕ) where
       abbrev Behind : List ℕ → Type 0
       Behind l = Leads (for_each l f) whole
 
-      pub plies_next : i < count → Leads (for_each (every_second (first + 2 * i) (count - i)) f) whole → Ends (f (first + 2 * i)) budget None → Leads (for_each (every_second (first + 2 * (i + 1)) (count - (i + 1))) f) whole
+      pub plies_next : i < count → Leads (for_each (every_second (first + 2 * i) (count - i)) f) whole → Ends (f (first + 2 * i)) budget None
+          → Leads (for_each (every_second (first + 2 * (i + 1)) (count - (i + 1))) f) whole
       plies_next less leads h = next_leads (first + 2 * i) (every_second (first + 2 * (i + 1)) (count - (i + 1))) (subst Behind (plies_front less) leads) h
 
       pub plies_cut : i < count → Leads (for_each (every_second (first + 2 * i) (count - i)) f) whole → (e : Fault) → Runs (f (first + 2 * i)) budget (Err e) → Runs whole budget (Err e)

@@ -23,7 +23,8 @@ pub kept_tells : (f : RuleAt) (b : Bool) (P : Type 0) → (IsTrue b → P) → O
 kept_tells f true P h = h refl
 kept_tells f false P h = tt
 
-pub sign_runs : (budget ply mask : ℕ) (a : Automaton) (b : Bool) → (IsTrue b → DecidesIntegers a) × (DecidesIntegers a → IsTrue b) → Runs (check_sign ply mask (Some a)) budget (kept_or (rule_at ply mask rule.Sign) b)
+pub sign_runs : (budget ply mask : ℕ) (a : Automaton) (b : Bool) → (IsTrue b → DecidesIntegers a) × (DecidesIntegers a → IsTrue b)
+    → Runs (check_sign ply mask (Some a)) budget (kept_or (rule_at ply mask rule.Sign) b)
 sign_runs budget ply mask a b same =
     kept_runs budget (rule_at ply mask rule.Sign) (Ask (Stable a) (Give true) (Give false)) b
     (asked_ends budget (Stable a) (DecidesIntegers a) b same (λ h. h) (λ h. h))

@@ -7,7 +7,8 @@ use Rattle.claim_plan.specs.declared.names.RuleAt.{RuleAt}
 use Rattle.claim_check.specs.declared.error.Fault.{Fault}
 use Rattle.claim_check.specs.declared.error.Fault.TheVariants as fault
 
--- to its end, where it finds none; up to the rule that it finds; or up to the first step that exceeds the budget, want of memory aside
+-- to its end, where it finds none; up to the rule that it finds; or up to the first step that exceeds the budget,
+-- want of memory aside
 abbrev pub Runs : Program Finding → ℕ → Result (Unit {0}) Fault → Type 0
 Runs program budget (Ok done) = Ends program budget None
 Runs program budget (Err (fault.NotKept failed)) = Ends program budget (Some failed)

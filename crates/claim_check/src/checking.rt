@@ -32,8 +32,8 @@ fn check_plan(bench: &mut Bench, claimed: &ClaimedSets) -> Result<(), Fault>
     check_replies(bench, claimed, plies)
 }
 
-/// Checks a claim, whoever made it. The answer is the solved position of its sets, or the first rule that the claim does not keep; a step of
-/// its plan may need so many states.
+/// Checks a claim, whoever made it. The answer is the solved position of its sets, or the first rule that the claim does
+/// not keep; a step of its plan may need so many states.
 pub fn check(alloc: Global, claim: Claim, budget: u32) -> Result<Solved, CheckError>
     requires claim { HasFile (claim_of claim) }
     requires budget { (1 ≤ budget) × (budget ≤ 200000) }

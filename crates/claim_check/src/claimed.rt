@@ -63,7 +63,8 @@ fn claimed_name(
 ) -> Result<Option<SetId>, AllocError>
     requires ready { IsReady claimed.now }
     requires signed { AreSigned (claim_in claimed.now) }
-    ensures set { IfOk result (λ name. set_at bench.new.sets name ≡ as_set (claimed_at (claim_in claimed.now) ply mask)) }
+    ensures set { IfOk result (λ name.
+        set_at bench.new.sets name ≡ as_set (claimed_at (claim_in claimed.now) ply mask)) }
     ensures name { IfOk result (IsNameOn (tracks_at claimed.now.position mask) bench.new.sets) }
     ensures grows { Grows bench.old.sets bench.new.sets }
     ensures budget { bench.new.memo.budget ≡ bench.old.memo.budget }

@@ -1,4 +1,5 @@
-//! The rule of the start: the winner has a move from the position into what is claimed, or the position is claimed itself.
+//! The rule of the start: the winner has a move from the position into what is claimed, or the position is claimed
+//! itself.
 ghost use Rattle.std.specs.Prelude.{◌≡◌, ◌↔◌, ℕ, IsTrue};
 ghost use Rattle.lin_formula.specs.SetOf.{Member};
 ghost use Rattle.rule_formula.specs.Fits.{mask_of};
@@ -28,7 +29,8 @@ fn first_rule(claimed: &ClaimedSets) -> RuleAt
 fn is_claimed(claimed: &ClaimedSets) -> bool
     requires ready { IsReady claimed.now }
     requires signed { AreSigned (claim_in claimed.now) }
-    ensures { IsTrue result ↔ Member (level_at (claim_in claimed.now) 0 (mask_of claimed.now.position)) (tuple_of claimed.now.position) }
+    ensures { IsTrue result
+        ↔ Member (level_at (claim_in claimed.now) 0 (mask_of claimed.now.position)) (tuple_of claimed.now.position) }
 {
     match claimed_set(claimed, 0, claimed.position.mask()) {
         Some(set) => set.member(coordinates(&claimed.position).as_slice()),
@@ -74,7 +76,9 @@ fn check_waiting(claimed: &ClaimedSets) -> Result<(), Fault>
 pub(crate) fn check_first(bench: &mut Bench, claimed: &ClaimedSets) -> Result<(), Fault>
     requires ready { IsReady claimed.now }
     requires signed { AreSigned (claim_in claimed.now) }
-    ensures runs { Runs (plan.check_first (claim_in claimed.now) claimed.now.winner claimed.now.position.turn) bench.old.memo.budget result }
+    ensures runs { Runs
+        (plan.check_first (claim_in claimed.now) claimed.now.winner claimed.now.position.turn)
+        bench.old.memo.budget result }
     ensures budget { bench.new.memo.budget ≡ bench.old.memo.budget }
 {
     if claimed.position.turn() == claimed.winner {

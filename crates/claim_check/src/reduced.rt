@@ -55,7 +55,8 @@ fn reduced_plies(
     losers: Plies,
 ) -> Result<Vec<PlySets>, AllocError>
     requires few { AreFew losers }
-    requires places { map (λ s. (s.ply, s.mask)) sets.items ≡ places_with (every_second losers.first losers.count) masks.now }
+    requires places { map (λ s. (s.ply, s.mask)) sets.items
+        ≡ places_with (every_second losers.first losers.count) masks.now }
     ensures { IfOk result (λ plies. AreReduced (map set_of sets.items) (sets_from 0 masks.now plies.items)) }
 {
     let mut plies = Vec::new(alloc);

@@ -1,4 +1,5 @@
-//! The rules of the replies: each has an answer into what is claimed two plies later, and where the loser is not in check he has one.
+//! The rules of the replies: each has an answer into what is claimed two plies later, and where the loser is not in check
+//! he has one.
 ghost use Rattle.std.specs.Prelude.{◌≡◌, suc, ◌+◌, ◌≤◌, IfOk};
 ghost use Rattle.game_rules.specs.Game.{other};
 ghost use Rattle.rule_formula.specs.Fits.{IsGameMask};
@@ -46,7 +47,8 @@ fn replies_at(
     requires signed { AreSigned (claim_in claimed.now) }
     requires ply { ply ≤ 41 }
     ensures reached { Answers
-        (reached_level (rules_of claimed.now.position) (other claimed.now.winner) (suc ply) (level_at (claim_in claimed.now) ply))
+        (reached_level (rules_of claimed.now.position) (other claimed.now.winner) (suc ply)
+        (level_at (claim_in claimed.now) ply))
         bench.old.memo.budget (λ r. level_in claimed.now.position bench.new.sets r.reached) result }
     ensures replies { IfOk result (λ r. AreReplies claimed.now ply bench.new.sets r) }
     ensures budget { bench.new.memo.budget ≡ bench.old.memo.budget }
@@ -211,7 +213,9 @@ pub(crate) fn check_replies(
     requires ready { IsReady claimed.now }
     requires signed { AreSigned (claim_in claimed.now) }
     requires few { AreFew losers }
-    ensures runs { Runs (plan.for_each (every_second losers.first losers.count) (plan.check_ply (claim_in claimed.now))) bench.old.memo.budget result }
+    ensures runs { Runs
+        (plan.for_each (every_second losers.first losers.count) (plan.check_ply (claim_in claimed.now)))
+        bench.old.memo.budget result }
     ensures budget { bench.new.memo.budget ≡ bench.old.memo.budget }
 {
     for i in 0..losers.count {

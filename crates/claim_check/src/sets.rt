@@ -1,4 +1,5 @@
-//! The rules of the claimed sets: each by itself is a set of tuples of integers, its men stand apart, and the winner is not in check.
+//! The rules of the claimed sets: each by itself is a set of tuples of integers, its men stand apart, and the winner is
+//! not in check.
 ghost use Rattle.std.specs.Prelude.{◌≡◌, ℕ, IsSome, OnOk, Some};
 ghost use Rattle.auto_core.specs.Integers.{DecidesIntegers};
 ghost use Rattle.rule_formula.specs.Fits.{IsGameMask};
@@ -72,7 +73,8 @@ fn check_guard(bench: &mut Bench, p: &Position, at: &StageLevel) -> Result<(), F
     )
 }
 
-/// The rules of a claimed set. It is named only after its rule of signs is kept, since a named set is one of tuples of integers.
+/// The rules of a claimed set. It is named only after its rule of signs is kept, since a named set is one of tuples of
+/// integers.
 fn check_one(
     bench: &mut Bench,
     claimed: &ClaimedSets,
@@ -118,7 +120,8 @@ fn check_set(bench: &mut Bench, claimed: &ClaimedSets, ply: u8, mask: u8) -> Res
 /// The rules of the sets of a ply, mask by mask.
 fn check_sets_at(bench: &mut Bench, claimed: &ClaimedSets, ply: u8) -> Result<(), Fault>
     requires ready { IsReady claimed.now }
-    requires there { (mask : ℕ) → IsGameMask claimed.now.position mask → IsSome (claimed_at (claim_in claimed.now) ply mask) }
+    requires there { (mask : ℕ) → IsGameMask claimed.now.position mask
+        → IsSome (claimed_at (claim_in claimed.now) ply mask) }
     ensures runs { Runs (plan.check_sets (claim_in claimed.now) ply) bench.old.memo.budget result }
     ensures budget { bench.new.memo.budget ≡ bench.old.memo.budget }
 {
@@ -137,8 +140,11 @@ pub(crate) fn check_sets(
 ) -> Result<(), Fault>
     requires ready { IsReady claimed.now }
     requires few { AreFew losers }
-    requires plies { every_second losers.first losers.count ≡ losers_plies claimed.now.winner claimed.now.position.turn claimed.now.moves }
-    ensures runs { Runs (plan.for_each (every_second losers.first losers.count) (plan.check_sets (claim_in claimed.now))) bench.old.memo.budget result }
+    requires plies { every_second losers.first losers.count
+        ≡ losers_plies claimed.now.winner claimed.now.position.turn claimed.now.moves }
+    ensures runs { Runs
+        (plan.for_each (every_second losers.first losers.count) (plan.check_sets (claim_in claimed.now)))
+        bench.old.memo.budget result }
     ensures budget { bench.new.memo.budget ≡ bench.old.memo.budget }
 {
     for i in 0..losers.count {

@@ -19,7 +19,8 @@ loop-mask-preserved c =
     let is = get_or_default masks c.loop-mask.mask-index 0 (get_or masks c.loop-mask.mask-index 0) less in
     let named = given_ends d c.args.ply c.args.bench.now.memo.budget _ _ c.in_ok-claimed_name.ensures.set in
     record {
-      so_far = rw c.in_ok-push.ensures.ok (so_far_more _ _ _ _ _ _ _ _ _ _ _ _ _ c.loop-mask.invariant.so_far less is refl refl named c.in_ok-claimed_name.ensures.name c.in_ok-claimed_name.ensures.grows);
+      so_far = rw c.in_ok-push.ensures.ok
+          (so_far_more _ _ _ _ _ _ _ _ _ _ _ _ _ c.loop-mask.invariant.so_far less is refl refl named c.in_ok-claimed_name.ensures.name c.in_ok-claimed_name.ensures.grows);
       budget = c.in_ok-claimed_name.ensures.budget ∙ c.loop-mask.invariant.budget;
     }
 

@@ -12,4 +12,6 @@ returns-clause-names c =
 
 pub returns-clause-set : goal.returns-clause-set
 returns-clause-set c =
-    IfOk-weaker c.one_level.result _ _ (λ names is. lone_set c.args.p.now c.args.mask c.args.set.now c.in_ok-name.name c.put.new.self names (is c.put.new.self) (c.in_ok-name.ensures.ok ∙ ap Some c.in_ok-copy.ensures)) c.one_level.ensures.level
+    IfOk-weaker c.one_level.result _ _
+    (λ names is. lone_set c.args.p.now c.args.mask c.args.set.now c.in_ok-name.name c.put.new.self names (is c.put.new.self)
+    (c.in_ok-name.ensures.ok ∙ ap Some c.in_ok-copy.ensures)) c.one_level.ensures.level

@@ -24,7 +24,8 @@ loop-done-init c =
 
 pub split_off-requires : goal.split_off-requires
 split_off-requires c =
-    let enough = grouped_enough c.args.sets.items c.args.masks.now c.args.losers.first c.args.losers.count c.loop-done._done c.loop-done.left.items c.loop-done.plies.items c.loop-done.invariant c.loop-done-test.true in
+    let enough = grouped_enough c.args.sets.items c.args.masks.now c.args.losers.first c.args.losers.count c.loop-done._done c.loop-done.left.items
+    c.loop-done.plies.items c.loop-done.invariant c.loop-done-test.true in
     omega (arith, enough, c.loop-done.left.ok.0)
 
 pub loop-done-preserved : goal.loop-done-preserved
@@ -33,10 +34,14 @@ loop-done-preserved c =
     let here = map (λ (s : SetHere). s.set) (take (length masks) c.loop-done.left.items) in
     let taken : AllZip IsReducedOf here c.in_ok-reduced_ply.field-0 = rw c.in_ok-later.ensures.items at c.in_ok-reduced_ply.ensures in
     let Plies : List (List Automaton) → Type 0 = λ l. Grouped c.args.sets.items masks c.args.losers.first c.args.losers.count (c.loop-done._done + 1) c.in_ok-later.later.items l in
-    let Left : List SetHere → Type 0 = λ l. Grouped c.args.sets.items masks c.args.losers.first c.args.losers.count (c.loop-done._done + 1) l ((c.loop-done.plies.items ++ c.in_ok-reduced_ply.field-0 ∷ []) ++ [] ∷ []) in
+    let Left : List SetHere → Type 0 = λ l. Grouped c.args.sets.items masks c.args.losers.first c.args.losers.count (c.loop-done._done + 1) l
+    ((c.loop-done.plies.items ++ c.in_ok-reduced_ply.field-0 ∷ []) ++ [] ∷ []) in
     subst Plies (sym (c.in_ok-push_none-2.ensures ∙ ap (λ l. l ++ [] ∷ []) c.in_ok-push.ensures.items))
     (subst Left (sym c.in_ok-later.ensures.tail)
-    (grouped_more c.args.sets.items masks c.args.losers.first c.args.losers.count c.loop-done._done c.loop-done.left.items c.loop-done.plies.items c.loop-done.invariant c.loop-done-test.true c.in_ok-reduced_ply.field-0 taken))
+    (grouped_more c.args.sets.items masks c.args.losers.first c.args.losers.count c.loop-done._done c.loop-done.left.items c.loop-done.plies.items
+    c.loop-done.invariant c.loop-done-test.true c.in_ok-reduced_ply.field-0 taken))
 
 pub returns : goal.returns
-returns c = grouped_all c.args.sets.items c.args.masks.now c.args.losers.first c.args.losers.count c.loop-done._done c.loop-done.left.items c.loop-done.plies.items c.loop-done.invariant c.loop-done-test.false
+returns c =
+    grouped_all c.args.sets.items c.args.masks.now c.args.losers.first c.args.losers.count c.loop-done._done c.loop-done.left.items
+    c.loop-done.plies.items c.loop-done.invariant c.loop-done-test.false

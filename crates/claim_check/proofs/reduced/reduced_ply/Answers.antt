@@ -29,7 +29,8 @@ returns c =
     let table = λ (s : SetHere). s.set in
     let gives = c.into_iter-set-iterator.ensures.into_iter_gives in
     let count : into_iter_len c.into_iter-set-iterator.result ≡ length c.args.sets.items = omega (arith, gives.1, c.args.sets.ok.0) in
-    let end = YieldsList-end (YieldsList-from_vec {s = c.into_iter-set-iterator.result} c.args.sets.items gives.0 count) c.loop-set.yielded c.loop-set.set-iterator c.loop-set.yielded_by c.next.result c.next.new.self c.in-None.is c.next.ensures.steps in
+    let end = YieldsList-end (YieldsList-from_vec {s = c.into_iter-set-iterator.result} c.args.sets.items gives.0 count) c.loop-set.yielded
+    c.loop-set.set-iterator c.loop-set.yielded_by c.next.result c.next.new.self c.in-None.is c.next.ensures.steps in
     let all : c.loop-set.yielded ≡ c.args.sets.items = sym (map-id c.loop-set.yielded) ∙ end.0 in
     let Of : List SetHere → Type 0 = λ l. AllZip IsReducedOf (map table l) c.loop-set.reduced.items in
     rw c.new.ensures (subst Of all c.loop-set.invariant)

@@ -63,10 +63,12 @@ returns-in_err-check_left-clause-runs c =
     let In : List Automaton → Type 0 = λ t. Runs (left t mask) budget (Err c.in_err-check_left.field-0.0) in
     let e = err_from_is_err_and c.from_residual.result c.from_residual.ensures.1 in
     rw (e.1, e.2)
-    (each_cut budget (left sets) (for_each (rules_of c.args.claimed.now.position).masks (left sets)) masks i mask less (get_or_default masks i 0 mask less) c.loop-mask.invariant.leads c.in_err-check_left.field-0.0
+    (each_cut budget (left sets) (for_each (rules_of c.args.claimed.now.position).masks (left sets)) masks i mask less (get_or_default masks i 0 mask less)
+    c.loop-mask.invariant.leads c.in_err-check_left.field-0.0
     (subst In c.loop-mask.invariant.sets (subst At c.loop-mask.invariant.budget c.in_err-check_left.ensures.runs)))
 
 pub returns-clause-runs : goal.returns-clause-runs
 returns-clause-runs c =
     let left = left_in c.args.claimed.now c.args.replies.now c.args.bench.now.sets in
-    each_done c.args.bench.now.memo.budget left (for_each (rules_of c.args.claimed.now.position).masks left) c.as_slice-masks.result.now c.loop-mask.mask-index c.loop-mask-test.false c.loop-mask.invariant.leads
+    each_done c.args.bench.now.memo.budget left (for_each (rules_of c.args.claimed.now.position).masks left) c.as_slice-masks.result.now c.loop-mask.mask-index
+    c.loop-mask-test.false c.loop-mask.invariant.leads

@@ -78,7 +78,8 @@ returns-in_err-check_stale-clause-runs c =
     let In : Level → Type 0 = λ l. Runs (stale_in s r l mask) budget (Err c.in_err-check_stale.field-0.0) in
     let e = err_from_is_err_and c.from_residual.result c.from_residual.ensures.1 in
     rw (e.1, e.2)
-    (each_cut budget (stale_in s r reached) (for_each (rules_of s.position).masks (stale_in s r reached)) masks i mask less (get_or_default masks i 0 mask less) c.loop-mask.invariant.leads c.in_err-check_stale.field-0.0
+    (each_cut budget (stale_in s r reached) (for_each (rules_of s.position).masks (stale_in s r reached)) masks i mask less (get_or_default masks i 0 mask less)
+    c.loop-mask.invariant.leads c.in_err-check_stale.field-0.0
     (subst In grown (subst At c.loop-mask.invariant.budget c.in_err-check_stale.ensures.runs)))
 
 pub returns-clause-runs : goal.returns-clause-runs

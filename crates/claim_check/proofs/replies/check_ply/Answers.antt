@@ -23,7 +23,8 @@ returns-in_err-check_all_left-clause-runs c =
     let r = c.in_ok-replies.replies in
     let budget = c.args.bench.now.memo.budget in
     let reached = level_in p c.replies_at.new.bench.sets r.reached in
-    let By : Side → Type 0 = λ s. Runs (for_each (rules_of p).masks (check_left (rules_of p) s (suc c.args.ply) reached (claimed_level d (c.args.ply + 2)))) budget (Err c.in_err-check_all_left.field-0.0) in
+    let By : Side → Type 0 = λ s. Runs
+    (for_each (rules_of p).masks (check_left (rules_of p) s (suc c.args.ply) reached (claimed_level d (c.args.ply + 2)))) budget (Err c.in_err-check_all_left.field-0.0) in
     let At : ℕ → Type 0 = λ k. Runs (for_each (rules_of p).masks (check_left (rules_of p) d.winner (suc k) reached (claimed_level d (k + 2)))) budget (Err c.in_err-check_all_left.field-0.0) in
     let Within : ℕ → Type 0 = λ b. Runs (for_each (rules_of p).masks (check_left (rules_of p) d.winner (suc r.ply) reached (claimed_level d (r.ply + 2)))) b (Err c.in_err-check_all_left.field-0.0) in
     let e = err_from_is_err_and c.from_residual-in_err-check_all_left.result c.from_residual-in_err-check_all_left.ensures.1 in
@@ -38,7 +39,8 @@ returns-in_err-check_all_stale-clause-runs c =
     let budget = c.args.bench.now.memo.budget in
     let e = err_from_is_err_and c.from_residual-in_err-check_all_stale.result c.from_residual-in_err-check_all_stale.ensures.1 in
     rw (e.1, e.2)
-    (replies_run d c.args.ply budget (Err c.in_err-check_all_stale.field-0.0) r.ply c.in_ok-replies.ensures.replies.ply_is c.replies_at.new.bench.sets c.check_all_left.new.bench.sets c.in_ok-check_all_left.ensures.sets r.reached c.replies_at.new.bench.memo.budget c.check_all_left.new.bench.memo.budget
+    (replies_run d c.args.ply budget (Err c.in_err-check_all_stale.field-0.0) r.ply c.in_ok-replies.ensures.replies.ply_is c.replies_at.new.bench.sets
+    c.check_all_left.new.bench.sets c.in_ok-check_all_left.ensures.sets r.reached c.replies_at.new.bench.memo.budget c.check_all_left.new.bench.memo.budget
     c.in_ok-replies.ensures.budget c.in_ok-check_all_left.ensures.budget c.in_ok-replies.ensures.reached c.in_ok-check_all_left.ensures.runs c.in_err-check_all_stale.ensures.runs)
 
 pub returns-clause-runs : goal.returns-clause-runs
@@ -46,5 +48,6 @@ returns-clause-runs c =
     let d = claim_in c.args.claimed.now in
     let r = c.in_ok-replies.replies in
     let budget = c.args.bench.now.memo.budget in
-    replies_run d c.args.ply budget (Ok tt) r.ply c.in_ok-replies.ensures.replies.ply_is c.replies_at.new.bench.sets c.check_all_left.new.bench.sets c.in_ok-check_all_left.ensures.sets r.reached c.replies_at.new.bench.memo.budget c.check_all_left.new.bench.memo.budget
+    replies_run d c.args.ply budget (Ok tt) r.ply c.in_ok-replies.ensures.replies.ply_is c.replies_at.new.bench.sets c.check_all_left.new.bench.sets
+    c.in_ok-check_all_left.ensures.sets r.reached c.replies_at.new.bench.memo.budget c.check_all_left.new.bench.memo.budget
     c.in_ok-replies.ensures.budget c.in_ok-check_all_left.ensures.budget c.in_ok-replies.ensures.reached c.in_ok-check_all_left.ensures.runs c.in_ok-check_all_stale.ensures.runs

@@ -39,7 +39,8 @@ returns-in_err-check_ply-clause-runs c =
     let At : ℕ → Type 0 = λ b. Runs (check_ply d c.ply.result) b (Err c.in_err-check_ply.field-0.0) in
     let Of : ℕ → Type 0 = λ k. Runs (check_ply d k) c.args.bench.now.memo.budget (Err c.in_err-check_ply.field-0.0) in
     let e = err_from_is_err_and c.from_residual.result c.from_residual.ensures.1 in
-    rw (e.1, e.2) (plies_cut c.args.bench.now.memo.budget (check_ply d) whole c.args.losers.first c.args.losers.count c.loop-i.i c.loop-i-test.true c.loop-i.invariant.leads c.in_err-check_ply.field-0.0
+    rw (e.1, e.2) (plies_cut c.args.bench.now.memo.budget (check_ply d) whole c.args.losers.first c.args.losers.count c.loop-i.i c.loop-i-test.true
+    c.loop-i.invariant.leads c.in_err-check_ply.field-0.0
     (subst Of c.ply.ensures.is (subst At c.loop-i.invariant.budget c.in_err-check_ply.ensures.runs)))
 
 pub returns-clause-runs : goal.returns-clause-runs

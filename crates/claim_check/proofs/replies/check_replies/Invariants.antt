@@ -7,6 +7,7 @@ use Rattle.claim_check.proofs.replies.check_replies.Given as goal
 
 abbrev pub invariant-loop-i : goal.invariant-loop-i
 invariant-loop-i l = record {
-  leads : Leads l.initial.bench.memo.budget (for_each (every_second (l.losers.first + 2 * l.i) (l.losers.count - l.i)) (check_ply (claim_in l.claimed))) (for_each (every_second l.losers.first l.losers.count) (check_ply (claim_in l.claimed)));
+  leads : Leads l.initial.bench.memo.budget (for_each (every_second (l.losers.first + 2 * l.i) (l.losers.count - l.i)) (check_ply (claim_in l.claimed)))
+      (for_each (every_second l.losers.first l.losers.count) (check_ply (claim_in l.claimed)));
   budget : l.bench.memo.budget ≡ l.initial.bench.memo.budget;
 }

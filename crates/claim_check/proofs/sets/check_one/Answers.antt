@@ -24,7 +24,8 @@ lone_level-requires-clause-set c = one_on c.args.claimed.now c.requires.ready c.
 pub returns-in_err-check_sign-clause-runs : goal.returns-in_err-check_sign-clause-runs
 returns-in_err-check_sign-clause-runs c =
     let e = err_from_is_err_and c.from_residual.result c.from_residual.ensures.1 in
-    rw (e.1, e.2) (sign_cut (claim_in c.args.claimed.now) c.args.ply c.args.mask c.args.bench.now.memo.budget c.args.set.now c.requires.set c.in_err-check_sign.field-0.0 (c.in_err-check_sign.ensures.runs c.args.bench.now.memo.budget))
+    rw (e.1, e.2) (sign_cut (claim_in c.args.claimed.now) c.args.ply c.args.mask c.args.bench.now.memo.budget c.args.set.now c.requires.set
+    c.in_err-check_sign.field-0.0 (c.in_err-check_sign.ensures.runs c.args.bench.now.memo.budget))
 
 pub returns-in_err-level-clause-runs : goal.returns-in_err-level-clause-runs
 returns-in_err-level-clause-runs c =
@@ -39,7 +40,8 @@ returns-in_err-check_same-clause-runs c =
     let s = level_in p c.lone_level.new.bench.sets c.in_ok-level.level c.args.mask in
     let Within : ℕ → Type 0 = λ b. Runs (holds_by (rule_at c.args.ply c.args.mask rule.Same) (are_apart p c.args.ply c.args.mask s)) b (Err c.in_err-check_same.field-0.0) in
     rw (e.1, e.2)
-    (same_cut (claim_in c.args.claimed.now) c.args.ply c.args.mask budget c.args.set.now c.requires.set (c.in_ok-check_sign.ensures.runs budget) s c.in_ok-level.ensures.set c.in_err-check_same.field-0.0
+    (same_cut (claim_in c.args.claimed.now) c.args.ply c.args.mask budget c.args.set.now c.requires.set (c.in_ok-check_sign.ensures.runs budget) s
+    c.in_ok-level.ensures.set c.in_err-check_same.field-0.0
     (subst Within c.in_ok-level.ensures.budget c.in_err-check_same.ensures.runs))
 
 pub returns-in_err-check_guard-clause-runs : goal.returns-in_err-check_guard-clause-runs
@@ -50,11 +52,15 @@ returns-in_err-check_guard-clause-runs c =
     let s = level_in p c.lone_level.new.bench.sets c.in_ok-level.level c.args.mask in
     let w = other c.args.claimed.now.winner in
     let First : ℕ → Type 0 = λ b. Ends (holds_by (rule_at c.args.ply c.args.mask rule.Same) (are_apart p c.args.ply c.args.mask s)) b None in
-    let By : Side → Type 0 = λ side. Runs (check_guard (rules_of p) side c.args.ply c.args.mask (level_in p c.check_same.new.bench.sets c.in_ok-level.level c.args.mask)) c.check_same.new.bench.memo.budget (Err c.in_err-check_guard.field-0.0) in
-    let Over : List Automaton → Type 0 = λ t. Runs (check_guard (rules_of p) w c.args.ply c.args.mask (level_in p t c.in_ok-level.level c.args.mask)) c.check_same.new.bench.memo.budget (Err c.in_err-check_guard.field-0.0) in
+    let By : Side → Type 0 = λ side. Runs
+    (check_guard (rules_of p) side c.args.ply c.args.mask (level_in p c.check_same.new.bench.sets c.in_ok-level.level c.args.mask))
+    c.check_same.new.bench.memo.budget (Err c.in_err-check_guard.field-0.0) in
+    let Over : List Automaton → Type 0 = λ t. Runs (check_guard (rules_of p) w c.args.ply c.args.mask (level_in p t c.in_ok-level.level c.args.mask))
+    c.check_same.new.bench.memo.budget (Err c.in_err-check_guard.field-0.0) in
     let Within : ℕ → Type 0 = λ b. Runs (check_guard (rules_of p) w c.args.ply c.args.mask s) b (Err c.in_err-check_guard.field-0.0) in
     rw (e.1, e.2)
-    (guard_runs (claim_in c.args.claimed.now) c.args.ply c.args.mask budget c.args.set.now c.requires.set (c.in_ok-check_sign.ensures.runs budget) s c.in_ok-level.ensures.set (Err c.in_err-check_guard.field-0.0)
+    (guard_runs (claim_in c.args.claimed.now) c.args.ply c.args.mask budget c.args.set.now c.requires.set (c.in_ok-check_sign.ensures.runs budget) s
+    c.in_ok-level.ensures.set (Err c.in_err-check_guard.field-0.0)
     (subst First c.in_ok-level.ensures.budget c.in_ok-check_same.ensures.runs)
     (subst Within (c.in_ok-check_same.ensures.budget ∙ c.in_ok-level.ensures.budget) (subst Over c.in_ok-check_same.ensures.sets (subst By c.other.ensures c.in_err-check_guard.ensures.runs))))
 

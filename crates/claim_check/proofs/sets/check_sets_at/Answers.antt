@@ -45,7 +45,8 @@ returns-in_err-check_set-clause-runs c =
     let At : ℕ → Type 0 = λ b. Runs (check_set d c.args.ply mask) b (Err c.in_err-check_set.field-0.0) in
     let e = err_from_is_err_and c.from_residual.result c.from_residual.ensures.1 in
     rw (e.1, e.2)
-    (each_cut c.args.bench.now.memo.budget (check_set d c.args.ply) (check_sets d c.args.ply) masks i mask less (get_or_default masks i 0 mask less) c.loop-mask.invariant.leads c.in_err-check_set.field-0.0
+    (each_cut c.args.bench.now.memo.budget (check_set d c.args.ply) (check_sets d c.args.ply) masks i mask less (get_or_default masks i 0 mask less)
+    c.loop-mask.invariant.leads c.in_err-check_set.field-0.0
     (subst At c.loop-mask.invariant.budget c.in_err-check_set.ensures.runs))
 
 pub returns-clause-runs : goal.returns-clause-runs
