@@ -14,7 +14,7 @@ use Rattle.mate_plan.specs.Won.{LeadsInto, Won}
 use Rattle.claim_plan.specs.declared.names.RuleAt.{RuleAt}
 use Rattle.claim_plan.specs.declared.names.Rule.{Rule}
 use Rattle.claim_plan.specs.declared.names.Rule.TheVariants as rule
-use Rattle.claim_plan.proofs.ClaimLemmas.{claimed_there}
+use Rattle.winning_sets.proofs.ClaimedLemmas.{claimed_there}
 use Rattle.claim_plan.proofs.Findings.{AllHold, Checks, all_append, all_at, all_in, all_of, and_then-checks, failing_none, for_each-checks, none_failing}
 use Rattle.claim_plan.proofs.FirstRule.{first-checks}
 use Rattle.claim_plan.proofs.PlaceLemmas.{plies-have}

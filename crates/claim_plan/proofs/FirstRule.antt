@@ -27,11 +27,11 @@ use Rattle.claim_plan.specs.Checked.{RuleHolds, KeepsRule}
 use Rattle.mate_plan.specs.Won.{IsBegun}
 use Rattle.claim_plan.specs.declared.names.RuleAt.{RuleAt}
 use Rattle.claim_plan.specs.declared.names.Rule.TheVariants as rule
-use Rattle.claim_plan.proofs.ClaimLemmas.{claimed_there}
+use Rattle.winning_sets.proofs.ClaimedLemmas.{claimed_there}
 use Rattle.claim_plan.proofs.Findings.{Checks, IsTold, asked-tells, holds_by-told, one-checks}
 use Rattle.claim_plan.proofs.ReplyRules.{answer_moves}
 use Rattle.claim_plan.proofs.SetRules.{claimed_stands}
-use Rattle.claim_plan.proofs.WonLemmas.{last_loser, last_winner}
+use Rattle.winning_sets.proofs.WonLemmas.{last_loser, last_winner}
 
 module _ (c : Claim) (is : IsClaim c) (mean : RulesMean c.position) (some_point : point_of c.position.men ≡ None → ⊥) (apart : (ply m : ℕ) → RuleHolds c rule.Same ply m) (safe : (ply m : ℕ) → RuleHolds c rule.Guard ply m) where
   abbrev p : Position

@@ -19,9 +19,10 @@ use Rattle.rule_formula.proofs.StockLemmas.{stock_unique}
 use Rattle.winning_sets.proofs.KeptParts.{kept_lost, reached_sound}
 use Rattle.winning_sets.proofs.KeptPlan.{fits_reached}
 use Rattle.mate_plan.specs.Claim.{Claim, IsClaim, IsClaimed, claimed_at}
-use Rattle.claim_plan.specs.WonLaws.{AreOfGame, IsOfKept, KeptAreOfGame, KeptByLoser, KeptIsWon}
+use Rattle.winning_sets.specs.OfGame.{AreOfGame}
+use Rattle.claim_plan.specs.WonLaws.{IsOfKept, KeptAreOfGame, KeptByLoser, KeptIsWon}
 use Rattle.mate_plan.specs.Won.{IsBegun, IsWonBy, LeadsInto, Won}
-use Rattle.claim_plan.proofs.WonLemmas.{last_loser, last_winner}
+use Rattle.winning_sets.proofs.WonLemmas.{last_loser, last_winner}
 
 module _ (winner : Side) (p : Position) (moves : ℕ) (sound : Sound p) where
   abbrev C : ℕ → Position → Type 0

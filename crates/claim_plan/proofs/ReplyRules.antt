@@ -24,7 +24,8 @@ use Rattle.mate_plan.specs.Claim.{Claim, IsClaim, IsClaimed, claimed_level}
 use Rattle.claim_plan.specs.CheckPlan.{and_then, check_left, check_replies, check_stale, for_each, rule_at}
 use Rattle.claim_plan.specs.Checked.{RuleHolds, KeepsRule, reply_rules}
 use Rattle.claim_plan.specs.declared.names.Rule.TheVariants as rule
-use Rattle.claim_plan.proofs.ClaimLemmas.{claimed_fits, claimed_member, claimed_positions, claimed_sound}
+use Rattle.winning_sets.proofs.ClaimedLemmas.{claimed_fits, claimed_sound}
+use Rattle.claim_plan.proofs.ClaimLemmas.{claimed_member, claimed_positions}
 use Rattle.claim_plan.proofs.Findings.{Checks, Tells, and_then-checks, for_each-one, is_within-tells, tells-same, told-checks}
 use Rattle.claim_plan.proofs.SetRules.{claimed_over, claimed_stands}
 

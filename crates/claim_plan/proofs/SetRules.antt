@@ -37,7 +37,8 @@ use Rattle.rule_formula.specs.Pairs.{pairs_of}
 use Rattle.mate_plan.specs.Twins.{twin_item, twins_of}
 use Rattle.claim_plan.specs.Checked.{IsClaimedWith, KeepsRule, RuleHolds}
 use Rattle.claim_plan.specs.declared.names.Rule.TheVariants as rule
-use Rattle.claim_plan.proofs.ClaimLemmas.{claimed_fits, claimed_level-member, claimed_member, claimed_positions}
+use Rattle.winning_sets.proofs.ClaimedLemmas.{claimed_fits}
+use Rattle.claim_plan.proofs.ClaimLemmas.{claimed_level-member, claimed_member, claimed_positions}
 use Rattle.claim_plan.proofs.Findings.{Checks, NoItem, and_then-checks, are_empty-tells, asked-tells, holds_by-told, one-checks}
 
 -- who stands somewhere is not gone

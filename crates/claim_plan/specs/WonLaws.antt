@@ -8,6 +8,7 @@ use Rattle.mate_plan.specs.Claim.{Claim, IsClaim, IsClaimed, IsLosersPly, claime
 use Rattle.mate_plan.specs.PlanOf.{last_ply}
 use Rattle.mate_plan.specs.Won.{IsWonBy, Won}
 use Rattle.winning_sets.specs.Kept.{Kept, moves_left}
+use Rattle.winning_sets.specs.OfGame.{AreOfGame}
 use Rattle.winning_sets.specs.Solve.{HasTuplesOf}
 
 -- a claimed set has as its tuples exactly the coordinates of the claimed positions of its ply with its live men
@@ -16,13 +17,7 @@ SetsHaveClaimedTuples =
     (c : Claim) (ply mask : ℕ) (a : Automaton) → IsClaim c → claimed_at c ply mask ≡ Some a
     → HasTuplesOf (IsClaimed c ply) mask a
 
--- positions of the plies of the loser: they are sound, with the loser to move
-pub record AreOfGame (winner : Side) (p : Position) (moves : ℕ) (C : ℕ → Position → Type 0) : Type 0 where
-  pub plies : (ply : ℕ) (q : Position) → C ply q → IsLosersPly winner p moves ply
-  pub turn : (ply : ℕ) (q : Position) → C ply q → q.turn ≡ other winner
-  pub sound : (ply : ℕ) (q : Position) → C ply q → Sound q
-
--- in a won claim the claimed positions are such
+-- in a won claim the claimed positions are sound, with the loser to move, at plies at which he moves
 abbrev pub ClaimedAreOfGame : Type 0
 ClaimedAreOfGame = (c : Claim) → IsClaim c → Won c → AreOfGame c.winner c.position c.moves (IsClaimed c)
 

@@ -35,7 +35,7 @@ module _ (ply mask : ℕ) (a : Automaton) (s : ClaimedSet) (sets : List ClaimedS
       let rest = later h in
       record { claimed = rest.claimed; has = contains_rest s sets rest.claimed rest.has; ply_is = rest.ply_is; mask_is = rest.mask_is; set_is = rest.set_is }
 
-found_in : (sets : List ClaimedSet) (ply mask : ℕ) (a : Automaton) → claimed_in sets ply mask ≡ Some a → IsFound sets ply mask a
+pub found_in : (sets : List ClaimedSet) (ply mask : ℕ) (a : Automaton) → claimed_in sets ply mask ≡ Some a → IsFound sets ply mask a
 found_in [] ply mask a h = absurd cc
 found_in (s ∷ sets) ply mask a h = found_by ply mask a s sets ((s.ply == ply) && (s.mask == mask)) refl (found_in sets ply mask a) h
 

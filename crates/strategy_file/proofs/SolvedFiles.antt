@@ -8,7 +8,7 @@ use Rattle.std.proofs.lemmas.Option.{slice_get_within}
 use Rattle.track_word.specs.declared.tracks.Var.{Var}
 use Rattle.track_word.specs.Word.{IsWord}
 use Rattle.auto_core.specs.Automaton.{Automaton, Accepts}
-use Rattle.auto_reduce.specs.Tables.{AcceptSameWords, HaveEqualTables}
+use Rattle.auto_reduce.specs.Tables.{AcceptSameWords, HaveEqualTables, IsInOrder}
 use Rattle.auto_reduce.proofs.SameTables.{equal_tables}
 use Rattle.game_rules.specs.Game.{HasOneKing, Position, man_at}
 use Rattle.game_rules.specs.declared.men.Man.{Man}
@@ -46,16 +46,39 @@ pair_of a b p x y = ap (λ n. (n, b)) x ∙ ap (λ n. (p.0, n)) y
 one_value : {X : Type 0} (x y : X) → Some x ≡ Some y → x ≡ y
 one_value x y e = cc
 
+-- sets of one place and over the same tracks, which accept the same words, have the same bytes
+pub alike_set_bytes : (x y : ClaimedSet) → place_of x ≡ place_of y → x.set.tracks ≡ y.set.tracks → IsInOrder x.set → IsInOrder y.set → AcceptSameWords x.set y.set → set_bytes x ≡ set_bytes y
+unfolding set_bytes
+alike_set_bytes x y p tracks hx hy words =
+    let bytes = same_table_bytes x.set y.set tracks (equal_tables x.set y.set hx hy tracks words) in
+    ap (λ (q : ℕ × ℕ). (q.0 ∷ q.1 ∷ []) ++ table_bytes x.set) p ∙ ap (λ bs. (y.ply ∷ y.mask ∷ []) ++ bs) bytes
+
+module _ (P : ClaimedSet → Type 0) (alike : (x y : ClaimedSet) → place_of x ≡ place_of y → P x → P y → set_bytes x ≡ set_bytes y) where
+  same_sets_bytes : (xs ys : List ClaimedSet) → map place_of xs ≡ map place_of ys → All P xs → All P ys → flat_map set_bytes xs ≡ flat_map set_bytes ys
+  same_sets_bytes [] [] e hx hy = refl
+  same_sets_bytes [] (y ∷ ys) e hx hy = absurd cc
+  same_sets_bytes (x ∷ xs) [] e hx hy = absurd cc
+  same_sets_bytes (x ∷ xs) (y ∷ ys) e hx hy =
+      let here = alike x y (cc) (All-head P x xs hx) (All-head P y ys hy) in
+      let rest = same_sets_bytes xs ys (cc) (All-tail P x xs hx) (All-tail P y ys hy) in
+      flat_map-cons set_bytes x xs ∙ ap (λ bs. bs ++ flat_map set_bytes xs) here ∙ ap (λ bs. set_bytes y ++ bs) rest ∙ sym (flat_map-cons set_bytes y ys)
+
+  -- claims of the same position and number of moves, whose sets at one place have the same bytes, have the same bytes
+  pub alike_written : (c d : Claim) → c.position ≡ d.position → c.moves ≡ d.moves → map place_of c.sets ≡ map place_of d.sets → All P c.sets → All P d.sets → written c ≡ written d
+  unfolding written
+  alike_written c d position moves places hc hd =
+      let start : start_bytes c.position c.moves ≡ start_bytes d.position d.moves =
+      ap (λ p. start_bytes p c.moves) position ∙ ap (λ n. start_bytes d.position n) moves in
+      let sets = same_sets_bytes c.sets d.sets places hc hd in
+      ap (λ bs. bs ++ flat_map set_bytes c.sets) start ∙ ap (λ bs. start_bytes d.position d.moves ++ bs) sets
+
 module _ (s : Solution) where
   same_kept : (x y : ClaimedSet) → place_of x ≡ place_of y → (hx : IsOfKeptSet s x) (hy : IsOfKeptSet s y) → hx.kept ≡ hy.kept
   same_kept x y p hx hy =
-      let ply = ap (λ (q : ℕ × ℕ). q.0) p in
-      let mask = ap (λ (q : ℕ × ℕ). q.1) p in
       let there : kept_at s x.ply x.mask ≡ kept_at s y.ply y.mask = ap (λ (q : ℕ × ℕ). kept_at s q.0 q.1) p in
       one_value hx.kept hy.kept (sym hx.is_there ∙ there ∙ hy.is_there)
 
   same_set_bytes : (x y : ClaimedSet) → place_of x ≡ place_of y → IsOfKeptSet s x → IsOfKeptSet s y → set_bytes x ≡ set_bytes y
-  unfolding set_bytes
   same_set_bytes x y p hx hy =
       let one = same_kept x y p hx hy in
       let tracks : x.set.tracks ≡ y.set.tracks = hx.tracks ∙ ap (λ (a : Automaton). a.tracks) one ∙ sym hy.tracks in
@@ -66,25 +89,11 @@ module _ (s : Solution) where
             let back = hy.words.same word there in
             (λ h. back.1 (kept.0 h), λ h. kept.1 (back.0 h));
       } in
-      let bytes = same_table_bytes x.set y.set tracks (equal_tables x.set y.set hx.in_order hy.in_order tracks words) in
-      ap (λ (q : ℕ × ℕ). (q.0 ∷ q.1 ∷ []) ++ table_bytes x.set) p ∙ ap (λ bs. (y.ply ∷ y.mask ∷ []) ++ bs) bytes
-
-  same_sets_bytes : (xs ys : List ClaimedSet) → map place_of xs ≡ map place_of ys → All (IsOfKeptSet s) xs → All (IsOfKeptSet s) ys → flat_map set_bytes xs ≡ flat_map set_bytes ys
-  same_sets_bytes [] [] e hx hy = refl
-  same_sets_bytes [] (y ∷ ys) e hx hy = absurd cc
-  same_sets_bytes (x ∷ xs) [] e hx hy = absurd cc
-  same_sets_bytes (x ∷ xs) (y ∷ ys) e hx hy =
-      let here = same_set_bytes x y (cc) (All-head (IsOfKeptSet s) x xs hx) (All-head (IsOfKeptSet s) y ys hy) in
-      let rest = same_sets_bytes xs ys (cc) (All-tail (IsOfKeptSet s) x xs hx) (All-tail (IsOfKeptSet s) y ys hy) in
-      flat_map-cons set_bytes x xs ∙ ap (λ bs. bs ++ flat_map set_bytes xs) here ∙ ap (λ bs. set_bytes y ++ bs) rest ∙ sym (flat_map-cons set_bytes y ys)
+      alike_set_bytes x y p tracks hx.in_order hy.in_order words
 
   same_written : (c d : Claim) → IsClaimOf s c → IsClaimOf s d → written c ≡ written d
-  unfolding written
   same_written c d hc hd =
-      let start : start_bytes c.position c.moves ≡ start_bytes d.position d.moves =
-      ap (λ p. start_bytes p c.moves) (hc.position ∙ sym hd.position) ∙ ap (λ n. start_bytes d.position n) (hc.moves ∙ sym hd.moves) in
-      let sets = same_sets_bytes c.sets d.sets (hc.places ∙ sym hd.places) hc.sets hd.sets in
-      ap (λ bs. bs ++ flat_map set_bytes c.sets) start ∙ ap (λ bs. start_bytes d.position d.moves ++ bs) sets
+      alike_written (IsOfKeptSet s) same_set_bytes c d (hc.position ∙ sym hd.position) (hc.moves ∙ sym hd.moves) (hc.places ∙ sym hd.places) hc.sets hd.sets
 
 pub one_file : OneFile
 one_file = λ s a b fa fb. fa.bytes_are ∙ same_written s fa.claim fb.claim fa.of fb.of ∙ sym fb.bytes_are

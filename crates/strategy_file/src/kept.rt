@@ -11,7 +11,7 @@ use auto_core::Auto;
 use auto_reduce::reduce;
 use chess_game::{Position, Side};
 use std::alloc::{AllocError, Global};
-use winning_sets::Solved;
+use winning_sets::{Origin, Solved};
 
 /// The set that is kept at a ply and a mask. Its rows share what they have in common: as a table it could be larger than any file.
 #[derive(Drop)]
@@ -32,6 +32,7 @@ pub(crate) struct KeptClaim {
 
 /// The claim of the sets that are kept at the plies of the loser.
 pub(crate) fn kept_claim(alloc: Global, solved: &Solved) -> Result<KeptClaim, AllocError>
+    requires plan { solved.now.origin ≡ Origin.Plan }
     ensures claim { IfOk result (λ c. IsClaimOf solved.now (as_claim c)) }
     ensures valid { OnOk result (IsSolution solved.now) }
 {

@@ -20,6 +20,7 @@ use Rattle.winning_sets.specs.Lent.{AreEmpties, sets_or}
 use Rattle.winning_sets.specs.PlanMeans.{AreLevelsOf, IsLevelOf}
 use Rattle.winning_sets.specs.Reach.{Reach}
 use Rattle.winning_sets.specs.Solve.{AreKept, AreReached, AreReachedTo, AreSets, IsKeptIn, IsSolution, Sets, Solution, sets_at}
+use Rattle.winning_sets.specs.declared.origin.Origin.TheVariants.{Plan}
 use Rattle.winning_sets.proofs.Growing.{all_lent-grow}
 use Rattle.winning_sets.proofs.KeptParts.{kept_end, kept_first}
 use Rattle.winning_sets.proofs.LentLemmas.{Names, empty_sets_are, lent_sets_are}
@@ -57,7 +58,7 @@ module _ (p : Position) (budget : ℕ) (masks : List ℕ) (empties table : List 
       (All-take (AreNames p.men table (masks_of p)) (suc last) levels is.names) are
 
   -- a solution of it
-  pub solution_is : (winner : Side) (moves last : ℕ) (after : List Automaton) (kept reach : List (List Automaton)) → last ≡ last_ply winner p.turn moves → 0 < last → last < length levels → moves ≤ 20 → Grows table after → reach ≡ map (sets_or after empties) (take (last + 1) levels) → AreKept winner p moves (sets_at (masks_of p) kept) → IsSolution (record { position = p; winner = winner; moves = moves; kept = kept; reach = reach })
+  pub solution_is : (winner : Side) (moves last : ℕ) (after : List Automaton) (kept reach : List (List Automaton)) → last ≡ last_ply winner p.turn moves → 0 < last → last < length levels → moves ≤ 20 → Grows table after → reach ≡ map (sets_or after empties) (take (last + 1) levels) → AreKept winner p moves (sets_at (masks_of p) kept) → IsSolution (record { origin = Plan; position = p; winner = winner; moves = moves; kept = kept; reach = reach })
   solution_is winner moves last after kept reach is_last some within small grows made keeps =
       let one : last + 1 ≡ suc last = omega arith in
       let named = All-take (AreNames p.men table (masks_of p)) (last + 1) levels is.names in
@@ -93,7 +94,7 @@ none_kept_are winner p moves empties sound few last are =
     let zero_sets = empty_sets_are (Kept winner p moves) p (mean p sound few).game empties are none in
     subst (λ (n : ℕ). AreSets (Kept winner p moves) p n (sets_at (masks_of p) (empties ∷ []))) (sym last) zero_sets
 
-pub none_solution : (winner : Side) (p : Position) (moves : ℕ) (empties : List Automaton) (kept reach : List (List Automaton)) → Sound p → length p.men ≤ 8 → moves ≤ 20 → last_ply winner p.turn moves ≡ 0 → AreEmpties p.men (masks_of p) empties → kept ≡ empties ∷ [] → reach ≡ [] → IsSolution (record { position = p; winner = winner; moves = moves; kept = kept; reach = reach })
+pub none_solution : (winner : Side) (p : Position) (moves : ℕ) (empties : List Automaton) (kept reach : List (List Automaton)) → Sound p → length p.men ≤ 8 → moves ≤ 20 → last_ply winner p.turn moves ≡ 0 → AreEmpties p.men (masks_of p) empties → kept ≡ empties ∷ [] → reach ≡ [] → IsSolution (record { origin = Plan; position = p; winner = winner; moves = moves; kept = kept; reach = reach })
 none_solution winner p moves empties kept reach sound few small last are is none =
     let none_at : (ply mask : ℕ) → sets_at (masks_of p) reach ply mask ≡ None = λ ply mask. ap (λ r. sets_at (masks_of p) r ply mask) none in
     record {

@@ -17,3 +17,7 @@ pub mod Empties
 pub mod Tuples
 pub mod States
 pub mod Reached
+pub mod WonLemmas
+pub mod ClaimedLemmas
+pub mod ClaimPlaces
+pub mod ValidLemmas

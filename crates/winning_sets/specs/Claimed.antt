@@ -7,6 +7,7 @@ use Rattle.mate_plan.specs.Claim.{Claim, ClaimedSet, IsClaim, IsClaimed}
 use Rattle.mate_plan.specs.Won.{Won}
 use Rattle.winning_sets.specs.Kept.{Kept}
 use Rattle.winning_sets.specs.Solve.{IsSetAt, IsSolution, Solution, kept_at, reach_at}
+use Rattle.winning_sets.specs.declared.claimed.ClaimedSets.{ClaimedSets}
 use Rattle.winning_sets.specs.declared.origin.Origin.{Origin}
 use Rattle.winning_sets.specs.declared.origin.Origin.TheVariants.{Plan, Claim as Claimed}
 
@@ -24,6 +25,10 @@ sets_from ply masks (sets ∷ plies) = sets_of_ply ply masks sets ++ sets_from (
 -- the sets of a solution as a claim
 abbrev pub claim_of : Solution → Claim
 claim_of s = record { position = s.position; winner = s.winner; moves = s.moves; sets = sets_from 0 (masks_of s.position) s.kept }
+
+-- what a position with claimed sets is as a solution
+abbrev pub solution_of : ClaimedSets → Solution
+solution_of c = record { origin = Claimed; position = c.position; winner = c.winner; moves = c.moves; kept = c.plies.items; reach = [] }
 
 -- the sets of the solution are those of a won claim, formed as sets of a solution are, and no set is told of what is reached
 pub record IsWonClaim (s : Solution) : Type 0 where

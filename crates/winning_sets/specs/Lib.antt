@@ -23,3 +23,4 @@ pub mod Lent
 pub mod Finished
 pub mod PlanMeans
 pub mod Claimed
+pub mod OfGame

@@ -2,6 +2,7 @@
 //! say which positions the sets have, `specs/Solve` what is answered.
 #![tactic(auto)]
 
+mod claimed;
 mod empty;
 mod kept;
 pub mod laws;
@@ -15,8 +16,10 @@ mod solver;
 mod stock;
 mod turns;
 
+pub use claimed::ClaimedSets;
 pub use mate_plan::{Part, PartName};
 pub use names::{SolveError, StepName};
 pub use origin::Origin;
+pub use ply_sets::PlySets;
 pub use solved::Solved;
 pub use solver::{Solver, solve};

@@ -4,8 +4,11 @@ ghost use Rattle.auto_core.specs.Integers.{IsAccepted};
 ghost use Rattle.game_rules.specs.Game.{Value};
 ghost use Rattle.rule_formula.specs.Fits.{HasStock, mask_of, masks_of};
 ghost use Rattle.rule_formula.specs.Placed.{tuple_of};
+ghost use Rattle.winning_sets.specs.Claimed.{IsValid, IsWonClaim, solution_of};
 ghost use Rattle.winning_sets.specs.Solve.{IsKeptIn, IsMostStates, IsSolution, end_of, kept_at, reach_at, states_of};
 
+use crate::claimed::ClaimedSets;
+use crate::origin::Origin;
 use crate::place::{set_at, sets_of_ply};
 use crate::ply_sets::PlySets;
 use crate::stock::has_stock;
@@ -14,12 +17,14 @@ use auto_core::Auto;
 use chess_game::{Position, Side};
 use mask_sets::MaskSets;
 use smallvec::SmallVec;
+use std::alloc::Global;
 use std::marker::Model;
 
-/// A position with the sets of the positions that are reached from it, and of those of them from which the winner still mates in time.
-/// A set has the coordinates of the live men, two for each, in their order.
+/// A position with the sets of the positions that are reached from it, and of those of them from which the winner still mates in time; or with
+/// the sets of a claim that is won. A set has the coordinates of the live men, two for each, in their order.
 #[derive(Drop)]
 pub struct Solved {
+    origin: Origin,
     position: Position,
     winner: Side,
     moves: u8,
@@ -31,17 +36,18 @@ pub struct Solved {
 impl Model for Solved {
     ghost use Rattle.std.specs.Prelude.{◌≡◌};
     ghost use Rattle.rule_formula.specs.Fits.{masks_of};
-    ghost use Rattle.winning_sets.specs.Solve.{IsSolution, Solution};
+    ghost use Rattle.winning_sets.specs.Claimed.{IsValid};
+    ghost use Rattle.winning_sets.specs.Solve.{Solution};
 
     ghost Value = { Solution };
 
-    ghost view = { λ s. record { position = s.position; winner = s.winner; moves = s.moves; kept = s.kept.items; reach = s.reach.items } };
+    ghost view = { λ s. record { origin = s.origin; position = s.position; winner = s.winner; moves = s.moves; kept = s.kept.items; reach = s.reach.items } };
 
-    ghost invariant = { λ s. IsSolution (record { position = s.position; winner = s.winner; moves = s.moves; kept = s.kept.items; reach = s.reach.items }) × (s.masks.items ≡ masks_of s.position) };
+    ghost invariant = { λ s. IsValid (record { origin = s.origin; position = s.position; winner = s.winner; moves = s.moves; kept = s.kept.items; reach = s.reach.items }) × (s.masks.items ≡ masks_of s.position) };
 }
 
 impl Solved {
-    /// A solution with its sets, ply by ply and in each ply in the order of the masks.
+    /// A solution of the plan with its sets, ply by ply and in each ply in the order of the masks.
     pub(crate) fn new(
         position: Position,
         winner: Side,
@@ -51,10 +57,11 @@ impl Solved {
         reach: Vec<PlySets>,
     ) -> Solved
         requires masks { masks.items ≡ masks_of position }
-        requires valid { IsSolution (record { position = position; winner = winner; moves = moves; kept = kept.items; reach = reach.items }) }
-        ensures { result ≡ record { position = position; winner = winner; moves = moves; kept = kept.items; reach = reach.items } }
+        requires valid { IsSolution (record { origin = Origin.Plan; position = position; winner = winner; moves = moves; kept = kept.items; reach = reach.items }) }
+        ensures { result ≡ record { origin = Origin.Plan; position = position; winner = winner; moves = moves; kept = kept.items; reach = reach.items } }
     {
         Solved {
+            origin: Origin::Plan,
             position,
             winner,
             moves,
@@ -62,6 +69,30 @@ impl Solved {
             kept,
             reach,
         }
+    }
+
+    /// A position with the sets of a claim that is won. It takes no memory.
+    pub fn from_sets(alloc: Global, claimed: ClaimedSets) -> Solved
+        requires masks { claimed.masks.items ≡ masks_of claimed.position }
+        requires valid { IsWonClaim (solution_of claimed) }
+        ensures { result ≡ solution_of claimed }
+    {
+        Solved {
+            origin: Origin::Claim,
+            position: claimed.position,
+            winner: claimed.winner,
+            moves: claimed.moves,
+            masks: claimed.masks,
+            kept: claimed.plies,
+            reach: Vec::new(alloc),
+        }
+    }
+
+    /// Where the kept sets come from.
+    pub fn origin(&self) -> Origin
+        ensures { result ≡ self.now.origin }
+    {
+        self.origin
     }
 
     /// The starting position.
@@ -96,7 +127,7 @@ impl Solved {
     pub fn set(&self, ply: u8, mask: u8) -> Option<&Auto>
         ensures set { option_copied result ≡ kept_at self.now ply mask }
         ensures few { IfSome result (λ a. length a.now.accept ≤ 200000) }
-        ensures valid { IsSolution self.now }
+        ensures valid { IsValid self.now }
     {
         set_at(self.masks.as_slice(), self.kept.as_slice(), ply, mask)
     }
@@ -105,7 +136,7 @@ impl Solved {
     pub fn reach(&self, ply: u8, mask: u8) -> Option<&Auto>
         ensures set { option_copied result ≡ reach_at self.now ply mask }
         ensures few { IfSome result (λ a. length a.now.accept ≤ 200000) }
-        ensures valid { IsSolution self.now }
+        ensures valid { IsValid self.now }
     {
         set_at(self.masks.as_slice(), self.reach.as_slice(), ply, mask)
     }
@@ -125,7 +156,7 @@ impl Solved {
     /// At how many plies there are kept sets.
     fn plies(&self) -> u8
         ensures plies { result ≡ end_of self.now + 1 }
-        ensures valid { IsSolution self.now }
+        ensures valid { IsValid self.now }
     {
         last_ply(self.winner, self.position.turn(), self.moves) + 1
     }
@@ -145,7 +176,7 @@ impl Solved {
     /// The masks of the starting position, ascending.
     pub fn masks(&self) -> &[u8]
         ensures masks { result.now ≡ masks_of self.now.position }
-        ensures valid { IsSolution self.now }
+        ensures valid { IsValid self.now }
     {
         self.masks.as_slice()
     }
@@ -153,7 +184,7 @@ impl Solved {
     /// The kept sets of a ply in the order of the masks, and none past the last ply.
     pub fn kept_sets(&self, ply: u8) -> &[Auto]
         ensures sets { result.now ≡ slice_index_or self.now.kept ply [] }
-        ensures valid { IsSolution self.now }
+        ensures valid { IsValid self.now }
     {
         sets_of_ply(self.kept.as_slice(), ply)
     }
@@ -171,7 +202,7 @@ impl Solved {
     /// Whether the position of these men, with the turn of the ply, is in the set of its own live men.
     pub fn keeps(&self, ply: u8, p: &Position) -> bool
         ensures keeps { IsTrue result ↔ IsKeptIn self.now ply p.now }
-        ensures valid { IsSolution self.now }
+        ensures valid { IsValid self.now }
     {
         has_stock(&self.position, p)
             && p.turn() == side_at(self.position.turn(), ply)
@@ -189,8 +220,11 @@ impl Solved {
     /// Whether the winner mates within so many moves from the starting position.
     pub fn verdict(&self) -> bool
         ensures mates { IsTrue result ↔ Value self.now.winner self.now.moves self.now.position }
-        ensures valid { IsSolution self.now }
+        ensures valid { IsValid self.now }
     {
-        self.keeps(0, &self.position)
+        match self.origin {
+            Origin::Plan => self.keeps(0, &self.position),
+            Origin::Claim => true,
+        }
     }
 }

@@ -7,6 +7,7 @@ use Rattle.rule_formula.specs.Placed.{tuple_of}
 use Rattle.winning_sets.specs.Solve.{kept_at}
 use Rattle.winning_sets.proofs.Places.{kept_at-table}
 use Rattle.winning_sets.proofs.Tuples.{tuple_count}
+use Rattle.winning_sets.proofs.ValidLemmas.{valid_formed}
 use Rattle.winning_sets.proofs.solved.Solved.has_tuple.Goals as goal
 
 pub contains-requires : goal.contains-requires
@@ -15,7 +16,7 @@ contains-requires c =
     λ a is.
     let at : kept_at s c.args.ply (mask_of c.args.p.now) ≡ Some a =
     sym (kept_at-table s c.args.ply (mask_of c.args.p.now) c.masks.result.now c.kept_sets.result.now c.new.result c.masks.ensures.masks c.kept_sets.ensures.sets c.new.ensures) ∙ is in
-    let formed = c.masks.ensures.valid.kept.formed c.args.ply (mask_of c.args.p.now) a at in
+    let formed = valid_formed s c.masks.ensures.valid c.args.ply (mask_of c.args.p.now) a at in
     record { integers = formed.integers; count = tuple_count s.position.men c.args.p.now c.requires ∙ sym (ap length formed.tracks) }
 
 pub returns : goal.returns

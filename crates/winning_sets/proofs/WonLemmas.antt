@@ -7,8 +7,8 @@ use Rattle.game_rules.specs.declared.men.Side.TheVariants.{White, Black}
 use Rattle.game_laws.proofs.SoundLemmas.{other_other}
 use Rattle.game_laws.proofs.ValueLemmas.{flat_lost}
 use Rattle.mate_plan.specs.PlanOf.{last_ply}
-use Rattle.claim_plan.specs.WonLaws.{AreOfGame}
 use Rattle.mate_plan.specs.Won.{IsBegun, IsWonBy, LeadsInto}
+use Rattle.winning_sets.specs.OfGame.{AreOfGame}
 
 -- with the winner to move, the last ply is twice the number of moves; with the loser to move it is one more
 pub last_winner : (winner s : Side) (n : ℕ) → s ≡ winner → last_ply winner s n ≡ 2 * n

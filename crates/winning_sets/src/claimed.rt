@@ -1,0 +1,17 @@
+//! Sets that were claimed.
+
+use crate::ply_sets::PlySets;
+use chess_game::{Position, Side};
+use smallvec::SmallVec;
+
+/// A position with the sets of a claim that is won: ply by ply, and in each ply of the loser in the order of the masks. A ply of the winner
+/// has none.
+#[derive(Drop)]
+pub struct ClaimedSets {
+    pub position: Position,
+    pub winner: Side,
+    pub moves: u8,
+    /// The masks of the position, ascending.
+    pub masks: SmallVec<u8, 32>,
+    pub plies: Vec<PlySets>,
+}
