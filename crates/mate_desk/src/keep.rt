@@ -71,6 +71,7 @@ fn keep_file<K: Sink, H: Shelf>(
         (of_shelf (K.written sink.old) (H.files shelf.old) (K.faults sink.old) (H.faults shelf.old))
         (of_shelf (K.written sink.new) (H.files shelf.new) (K.faults sink.new) (H.faults shelf.new)) }
 {
+    let _masks = solved.masks();
     let bytes = match write_file(alloc, solved) {
         Ok(bytes) => bytes,
         Err(WriteFileError::TooLarge { length }) => {
