@@ -18,7 +18,7 @@ use Rattle.desk_base.specs.Files.{Files, Go}
 use Rattle.desk_base.specs.Lines.{IsLine, Lines, lines_of}
 use Rattle.game_rules.specs.Game.{Position, Value}
 use Rattle.game_rules.specs.declared.men.Side.{Side}
-use Rattle.game_report.proofs.Alike.{report_alike, report_by}
+use Rattle.game_report.proofs.Alike.{by_claim, report_alike, report_by}
 use Rattle.game_report.specs.Report.{ByClaim, IsReport, Match}
 use Rattle.game_report.specs.Report as game
 use Rattle.chess_text.specs.PositionText.{text_of_lines}
@@ -197,8 +197,8 @@ module _ (budget : ℕ) (name : List ℕ) (files : Files) (s : Solution) (h : Ha
   same_game lines report (played, right, is') =
       let same = same_claims_are_checked_alike c (claim_of s) h.same in
       let first : Match = claimed_match (claim_of s) in
-      let other : IsReport 0 lines (by_it first) (report_by c played) = report_alike (claim_of s) c (λ ply q. ((same.positions ply q).1, (same.positions ply q).0)) 0 lines first played right in
-      let start : by_it first ≡ claimed_match c = λ i. record {
+      let other : IsReport 0 lines (by_claim c first) (report_by c played) = report_alike (claim_of s) c (λ ply q. ((same.positions ply q).1, (same.positions ply q).0)) 0 lines first played right in
+      let start : by_claim c first ≡ claimed_match c = λ i. record {
         winner = sym h.same.winner i;
         start = sym h.same.position i;
         moves = sym h.same.moves i;
@@ -208,9 +208,6 @@ module _ (budget : ℕ) (name : List ℕ) (files : Files) (s : Solution) (h : Ha
       } in
       let P : Match → Type 0 = λ g. IsReport 0 lines g (report_by c played) in
       (report_by c played, subst P start other, is')
-    where
-      abbrev by_it : Match → Match
-      by_it g = record { winner = g.winner; start = g.start; moves = g.moves; strategy = ByClaim c; position = g.position; ply = g.ply }
 
   says_game : (lines : Lines) (report : Report) → GameReports lines files (claim_of s) report → ResumeReports budget lines name files report
   says_game lines report right = of_claim (GameReports lines files) budget name files s report h (same_game lines report right)

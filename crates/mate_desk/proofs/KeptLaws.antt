@@ -140,27 +140,27 @@ module _ (n other : ℕ) (name : List ℕ) (files given : Files) (l : Leaves n n
   abbrev c : Claim
   c = claim_with won.charts
 
-  abbrev Says : Claim → Report → Type 0
-  Says d r = r ≡ done_with files (mate_line d.moves)
+  abbrev Prints : Claim → Report → Type 0
+  Prints d r = r ≡ done_with files (mate_line d.moves)
 
   abbrev Told : Type 0
   Told = (report ≡ done_with files (mate_line n)) ⊎ ((step : StepName) × (report ≡ over_budget files step))
 
-  claim_told : OfClaim Says other files c report → Told
+  claim_told : OfClaim Prints other files c report → Told
   claim_told (inl (failed, ends, is')) =
       let none : Some failed ≡ None = (none_fails_where_won c (Some failed) won.claim (check_finds_first c ends.entries (Some failed) won.claim ends.takes)).1 won.won in absurd (cc)
   claim_told (inr (inl (step, over, is'))) = inr (step, is')
   claim_told (inr (inr (keeps, is'))) = inl (is' ∙ ap (λ m. done_with files (mate_line m)) won.moves_are)
 
-  bytes_told : OfFound Says other files (Some l.bytes) report → Told
+  bytes_told : OfFound Prints other files (Some l.bytes) report → Told
   bytes_told (inl (long, is')) = let small = l.file.small in absurd (omega (arith, long, small))
   bytes_told (inr (short, (outcome, file, right))) =
-      let P : Result Charts Refusal → Type 0 = λ o. OfOutcome Says other files o report in
+      let P : Result Charts Refusal → Type 0 = λ o. OfOutcome Prints other files o report in
       claim_told (subst P (one_outcome l.bytes outcome (Ok won.charts) file won.read) right)
 
   file_told : CheckReports other name files report → Told
   file_told right =
-      let P : Option (List ℕ) → Type 0 = λ o. OfFound Says other files o report in
+      let P : Option (List ℕ) → Type 0 = λ o. OfFound Prints other files o report in
       bytes_told (subst P (ap (λ f. map.get f name) l.left ∙ has_put given name l.bytes) right)
 
 pub checked_after_keep : CheckedAfterKeep

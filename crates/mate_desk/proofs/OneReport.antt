@@ -364,9 +364,9 @@ module _ (files : Files) (one other : Report) where
 
     once_found_file : (found : Option (List ℕ)) → OfFound says budget files found one → OfFound says budget files found other → one ≡ other
     once_found_file None a b = a ∙ sym b
-    once_found_file (Some bytes) (inl (long, a)) (inl (also, b)) = a ∙ sym b
-    once_found_file (Some bytes) (inl (long, a)) (inr (short, b)) = absurd (omega (arith, long, short))
-    once_found_file (Some bytes) (inr (short, a)) (inl (long, b)) = absurd (omega (arith, long, short))
+    once_found_file (Some bytes) (inl (too_long, a)) (inl (also, b)) = a ∙ sym b
+    once_found_file (Some bytes) (inl (too_long, a)) (inr (short, b)) = absurd (omega (arith, too_long, short))
+    once_found_file (Some bytes) (inr (short, a)) (inl (too_long, b)) = absurd (omega (arith, too_long, short))
     once_found_file (Some bytes) (inr (short, (x, a, p))) (inr (also, (y, b, q))) =
         let P : Result Charts Refusal → Type 0 = λ r. OfOutcome says budget files r other in
         once_outcome x p (subst P (sym (one_outcome bytes x y a b)) q)

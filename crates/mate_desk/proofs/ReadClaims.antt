@@ -1,17 +1,18 @@
 -- What is read of a file is a claim.
-use Rattle.std.proofs.Common.{◌≡◌, ◌⊎◌, ℕ, zero, suc, ◌≤◌, Bool, true, false, List, [], ◌∷◌, length, map, Option, Some, None, Result, Ok, Err, inl, inr, refl, sym, ◌∙◌, ap, subst, arith}
+use Rattle.std.proofs.Common.{◌≡◌, ◌≢◌, ◌==◌, ◌⊎◌, ℕ, zero, suc, ◌≤◌, Bool, true, false, List, [], ◌∷◌, length, map, Option, Some, None, Result, Ok, Err, inl, inr, refl, sym, ◌∙◌, ap, subst, arith}
 use Rattle.std.specs.Prelude.{◌&&◌, Contains, MatchOption, if◌then◌else◌, nat_le}
 use Rattle.std.specs.List.{All}
-use Rattle.std.proofs.lemmas.Bool.{and_parts}
+use Rattle.std.proofs.lemmas.Bool.{and_from, and_parts, eq-eqb, leb-true}
 use Rattle.std.proofs.lemmas.List.Elements.{All-contains, All-nil, All-cons}
 use Rattle.auto_core.specs.Automaton.{Automaton}
 use Rattle.game_rules.specs.Game.{Position, Sound}
 use Rattle.game_rules.specs.declared.men.Man.{Man}
 use Rattle.game_rules.specs.declared.men.Side.TheVariants.{White}
-use Rattle.mate_plan.specs.Claim.{Claim, ClaimedSet, IsClaim, IsLosersPly}
+use Rattle.mate_plan.specs.Claim.{Claim, ClaimedSet, IsClaim, IsLosersPly, claimed_in}
 use Rattle.rule_formula.specs.Fits.{IsGameMask}
 use Rattle.rule_formula.specs.Mean.{mask_tracks}
-use Rattle.strategy_file.proofs.FileClaims.{IsFound, found_in, is_some_in, place_in, place_of}
+use Rattle.set_plan.proofs.Takings.{contains_cases, contains_none}
+use Rattle.strategy_file.proofs.FileClaims.{IsFound, found_in, place_in, place_of}
 use Rattle.strategy_file.proofs.LosersPlies.{places_of-are}
 use Rattle.strategy_file.specs.Claims.{claim_with, set_with}
 use Rattle.strategy_file.specs.Layout.{Ends, Field, Give, Layout, Read, Reads, Refusal, bind, each, repeated}
@@ -25,6 +26,9 @@ abbrev CanGive : {A : Type 0} → Layout A → A → Type 0
 CanGive (Give a) x = x ≡ a
 CanGive (Read field next) x = (n : ℕ) × (field.wrong n ≡ None) × CanGive (next n) x
 
+no_refusal : {B : Type 0} (b : B) (refusal : Refusal) → Ok b ≡ Err refusal → ⊥
+no_refusal b refusal e = cc
+
 module _ {A B : Type 0} where
   -- what is read whole is such a value
   record IsReadWhole (l : Layout A) (after : A → ℕ → List ℕ → Result B Refusal → Type 0) (b : B) : Type 0 where
@@ -33,9 +37,6 @@ module _ {A B : Type 0} where
     at : ℕ
     bytes : List ℕ
     goes_on : after value at bytes (Ok b)
-
-  no_refusal : (b : B) (refusal : Refusal) → Ok b ≡ Err refusal → ⊥
-  no_refusal b refusal e = cc
 
   module _ (after : A → ℕ → List ℕ → Result B Refusal → Type 0) (b : B) where
     read_field : (wrong : Option ByteWhy) (Next : Type 0) (Stop : ByteWhy → Type 0) → ((why : ByteWhy) → Stop why → ⊥) → MatchOption wrong Next Stop → (wrong ≡ None) × Next
@@ -72,7 +73,7 @@ within : (low high n : ℕ) (why : ByteWhy) → (if nat_le low n && nat_le n hig
 within low high n why h = below_by (nat_le low n && nat_le n high) refl h
   where
     below_by : (b : Bool) → (nat_le low n && nat_le n high) ≡ b → (if b then None else Some why) ≡ None → n ≤ high
-    below_by true e h = let both = and_parts (nat_le low n) (nat_le n high) e in omega (arith, both.1)
+    below_by true e h = leb-true n high (and_parts (nat_le low n) (nat_le n high) e).1
     below_by false e h = absurd cc
 
 start_few : (start : Start) → CanGive start_layout start → length start.position.men ≤ 5
@@ -141,6 +142,26 @@ file_read bytes charts file =
         let r = read_whole Ends charts (charts_layout start) at rest reads in
         let P : Charts → Type 0 = λ c. IsRead c in
         subst P (sym (ends_as_given r.value charts r.at r.bytes r.goes_on)) (charts_read start r.value sound few r.given)
+
+-- there is a set at each place of one
+some_by : (b : Bool) (a : Automaton) (rest : Option Automaton) → rest ≢ None → (if b then Some a else rest) ≢ None
+some_by true a rest h = λ e. cc
+some_by false a rest h = h
+
+some_at : (b : Bool) (a : Automaton) (rest : Option Automaton) → b ≡ true → (if b then Some a else rest) ≢ None
+some_at true a rest h = λ e. cc
+some_at false a rest h = absurd cc
+
+is_some_in : (sets : List ClaimedSet) (ply mask : ℕ) → Contains {X = ℕ × ℕ} (map place_of sets) (ply, mask) → claimed_in sets ply mask ≢ None
+is_some_in [] ply mask h = absurd (contains_none (ply, mask) h)
+is_some_in (s ∷ sets) ply mask h =
+    let test = (s.ply == ply) && (s.mask == mask) in
+    elim (contains_cases (place_of s) (map place_of sets) (ply, mask) h) [
+      | inl same ↦
+          some_at test s.set (claimed_in sets ply mask)
+          (and_from (s.ply == ply) (s.mask == mask) (eq-eqb s.ply ply (ap (λ p. p.0) same)) (eq-eqb s.mask mask (ap (λ p. p.1) same)))
+      | inr later ↦ some_by test s.set (claimed_in sets ply mask) (is_some_in sets ply mask later)
+    ]
 
 module _ (charts : Charts) (h : IsRead charts) where
   abbrev c : Claim

@@ -58,6 +58,21 @@ long_file limit (Some files) name h = (files, refl, long_in limit files name (fi
 pub some_files : (told : Option Files) → OnFiles told (λ files. Unit {0})
 some_files told = (files_of told, known_files told, tt)
 
+-- a shelf that is not called leaves what it had
+pub same_leaves : (told : Option Files) (files : Files) → IfSome told (λ known. known ≡ files) → Go told told (λ before after. after ≡ files)
+same_leaves None files h = tt
+same_leaves (Some x) files h = h
+
+pub same_kept : (told : Option Files) → Go told told (λ before after. after ≡ before)
+same_kept None = tt
+same_kept (Some x) = refl
+
+-- the bytes were put under the name
+pub put_leaves : (old new : Option Files) (files : Files) (name bytes : List ℕ) → IfSome old (λ known. known ≡ files) → Go old new (λ before after. after ≡ finite.insert before name bytes) → Go old new (λ before after. after ≡ finite.insert files name bytes)
+put_leaves None new files name bytes h put = tt
+put_leaves (Some x) None files name bytes h put = absurd put
+put_leaves (Some x) (Some y) files name bytes h put = put ∙ ap (λ f. finite.insert f name bytes) h
+
 does_leave : (status : Status) (due : Report) (old new : Seen) → Go old.files new.files (λ before after. after ≡ due.files)
     → (report : Report) × (report ≡ due) × DoesReport status report (of_sink due.files old.written old.write_faults) (of_sink due.files new.written new.write_faults)
     → DoesReport status due old new

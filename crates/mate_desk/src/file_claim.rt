@@ -1,6 +1,6 @@
 //! The claim of a file that was kept, checked, and why there is none.
 
-ghost use Rattle.std.specs.Prelude.{◌≡◌, ◌≤◌, [], IfErr, IsErrOf, Result};
+ghost use Rattle.std.specs.Prelude.{◌≡◌, ◌≤◌, [], IsErrOf, length};
 ghost use Rattle.desk_base.specs.Faults.{HasRisen};
 ghost use Rattle.desk_base.specs.Files.{Go};
 ghost use Rattle.strategy_file.specs.Claims.{claim_of};
