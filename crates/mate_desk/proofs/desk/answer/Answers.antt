@@ -1,5 +1,7 @@
-use Rattle.std.proofs.Common.{[], Ok, refl, subst, rules}
+use Rattle.std.proofs.Common.{[], ◌++◌, Ok, refl, subst, rules}
+use Rattle.chess_text.specs.PositionText.{text_of_lines}
 use Rattle.desk_base.specs.Files.{no_files}
+use Rattle.desk_base.specs.Lines.{lines_of}
 use Rattle.mate_desk.specs.Order.{IsOrderOf, Ordered, as_order}
 use Rattle.mate_desk.specs.declared.order.TextOrder.{TextOrder}
 use Rattle.mate_desk.proofs.PlayRuns.{play_ends}
@@ -29,7 +31,7 @@ returns-in-Err-clause-ends g c = λ words o.
 pub keep-requires-clause-white : goal.keep-requires-clause-white
 keep-requires-clause-white g c =
     let t = c.in-Ok.ensures.reads in
-    rw c.task-in-Keep.ensures (white_is_to_mate _ c.in-Ok.problem _ (t.reads []))
+    rw c.task-in-Keep.ensures (white_is_to_mate (text_of_lines t.takes.lines ++ []) c.in-Ok.problem (lines_of []) (t.reads []))
 
 pub returns-in-Decide-clause-ends : goal.returns-in-Decide-clause-ends
 returns-in-Decide-clause-ends g c = λ words o.
