@@ -16,7 +16,7 @@ use Rattle.set_plan.proofs.Combined.{Empty-alike, SameItems, SameMade, bind-alik
 use Rattle.set_plan.proofs.SameSets.{SameItem-sets}
 use Rattle.mate_plan.specs.Plan.{Level, Program, Rules, bear_items, difference, name, point_level, pre_items, reach_level, union}
 use Rattle.mate_plan.specs.PlanOf.{rules_of}
-use Rattle.mate_plan.specs.Questions.{are_answered, are_apart, are_safe, have_moves, have_replies, quiet_set}
+use Rattle.mate_plan.specs.Questions.{are_answered, are_apart, are_safe, has_first_move, have_moves, have_replies, quiet_set}
 use Rattle.mate_plan.specs.Twins.{twin_item, twin_items, twins_of}
 use Rattle.mate_plan.specs.declared.names.Part.{Part}
 use Rattle.mate_plan.specs.declared.names.Part.TheVariants as kind
@@ -147,18 +147,21 @@ module _ (rules : Rules) where
       (for_each-alike (left r e) (left q f) rules.masks (λ m. left-alike (other side) (suc ply) r q e f m reached claimed2))
       (for_each-alike (stale c r) (stale d q) rules.masks (λ m. stale-alike side ply c d r q m claimed reached)))
 
-  move-alike : (side : Side) (mask : ℕ) (tuple : List ℤ) (c d : Level) → SameLevels c d → Alike Same (check_move rules side mask tuple c) (check_move rules side mask tuple d)
-  move-alike side mask tuple c d claimed =
-      let r = rule_at 0 mask rule.First in
+  starts-alike : (side : Side) (mask : ℕ) (tuple : List ℤ) (c d : Level) → SameLevels c d → Alike Same (has_first_move rules side mask tuple c) (has_first_move rules side mask tuple d)
+  starts-alike side mask tuple c d claimed =
       let items = λ (s : SetOf) (l : Level). pre_items rules side mask s l in
       let into = λ (s : SetOf) (l : Level). union rules 0 mask kind.First (items s l) in
-      let asked = λ (s : SetOf). holds_by r (Ask (Has s tuple) (Give true) (Give false)) in
+      let asked = λ (s : SetOf). Ask (Has s tuple) (Give true) (Give false) in
       bind-alike SameLevels Same (point_level rules mask) (point_level rules mask) (λ start. bind (into (start mask) c) asked) (λ start. bind (into (start mask) d) asked)
       (point_level-alike rules mask)
       (λ a b start.
       bind-alike SameSets Same (into (a mask) c) (into (b mask) d) asked asked
       (union-alike rules 0 mask kind.First (items (a mask) c) (items (b mask) d) (pre-same rules side mask (a mask) (b mask) c d (start mask) claimed))
-      (λ s t same. asked-alike r (Has s tuple) (Has t tuple) (Has-alike s t tuple same)))
+      (λ s t same. (Has-alike s t tuple same, refl, refl)))
+
+  move-alike : (side : Side) (mask : ℕ) (tuple : List ℤ) (c d : Level) → SameLevels c d → Alike Same (check_move rules side mask tuple c) (check_move rules side mask tuple d)
+  move-alike side mask tuple c d claimed =
+      holds_by-alike (rule_at 0 mask rule.First) (has_first_move rules side mask tuple c) (has_first_move rules side mask tuple d) (starts-alike side mask tuple c d claimed)
 
 module _ (p : Position) (w : Side) (n : ℕ) (xs ys : List ClaimedSet) (same : (ply mask : ℕ) → AreSameSets (claimed_in xs ply mask) (claimed_in ys ply mask)) where
   abbrev c : Claim

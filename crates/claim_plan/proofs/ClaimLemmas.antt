@@ -1,28 +1,22 @@
 -- The positions of a claim.
-use Rattle.std.proofs.Common.{◌≡◌, ◌↔◌, ℕ, Bool, List, Option, Some, None, ℤ, refl, sym, ap, ◌∙◌, subst}
+use Rattle.std.proofs.Common.{◌≡◌, ◌↔◌, ℕ, List, Option, Some, None, ℤ, refl, sym, ap, ◌∙◌, subst}
 use Rattle.std.specs.Prelude.{IsSomeAnd}
 use Rattle.track_word.specs.Tracks.{Values, values_at, word_values}
 use Rattle.auto_core.specs.Automaton.{Automaton}
 use Rattle.auto_core.specs.Integers.{IsAccepted}
-use Rattle.game_rules.specs.Game.{HasOneKing, InCheck, IsApart, Lost, Position, Sound, other}
-use Rattle.game_rules.specs.declared.men.Side.{Side}
-use Rattle.game_laws.proofs.SoundLemmas.{other_other}
+use Rattle.game_rules.specs.Game.{Lost, Position, other}
 use Rattle.lin_formula.specs.SetOf.{Member, as_set}
-use Rattle.rule_formula.specs.Fits.{Fits, HasStock, IsGameMask, mask_of}
+use Rattle.rule_formula.specs.Fits.{mask_of}
 use Rattle.rule_formula.specs.Placed.{is_live, placed, tuple_of}
 use Rattle.rule_formula.specs.Seats.{squares}
 use Rattle.rule_formula.proofs.FitLemmas.{tuple_placed}
-use Rattle.rule_formula.proofs.GameTheorem.{placed_fits, placed_mask, placed_stock}
-use Rattle.rule_formula.proofs.LawTheorem.{squares_of}
-use Rattle.rule_formula.proofs.PlacedLemmas.{stock_man-men}
+use Rattle.rule_formula.proofs.GameTheorem.{placed_mask, placed_stock}
 use Rattle.mate_plan.specs.PlanOf.{last_ply}
 use Rattle.winning_sets.specs.Kept.{moves_left}
 use Rattle.winning_sets.specs.Solve.{HasTuplesOf, IsTupleOf}
-use Rattle.rule_formula.proofs.StockLemmas.{stock_placed}
 use Rattle.winning_sets.proofs.KeptParts.{left_half_more}
-use Rattle.mate_plan.specs.Claim.{Claim, IsClaim, IsClaimed, IsLosersPly, claimed_at, claimed_level}
+use Rattle.mate_plan.specs.Claim.{Claim, IsClaim, IsClaimed, claimed_at, claimed_level}
 use Rattle.claim_plan.specs.WonLaws.{ClaimedAreOfGame, ClaimedIsLost, SetsHaveClaimedTuples, WonIsValue}
-use Rattle.mate_plan.specs.Won.{Won}
 use Rattle.winning_sets.proofs.ClaimedLemmas.{claim_value, claimed_there, of_game}
 use Rattle.winning_sets.proofs.WonLemmas.{claimed_lost}
 

@@ -17,6 +17,7 @@ use Rattle.set_plan.proofs.Composition.{Takes-split}
 use Rattle.std.proofs.lemmas.Bool.{eq-eqb}
 use Rattle.mate_plan.specs.Plan.{Level, level_with, name, no_sets, point_level, pre_items, union}
 use Rattle.mate_plan.specs.PlanOf.{formula_or, rules_of}
+use Rattle.mate_plan.specs.Questions.{has_first_move}
 use Rattle.mate_plan.specs.declared.names.Part.TheVariants as kind
 use Rattle.winning_sets.proofs.KeptParts.{StepsTo-moves}
 use Rattle.winning_sets.proofs.KeptSets.{Entries, pre-stands}
@@ -28,7 +29,7 @@ use Rattle.mate_plan.specs.Won.{IsBegun}
 use Rattle.claim_plan.specs.declared.names.RuleAt.{RuleAt}
 use Rattle.claim_plan.specs.declared.names.Rule.TheVariants as rule
 use Rattle.winning_sets.proofs.ClaimedLemmas.{claimed_there}
-use Rattle.claim_plan.proofs.Findings.{Checks, IsTold, asked-tells, holds_by-told, one-checks}
+use Rattle.claim_plan.proofs.Findings.{Checks, IsTold, Tells, asked-tells, holds_by-told, one-checks, tells-same, told-checks}
 use Rattle.claim_plan.proofs.ReplyRules.{answer_moves}
 use Rattle.claim_plan.proofs.SetRules.{claimed_stands}
 use Rattle.winning_sets.proofs.WonLemmas.{last_loser, last_winner}
@@ -97,6 +98,16 @@ module _ (c : Claim) (is : IsClaim c) (mean : RulesMean c.position) (some_point 
         ],
       )
 
+  starts-tell : c.position.turn ≡ c.winner → (xs : Entries) (b : Bool) → Takes (has_first_move (rules_of c.position) c.winner (mask_of c.position) (tuple_of c.position) (claimed_level c 1)) xs (Some b) → Tells (IsBegun c.winner c.position (IsClaimed c)) b
+  starts-tell turn xs b t =
+      let into_one = λ (s : SetOf). union (rules_of p) 0 (mask_of p) kind.First (pre_items (rules_of p) c.winner (mask_of p) s (claimed_level c 1)) in
+      let asked = λ (s : SetOf). Ask (Has s (tuple_of p)) (Give true) (Give false) in
+      let (us, vs, start, o1, first, rest) = Takes-split (point_level (rules_of p) (mask_of p)) (λ start. bind (into_one (start (mask_of p))) asked) xs b t in
+      let (ws, zs, into, o2, second, last) = Takes-split (into_one (start (mask_of p))) asked vs b rest in
+      tells-same (Member into (tuple_of p)) (IsBegun c.winner c.position (IsClaimed c)) b
+      (move_means (start (mask_of p)) into ws turn (start_has start us first) second)
+      (asked-tells (Has into (tuple_of p)) (Member into (tuple_of p)) (λ h. h) (λ h. h) zs b last)
+
   moves-checks : (n : ℕ) → c.moves ≡ n → c.position.turn ≡ c.winner → Checks (KeepsRule c) (rule_at 0 (mask_of c.position) rule.First ∷ []) (check_moving c n)
   moves-checks zero none turn xs found t =
       let given : found ≡ Some f = Takes-give (Some f) found xs t in
@@ -108,13 +119,7 @@ module _ (c : Claim) (is : IsClaim c) (mean : RulesMean c.position) (some_point 
         given,
       )
   moves-checks (suc n) some turn xs found t =
-      let into_one = λ (s : SetOf). union (rules_of p) 0 (mask_of p) kind.First (pre_items (rules_of p) c.winner (mask_of p) s (claimed_level c 1)) in
-      let asked = λ (s : SetOf). holds_if f (Has s (tuple_of p)) in
-      let (us, vs, start, o1, first, rest) = Takes-split (point_level (rules_of p) (mask_of p)) (λ start. bind (into_one (start (mask_of p))) asked) xs found t in
-      let (ws, zs, into, o2, second, last) = Takes-split (into_one (start (mask_of p))) asked vs found rest in
-      one-checks (KeepsRule c) (Member into (tuple_of p)) f found
-      (move_means (start (mask_of p)) into ws turn (start_has start us first) second)
-      (has-told into zs found last)
+      told-checks (KeepsRule c) f (has_first_move (rules_of p) c.winner (mask_of p) (tuple_of p) (claimed_level c 1)) (starts-tell turn) xs found t
 
   starting-checks : c.position.turn ≡ other c.winner → Checks (KeepsRule c) (rule_at 0 (mask_of c.position) rule.First ∷ []) (check_waiting c)
   starting-checks turn xs found t =

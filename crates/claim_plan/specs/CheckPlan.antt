@@ -8,10 +8,9 @@ use Rattle.lin_formula.specs.SetOf.{SetOf}
 use Rattle.rule_formula.specs.Fits.{mask_of}
 use Rattle.rule_formula.specs.Placed.{tuple_of}
 use Rattle.set_plan.specs.Program.{Question, Give, Ask, Stable, Has, bind, ◌>>=◌}
-use Rattle.mate_plan.specs.Plan.{Level, Program, Rules, point_level, pre_items, reach_level, union}
+use Rattle.mate_plan.specs.Plan.{Level, Program, Rules, reach_level}
 use Rattle.mate_plan.specs.PlanOf.{rules_of}
-use Rattle.mate_plan.specs.Questions.{are_answered, are_apart, are_safe, have_replies}
-use Rattle.mate_plan.specs.declared.names.Part.TheVariants as kind
+use Rattle.mate_plan.specs.Questions.{are_answered, are_apart, are_safe, has_first_move, have_replies}
 use Rattle.mate_plan.specs.Claim.{Claim, claimed_at, claimed_level, losers_plies}
 use Rattle.claim_plan.specs.declared.names.Rule.{Rule}
 use Rattle.claim_plan.specs.declared.names.Rule.TheVariants as rule
@@ -80,10 +79,8 @@ module _ (rules : Rules) where
 
   -- from the position with these coordinates a move of the winner leads into what is claimed at ply 1
   abbrev pub check_move : Side → ℕ → List ℤ → Level → Program Finding
-  check_move winner mask tuple claimed1 = do
-    start ← point_level rules mask
-    first ← union rules 0 mask kind.First (pre_items rules winner mask (start mask) claimed1)
-    holds_if (rule_at 0 mask rule.First) (Has first tuple)
+  check_move winner mask tuple claimed1 =
+      holds_by (rule_at 0 mask rule.First) (has_first_move rules winner mask tuple claimed1)
 
 module _ (c : Claim) where
   abbrev pub rules : Rules

@@ -2,7 +2,7 @@
 use Rattle.std.specs.Prelude.{◌≡◌, ℕ, Some}
 use Rattle.auto_core.specs.Automaton.{Automaton}
 use Rattle.auto_core.specs.Integers.{DecidesIntegers}
-use Rattle.game_rules.specs.Game.{Lost, Position, Sound, Value, other}
+use Rattle.game_rules.specs.Game.{Lost, Position, Sound, Value}
 use Rattle.game_rules.specs.declared.men.Side.{Side}
 use Rattle.mate_plan.specs.Claim.{Claim, IsClaim, IsClaimed, IsLosersPly, claimed_at}
 use Rattle.mate_plan.specs.PlanOf.{last_ply}

@@ -94,6 +94,16 @@ module _ (p : Position) (mask : ℕ) (is : mask ≡ mask_of p) (budget : ℕ) wh
       let Are : List (Option SetId) → Type 0 = λ ns. AreNames p.men sets (masks_of p) ns in
       subst Are (sym (subst Here is are)) (names_at_one sets (mask_of p) id p.men (masks_of p) on)
 
+-- with one name
+module _ (p : Position) (mask : ℕ) (id : Option SetId) (names : List (Option SetId)) (are : names ≡ map (λ m. if m == mask then id else None) (masks_of p)) where
+  pub one_level_of : Contains (masks_of p) mask → (sets : List Automaton) → level_of sets (masks_of p) names ≡ level_with no_sets mask (set_at sets id)
+  one_level_of there sets = ap (level_of sets (masks_of p)) are ∙ level_at_one sets mask id (masks_of p) there
+
+  pub one_names : (sets : List Automaton) → IsNameOn (mask_tracks p mask) sets id → AreNames p.men sets (masks_of p) names
+  one_names sets on =
+      let Are : List (Option SetId) → Type 0 = λ ns. AreNames p.men sets (masks_of p) ns in
+      subst Are (sym are) (names_at_one sets mask id p.men (masks_of p) on)
+
 -- without names
 module _ (p : Position) (mask : ℕ) (names : List (Option SetId)) (are : names ≡ map (λ m. if m == mask then None else None) (masks_of p)) (sets : List Automaton) where
   pub none_level : level_of sets (masks_of p) names ≡ no_sets

@@ -1,11 +1,11 @@
 -- Questions on the sets of a plan, each a part or some parts of its own.
-use Rattle.std.specs.Prelude.{ℕ, [], ◌∷◌, Bool, true}
+use Rattle.std.specs.Prelude.{ℕ, List, [], ◌∷◌, ℤ, Bool, true, false}
 use Rattle.game_rules.specs.Game.{Position, other}
 use Rattle.game_rules.specs.declared.men.Side.{Side}
 use Rattle.lin_formula.specs.SetOf.{SetOf}
-use Rattle.set_plan.specs.Program.{Give, Ask, Empty, ◌>>=◌}
+use Rattle.set_plan.specs.Program.{Give, Ask, Empty, Has, ◌>>=◌}
 use Rattle.set_plan.specs.Unite.{are_empty, is_within}
-use Rattle.mate_plan.specs.Plan.{Level, Program, Rules, bear_items, difference, name, pre_items, union}
+use Rattle.mate_plan.specs.Plan.{Level, Program, Rules, bear_items, difference, name, point_level, pre_items, union}
 use Rattle.mate_plan.specs.Twins.{twin_items}
 use Rattle.mate_plan.specs.declared.names.Part.{Part}
 use Rattle.mate_plan.specs.declared.names.Part.TheVariants as kind
@@ -44,3 +44,10 @@ module _ (rules : Rules) where
   -- the same of one level with the mask, with no step where it has no such position
   abbrev pub have_replies : Side → ℕ → Level → Level → ℕ → Program Bool
   have_replies side ply from into mask = Ask (Empty (from mask ∷ [])) (Give true) (some_have_replies side ply mask (from mask) into)
+
+  -- whether a move of the side leads from the starting position, which has this mask and these coordinates, into the level
+  abbrev pub has_first_move : Side → ℕ → List ℤ → Level → Program Bool
+  has_first_move side mask tuple into = do
+    start ← point_level rules mask
+    first ← union rules 0 mask kind.First (pre_items rules side mask (start mask) into)
+    Ask (Has first tuple) (Give true) (Give false)

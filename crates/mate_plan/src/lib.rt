@@ -6,6 +6,7 @@
 
 mod answering;
 mod apart;
+mod first;
 mod formulas;
 pub mod laws;
 mod lending;
@@ -22,11 +23,12 @@ mod winning;
 
 pub use answering::{are_answered, have_replies};
 pub use apart::{are_apart, are_safe};
+pub use first::has_first_move;
 pub use level::LevelNames;
 pub use losing::lost_level;
 pub use names::{Part, PartName};
 pub use reaching::reach_level;
 pub use stage::{MovesInto, Stage, StageLevel};
-pub use starting::{no_level, point_level};
+pub use starting::{no_level, one_level, point_level};
 pub use tracks::mask_tracks;
 pub use winning::win_level;

@@ -5,12 +5,12 @@ ghost use Rattle.auto_core.specs.Automaton.{Automaton};
 ghost use Rattle.lin_formula.specs.SetOf.{Nothing};
 ghost use Rattle.set_plan.specs.Sets.{made_of};
 ghost use Rattle.set_plan.specs.Unite.{make as make_item};
-ghost use Rattle.rule_formula.specs.Fits.{mask_of, masks_of};
+ghost use Rattle.rule_formula.specs.Fits.{IsGameMask, mask_of, masks_of};
 ghost use Rattle.rule_formula.specs.Mean.{mask_tracks as tracks_at};
 ghost use Rattle.rule_formula.specs.Trees.{point_of};
 ghost use Rattle.set_plan.specs.Outcome.{Answers};
 ghost use Rattle.set_plan.specs.Sets.{Grows, IsNameOn, IsSetOn, set_at};
-ghost use Rattle.mate_plan.specs.Levels.{AreNames, level_of};
+ghost use Rattle.mate_plan.specs.Levels.{AreNames, AreNamesIn, level_in, level_of};
 ghost use Rattle.mate_plan.specs.Plan as plan;
 ghost use Rattle.mate_plan.specs.PlanOf.{rules_of};
 
@@ -39,6 +39,20 @@ fn level_at(
         names.push(if *other == mask { name } else { None })?;
     }
     Ok(names)
+}
+
+/// The level with the set of this name for a mask, and without a set for the others.
+pub fn one_level(
+    alloc: Global,
+    p: &Position,
+    mask: u8,
+    name: Option<SetId>,
+) -> Result<LevelNames, AllocError>
+    requires mask { IsGameMask p.now mask }
+    ensures level { IfOk result (λ names. (sets : List Automaton) → level_in p.now sets names ≡ plan.level_with plan.no_sets mask (set_at sets name)) }
+    ensures names { IfOk result (λ names. (sets : List Automaton) → IsNameOn (tracks_at p.now mask) sets name → AreNamesIn p.now sets names) }
+{
+    level_at(alloc, p, mask, name)
 }
 
 /// The level without sets, in which no mask has a name.

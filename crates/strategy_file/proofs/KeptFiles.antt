@@ -1,30 +1,28 @@
 -- The file of what is kept: there is one, it is that of a solved position, and it is read as a claim that is won.
-use Rattle.std.proofs.Common.{◌≡◌, ◌↔◌, ℕ, ◌≤◌, List, length, map, Option, Some, All, refl, sym, ap, ◌∙◌, subst, arith}
-use Rattle.std.specs.Prelude.{Contains, IsSomeAnd}
+use Rattle.std.proofs.Common.{◌≡◌, ◌↔◌, ℕ, List, length, Option, All, sym, ap, ◌∙◌, subst}
+use Rattle.std.specs.Prelude.{IsSomeAnd}
 use Rattle.std.proofs.lemmas.List.Elements.{All-contains, All-weaker}
 use Rattle.track_word.specs.declared.tracks.Var.{Var}
 use Rattle.track_word.specs.Tracks.{values_at, word_values}
 use Rattle.track_word.specs.Word.{IsWord}
 use Rattle.auto_core.specs.Automaton.{Automaton, Accepts}
-use Rattle.auto_core.specs.Integers.{DecidesIntegers, IsAccepted}
+use Rattle.auto_core.specs.Integers.{DecidesIntegers}
 use Rattle.auto_reduce.specs.Tables.{AcceptSameWords}
 use Rattle.formula_auto.proofs.Atoms.{accepted-values}
 use Rattle.formula_auto.proofs.Projections.{apart-ascending}
-use Rattle.game_rules.specs.Game.{Position, Sound, Value}
+use Rattle.game_rules.specs.Game.{Position, Value}
 use Rattle.game_rules.specs.declared.men.Side.{Side}
 use Rattle.rule_formula.specs.Mean.{mask_tracks}
-use Rattle.mate_plan.specs.Claim.{Claim, ClaimedSet, IsClaim, claimed_at}
-use Rattle.mate_plan.specs.Won.{Won}
+use Rattle.mate_plan.specs.Claim.{Claim, ClaimedSet, IsClaim}
 use Rattle.winning_sets.specs.Kept.{Kept}
-use Rattle.winning_sets.specs.Solve.{HasTuplesOf, IsSolution, IsTupleOf, Solution, kept_at}
+use Rattle.winning_sets.specs.Solve.{HasTuplesOf, IsSolution, IsTupleOf, Solution}
 use Rattle.claim_plan.specs.SameClaims.{IsSameSet}
-use Rattle.claim_plan.specs.WonLaws.{IsKeptSet, IsOfKept}
+use Rattle.claim_plan.specs.WonLaws.{IsOfKept}
 use Rattle.claim_plan.proofs.CheckLaws.{kept_claim_is_won}
 use Rattle.claim_plan.proofs.SameClaims.{same_claims_are_checked_alike}
 use Rattle.claim_plan.proofs.SameSets.{IsAccepted-same, decides-same}
 use Rattle.strategy_file.specs.Claims.{claim_with}
-use Rattle.strategy_file.specs.Fitting.{HasFile}
-use Rattle.strategy_file.specs.KeptFile.{IsKeptClaim, IsKeptFile, IsKeptSetOf, IsKeptTooLarge}
+use Rattle.strategy_file.specs.KeptFile.{IsKeptClaim, IsKeptSetOf}
 use Rattle.strategy_file.specs.Laws.{FileIsKept, KeptFileIsClaim, OneKeptFile}
 use Rattle.strategy_file.specs.SolvedFile.{IsClaimOf, IsOfKeptSet}
 use Rattle.strategy_file.specs.StrategyFile.{charts_of}

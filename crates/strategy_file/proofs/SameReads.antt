@@ -1,5 +1,5 @@
 -- The claim of the tables of a claim has the same sets.
-use Rattle.std.proofs.Common.{◌≡◌, ◌↔◌, ℕ, Bool, true, false, ◌&&◌, ◌==◌, List, [], ◌∷◌, map, Option, Some, None, refl}
+use Rattle.std.proofs.Common.{◌↔◌, ℕ, Bool, true, false, ◌&&◌, ◌==◌, List, [], ◌∷◌, map, Option, Some, refl}
 use Rattle.std.specs.Prelude.{if◌then◌else◌}
 use Rattle.auto_core.specs.Automaton.{Automaton, Accepts}
 use Rattle.mate_plan.specs.Claim.{ClaimedSet, claimed_in}

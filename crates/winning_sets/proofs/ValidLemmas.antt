@@ -1,5 +1,5 @@
 -- What holds of a valid solution, wherever its sets come from. Other crates may cite these lemmas.
-use Rattle.std.proofs.Common.{◌≡◌, ◌↔◌, ℕ, zero, suc, ◌≤◌, length, Some, None, sym, ◌∙◌, subst, arith}
+use Rattle.std.proofs.Common.{◌≡◌, ◌↔◌, ℕ, zero, suc, ◌≤◌, length, Some, sym, ◌∙◌, subst, arith}
 use Rattle.auto_core.specs.Automaton.{Automaton}
 use Rattle.formula_auto.proofs.FirstOvers.{none_some}
 use Rattle.game_rules.specs.Game.{Position, Sound, Value}

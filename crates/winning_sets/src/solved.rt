@@ -123,7 +123,8 @@ impl Solved {
         last_ply(self.winner, self.position.turn(), self.moves)
     }
 
-    /// The set of the positions at a ply, with the live men of a mask, from which the winner mates in time.
+    /// The set of the positions at a ply, with the live men of a mask, from which the winner mates in time; or the claimed one. A claim has
+    /// none at the plies of the winner.
     pub fn set(&self, ply: u8, mask: u8) -> Option<&Auto>
         ensures set { option_copied result ≡ kept_at self.now ply mask }
         ensures few { IfSome result (λ a. length a.now.accept ≤ 200000) }
@@ -132,7 +133,8 @@ impl Solved {
         set_at(self.masks.as_slice(), self.kept.as_slice(), ply, mask)
     }
 
-    /// The set of the positions that are reached at a ply, with the live men of a mask. There is none where the plan has no step.
+    /// The set of the positions that are reached at a ply, with the live men of a mask. There is none where the plan has no step, and
+    /// none with a claim.
     pub fn reach(&self, ply: u8, mask: u8) -> Option<&Auto>
         ensures set { option_copied result ≡ reach_at self.now ply mask }
         ensures few { IfSome result (λ a. length a.now.accept ≤ 200000) }

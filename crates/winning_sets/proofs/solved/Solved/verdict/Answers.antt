@@ -1,4 +1,4 @@
-use Rattle.std.proofs.Common.{◌≡◌, ◌↔◌, IsTrue, refl, ap, subst, sym, ◌∙◌}
+use Rattle.std.proofs.Common.{◌↔◌, IsTrue, refl, ap, subst, sym, ◌∙◌}
 use Rattle.game_rules.specs.Game.{Position}
 use Rattle.winning_sets.specs.Claimed.{IsValid}
 use Rattle.winning_sets.specs.Solve.{IsKeptIn}

@@ -1,0 +1,14 @@
+pub mod RunLemmas
+pub mod ReadySets
+pub mod LosersPlies
+pub mod ClaimedLevels
+pub mod SignedSets
+pub mod ReducedSets
+pub mod Grouped
+pub mod WonSets
+pub mod SetParts
+pub mod FirstParts
+pub mod ReplyParts
+pub mod PlanParts
+pub mod CheckEnds
+pub mod ReadyClaim

@@ -1,0 +1,7 @@
+pub use Rattle.claim_plan.specs.CheckPlan
+pub mod Runs
+pub mod Plies
+pub mod Ready
+pub mod Replies
+pub mod Reduced
+pub mod Check

@@ -1,0 +1,8 @@
+-- The plies of the loser.
+use Rattle.std.specs.Prelude.{◌≤◌}
+use Rattle.claim_check.specs.declared.plies.Plies.{Plies}
+
+-- they begin at one of the first two plies, and are no more than twenty-one
+pub record AreFew (plies : Plies) : Type 0 where
+  pub first : plies.first ≤ 1
+  pub count : plies.count ≤ 21

@@ -1,0 +1,25 @@
+-- Claimed sets with which the plan of their claim can be gone through.
+use Rattle.std.specs.Prelude.{◌≡◌, ℕ, ◌≤◌, length, Some}
+use Rattle.auto_core.specs.Automaton.{Automaton}
+use Rattle.auto_core.specs.Integers.{DecidesIntegers}
+use Rattle.auto_core.specs.Reduced.{IsReduced}
+use Rattle.rule_formula.specs.Fits.{masks_of}
+use Rattle.mate_plan.specs.Claim.{Claim, IsClaim, claimed_at}
+use Rattle.winning_sets.specs.Claimed.{claim_of, solution_of}
+use Rattle.winning_sets.specs.declared.claimed.ClaimedSets.{ClaimedSets}
+
+-- the claim of these sets
+abbrev pub claim_in : ClaimedSets → Claim
+claim_in s = claim_of (solution_of s)
+
+-- they are a claim within at most twenty moves, and each is reduced and has no more states than the greatest budget
+pub record IsReady (s : ClaimedSets) : Type 0 where
+  pub masks : s.masks.items ≡ masks_of s.position
+  pub moves : s.moves ≤ 20
+  pub claim : IsClaim (claim_in s)
+  pub reduced : (ply mask : ℕ) (a : Automaton) → claimed_at (claim_in s) ply mask ≡ Some a → IsReduced a
+  pub few : (ply mask : ℕ) (a : Automaton) → claimed_at (claim_in s) ply mask ≡ Some a → length a.accept ≤ 200000
+
+-- each claimed set decides a set of integers
+abbrev pub AreSigned : Claim → Type 0
+AreSigned c = (ply mask : ℕ) (a : Automaton) → claimed_at c ply mask ≡ Some a → DecidesIntegers a

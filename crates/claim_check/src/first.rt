@@ -1,0 +1,85 @@
+//! The rule of the start: the winner has a move from the position into what is claimed, or the position is claimed itself.
+ghost use Rattle.std.specs.Prelude.{◌≡◌, ◌↔◌, ℕ, IsTrue};
+ghost use Rattle.lin_formula.specs.SetOf.{Member};
+ghost use Rattle.rule_formula.specs.Fits.{mask_of};
+ghost use Rattle.rule_formula.specs.Placed.{tuple_of};
+ghost use Rattle.mate_plan.specs.Claim.{claimed_level as level_at};
+ghost use Rattle.claim_plan.specs.CheckPlan as plan;
+ghost use Rattle.claim_check.specs.Ready.{AreSigned, IsReady, claim_in};
+ghost use Rattle.claim_check.specs.Runs.{Runs};
+
+use crate::bench::Bench;
+use crate::claimed::{claimed_level, claimed_set};
+use crate::error::Fault;
+use crate::rules::{kept_by, kept_or, rule_at};
+use claim_plan::{Rule, RuleAt};
+use mask_sets::coordinates;
+use mate_plan::has_first_move;
+use winning_sets::ClaimedSets;
+
+/// The rule of the start.
+fn first_rule(claimed: &ClaimedSets) -> RuleAt
+    ensures { result ≡ plan.rule_at 0 (mask_of claimed.now.position) Rule.First }
+{
+    rule_at(0, claimed.position.mask(), Rule::First)
+}
+
+/// Whether the coordinates of the position are claimed before any move.
+fn is_claimed(claimed: &ClaimedSets) -> bool
+    requires ready { IsReady claimed.now }
+    requires signed { AreSigned (claim_in claimed.now) }
+    ensures { IsTrue result ↔ Member (level_at (claim_in claimed.now) 0 (mask_of claimed.now.position)) (tuple_of claimed.now.position) }
+{
+    match claimed_set(claimed, 0, claimed.position.mask()) {
+        Some(set) => set.member(coordinates(&claimed.position).as_slice()),
+        None => false,
+    }
+}
+
+/// The rule of the start where the winner is to move. Without a move he leads nowhere.
+fn check_moving(bench: &mut Bench, claimed: &ClaimedSets) -> Result<(), Fault>
+    requires ready { IsReady claimed.now }
+    requires signed { AreSigned (claim_in claimed.now) }
+    requires turn { claimed.now.position.turn ≡ claimed.now.winner }
+    ensures runs { Runs (plan.check_moving (claim_in claimed.now) claimed.now.moves) bench.old.memo.budget result }
+    ensures budget { bench.new.memo.budget ≡ bench.old.memo.budget }
+{
+    let rule = first_rule(claimed);
+    if claimed.moves == 0 {
+        return Err(Fault::NotKept(rule));
+    }
+    let level = claimed_level(bench, claimed, 1)?;
+    kept_by(
+        rule,
+        has_first_move(
+            bench.alloc,
+            &mut bench.memo,
+            &mut bench.sets,
+            &claimed.position,
+            &level,
+        ),
+    )
+}
+
+/// The rule of the start where the loser is to move.
+fn check_waiting(claimed: &ClaimedSets) -> Result<(), Fault>
+    requires ready { IsReady claimed.now }
+    requires signed { AreSigned (claim_in claimed.now) }
+    ensures { (budget : ℕ) → Runs (plan.check_waiting (claim_in claimed.now)) budget result }
+{
+    kept_or(first_rule(claimed), is_claimed(claimed))
+}
+
+/// The rule of the start.
+pub(crate) fn check_first(bench: &mut Bench, claimed: &ClaimedSets) -> Result<(), Fault>
+    requires ready { IsReady claimed.now }
+    requires signed { AreSigned (claim_in claimed.now) }
+    ensures runs { Runs (plan.check_first (claim_in claimed.now) claimed.now.winner claimed.now.position.turn) bench.old.memo.budget result }
+    ensures budget { bench.new.memo.budget ≡ bench.old.memo.budget }
+{
+    if claimed.position.turn() == claimed.winner {
+        check_moving(bench, claimed)
+    } else {
+        check_waiting(claimed)
+    }
+}

@@ -1,0 +1,45 @@
+//! The plies of the loser.
+ghost use Rattle.std.specs.Prelude.{◌≡◌, ◌≤◌};
+ghost use Rattle.claim_check.specs.Plies.{AreFew};
+ghost use Rattle.mate_plan.specs.Claim.{every_second, losers_plies as plies_of};
+
+use chess_game::Side;
+
+/// Every second ply from a first one on, so many of them.
+#[derive(Clone, Copy)]
+pub(crate) struct Plies {
+    pub(crate) first: u8,
+    pub(crate) count: u8,
+}
+
+impl Plies {
+    ghost use Rattle.std.specs.Prelude.{◌+◌, ◌*◌, ◌<◌};
+
+    /// The ply after so many of them.
+    pub(crate) fn ply(self, before: u8) -> u8
+        requires few { AreFew self }
+        requires before { before < self.count }
+        ensures is { result ≡ self.first + 2 * before }
+        ensures low { result ≤ 41 }
+    {
+        self.first + 2 * before
+    }
+}
+
+/// The plies of the loser, by the winner and by the side that moves first.
+pub(crate) fn losers_plies(winner: Side, first: Side, moves: u8) -> Plies
+    requires { moves ≤ 20 }
+    ensures plies { every_second result.first result.count ≡ plies_of winner first moves }
+    ensures few { AreFew result }
+{
+    match (winner, first) {
+        (Side::White, Side::White) | (Side::Black, Side::Black) => Plies {
+            first: 1,
+            count: moves,
+        },
+        (Side::White, Side::Black) | (Side::Black, Side::White) => Plies {
+            first: 0,
+            count: moves + 1,
+        },
+    }
+}

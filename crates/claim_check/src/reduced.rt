@@ -1,0 +1,91 @@
+//! The sets of a claim as it is read from a file, reduced and ply by ply.
+ghost use Rattle.std.specs.Prelude.{◌≡◌, ◌++◌, ◌∷◌, [], IfOk, OnOk, map};
+ghost use Rattle.std.specs.List.{AllZip};
+ghost use Rattle.mate_plan.specs.Claim.{every_second};
+ghost use Rattle.claim_plan.specs.SameClaims.{IsSameClaim};
+ghost use Rattle.strategy_file.specs.Claims.{claim_of, set_of};
+ghost use Rattle.strategy_file.specs.Fitting.{HasFile};
+ghost use Rattle.strategy_file.specs.StrategyFile.{places_with};
+ghost use Rattle.winning_sets.specs.Claimed.{sets_from};
+ghost use Rattle.claim_check.specs.Plies.{AreFew};
+ghost use Rattle.claim_check.specs.Ready.{IsReady, claim_in};
+ghost use Rattle.claim_check.specs.Reduced.{AreReduced, IsReducedOf};
+
+use crate::plies::{Plies, losers_plies};
+use auto_core::Auto;
+use auto_reduce::reduce;
+use rule_formula::masks;
+use std::alloc::{AllocError, Global};
+use strategy_file::{Claim, ClaimedSet};
+use winning_sets::{ClaimedSets, PlySets};
+
+/// A set, reduced. The table that was read is let go.
+fn reduced_set(alloc: Global, claimed: ClaimedSet) -> Result<Auto, AllocError>
+    ensures { IfOk result (λ a. IsReducedOf claimed.set a) }
+{
+    let set = claimed.set.into_auto(alloc)?;
+    let reduced = reduce(alloc, &set)?;
+    Ok(reduced)
+}
+
+/// The sets of a ply, reduced.
+fn reduced_ply(alloc: Global, sets: Vec<ClaimedSet>) -> Result<PlySets, AllocError>
+    ensures { IfOk result (λ reduced. AllZip IsReducedOf (map (λ s. s.set) sets.items) reduced) }
+{
+    let mut reduced = Vec::new(alloc);
+    for set in sets {
+        reduced.push(reduced_set(alloc, set)?)?;
+    }
+    Ok(PlySets::new(reduced))
+}
+
+/// Adds a ply of the winner, which has no sets.
+fn push_none(alloc: Global, plies: &mut Vec<PlySets>) -> Result<(), AllocError>
+    ensures { OnOk result (plies.new.items ≡ plies.old.items ++ [] ∷ []) }
+{
+    plies.push(PlySets::new(Vec::new(alloc)))?;
+    Ok(())
+}
+
+/// The sets of these plies, each with one for each of the masks, in their order.
+fn reduced_plies(
+    alloc: Global,
+    sets: Vec<ClaimedSet>,
+    masks: &[u8],
+    losers: Plies,
+) -> Result<Vec<PlySets>, AllocError>
+    requires few { AreFew losers }
+    requires places { map (λ s. (s.ply, s.mask)) sets.items ≡ places_with (every_second losers.first losers.count) masks.now }
+    ensures { IfOk result (λ plies. AreReduced (map set_of sets.items) (sets_from 0 masks.now plies.items)) }
+{
+    let mut plies = Vec::new(alloc);
+    for _before in 0..losers.first {
+        push_none(alloc, &mut plies)?;
+    }
+    let mut left = sets;
+    for _done in 0..losers.count {
+        let later = left.split_off(masks.len())?;
+        plies.push(reduced_ply(alloc, left)?)?;
+        push_none(alloc, &mut plies)?;
+        left = later;
+    }
+    Ok(plies)
+}
+
+/// The sets of a claim, reduced.
+pub(crate) fn reduced_claim(alloc: Global, claim: Claim) -> Result<ClaimedSets, AllocError>
+    requires file { HasFile (claim_of claim) }
+    ensures same { IfOk result (λ sets. IsSameClaim (claim_of claim) (claim_in sets)) }
+    ensures ready { IfOk result IsReady }
+{
+    let all = masks(alloc, &claim.position)?;
+    let losers = losers_plies(claim.winner, claim.position.turn(), claim.moves);
+    let plies = reduced_plies(alloc, claim.sets, all.as_slice(), losers)?;
+    Ok(ClaimedSets {
+        position: claim.position,
+        winner: claim.winner,
+        moves: claim.moves,
+        masks: all,
+        plies,
+    })
+}

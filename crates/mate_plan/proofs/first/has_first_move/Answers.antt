@@ -1,0 +1,56 @@
+use Rattle.std.proofs.Common.{ℕ, ◌∙◌, subst, arith}
+use Rattle.std.proofs.lemmas.Result.{err_from_is_err_and}
+use Rattle.lin_formula.specs.SetOf.{as_set}
+use Rattle.rule_formula.specs.Fits.{mask_of, masks_of}
+use Rattle.rule_formula.specs.Placed.{tuple_of}
+use Rattle.set_plan.specs.Outcome.{Ends, IsPlanError}
+use Rattle.mate_plan.specs.Levels.{level_of}
+use Rattle.mate_plan.specs.Plan.{Level, pre_items, union}
+use Rattle.mate_plan.specs.PlanOf.{rules_of}
+use Rattle.mate_plan.specs.declared.names.Part.TheVariants as kind
+use Rattle.mate_plan.proofs.FirstMoves.{first_ends, first_error, start_error}
+use Rattle.mate_plan.proofs.LevelLemmas.{grows_cut, length-grows, level-grows, names-grow}
+use Rattle.mate_plan.proofs.first.has_first_move.Goals as goal
+
+pub first_set-requires-clause-into : goal.first_set-requires-clause-into
+first_set-requires-clause-into c = names-grow c.args.p.now.men c.args.sets.now c.point_level.new.sets (masks_of c.args.p.now) c.args.into.now c.in_ok-start.ensures.grows c.requires.into
+
+pub truncate-requires : goal.truncate-requires
+truncate-requires c =
+    let more = length-grows c.args.sets.now c.point_level.new.sets c.in_ok-start.ensures.grows in
+    omega (arith, more, c.count-count.ensures)
+
+pub returns-in_err-start-clause-answers : goal.returns-in_err-start-clause-answers
+returns-in_err-start-clause-answers c =
+    let e = err_from_is_err_and c.from_residual.result c.from_residual.ensures.1 in
+    let p = c.args.p.now in
+    rw (e.1, e.2) (start_error (rules_of p) p.turn (mask_of p) c.args.memo.now.budget (tuple_of p) (level_of c.args.sets.now (masks_of p) c.args.into.now) c.in_err-start.field-0.0 c.in_err-start.ensures.answers)
+
+pub returns-in_err-first-clause-answers : goal.returns-in_err-first-clause-answers
+returns-in_err-first-clause-answers c =
+    let e = err_from_is_err_and c.from_residual-in_err-first.result c.from_residual-in_err-first.ensures.1 in
+    let p = c.args.p.now in
+    let start : Level = level_of c.point_level.new.sets (masks_of p) c.in_ok-start.start in
+    let grown = level-grows p.men c.args.sets.now c.point_level.new.sets (masks_of p) c.args.into.now c.in_ok-start.ensures.grows c.requires.into in
+    let Within : ℕ → Type 0 = λ b. IsPlanError (union (rules_of p) 0 (mask_of p) kind.First (pre_items (rules_of p) p.turn (mask_of p) (start (mask_of p)) (level_of c.point_level.new.sets (masks_of p) c.args.into.now))) b c.in_err-first.field-0.0 in
+    let Into : Level → Type 0 = λ l. IsPlanError (union (rules_of p) 0 (mask_of p) kind.First (pre_items (rules_of p) p.turn (mask_of p) (start (mask_of p)) l)) c.args.memo.now.budget c.in_err-first.field-0.0 in
+    rw (e.1, e.2)
+    (first_error (rules_of p) p.turn (mask_of p) c.args.memo.now.budget (tuple_of p) (level_of c.args.sets.now (masks_of p) c.args.into.now) start c.in_err-first.field-0.0 c.in_ok-start.ensures.answers
+    (subst Into grown (subst Within c.in_ok-start.ensures.budget c.in_err-first.ensures.answers)))
+
+pub returns-clause-answers : goal.returns-clause-answers
+returns-clause-answers c =
+    let p = c.args.p.now in
+    let first = as_set c.in_ok-first.first in
+    let start : Level = level_of c.point_level.new.sets (masks_of p) c.in_ok-start.start in
+    let grown = level-grows p.men c.args.sets.now c.point_level.new.sets (masks_of p) c.args.into.now c.in_ok-start.ensures.grows c.requires.into in
+    let Within : ℕ → Type 0 = λ b. Ends (union (rules_of p) 0 (mask_of p) kind.First (pre_items (rules_of p) p.turn (mask_of p) (start (mask_of p)) (level_of c.point_level.new.sets (masks_of p) c.args.into.now))) b first in
+    let Into : Level → Type 0 = λ l. Ends (union (rules_of p) 0 (mask_of p) kind.First (pre_items (rules_of p) p.turn (mask_of p) (start (mask_of p)) l)) c.args.memo.now.budget first in
+    first_ends (rules_of p) p.turn (mask_of p) c.args.memo.now.budget (tuple_of p) (level_of c.args.sets.now (masks_of p) c.args.into.now) start first c.has_coordinates.result c.in_ok-start.ensures.answers
+    (subst Into grown (subst Within c.in_ok-start.ensures.budget c.in_ok-first.ensures.answers)) c.has_coordinates.ensures
+
+pub returns-clause-grows : goal.returns-clause-grows
+returns-clause-grows c = rw c.truncate.ensures (grows_cut c.args.sets.now c.point_level.new.sets c.count-count.result c.count-count.ensures c.in_ok-start.ensures.grows)
+
+pub returns-clause-budget : goal.returns-clause-budget
+returns-clause-budget c = c.in_ok-first.ensures.budget ∙ c.in_ok-start.ensures.budget
