@@ -1,5 +1,5 @@
 -- What was played of a game so far, line by line.
-use Rattle.std.proofs.Common.{◌≡◌, ◌⊎◌, inl, inr, ℕ, ◌+◌, ◌<◌, ◌≤◌, ◌==◌, ◌≢◌, List, [], ◌∷◌, ◌++◌, length, take, Bool, true, false, Option, Some, None, IfSome, Result, Ok, Err, IsTrue, refl, sym, ap, subst, ◌∙◌, arith, append_assoc, append-nil, length-append}
+use Rattle.std.proofs.Common.{◌≡◌, inl, inr, ℕ, ◌+◌, ◌<◌, ◌≤◌, ◌==◌, List, [], ◌∷◌, ◌++◌, length, take, Bool, true, false, Option, Some, None, IfSome, Ok, Err, IsTrue, refl, sym, ap, subst, ◌∙◌, arith, append_assoc, append-nil, length-append}
 use Rattle.std.specs.Prelude.{unwrap_or}
 use Rattle.std.specs.List.{All}
 use Rattle.std.specs.Io.KnownBytes.{Appends, Consumes, IsAtEnd}
@@ -18,9 +18,9 @@ use Rattle.desk_base.proofs.LinesOf.{line_first}
 use Rattle.game_rules.specs.Game.{Mate}
 use Rattle.chess_text.specs.PositionText.{text_of_lines}
 use Rattle.game_report.specs.Laws.{last_game}
-use Rattle.game_report.specs.Played.{GoesAs, IsDue, IsPlayed, IsSettled, Ports, StopsAt, is_short}
+use Rattle.game_report.specs.Played.{IsDue, IsPlayed, IsSettled, Ports, StopsAt, is_short}
 use Rattle.game_report.specs.Report.{AtLine, AtLines, IsReport, Match, Report, Unless, ends, most_lines}
-use Rattle.game_report.specs.Turns.{AtStart, Comes, EndsAt, IsLosersTurn, IsOpen, Never}
+use Rattle.game_report.specs.Turns.{AtStart, Comes, EndsAt, IsLosersTurn, Never}
 use Rattle.game_report.specs.declared.play.Ending.{Ending}
 use Rattle.game_report.specs.declared.play.Ending.TheVariants.{CutAt, LongAt, Many, NoLine}
 use Rattle.game_report.specs.declared.play.GameError.TheVariants as error

@@ -5,15 +5,13 @@ use Rattle.desk_base.specs.Lines.{Lines, full, ended, cut, long}
 use Rattle.game_rules.specs.Game.{Legal}
 use Rattle.game_laws.proofs.MoveLemmas.{same_after}
 use Rattle.game_laws.proofs.SoundLemmas.{other_differs}
-use Rattle.chess_game.specs.declared.moves.Move.{Move}
 use Rattle.chess_text.proofs.ReplyLemmas.{reply_once}
 use Rattle.chess_text.specs.declared.replies.Typed.{Typed}
 use Rattle.chess_text.specs.declared.replies.Typed.TheVariants as typed
-use Rattle.winning_sets.specs.Kept.{Kept}
 use Rattle.game_session.proofs.Once.{pick_once}
 use Rattle.game_session.specs.Choice.{target}
 use Rattle.game_session.specs.declared.choice.Choice.{Choice}
-use Rattle.game_report.specs.Report.{AtLine, AtLines, AtLoser, AtTyped, AtWinner, IsReport, IsTyped, Match, Report, Unless, all_squares, moved, most_lines, plays, writes}
+use Rattle.game_report.specs.Report.{AtLine, AtLines, AtLoser, AtTyped, AtWinner, IsHeldBy, IsReport, IsTyped, Match, Report, Unless, all_squares, moved, most_lines, plays, writes}
 
 typed_once : (line : List ℕ) (a b : Option Typed) → IsTyped line a → IsTyped line b → a ≡ b
 typed_once line None None h k = refl
@@ -31,11 +29,11 @@ module _ (On : Match → Report → Type 0) (once : (g : Match) (a b : Report) �
   at_winner : (left : Lines) (g : Match) (a b : Report) → AtWinner On left g a → AtWinner On left g b → a ≡ b
   at_winner left g a b (inl h) (inl k) = h.1 ∙ sym k.1
   at_winner left g a b (inl h) (inr (d, r, later, pick, legal, goes, is)) =
-      absurd (let no : None ≡ Some d = pick_once (Kept g.winner g.start g.moves (suc g.ply)) all_squares g.position None (Some d) h.0 pick in cc)
+      absurd (let no : None ≡ Some d = pick_once (IsHeldBy g.strategy g (suc g.ply)) all_squares g.position None (Some d) h.0 pick in cc)
   at_winner left g a b (inr (c, q, later, pick, legal, goes, is)) (inl k) =
-      absurd (let no : None ≡ Some c = pick_once (Kept g.winner g.start g.moves (suc g.ply)) all_squares g.position None (Some c) k.0 pick in cc)
+      absurd (let no : None ≡ Some c = pick_once (IsHeldBy g.strategy g (suc g.ply)) all_squares g.position None (Some c) k.0 pick in cc)
   at_winner left g a b (inr (c, q, later, pick, legal, goes, is)) (inr (d, r, after, picked, safe, on, too)) =
-      let choice : c ≡ d = same_Some c d (pick_once (Kept g.winner g.start g.moves (suc g.ply)) all_squares g.position (Some c) (Some d) pick picked) in
+      let choice : c ≡ d = same_Some c d (pick_once (IsHeldBy g.strategy g (suc g.ply)) all_squares g.position (Some c) (Some d) pick picked) in
       let to : Legal g.position d.mv.man (target d.mv) q = subst (λ (e : Choice). Legal g.position e.mv.man (target e.mv) q) choice legal in
       let position : q ≡ r = same_after g.position d.mv.man (target d.mv) q r to.step.after safe.step.after in
       let rest : later ≡ after = at_loser left (moved g r) later after (subst (λ p. AtLoser On left (moved g p) later) position goes) on in

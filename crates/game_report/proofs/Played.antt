@@ -5,21 +5,21 @@ use Rattle.std.proofs.lemmas.Option.{same_Some}
 use Rattle.desk_base.specs.Lines.{Lines, full, ended, cut, long}
 use Rattle.game_rules.specs.declared.men.Side.{Side}
 use Rattle.game_rules.specs.declared.men.Side.TheVariants.{White, Black}
-use Rattle.game_rules.specs.Game.{Position, Lost, Mate, Value, Win, other}
+use Rattle.game_rules.specs.Game.{Position, Lost, Mate, Value, other}
 use Rattle.game_laws.proofs.SoundLemmas.{other_other}
 use Rattle.chess_game.specs.declared.moves.Move.{Move}
 use Rattle.chess_text.specs.declared.replies.Typed.{Typed}
 use Rattle.chess_text.specs.declared.replies.Typed.TheVariants as typed
 use Rattle.mate_plan.specs.Plan.{turn_at}
-use Rattle.winning_sets.specs.Kept.{moves_left}
-use Rattle.winning_sets.specs.Solve.{IsSolution, Solution, end_of}
-use Rattle.winning_sets.proofs.KeptParts.{value_win}
+use Rattle.winning_sets.specs.Claimed.{IsValid}
+use Rattle.winning_sets.specs.Solve.{Solution}
 use Rattle.game_session.specs.Choice.{target}
 use Rattle.white_player.specs.Game.{Game, Goes, IsGame, IsPicked, Plays, WinnerGoes, made_in, one_if_same, start_of}
-use Rattle.white_player.proofs.Games.{first_game, kept_reply, kept_turn, left_made, lost_in, picked_game, whole_game}
+use Rattle.white_player.proofs.Games.{first_game, game_turn, game_within, held_reply, left_made, lost_in, picked_game, whole_game, winner_ply}
 use Rattle.game_report.specs.Laws.{first_seen, seen}
 use Rattle.game_report.specs.Report.{AtLine, AtLines, AtLoser, AtTyped, AtWinner, IsReport, Match, Report, Unless, all_squares, most_lines}
 use Rattle.game_report.specs.declared.play.Ending.TheVariants.{Mated}
+use Rattle.game_report.proofs.Strategies.{pick_told}
 
 -- where the property holds if no more is read, and else too, it holds
 unless : (P : Report → Type 0) (stop : Bool) (left : Lines) (r : Report) (Else : Type 0) → ((r.games ≡ []) → P r) → (Else → P r) → Unless stop left r Else → P r
@@ -43,10 +43,10 @@ module _ (s : Solution) where
     loser_comes left p ply r (inr (none, on)) = go p ply r on
 
     winner_comes : (left : Lines) (p : Position) (ply : ℕ) (r : Report) → AtWinner On left (seen (at p ply)) r → WinnerComes (at p ply) r
-    winner_comes left p ply r (inl (none, is)) = ([], [], inl (none, refl), ap (λ x. x.games) is)
+    winner_comes left p ply r (inl (none, is)) = ([], [], inl ((pick_told (at p ply) None).1 none, refl), ap (λ x. x.games) is)
     winner_comes left p ply r (inr (c, q, later, pick, legal, goes, is)) =
         let h = loser_comes left q (suc ply) later goes in
-        let picked : IsPicked (at p ply) c (at q (suc ply)) = record { pick = pick; legal = legal; is_after = refl } in
+        let picked : IsPicked (at p ply) c (at q (suc ply)) = record { pick = (pick_told (at p ply) (Some c)).1 pick; legal = legal; is_after = refl } in
         (h.0, at q (suc ply) ∷ h.1, inr (c, at q (suc ply), h.1, picked, refl, h.2), ap (λ x. x.games) is ∙ ap (λ xs. seen (at q (suc ply)) ∷ xs) h.3)
 
     typed_comes : (left : Lines) (p : Position) (ply : ℕ) (r : Report) (reply : Option Typed) → AtTyped On left (seen (at p ply)) r reply → Comes (at p ply) r
@@ -90,7 +90,7 @@ module _ (s : Solution) where
   get_seen (g ∷ games) zero after is = (g, refl, same_Some (seen g) after is)
   get_seen (g ∷ games) (suc k) after is = get_seen games k after is
 
-  module _ (valid : IsSolution s) (value : Value s.winner s.moves s.position) where
+  module _ (valid : IsValid s) (value : Value s.winner s.moves s.position) where
     pub report_lost : (before : ℕ) (lines : Lines) (r : Report) → IsReport before lines (first_seen s) r
         → (k : ℕ) (after : Match) → slice_get r.games k ≡ Some after → (suc k ≤ s.moves) × Lost s.winner (s.moves - suc k) after.position
     report_lost before lines r h k after is =
@@ -103,10 +103,6 @@ module _ (s : Solution) where
 some_left : (w : Side) (n : ℕ) (p : Position) → Lost w n p → (Mate p → ⊥) → 0 < n
 some_left w zero p lost none = elim (lost.1) [ inl mate ↦ absurd (none mate) | inr go ↦ absurd (go.1 go.0.0 go.0.1 go.0.2 go.0.3) ]
 some_left w (suc n) p lost none = omega arith
-
-win_left : (w : Side) (n : ℕ) (p : Position) → Win w n p → 0 < n
-win_left w zero p win = absurd win
-win_left w (suc n) p win = omega arith
 
 none_made : (w t : Side) → t ≡ other w → one_if_same w t ≡ 0
 none_made White t e = ap (one_if_same White) e
@@ -135,25 +131,25 @@ module _ (s : Solution) where
 
   moves_to_make : (p : Position) (ply : ℕ) → Loser p ply → (Mate p → ⊥) → made_in (at s p ply) < s.moves
   moves_to_make p ply (game, turn) none =
-      let lost = lost_in (at s p ply) game.valid game turn in
+      let lost = lost_in (at s p ply) game turn in
       let more = some_left s.winner lost.left p lost.lost none in
       let count = lost.count in omega (arith, more, count)
 
   module _ (On : Match → Report → Type 0) (go : (p : Position) (ply : ℕ) (r : Report) → Loser p ply → (Mate p → ⊥) → On (seen (at s p ply)) r → IsInTime (at s p ply) r) where
     loser_time : (left : Lines) (p : Position) (ply : ℕ) (r : Report) → Loser p ply → AtLoser On left (seen (at s p ply)) r → IsInTime (at s p ply) r
     loser_time left p ply r (game, turn) (inl (mate, is)) =
-        let count = (lost_in (at s p ply) game.valid game turn).count in
+        let count = (lost_in (at s p ply) game turn).count in
         let none : length r.games ≡ 0 = ap (λ x. length x.games) is in
         record { few = omega (arith, none, count); fewer = inl (ap (λ x. x.ending) is) }
     loser_time left p ply r loses (inr (none, on)) = go p ply r loses none on
 
     winner_time : (left : Lines) (p : Position) (ply : ℕ) (r : Report) → IsGame (at s p ply) → p.turn ≡ s.winner → AtWinner On left (seen (at s p ply)) r → IsInTime (at s p ply) r
     winner_time left p ply r game turn (inl (none, is)) =
-        let count = left_made s.winner s.position.turn s.moves ply game.ply in
-        let more = win_left s.winner (moves_left (end_of s) ply) p (value_win s.winner (moves_left (end_of s) ply) p turn game.kept.value) in
+        let count = left_made s.winner s.position.turn s.moves ply (game_within (at s p ply) game) in
+        let more = winner_ply (at s p ply) game turn in
         none_yet (at s p ply) r (ap (λ x. x.games) is) (omega (arith, count, more))
     winner_time left p ply r game turn (inr (c, q, later, pick, legal, goes, is)) =
-        let next = picked_game (at s p ply) (at s q (suc ply)) c game.valid game turn (record { pick = pick; legal = legal; is_after = refl }) in
+        let next = picked_game (at s p ply) (at s q (suc ply)) c game turn (record { pick = (pick_told (at s p ply) (Some c)).1 pick; legal = legal; is_after = refl }) in
         let h = loser_time left q (suc ply) later (next.0, next.2) goes in
         let one : made_in (at s q (suc ply)) ≡ made_in (at s p ply) + 1 = next.3 in
         let count : length r.games ≡ suc (length later.games) = ap (λ x. length x.games) is in
@@ -170,11 +166,11 @@ module _ (s : Solution) where
     typed_time left p ply r (Some (typed.Move mv)) loses none (inl (later, stuck, on, is)) =
         same_time (at s p ply) r later (ap (λ x. x.games) is) (ap (λ x. x.ending) is) (go p ply later loses none on)
     typed_time left p ply r (Some (typed.Move mv)) (game, turn) none (inr (q, legal, goes)) =
-        let next = kept_reply (at s p ply) game.valid game turn mv.man (target mv) q legal in
+        let next = held_reply (at s p ply) game turn mv.man (target mv) q legal in
         let his : q.turn ≡ s.winner = legal.step.after.turn ∙ (ap other turn ∙ other_other s.winner) in
         let h = winner_time left q (suc ply) r next his goes in
         let same : one_if_same s.winner (turn_at s.position.turn ply) ≡ 0 =
-        none_made s.winner (turn_at s.position.turn ply) (sym (kept_turn s game.valid ply p game.kept) ∙ turn) in
+        none_made s.winner (turn_at s.position.turn ply) (sym (game_turn (at s p ply) game) ∙ turn) in
         let low = h.few in
         record { few = omega (arith, same, low); fewer = elim (h.fewer) [ inl mate ↦ inl mate | inr less ↦ inr (omega (arith, same, less)) ] }
 
@@ -201,7 +197,7 @@ module _ (s : Solution) where
       let low = h.few in
       (omega (arith, low), elim (h.fewer) [ inl mate ↦ inl mate | inr less ↦ inr (omega (arith, less)) ])
 
-  module _ (valid : IsSolution s) (value : Value s.winner s.moves s.position) where
+  module _ (valid : IsValid s) (value : Value s.winner s.moves s.position) where
     pub report_in_time : (before : ℕ) (lines : Lines) (r : Report) → IsReport before lines (first_seen s) r
         → (length r.games ≤ s.moves) × ((r.ending ≡ Mated) ⊎ (length r.games < s.moves))
     report_in_time before lines r (inl (turn, goes)) =

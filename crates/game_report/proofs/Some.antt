@@ -1,5 +1,5 @@
 -- There is a report.
-use Rattle.std.proofs.Common.{◌≡◌, ◌⊎◌, inl, inr, ℕ, suc, ◌+◌, ◌≤◌, ◌==◌, List, [], Bool, true, false, Option, Some, None, refl, sym, ap, subst, ◌∙◌, codes}
+use Rattle.std.proofs.Common.{◌≡◌, ◌⊎◌, inl, inr, ℕ, suc, ◌+◌, ◌==◌, List, [], Bool, true, false, Option, Some, None, refl, sym, ap, subst, ◌∙◌, arith, codes}
 use Rattle.std.specs.Prelude.{IsSomeAnd}
 use Rattle.track_word.specs.Tracks.{IsAscending}
 use Rattle.auto_core.specs.Automaton.{Automaton}
@@ -11,24 +11,24 @@ use Rattle.game_laws.specs.Answer.{CanGo}
 use Rattle.game_laws.proofs.DecideLemmas.{Decided, can_go, in_check, map_decided}
 use Rattle.game_laws.proofs.MateLemmas.{mate_or_move}
 use Rattle.game_laws.proofs.SoundLemmas.{other_other, side_or_other}
-use Rattle.chess_game.specs.declared.moves.Move.{Move}
 use Rattle.chess_text.specs.declared.replies.Typed.{Typed}
 use Rattle.chess_text.specs.declared.replies.Typed.TheVariants as typed
 use Rattle.mask_sets.specs.Sets.{IsIn, set_at}
-use Rattle.rule_formula.specs.Fits.{mask_of, masks_of}
+use Rattle.rule_formula.specs.Fits.{mask_of}
 use Rattle.rule_formula.specs.Placed.{tuple_of}
 use Rattle.set_plan.proofs.Tables.{table_decided}
-use Rattle.winning_sets.specs.Solve.{IsSolution, Solution, end_of, kept_at}
+use Rattle.winning_sets.specs.Claimed.{IsHeld}
 use Rattle.winning_sets.proofs.Empties.{tracks_ascend}
-use Rattle.winning_sets.proofs.Places.{sets_at-ply}
+use Rattle.winning_sets.proofs.ValidLemmas.{valid_formed}
 use Rattle.game_session.specs.Choice.{Pick, target}
 use Rattle.game_session.specs.declared.choice.Choice.{Choice}
-use Rattle.white_player.specs.Game.{Game, IsGame, IsKeptAt, moved_to}
-use Rattle.white_player.proofs.Games.{game_sound, kept_next, kept_reply, next_kept, table_of, winner_ply}
+use Rattle.white_player.specs.Game.{Game, IsGame, moved_to}
+use Rattle.white_player.proofs.Games.{game_sound, held_move, held_next, held_reply, kept_set, next_held, table_of, winner_ply}
 use Rattle.game_report.specs.Laws.{seen}
-use Rattle.game_report.specs.Report.{AtLine, AtLines, AtLoser, AtTurn, AtTyped, AtWinner, IsReport, KeptPick, Match, Report, Unless, all_squares, ends, moved, most_lines, plays, writes}
+use Rattle.game_report.specs.Report.{AtLine, AtLines, AtLoser, AtTurn, AtTyped, AtWinner, IsReport, Match, Report, Unless, all_squares, ends, moved, most_lines, plays, writes}
 use Rattle.game_report.specs.declared.play.Ending.TheVariants.{CutAt, LongAt, Many, Mated, NoLine, Quit, Wide}
 use Rattle.game_report.proofs.Picking.{some_pick}
+use Rattle.game_report.proofs.Strategies.{pick_told}
 use Rattle.game_report.proofs.Typing.{some_typed}
 
 -- it is known whether a sound position is mate; this belongs in game_laws
@@ -39,26 +39,27 @@ mate_or_not p sound = by (in_check p p.turn)
     by (inl check) = elim (mate_or_move p sound check) [ inl mate ↦ inl mate | inr go ↦ inr (λ mate. mate.stuck go.0 go.1 go.2 go.3) ]
     by (inr safe) = inr (λ mate. safe mate.check)
 
--- it is known which positions after a move are kept
-module _ (s : Solution) (valid : IsSolution s) (ply : ℕ) (p : Position) (kept : IsKeptAt s ply p) (within : suc ply ≤ end_of s) where
-  accepted_or_not : (q : Position) (o : Option Automaton) → set_at (table_of s (suc ply)) (mask_of q) ≡ o → Decided (IsSomeAnd o (λ a. IsAccepted a (tuple_of q)))
+-- it is known which positions after a move of the winner are held
+module _ (g : Game) (game : IsGame g) (turn : g.position.turn ≡ g.solution.winner) where
+  accepted_or_not : (q : Position) (o : Option Automaton) → set_at (table_of g.solution (suc g.ply)) (mask_of q) ≡ o → Decided (IsSomeAnd o (λ a. IsAccepted a (tuple_of q)))
   accepted_or_not q None e = inr (λ h. h)
   accepted_or_not q (Some a) e =
-      let at : kept_at s (suc ply) (mask_of q) ≡ Some a = sym (sets_at-ply (masks_of s.position) s.kept (suc ply) (mask_of q)) ∙ e in
-      let formed = valid.kept.formed (suc ply) (mask_of q) a at in
+      let s = g.solution in
+      let formed = valid_formed s game.valid (suc g.ply) (mask_of q) a (sym (kept_set s (suc g.ply) (mask_of q)) ∙ e) in
       table_decided a (subst IsAscending (sym formed.tracks) (tracks_ascend s.position.men (mask_of q))) formed.integers (tuple_of q)
 
-  kept_or_not : (i : ℕ) (z : Square) (q : Position) → Legal p i z q → Decided (IsKeptAt s (suc ply) q)
-  kept_or_not i z q legal =
-      map_decided (IsIn (table_of s (suc ply)) q) (IsKeptAt s (suc ply) q) (next_kept s valid ply p kept i z q legal.step) (kept_next s valid ply p kept q within)
-      (accepted_or_not q (set_at (table_of s (suc ply)) (mask_of q)) refl)
+  held_or_not : (i : ℕ) (z : Square) (q : Position) → Legal g.position i z q → Decided (IsHeld g.solution (suc g.ply) q)
+  held_or_not i z q legal =
+      let s = g.solution in
+      let later = winner_ply g game turn in
+      map_decided (IsIn (table_of s (suc g.ply)) q) (IsHeld s (suc g.ply) q)
+      (next_held s game.valid g.ply g.position game.reached turn i z q legal.step)
+      (held_next s game.valid g.ply g.position game.reached turn (omega (arith, later)) i z q legal.step)
+      (accepted_or_not q (set_at (table_of s (suc g.ply)) (mask_of q)) refl)
 
-  pub some_kept : (o : Option Choice) × Pick (IsKeptAt s (suc ply)) all_squares p o
-  some_kept = some_pick (IsKeptAt s (suc ply)) all_squares p kept_or_not
-
--- with the winner to move he has a pick, or there is none
-pub some_kept_pick : (g : Game) → IsGame g → g.position.turn ≡ g.solution.winner → (o : Option Choice) × KeptPick (seen g) o
-some_kept_pick g game turn = some_kept g.solution game.valid g.ply g.position game.kept (winner_ply g game.valid game turn)
+  -- so he has a pick, or there is none
+  pub some_held : (o : Option Choice) × Pick (IsHeld g.solution (suc g.ply)) all_squares g.position o
+  some_held = some_pick (IsHeld g.solution (suc g.ply)) all_squares g.position held_or_not
 
 abbrev Goes : (Match → Report → Type 0) → Game → Type 0
 Goes On g = (report : Report) × On (seen g) report
@@ -72,16 +73,16 @@ module _ (On : Match → Report → Type 0) (go : (g : Game) → IsGame g → g.
       by (inr none) = let on = go g game turn none in (on.0, inr (none, on.1))
 
   at_winner : (left : Lines) (g : Game) → IsGame g → g.position.turn ≡ g.solution.winner → Goes (AtWinner On left) g
-  at_winner left g game turn = by (some_kept_pick g game turn)
+  at_winner left g game turn = by (some_held g game turn)
     where
-      by : ((o : Option Choice) × KeptPick (seen g) o) → Goes (AtWinner On left) g
-      by (None, none) = (ends Wide [] left, inl (none, refl))
+      by : ((o : Option Choice) × Pick (IsHeld g.solution (suc g.ply)) all_squares g.position o) → Goes (AtWinner On left) g
+      by (None, none) = (ends Wide [] left, inl ((pick_told g None).0 none, refl))
       by (Some c, pick) =
           let q = pick.position in
           let legal = pick.leads.legal in
-          let next : IsGame (moved_to g q) = record { valid = game.valid; kept = pick.leads.is_in; ply = winner_ply g game.valid game turn } in
+          let next = held_move g game turn q (c.mv.man, target c.mv, legal) pick.leads.is_in in
           let later = at_loser left (moved_to g q) next (legal.step.after.turn ∙ ap other turn) in
-          (plays c.mv (moved (seen g) q) later.0, inr (c, q, later.0, pick, legal, later.1, refl))
+          (plays c.mv (moved (seen g) q) later.0, inr (c, q, later.0, (pick_told g (Some c)).0 pick, legal, later.1, refl))
 
   at_typed : (left : Lines) (g : Game) → IsGame g → g.position.turn ≡ other g.solution.winner → (Mate g.position → ⊥) → (reply : Option Typed)
       → (report : Report) × AtTyped On left (seen g) report reply
@@ -94,7 +95,7 @@ module _ (On : Match → Report → Type 0) (go : (g : Game) → IsGame g → g.
           let on = go g game turn none in
           (writes (codes "illegal\n") on.0, inl (on.0, λ q legal. stuck (q, legal), on.1, refl))
       by (inl (q, legal)) =
-          let next = kept_reply g game.valid game turn mv.man (target mv) q legal in
+          let next = held_reply g game turn mv.man (target mv) q legal in
           let his : q.turn ≡ g.solution.winner = legal.step.after.turn ∙ (ap other turn ∙ other_other g.solution.winner) in
           let later = at_winner left (moved_to g q) next his in
           (later.0, inr (q, legal, later.1))

@@ -1,5 +1,5 @@
 -- What comes of a line, and of the start of a game: its report as it is, and what it is where more lines come behind.
-use Rattle.std.proofs.Common.{◌≡◌, ◌↔◌, ◌⊎◌, inl, inr, ℕ, zero, suc, ◌+◌, ◌<◌, ◌≤◌, List, [], ◌∷◌, ◌++◌, length, take, Bool, true, false, Option, Some, None, Result, Ok, Err, OnErr, OnOk, IfOk, IsTrue, FitsSigned, refl, sym, ap, subst, ◌∙◌, arith, codes, append_assoc, append-nil, length-append}
+use Rattle.std.proofs.Common.{◌≡◌, ◌↔◌, inl, inr, ℕ, zero, suc, ◌+◌, ◌≤◌, List, [], ◌∷◌, ◌++◌, length, take, Bool, true, false, Option, Some, None, Result, Ok, Err, OnErr, OnOk, IfOk, IsTrue, FitsSigned, refl, sym, ap, subst, ◌∙◌, arith, codes, append_assoc, append-nil, length-append}
 use Rattle.std.specs.Io.KnownBytes.{Appends}
 use Rattle.std.proofs.KnownBytes.{Appends-nil, Appends-trans}
 use Rattle.std.proofs.lemmas.List.{take-append-le}
@@ -14,19 +14,18 @@ use Rattle.chess_text.proofs.Signed.{small}
 use Rattle.chess_text.specs.Replies.{move_text}
 use Rattle.game_rules.specs.Game.{Legal, Mate, Position, man_at, other}
 use Rattle.game_rules.specs.declared.men.Square.{Square}
-use Rattle.chess_game.specs.declared.way.Frame.{Frame}
 use Rattle.winning_sets.specs.Reach.{Reach}
-use Rattle.game_session.specs.Choice.{Pick}
-use Rattle.white_player.specs.Game.{Game, IsGame, IsKeptAt, WinPick}
+use Rattle.winning_sets.proofs.ValidLemmas.{valid_few}
+use Rattle.white_player.specs.Game.{Game, IsGame}
 use Rattle.game_laws.proofs.SoundLemmas.{other_differs, other_other}
 use Rattle.chess_game.specs.declared.moves.Move.{Move}
 use Rattle.chess_text.specs.declared.replies.Typed.{Typed}
 use Rattle.chess_text.specs.declared.replies.Typed.TheVariants as typed
 use Rattle.game_session.specs.Choice.{target}
 use Rattle.game_session.specs.declared.choice.Choice.{Choice}
-use Rattle.game_report.specs.Laws.{last_game, seen}
+use Rattle.game_report.specs.Laws.{last_game}
 use Rattle.game_report.specs.Played.{StopsAt}
-use Rattle.game_report.specs.Report.{AtLine, AtLoser, AtTyped, AtWinner, IsTyped, KeptPick, Match, Report, all_squares, ends, move_line, moved, plays, writes}
+use Rattle.game_report.specs.Report.{AtLine, AtLoser, AtTyped, AtWinner, HeldPick, IsTyped, Match, Report, ends, move_line, moved, plays, writes}
 use Rattle.game_report.specs.Turns.{AtStart, Comes, EndsAt, IsLosersTurn, IsOpen, Never}
 use Rattle.game_report.specs.declared.play.Ending.{Ending}
 use Rattle.game_report.specs.declared.play.Ending.TheVariants.{Mated, NoLine, Quit, Wide}
@@ -182,10 +181,6 @@ front_behind old mid new bytes more all h = record {
   front = subst (Appends old new) (sym (take_behind bytes more h.count)) (Appends-trans old mid new bytes (take h.count more) all h.front);
 }
 
--- the winner's pick of a session whose frame is the whole one
-pub kept_pick : (g : Game) (o : Option Choice) → g.frame ≡ all_squares → WinPick g o → KeptPick (seen g) o
-kept_pick g o whole pick = subst (λ (f : Frame). Pick (IsKeptAt g.solution (suc g.ply)) f g.position o) whole pick
-
 -- a position that is reached has as many men as the first
 as_many : (p : Position) (ply : ℕ) (q : Position) → Reach p ply q → length q.men ≡ length p.men
 as_many p zero q is = ap (λ (x : Position). length x.men) is
@@ -195,7 +190,7 @@ as_many p (suc ply) q (before, reached, (i, z, legal)) = legal.step.after.same_c
 pub mover_number : (g : Game) → IsGame g → (p : Position) (i : ℕ) (z : Square) → Legal p i z g.position → (1 ≤ i) × (i ≤ 8)
 mover_number g game p i z legal =
     let few : length g.position.men ≤ 8 =
-    subst (λ n. n ≤ 8) (sym (as_many g.solution.position g.ply g.position game.kept.reached)) game.valid.few in
+    subst (λ n. n ≤ 8) (sym (as_many g.solution.position g.ply g.position game.reached)) (valid_few g.solution game.valid) in
     by i legal.step.is_man (subst (λ n. n ≤ 8) legal.step.after.same_count few)
   where
     by : (j : ℕ) → man_at p j ≡ Some legal.step.man → length p.men ≤ 8 → (1 ≤ j) × (j ≤ 8)
@@ -241,7 +236,7 @@ module _ (g : Match) (old new : Option (List ℕ)) where
   mate_comes (Err why) false mate turn goes_on is wrote err = absurd (let no : Err why ≡ Ok None = (goes_on refl).0 in cc)
 
 -- the winner has made his pick, and its line was written
-module _ (g after : Match) (c : Choice) (q : Position) (is_after : after ≡ moved g q) (pick : KeptPick g (Some c)) (legal : Legal g.position c.mv.man (target c.mv) q)
+module _ (g after : Match) (c : Choice) (q : Position) (is_after : after ≡ moved g q) (pick : HeldPick g (Some c)) (legal : Legal g.position c.mv.man (target c.mv) q)
     (old new : Option (List ℕ)) where
   abbrev AtWinners : (Match → Report → Type 0) → Report → Type 0
   AtWinners On r = AtWinner On ended g r
@@ -283,7 +278,7 @@ module _ (g after : Match) (c : Choice) (q : Position) (is_after : after ≡ mov
       (subst (λ (r : Result (Option Ending) Failed). Comes r AtWinners g (moved g q) old new) (sym is) (made_fails why told mate turn wrote))
 
 -- the winner has no pick
-pub wide_comes : (g after : Match) (old : Option (List ℕ)) → KeptPick g None → after ≡ g → Comes (Ok (Some Wide)) (λ On r. AtWinner On ended g r) g after old old
+pub wide_comes : (g after : Match) (old : Option (List ℕ)) → HeldPick g None → after ≡ g → Comes (Ok (Some Wide)) (λ On r. AtWinner On ended g r) g after old old
 wide_comes g after old none same = (ends Wide [] ended, inl (none, refl), refl, Appends-nil old, inl same)
 
 -- a reply was made, and something came of the winner's turn

@@ -14,7 +14,7 @@ use white_player::Session;
 pub enum Ending {
     /// The loser is mated.
     Mated,
-    /// No move to a square of 64 bits keeps what was promised.
+    /// No move to a square of 64 bits leads into the sets of the next ply.
     Wide,
     /// A line is `quit`.
     Quit,

@@ -58,7 +58,7 @@ fn tell_mate<K: Sink>(sink: &mut K, mated: bool) -> Result<Option<Ending>, Faile
     Ok(Some(Ending::Mated))
 }
 
-/// The winner moves, if he has a move to a square of 64 bits that keeps what was promised.
+/// The winner moves, if he has a move to a square of 64 bits that leads into the sets of the next ply.
 fn win<K: Sink>(session: &mut Session, sink: &mut K) -> Result<Option<Ending>, Failed>
     requires whole { session.old.frame ≡ all_squares }
     requires turn { session.old.position.turn ≡ session.old.solution.winner }

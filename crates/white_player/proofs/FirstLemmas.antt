@@ -17,17 +17,20 @@ use Rattle.game_laws.proofs.SoundLemmas.{other_other}
 use Rattle.chess_game.specs.declared.way.Frame.{Frame}
 use Rattle.mate_plan.specs.PlanOf.{last_ply}
 use Rattle.mask_sets.specs.Sets.{HaveAtMost, IsIn, Table}
-use Rattle.winning_sets.specs.Kept.{moves_left}
-use Rattle.winning_sets.specs.Solve.{IsSolution, Solution, end_of}
+use Rattle.winning_sets.specs.Claimed.{IsHeld, IsHeldBy, IsValid}
+use Rattle.winning_sets.specs.Kept.{Kept, moves_left}
+use Rattle.winning_sets.specs.Solve.{Solution, end_of}
+use Rattle.winning_sets.specs.declared.origin.Origin.{Origin}
+use Rattle.winning_sets.specs.declared.origin.Origin.TheVariants.{Plan}
 use Rattle.winning_sets.proofs.KeptParts.{value_lost}
 use Rattle.game_session.specs.Aims.{AreNext, HasRay}
 use Rattle.game_session.specs.Along.{IsLeastOrNone, LeadsAlong}
 use Rattle.game_session.proofs.Bridges.{led_to}
 use Rattle.game_session.proofs.Tuples.{stands_live}
 use Rattle.white_player.specs.Firsts.{Firsts, FirstsInside, IsFirstLine}
-use Rattle.white_player.specs.Game.{HasRoom, IsKeptAt}
+use Rattle.white_player.specs.Game.{HasRoom}
 use Rattle.white_player.specs.declared.first_line.FirstLine.{FirstLine}
-use Rattle.white_player.proofs.Games.{are_reached, kept_in, kept_set, next_reached, table_of}
+use Rattle.white_player.proofs.Games.{are_next, held_next, kept_set, next_held, table_of}
 
 -- the last ply, where the winner is to move first
 winner_end : (w t : Side) (moves : ℕ) → t ≡ w → last_ply w t moves ≡ 2 * moves
@@ -37,7 +40,7 @@ winner_end White Black moves e = cc
 winner_end Black White moves e = cc
 
 -- the sets that are kept after the winner's first move, as they are lent
-module _ (s : Solution) (valid : IsSolution s) (turn : s.position.turn ≡ s.winner) (moves : 1 ≤ s.moves) where
+module _ (s : Solution) (valid : IsValid s) (plan : s.origin ≡ Plan) (turn : s.position.turn ≡ s.winner) (moves : 1 ≤ s.moves) where
   last_is : end_of s ≡ 2 * s.moves
   last_is = winner_end s.winner s.position.turn s.moves turn
 
@@ -47,19 +50,22 @@ module _ (s : Solution) (valid : IsSolution s) (turn : s.position.turn ≡ s.win
   -- a first move leads into them where the loser is then lost in time
   in_lost : (i : ℕ) (z : Square) (q : Position) → Legal s.position i z q → IsIn (table_of s 1) q → Lost s.winner (s.moves - 1) q
   in_lost i z q legal is =
-      let kept : IsKeptAt s 1 q = next_reached s valid 0 s.position refl i z q legal.step is in
+      let held : IsHeld s 1 q = next_held s valid 0 s.position refl turn i z q legal.step is in
+      let kept : Kept s.winner s.position s.moves 1 q = subst (λ (o : Origin). IsHeldBy o s 1 q) plan held in
       subst (λ n. Lost s.winner n q) left_is (value_lost s.winner (moves_left (end_of s) 1) q (legal.step.after.turn ∙ ap other turn) kept.value)
 
   lost_in : (i : ℕ) (z : Square) (q : Position) → Legal s.position i z q → Lost s.winner (s.moves - 1) q → IsIn (table_of s 1) q
   lost_in i z q legal lost =
-      kept_in s valid 1 q (omega (arith, last_is, moves)) (record {
+      let kept : Kept s.winner s.position s.moves 1 q = record {
         reached = (s.position, refl, (i, z, legal));
         value = inr (subst (λ n. Lost s.winner n q) (sym left_is) lost);
-      })
+      } in
+      let held : IsHeld s 1 q = subst (λ (o : Origin). IsHeldBy o s 1 q) (sym plan) kept in
+      held_next s valid 0 s.position refl turn (omega (arith, last_is, moves)) i z q legal.step held
 
   module _ (t : Table) (is : t ≡ table_of s 1) where
     pub first_next : AreNext s.position t
-    first_next = subst (AreNext s.position) (sym is) (are_reached s valid 0 s.position refl)
+    first_next = subst (AreNext s.position) (sym is) (are_next s valid 0 s.position refl turn)
 
     pub first_room : (states : ℕ) → HasRoom states s → HaveAtMost states t
     first_room states room = subst (HaveAtMost states) (sym is) (λ mask a at. room 1 mask a (sym (kept_set s 1 mask) ∙ at))

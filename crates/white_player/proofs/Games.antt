@@ -1,37 +1,39 @@
 -- What a session keeps, move by move.
-use Rattle.std.proofs.Common.{◌≡◌, inl, inr, ℕ, zero, suc, ◌+◌, ◌-◌, ◌/◌, ◌≤◌, List, [], ◌∷◌, length, get_or, Option, Some, None, refl, sym, ap, subst, ◌∙◌, arith}
+use Rattle.std.proofs.Common.{◌≡◌, inl, inr, ℕ, zero, suc, ◌+◌, ◌-◌, ◌/◌, ◌<◌, ◌≤◌, List, [], ◌∷◌, length, get_or, Option, Some, None, refl, sym, ap, subst, ◌∙◌, arith}
 use Rattle.std.specs.Prelude.{IsSomeAnd, slice_get}
 use Rattle.std.proofs.lemmas.Option.{same_Some}
 use Rattle.auto_core.specs.Automaton.{Automaton}
 use Rattle.auto_core.specs.Integers.{IsAccepted}
+use Rattle.game_rules.specs.declared.men.Man.{Man}
 use Rattle.game_rules.specs.declared.men.Side.{Side}
 use Rattle.game_rules.specs.declared.men.Side.TheVariants.{White, Black}
 use Rattle.game_rules.specs.declared.men.Square.{Square}
-use Rattle.game_rules.specs.Game.{Position, InCheck, Legal, Lost, Sound, Step, Value, Win, other}
+use Rattle.game_rules.specs.Game.{Position, InCheck, Legal, Lost, Moves, Sound, Step, Value, other}
 use Rattle.game_laws.proofs.MoveLemmas.{same_after}
-use Rattle.game_laws.proofs.SoundLemmas.{at_same, other_other}
+use Rattle.game_laws.proofs.SoundLemmas.{at_same, other_differs, other_other}
 use Rattle.chess_game.specs.declared.moves.Move.{Move}
 use Rattle.chess_game.specs.declared.way.Frame.{Frame}
 use Rattle.rule_formula.specs.Fits.{HasStock, mask_of, masks_of}
 use Rattle.rule_formula.specs.Placed.{tuple_of}
+use Rattle.rule_formula.proofs.PlacedLemmas.{stock_man-men}
+use Rattle.mask_sets.specs.Sets.{HaveAtMost, IsIn, Table, set_at}
 use Rattle.mate_plan.specs.Plan.{turn_at}
 use Rattle.mate_plan.specs.PlanOf.{last_ply}
+use Rattle.mate_plan.specs.Won.{IsBegun, IsWonBy}
+use Rattle.winning_sets.specs.Claimed.{IsHeld, IsValid}
 use Rattle.winning_sets.specs.Kept.{moves_left}
 use Rattle.winning_sets.specs.Reach.{Reach}
-use Rattle.winning_sets.specs.Solve.{IsKeptIn, IsSolution, Solution, end_of, kept_at}
-use Rattle.winning_sets.proofs.Answered.{start_kept}
-use Rattle.winning_sets.proofs.KeptParts.{reached_sound, turn-reach, value_lost, value_win}
-use Rattle.winning_sets.proofs.MeaningLaws.{keeps_kept}
+use Rattle.winning_sets.specs.Solve.{Solution, end_of, kept_at}
+use Rattle.winning_sets.proofs.KeptParts.{reached_sound, turn-reach}
 use Rattle.winning_sets.proofs.Places.{sets_at-ply}
 use Rattle.winning_sets.proofs.Tuples.{tuple_count, turn_by}
-use Rattle.game_session.specs.Choice.{Pick, target}
+use Rattle.winning_sets.proofs.ValidLemmas.{valid_formed, valid_moves, valid_sound}
 use Rattle.game_session.specs.Aims.{AreNext}
-use Rattle.mask_sets.specs.Sets.{HaveAtMost, IsIn, Table, set_at}
+use Rattle.game_session.specs.Choice.{Pick, target}
 use Rattle.game_session.specs.declared.choice.Choice.{Choice}
 use Rattle.game_session.proofs.Firsts.{own_stock, step_stock}
-use Rattle.rule_formula.proofs.PlacedLemmas.{stock_man-men}
-use Rattle.game_rules.specs.declared.men.Man.{Man}
-use Rattle.white_player.specs.Game.{Game, Goes, HasRoom, IsGame, IsKeptAt, IsLostAfter, IsPicked, LostIn, Plays, WinPick, WinnerGoes, made, made_in, moved_to, one_if_same, start_of}
+use Rattle.white_player.specs.Game.{Game, Goes, HasRoom, IsGame, IsLostAfter, IsPicked, LostIn, Plays, Stands, WinPick, WinnerGoes, made, made_in, moved_to, one_if_same, start_of}
+use Rattle.white_player.proofs.Held.{HasHeld, Losing, has_held, held_won, losing_lost}
 
 -- the kept sets of a ply, as they are lent
 abbrev pub table_of : Solution → ℕ → Table
@@ -60,85 +62,71 @@ stock_trans stock p q one two = record {
       (b.0 ∙ a.0, b.1 ∙ a.1);
 }
 
-module _ (s : Solution) (valid : IsSolution s) where
-  pub kept_sound : (ply : ℕ) (q : Position) → IsKeptAt s ply q → Sound q
-  kept_sound ply q kept = reached_sound s.position valid.sound ply q kept.reached
+-- the sets of the ply after that of a reached position with the winner to move, as they are lent
+module _ (s : Solution) (valid : IsValid s) (ply : ℕ) (p : Position) (reached : Reach s.position ply p) (turn : p.turn ≡ s.winner) where
+  held : HasHeld s.origin s
+  held = has_held s valid
 
-  pub kept_turn : (ply : ℕ) (q : Position) → IsKeptAt s ply q → q.turn ≡ turn_at s.position.turn ply
-  kept_turn ply q kept = turn-reach s.position q ply kept.reached
+  abbrev Has : Position → Option Automaton → Type 0
+  Has q o = IsSomeAnd o (λ a. IsAccepted a (tuple_of q))
 
-  -- what is kept is in the sets that are lent
-  pub kept_in : (ply : ℕ) (q : Position) → ply ≤ end_of s → IsKeptAt s ply q → IsIn (table_of s ply) q
-  kept_in ply q within is =
-      let h = (keeps_kept s ply q valid.sound valid.few valid.kept).1 (within, is) in
-      subst (λ (o : Option Automaton). IsSomeAnd o (λ a. IsAccepted a (tuple_of q))) (sym (kept_set s ply (mask_of q))) h.is_in
+  losers_turn : (i : ℕ) (z : Square) (q : Position) → Step p i z q → q.turn ≡ other s.winner
+  losers_turn i z q step = step.after.turn ∙ ap other turn
 
-  -- the sets of the ply after that of a reached position
-  module _ (ply : ℕ) (p : Position) (reached : Reach s.position ply p) where
-    -- a step into the sets of the next ply
-    step_in : (i : ℕ) (z : Square) (q : Position) → Step p i z q → IsIn (table_of s (suc ply)) q → IsKeptIn s (suc ply) q
-    step_in i z q step is = record {
-      stock = step_stock s.position.men p q i z (reach_stock s.position ply p reached) step.after;
-      turn = step.after.turn ∙ ap other (turn-reach s.position p ply reached);
-      is_in = subst (λ (o : Option Automaton). IsSomeAnd o (λ a. IsAccepted a (tuple_of q))) (kept_set s (suc ply) (mask_of q)) is;
-    }
+  -- a step into them
+  step_losing : (i : ℕ) (z : Square) (q : Position) → Step p i z q → IsIn (table_of s (suc ply)) q → Losing s.origin s (suc ply) q
+  step_losing i z q step is =
+      let stock = step_stock s.position.men p q i z (reach_stock s.position ply p reached) step.after in
+      let at : turn_at s.position.turn (suc ply) ≡ other s.winner = ap other (sym (turn-reach s.position p ply reached) ∙ turn) in
+      held.of_set (suc ply) q stock (losers_turn i z q step) at (subst (Has q) (kept_set s (suc ply) (mask_of q)) is)
 
-    pub next_reached : (i : ℕ) (z : Square) (q : Position) → Step p i z q → IsIn (table_of s (suc ply)) q → IsKeptAt s (suc ply) q
-    next_reached i z q step is = ((keeps_kept s (suc ply) q valid.sound valid.few valid.kept).0 (step_in i z q step is)).1
+  pub next_held : (i : ℕ) (z : Square) (q : Position) → Step p i z q → IsIn (table_of s (suc ply)) q → IsHeld s (suc ply) q
+  next_held i z q step is = held.held (suc ply) q (step_losing i z q step is)
 
-    pub are_reached : AreNext p (table_of s (suc ply))
-    are_reached = record {
-      askable = λ q stock a is.
-          let at : kept_at s (suc ply) (mask_of q) ≡ Some a = sym (kept_set s (suc ply) (mask_of q)) ∙ is in
-          let formed = valid.kept.formed (suc ply) (mask_of q) a at in
-          let whole = stock_trans s.position.men p q (reach_stock s.position ply p reached) stock in
-          record { integers = formed.integers; count = tuple_count s.position.men q whole ∙ sym (ap length formed.tracks) };
-      legal = λ i z q step is check.
-          let sound = kept_sound (suc ply) q (next_reached i z q step is) in
-          let mover : other q.turn ≡ p.turn = ap other step.after.turn ∙ other_other p.turn in
-          sound.other_safe (subst (InCheck q) (sym mover) check);
-    }
+  pub held_next : suc ply ≤ end_of s → (i : ℕ) (z : Square) (q : Position) → Step p i z q → IsHeld s (suc ply) q → IsIn (table_of s (suc ply)) q
+  held_next within i z q step is =
+      let losing = held.losing (suc ply) q within (losers_turn i z q step) is in
+      subst (Has q) (sym (kept_set s (suc ply) (mask_of q))) (held.in_set (suc ply) q losing)
 
-  module _ (ply : ℕ) (p : Position) (kept : IsKeptAt s ply p) where
-    abbrev Next : Position → Type 0
-    Next q = IsIn (table_of s (suc ply)) q
+  pub are_next : AreNext p (table_of s (suc ply))
+  are_next = record {
+    askable = λ q stock a is.
+        let formed = valid_formed s valid (suc ply) (mask_of q) a (sym (kept_set s (suc ply) (mask_of q)) ∙ is) in
+        let whole = stock_trans s.position.men p q (reach_stock s.position ply p reached) stock in
+        record { integers = formed.integers; count = tuple_count s.position.men q whole ∙ sym (ap length formed.tracks) };
+    legal = λ i z q step is check.
+        let sound = held.game.sound (suc ply) q (step_losing i z q step is) in
+        let mover : other q.turn ≡ p.turn = ap other step.after.turn ∙ other_other p.turn in
+        sound.other_safe (subst (InCheck q) (sym mover) check);
+  }
 
-    pub next_kept : (i : ℕ) (z : Square) (q : Position) → Step p i z q → Next q → IsKeptAt s (suc ply) q
-    next_kept i z q step is = next_reached ply p kept.reached i z q step is
-
-    pub kept_next : (q : Position) → suc ply ≤ end_of s → IsKeptAt s (suc ply) q → Next q
-    kept_next q within is = kept_in (suc ply) q within is
-
-    pub are_next : AreNext p (table_of s (suc ply))
-    are_next = are_reached ply p kept.reached
-
-    -- the first move into the sets is the first into what is kept
-    pub pick_kept : suc ply ≤ end_of s → (f : Frame) (o : Option Choice) → Pick Next f p o → Pick (IsKeptAt s (suc ply)) f p o
-    pick_kept within f None none = λ i z q legal inside is. none i z q legal inside (kept_next q within is)
-    pick_kept within f (Some c) h = record {
-      has = tt;
-      position = h.position;
-      leads = record {
-        man = h.leads.man;
-        from = h.leads.from;
-        is_man = h.leads.is_man;
-        stands = h.leads.stands;
-        on = h.leads.on;
-        inside = h.leads.inside;
-        legal = h.leads.legal;
-        is_in = next_kept c.mv.man (target c.mv) h.position h.leads.legal.step h.leads.is_in;
-      };
-      first = λ d q has into before. h.first d q tt (record {
-        man = into.man;
-        from = into.from;
-        is_man = into.is_man;
-        stands = into.stands;
-        on = into.on;
-        inside = into.inside;
-        legal = into.legal;
-        is_in = kept_next q within into.is_in;
-      }) before;
-    }
+  -- the first move into the sets is the first into what is held
+  pub pick_held : suc ply ≤ end_of s → (f : Frame) (o : Option Choice) → Pick (IsIn (table_of s (suc ply))) f p o → Pick (IsHeld s (suc ply)) f p o
+  pick_held within f None none = λ i z q legal inside is. none i z q legal inside (held_next within i z q legal.step is)
+  pick_held within f (Some c) h = record {
+    has = tt;
+    position = h.position;
+    leads = record {
+      man = h.leads.man;
+      from = h.leads.from;
+      is_man = h.leads.is_man;
+      stands = h.leads.stands;
+      on = h.leads.on;
+      inside = h.leads.inside;
+      legal = h.leads.legal;
+      is_in = next_held c.mv.man (target c.mv) h.position h.leads.legal.step h.leads.is_in;
+    };
+    first = λ d q has into before. h.first d q tt (record {
+      man = into.man;
+      from = into.from;
+      is_man = into.is_man;
+      stands = into.stands;
+      on = into.on;
+      inside = into.inside;
+      legal = into.legal;
+      is_in = held_next within d.mv.man (target d.mv) q into.legal.step into.is_in;
+    }) before;
+  }
 
 -- how many moves are made and left
 made_same : (w : Side) (ply : ℕ) → made w w ply ≡ (ply + 1) / 2
@@ -181,79 +169,133 @@ left_made Black Black moves ply low = let m = made_same Black ply in omega (arit
 left_made White Black moves ply low = let m = made_after White ply in omega (arith, low, m)
 left_made Black White moves ply low = let m = made_after Black ply in omega (arith, low, m)
 
-not_other : (s : Side) → s ≡ other s → ⊥
-not_other White e = cc
-not_other Black e = cc
-
--- at a ply of the loser another follows, with as many moves left
-loser_ply : (winner first : Side) (moves ply : ℕ) → ply ≤ last_ply winner first moves → turn_at first ply ≡ other winner → (suc ply ≤ last_ply winner first moves) × (moves_left (last_ply winner first moves) (suc ply) ≡ moves_left (last_ply winner first moves) ply)
-loser_ply White White moves ply low is = elim (turn_by White ply) [
-  | inl (even, at) ↦ absurd (let no : White ≡ Black = sym at ∙ is in cc)
-  | inr (odd, at) ↦ (omega (arith, low, odd), omega (arith, low, odd))
-]
-loser_ply Black Black moves ply low is = elim (turn_by Black ply) [
-  | inl (even, at) ↦ absurd (let no : Black ≡ White = sym at ∙ is in cc)
-  | inr (odd, at) ↦ (omega (arith, low, odd), omega (arith, low, odd))
-]
-loser_ply White Black moves ply low is = elim (turn_by Black ply) [
-  | inl (even, at) ↦ (omega (arith, low, even), omega (arith, low, even))
-  | inr (odd, at) ↦ absurd (let no : White ≡ Black = sym at ∙ is in cc)
-]
-loser_ply Black White moves ply low is = elim (turn_by White ply) [
-  | inl (even, at) ↦ (omega (arith, low, even), omega (arith, low, even))
+-- before the last ply, where the winner is to move, another ply comes before the last
+winners_ply : (winner first : Side) (moves ply : ℕ) → ply < last_ply winner first moves → turn_at first ply ≡ winner → suc ply < last_ply winner first moves
+winners_ply White White moves ply low is = elim (turn_by White ply) [
+  | inl (even, at) ↦ omega (arith, low, even)
   | inr (odd, at) ↦ absurd (let no : Black ≡ White = sym at ∙ is in cc)
 ]
+winners_ply Black Black moves ply low is = elim (turn_by Black ply) [
+  | inl (even, at) ↦ omega (arith, low, even)
+  | inr (odd, at) ↦ absurd (let no : White ≡ Black = sym at ∙ is in cc)
+]
+winners_ply White Black moves ply low is = elim (turn_by Black ply) [
+  | inl (even, at) ↦ absurd (let no : Black ≡ White = sym at ∙ is in cc)
+  | inr (odd, at) ↦ omega (arith, low, odd)
+]
+winners_ply Black White moves ply low is = elim (turn_by White ply) [
+  | inl (even, at) ↦ absurd (let no : White ≡ Black = sym at ∙ is in cc)
+  | inr (odd, at) ↦ omega (arith, low, odd)
+]
 
-module _ (g : Game) (valid : IsSolution g.solution) (game : IsGame g) where
+-- a game has few plies
+end_few : (w t : Side) (n : ℕ) → n ≤ 20 → last_ply w t n ≤ 41
+end_few White White n h = omega (arith, h)
+end_few Black Black n h = omega (arith, h)
+end_few White Black n h = omega (arith, h)
+end_few Black White n h = omega (arith, h)
+
+module _ (g : Game) (game : IsGame g) where
   abbrev winner : Side
   winner = g.solution.winner
 
-  abbrev left : ℕ
-  left = moves_left (end_of g.solution) g.ply
+  abbrev last : ℕ
+  last = end_of g.solution
 
-  left_is : left + made_in g ≡ g.solution.moves
-  left_is = left_made g.solution.winner g.solution.position.turn g.solution.moves g.ply game.ply
+  has : HasHeld g.solution.origin g.solution
+  has = has_held g.solution game.valid
 
-  -- with the loser to move he is mated within the moves that are left
-  pub lost_in : g.position.turn ≡ other winner → LostIn g
-  lost_in turn = record { left = left; count = left_is; lost = value_lost winner left g.position turn game.kept.value }
+  won : IsWonBy g.solution.winner g.solution.position (Losing g.solution.origin g.solution)
+  won = held_won g.solution game.valid game.value
+
+  pub game_within : g.ply ≤ end_of g.solution
+  game_within = let low = game.before in omega (arith, low)
+
+  pub game_few : g.ply ≤ 40
+  game_few =
+      let few = end_few g.solution.winner g.solution.position.turn g.solution.moves (valid_moves g.solution game.valid) in
+      let low = game.before in omega (arith, few, low)
+
+  pub game_sound : Sound g.position
+  game_sound = reached_sound g.solution.position (valid_sound g.solution game.valid) g.ply g.position game.reached
+
+  pub game_turn : g.position.turn ≡ turn_at g.solution.position.turn g.ply
+  game_turn = turn-reach g.solution.position g.position g.ply game.reached
+
+  left_is : moves_left (end_of g.solution) g.ply + made_in g ≡ g.solution.moves
+  left_is = left_made g.solution.winner g.solution.position.turn g.solution.moves g.ply game_within
+
+  -- with the loser to move, the position is one of those that are won
+  losing : g.position.turn ≡ other g.solution.winner → Losing g.solution.origin g.solution g.ply g.position
+  losing turn = elim (game.stands) [
+    | inl (his, held) ↦ has.losing g.ply g.position game_within turn held
+    | inr (his, leads) ↦ absurd (other_differs g.solution.winner (sym his ∙ turn))
+  ]
+
+  -- he is mated within the moves that are left
+  pub lost_in : g.position.turn ≡ other g.solution.winner → LostIn g
+  lost_in turn = record {
+    left = moves_left (end_of g.solution) g.ply;
+    count = left_is;
+    lost = losing_lost g.solution game.valid game.value g.ply g.position (losing turn);
+  }
 
   -- each reply leaves the winner mating in time
-  pub kept_reply : g.position.turn ≡ other winner → (i : ℕ) (z : Square) (q : Position) → Legal g.position i z q → IsGame (moved_to g q)
-  kept_reply turn i z q legal =
-      let at : turn_at g.solution.position.turn g.ply ≡ other winner = sym (kept_turn g.solution valid g.ply g.position game.kept) ∙ turn in
-      let next = loser_ply winner g.solution.position.turn g.solution.moves g.ply game.ply at in
-      let lost : Lost winner left g.position = value_lost winner left g.position turn game.kept.value in
-      let win : Win winner left q = elim (lost.1) [ inl mate ↦ absurd (mate.stuck i z q legal) | inr moves ↦ moves.1 i z q legal ] in
+  pub held_reply : g.position.turn ≡ other g.solution.winner → (i : ℕ) (z : Square) (q : Position) → Legal g.position i z q → IsGame (moved_to g q)
+  held_reply turn i z q legal =
+      let (r, moves, next) = won.left g.ply g.position q (losing turn) (i, z, legal) in
+      let at = (has.game.plies (g.ply + 2) r next).before in
+      let two : g.ply + 2 ≡ suc (suc g.ply) = omega arith in
+      let his : q.turn ≡ g.solution.winner = legal.step.after.turn ∙ (ap other turn ∙ other_other g.solution.winner) in
       record {
-        valid = valid;
-        kept = record { reached = (g.position, game.kept.reached, (i, z, legal)); value = inl (subst (λ k. Win winner k q) (sym next.1) win) };
-        ply = next.0;
+        valid = game.valid;
+        value = game.value;
+        reached = (g.position, game.reached, (i, z, legal));
+        before = omega (arith, at);
+        stands = inr (his, (r, moves, subst (λ (n : ℕ). IsHeld g.solution n r) two (has.held (g.ply + 2) r next)));
       }
 
   -- a move of the winner is left where he is to move
-  pub winner_ply : g.position.turn ≡ winner → suc g.ply ≤ end_of g.solution
-  winner_ply turn = by left refl (value_win winner left g.position turn game.kept.value)
-    where
-      by : (n : ℕ) → left ≡ n → Win winner n g.position → suc g.ply ≤ end_of g.solution
-      by zero e win = absurd win
-      by (suc n) e win = omega (arith, e)
+  pub winner_ply : g.position.turn ≡ g.solution.winner → suc g.ply < end_of g.solution
+  winner_ply turn = winners_ply g.solution.winner g.solution.position.turn g.solution.moves g.ply game.before (sym game_turn ∙ turn)
 
-  pub loser_ply_next : g.position.turn ≡ other winner → suc g.ply ≤ end_of g.solution
-  loser_ply_next turn =
-      (loser_ply winner g.solution.position.turn g.solution.moves g.ply game.ply (sym (kept_turn g.solution valid g.ply g.position game.kept) ∙ turn)).0
+  -- and a position that he moves to and that is held keeps the game
+  pub held_move : g.position.turn ≡ g.solution.winner → (q : Position) → Moves g.position q → IsHeld g.solution (suc g.ply) q → IsGame (moved_to g q)
+  held_move turn q moves held =
+      let (i, z, legal) = moves in
+      record {
+        valid = game.valid;
+        value = game.value;
+        reached = (g.position, game.reached, moves);
+        before = winner_ply turn;
+        stands = inl (legal.step.after.turn ∙ ap other turn, held);
+      }
 
-  -- and his pick keeps the game
-  pub kept_pick : g.position.turn ≡ winner → (c : Choice) (q : Position) → WinPick g (Some c) → Legal g.position c.mv.man (target c.mv) q → IsGame (moved_to g q)
-  kept_pick turn c q pick legal =
+  -- so does his pick
+  pub held_pick : g.position.turn ≡ g.solution.winner → (c : Choice) (q : Position) → WinPick g (Some c) → Legal g.position c.mv.man (target c.mv) q → IsGame (moved_to g q)
+  held_pick turn c q pick legal =
       let same : pick.position ≡ q = same_after g.position c.mv.man (target c.mv) pick.position q pick.leads.legal.step.after legal.step.after in
-      record { valid = valid; kept = subst (IsKeptAt g.solution (suc g.ply)) same pick.leads.is_in; ply = winner_ply turn }
+      held_move turn q (c.mv.man, target c.mv, legal) (subst (IsHeld g.solution (suc g.ply)) same pick.leads.is_in)
 
-pub picked_game : (g after : Game) (c : Choice) → IsSolution g.solution → IsGame g → g.position.turn ≡ g.solution.winner → IsPicked g c after → IsGame after × (after.solution ≡ g.solution) × (after.position.turn ≡ other g.solution.winner) × (made_in after ≡ made_in g + 1)
-picked_game g after c valid game turn picked =
-    let kept = kept_pick g valid game turn c after.position picked.pick picked.legal in
+  -- the sets of the next ply, as they are lent
+  module _ (t : Table) (is : t ≡ table_of g.solution (suc g.ply)) where
+    pub lent_few : (states : ℕ) → HasRoom states g.solution → HaveAtMost states t
+    lent_few states room = subst (HaveAtMost states) (sym is) (λ mask a at. room (suc g.ply) mask a (sym (kept_set g.solution (suc g.ply) mask) ∙ at))
+
+    module _ (turn : g.position.turn ≡ g.solution.winner) where
+      pub lent_next : AreNext g.position t
+      lent_next = subst (AreNext g.position) (sym is) (are_next g.solution game.valid g.ply g.position game.reached turn)
+
+      pub lent_pick : (o : Option Choice) → Pick (IsIn t) g.frame g.position o → WinPick g o
+      lent_pick o pick =
+          let later = winner_ply turn in
+          pick_held g.solution game.valid g.ply g.position game.reached turn (omega (arith, later)) g.frame o (subst (λ u. Pick (IsIn u) g.frame g.position o) is pick)
+
+pub picked_game : (g after : Game) (c : Choice) → IsGame g → g.position.turn ≡ g.solution.winner → IsPicked g c after → IsGame after × (after.solution ≡ g.solution) × (after.position.turn ≡ other g.solution.winner) × (made_in after ≡ made_in g + 1)
+picked_game g after c game turn picked =
+    let kept = held_pick g game turn c after.position picked.pick picked.legal in
     let one : one_if_same g.solution.winner (turn_at g.solution.position.turn g.ply) ≡ 1 =
-    ap (one_if_same g.solution.winner) (sym (kept_turn g.solution valid g.ply g.position game.kept) ∙ turn) ∙ self g.solution.winner in (
+    ap (one_if_same g.solution.winner) (sym (game_turn g game) ∙ turn) ∙ self g.solution.winner in (
       subst IsGame (sym picked.is_after) kept,
       ap (λ h. h.solution) picked.is_after,
       picked.legal.step.after.turn ∙ ap other turn,
@@ -280,9 +322,9 @@ winner_lost : (g : Game) (typed : List Move) (games : List Game) → IsGame g �
     → ((next : Game) (later : List Game) → IsGame next → next.position.turn ≡ other next.solution.winner → Goes next typed later → EachLost next later) → EachLost g games
 winner_lost g typed games game turn (inl (none, ended)) go k after is = absurd (none_get games k after ended is)
 winner_lost g typed games game turn (inr (choice, next, later, picked, is_games, goes)) go k after is =
-    let to = picked_game g next choice game.valid game turn picked in
+    let to = picked_game g next choice game turn picked in
     let next_turn : next.position.turn ≡ other next.solution.winner = to.2 ∙ ap (λ s. other s.winner) (sym to.1) in
-    let first : IsLostAfter g 1 next = record { same = to.1; made = to.3; lost = lost_in next to.0.valid to.0 next_turn } in
+    let first : IsLostAfter g 1 next = record { same = to.1; made = to.3; lost = lost_in next to.0 next_turn } in
     by k (ap (λ l. slice_get l k) (sym is_games) ∙ is) first (go next later to.0 next_turn goes)
   where
     by : (k : ℕ) → slice_get (next ∷ later) k ≡ Some after → IsLostAfter g 1 next → EachLost next later → IsLostAfter g (suc k) after
@@ -295,9 +337,9 @@ goes_lost : (g : Game) (typed : List Move) (games : List Game) → IsGame g → 
 goes_lost g [] games game turn goes k after is = absurd (none_get games k after goes is)
 goes_lost g (mv ∷ typed) games game turn (inl (refused, goes)) k after is = goes_lost g typed games game turn goes k after is
 goes_lost g (mv ∷ typed) games game turn (inr (q, legal, goes)) k after is =
-    let reply : IsGame (moved_to g q) = kept_reply g game.valid game turn mv.man (target mv) q legal in
+    let reply : IsGame (moved_to g q) = held_reply g game turn mv.man (target mv) q legal in
     let his : q.turn ≡ g.solution.winner = legal.step.after.turn ∙ (ap other turn ∙ other_other g.solution.winner) in
-    let none : one_if_same g.solution.winner (turn_at g.solution.position.turn g.ply) ≡ 0 = one_not g.solution.winner (turn_at g.solution.position.turn g.ply) (sym (kept_turn g.solution game.valid g.ply g.position game.kept) ∙ turn) in
+    let none : one_if_same g.solution.winner (turn_at g.solution.position.turn g.ply) ≡ 0 = one_not g.solution.winner (turn_at g.solution.position.turn g.ply) (sym (game_turn g game) ∙ turn) in
     let all = winner_lost (moved_to g q) typed games reply his goes (λ next later kept turns on i at there. goes_lost next typed later kept turns on i at there) k after is in
     record { same = all.same; made = (let count = all.made in omega (arith, count, none)); lost = all.lost }
 
@@ -306,41 +348,33 @@ all_lost g typed games game (inl (turn, goes)) k after is = goes_lost g typed ga
 all_lost g typed games game (inr (turn, goes)) k after is =
     winner_lost g typed games game turn goes (λ next later kept turns on i at there. goes_lost next typed later kept turns on i at there) k after is
 
--- a game has few plies
-pub end_few : (s : Solution) → IsSolution s → end_of s ≤ 41
-end_few s valid = by s.winner s.position.turn s.moves valid.moves
-  where
-    by : (w t : Side) (n : ℕ) → n ≤ 20 → last_ply w t n ≤ 41
-    by White White n h = omega (arith, h)
-    by Black Black n h = omega (arith, h)
-    by White Black n h = omega (arith, h)
-    by Black White n h = omega (arith, h)
-
--- the sets of the next ply, as they are lent
-module _ (g : Game) (game : IsGame g) (t : Table) (is : t ≡ table_of g.solution (suc g.ply)) where
-  pub lent_next : AreNext g.position t
-  lent_next = subst (AreNext g.position) (sym is) (are_next g.solution game.valid g.ply g.position game.kept)
-
-  pub lent_few : (states : ℕ) → HasRoom states g.solution → HaveAtMost states t
-  lent_few states room = subst (HaveAtMost states) (sym is) (λ mask a at. room (suc g.ply) mask a (sym (kept_set g.solution (suc g.ply) mask) ∙ at))
-
-  pub lent_pick : suc g.ply ≤ end_of g.solution → (o : Option Choice) → Pick (IsIn t) g.frame g.position o → WinPick g o
-  lent_pick within o pick =
-      pick_kept g.solution game.valid g.ply g.position game.kept within g.frame o (subst (λ u. Pick (IsIn u) g.frame g.position o) is pick)
-
-pub game_sound : (g : Game) → IsGame g → Sound g.position
-game_sound g game = kept_sound g.solution game.valid g.ply g.position game.kept
-
 -- the first game
-pub first_game : (s : Solution) (f : Frame) → IsSolution s → Value s.winner s.moves s.position → IsGame (start_of s f)
-first_game s f valid value = record { valid = valid; kept = ((keeps_kept s 0 s.position valid.sound valid.few valid.kept).0 ((start_kept s valid).1 value)).1; ply = omega arith }
+pub first_game : (s : Solution) (f : Frame) → IsValid s → Value s.winner s.moves s.position → IsGame (start_of s f)
+first_game s f valid value =
+    let has = has_held s valid in
+    let first = (held_won s valid value).first in
+    record {
+      valid = valid;
+      value = value;
+      reached = refl;
+      before = begun has first;
+      stands = stands has first;
+    }
+  where
+    begun : HasHeld s.origin s → IsBegun s.winner s.position (Losing s.origin s) → 0 < end_of s
+    begun has (inl (turn, (q, moves, is_in))) = let at = (has.game.plies 1 q is_in).before in omega (arith, at)
+    begun has (inr (turn, is_in)) = let at = (has.game.plies 0 s.position is_in).before in omega (arith, at)
+
+    stands : HasHeld s.origin s → IsBegun s.winner s.position (Losing s.origin s) → Stands (start_of s f)
+    stands has (inl (turn, (q, moves, is_in))) = inr (turn, (q, moves, has.held 1 q is_in))
+    stands has (inr (turn, is_in)) = inl (turn, has.held 0 s.position is_in)
 
 pub lost_picked : (g after : Game) (c : Choice) → IsGame g → g.position.turn ≡ g.solution.winner → WinPick g (Some c) → Legal g.position c.mv.man (target c.mv) after.position → after ≡ moved_to g after.position → LostIn after
 lost_picked g after c game turn pick legal is =
-    let to = picked_game g after c game.valid game turn (record { pick = pick; legal = legal; is_after = is }) in
-    lost_in after to.0.valid to.0 (to.2 ∙ ap (λ s. other s.winner) (sym to.1))
+    let to = picked_game g after c game turn (record { pick = pick; legal = legal; is_after = is }) in
+    lost_in after to.0 (to.2 ∙ ap (λ s. other s.winner) (sym to.1))
 
-pub whole_game : (s : Solution) (f : Frame) (typed : List Move) (games : List Game) → IsSolution s → Value s.winner s.moves s.position → Plays (start_of s f) typed games
+pub whole_game : (s : Solution) (f : Frame) (typed : List Move) (games : List Game) → IsValid s → Value s.winner s.moves s.position → Plays (start_of s f) typed games
     → (k : ℕ) (after : Game) → slice_get games k ≡ Some after → (suc k ≤ s.moves) × Lost s.winner (s.moves - suc k) after.position
 whole_game s f typed games valid value plays k after is =
     let all = all_lost (start_of s f) typed games (first_game s f valid value) plays k after is in

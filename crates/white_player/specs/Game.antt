@@ -1,5 +1,5 @@
 -- A game of the winner: what a session keeps, and what comes of any list of replies.
-use Rattle.std.specs.Prelude.{◌≡◌, ◌⊎◌, ℕ, zero, suc, ◌+◌, ◌-◌, ◌≤◌, List, [], ◌∷◌, length, Option, Some, None, slice_get}
+use Rattle.std.specs.Prelude.{◌≡◌, ◌⊎◌, ℕ, zero, suc, ◌+◌, ◌-◌, ◌<◌, ◌≤◌, List, [], ◌∷◌, length, Option, Some, None, slice_get}
 use Rattle.auto_core.specs.Automaton.{Automaton}
 use Rattle.game_rules.specs.Game.{Position, Legal, Lost, Value, other}
 use Rattle.game_rules.specs.declared.men.Side.{Side}
@@ -10,7 +10,7 @@ use Rattle.mate_plan.specs.Plan.{turn_at}
 use Rattle.mate_plan.specs.Won.{LeadsInto}
 use Rattle.winning_sets.specs.Claimed.{IsHeld, IsValid}
 use Rattle.winning_sets.specs.Reach.{Reach}
-use Rattle.winning_sets.specs.Solve.{Solution, kept_at}
+use Rattle.winning_sets.specs.Solve.{Solution, end_of, kept_at}
 use Rattle.game_session.specs.Choice.{OnePick, Pick, target}
 use Rattle.game_session.specs.declared.choice.Choice.{Choice}
 use Rattle.white_player.specs.declared.session.Played.{Played}
@@ -36,11 +36,13 @@ Stands g =
     ((g.position.turn ≡ other g.solution.winner) × IsHeld g.solution g.ply g.position)
     ⊎ ((g.position.turn ≡ g.solution.winner) × LeadsInto (IsHeld g.solution (suc g.ply)) g.position)
 
--- what a session keeps true: legal moves have led to the position of its ply, and from there the winner still mates in time by what is held
+-- what a session keeps true: legal moves have led to the position of its ply, which is not the last one, and from there the winner still mates
+-- in time by what is held
 pub record IsGame (g : Game) : Type 0 where
   pub valid : IsValid g.solution
   pub value : Value g.solution.winner g.solution.moves g.solution.position
   pub reached : Reach g.solution.position g.ply g.position
+  pub before : g.ply < end_of g.solution
   pub stands : Stands g
 
 abbrev pub one_if_same : Side → Side → ℕ

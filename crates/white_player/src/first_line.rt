@@ -1,6 +1,7 @@
 //! All first moves of the winner along a ray.
 ghost use Rattle.std.specs.Prelude.{◌≡◌, ◌≤◌, ℕ, IfNone, IfSome};
 ghost use Rattle.game_session.specs.Aims.{HasRay, IsMover};
+ghost use Rattle.winning_sets.specs.declared.origin.Origin.TheVariants.{Plan};
 ghost use Rattle.white_player.specs.Firsts.{Firsts, IsFirstLine};
 ghost use Rattle.white_player.specs.Game.{HasRoom};
 
@@ -44,6 +45,7 @@ pub fn first_moves(
     man: u8,
     ray: u8,
 ) -> Option<FirstLine>
+    requires plan { solved.now.origin ≡ Plan }
     requires turn { solved.now.position.turn ≡ solved.now.winner }
     requires moves { 1 ≤ solved.now.moves }
     requires mover { HasRay solved.now.position man ray }

@@ -1,5 +1,5 @@
-//! A game that the winner plays: his moves lead into the kept sets, and the other side's are typed. `specs/Game` says what a session keeps, which
-//! move is the winner's, and what comes of any list of replies.
+//! A game that the winner plays: his moves lead into the sets of a solved position, those of a plan or those of a claim that is won, and the other
+//! side's are typed. `specs/Game` says what a session keeps, which move is the winner's, and what comes of any list of replies.
 #![tactic(auto)]
 
 mod first_line;

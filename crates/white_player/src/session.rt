@@ -1,8 +1,7 @@
 //! A game that the winner plays.
-ghost use Rattle.std.specs.Prelude.{◌≡◌, ◌↔◌, ◌+◌, ◌≤◌, suc, None, IfOk, IfErr, OnErr, OnOk, IsTrue};
+ghost use Rattle.std.specs.Prelude.{◌≡◌, ◌↔◌, ◌+◌, None, IfOk, IfErr, OnErr, OnOk, IsTrue};
 ghost use Rattle.game_rules.specs.Game.{Legal, Mate, Position as Board, Value, other};
 ghost use Rattle.chess_game.specs.Refusal.{IsRefusal};
-ghost use Rattle.winning_sets.specs.Solve.{end_of};
 ghost use Rattle.game_session.specs.Choice.{target};
 ghost use Rattle.white_player.specs.Game.{IsGame, IsPicked, LostIn, WinPick, choice_of, made_in, moved_to, start_of};
 
@@ -23,7 +22,7 @@ pub struct Played {
     pub mated: bool,
 }
 
-/// No move to a square of the frame keeps the promised count.
+/// No move to a square of the frame leads into the sets of the next ply.
 #[derive(Clone, Copy, Debug, PartialEq, Eq)]
 pub struct TooWide;
 
@@ -99,9 +98,9 @@ impl Session {
         mated(&self.position)
     }
 
-    /// The winner's first move, by man, ray and distance, that keeps the promised count.
+    /// The winner's first move, by man, ray and distance, that leads into the sets of the next ply.
     fn pick(&mut self) -> Option<Choice>
-        requires within { suc self.old.ply ≤ end_of self.old.solution }
+        requires { self.old.position.turn ≡ self.old.solution.winner }
         ensures pick { WinPick self.old result }
         ensures kept { self.new ≡ self.old }
     {
@@ -112,8 +111,7 @@ impl Session {
 
     /// Makes a move that keeps the game.
     fn make(&mut self, mv: Move) -> Result<(), Illegal>
-        requires within { suc self.old.ply ≤ end_of self.old.solution }
-        requires keeps { (q : Board) → Legal self.old.position mv.man (target mv) q → IsGame (moved_to self.old q) }
+        requires { (q : Board) → Legal self.old.position mv.man (target mv) q → IsGame (moved_to self.old q) }
         ensures legal { OnOk result (Legal self.old.position mv.man (target mv) self.new.position) }
         ensures after { OnOk result (self.new ≡ moved_to self.old self.new.position) }
         ensures reason { IfErr result (IsRefusal self.old.position mv.man (target mv)) }
@@ -130,8 +128,8 @@ impl Session {
         }
     }
 
-    /// The winner makes his first move, by man, ray and distance, to a square of the frame that keeps the promised count, captures included. It takes
-    /// no memory.
+    /// The winner makes his first move, by man, ray and distance, to a square of the frame that leads into the sets of the next ply, captures included.
+    /// After it he still mates within the moves that he has left. It takes no memory.
     pub fn win_move(&mut self) -> Result<Played, TooWide>
         requires turn { self.old.position.turn ≡ self.old.solution.winner }
         ensures picked { IfOk result (λ played. IsPicked self.old (choice_of played) self.new) }

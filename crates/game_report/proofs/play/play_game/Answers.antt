@@ -1,8 +1,5 @@
-use Rattle.std.proofs.Common.{◌≡◌, ◌+◌, List, ℕ, Some, None, Ok, IsErrOf, refl, sym, subst, ap, ◌∙◌, arith, rules}
-use Rattle.desk_base.specs.Lines.{ended}
+use Rattle.std.proofs.Common.{◌+◌, sym, ◌∙◌, arith, rules}
 use Rattle.game_report.specs.Laws.{seen}
-use Rattle.game_report.specs.Report.{AtLine, AtLines}
-use Rattle.game_report.specs.Turns.{Comes}
 use Rattle.game_report.proofs.GameSteps.{cut_came, first_due, line_read, long_came, most_read, no_line_came, not_settled, ports, read_failed, reply_failed, reply_on, reply_over, risen_from, opening_failed, opening_on, opening_over}
 use Rattle.game_report.proofs.Some.{at_lines}
 use Rattle.game_report.proofs.play.play_game.Goals as goal

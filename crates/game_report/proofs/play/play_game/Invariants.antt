@@ -1,4 +1,4 @@
-use Rattle.std.proofs.Common.{◌≡◌, ◌≤◌, ℕ, [], None, length}
+use Rattle.std.proofs.Common.{◌≡◌, ◌≤◌, [], None, length}
 use Rattle.white_player.specs.Game.{IsGame}
 use Rattle.game_report.specs.Laws.{seen}
 use Rattle.game_report.specs.Played.{IsDue}

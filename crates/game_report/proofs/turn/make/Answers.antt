@@ -1,4 +1,4 @@
-use Rattle.std.proofs.Common.{◌≡◌, Some, inl, refl, ap, codes}
+use Rattle.std.proofs.Common.{Some, inl, refl, ap, codes}
 use Rattle.std.proofs.lemmas.Result.{err_from_is_err_and}
 use Rattle.desk_base.specs.Lines.{ended}
 use Rattle.chess_text.specs.declared.replies.Typed.TheVariants as typed

@@ -1,6 +1,5 @@
-use Rattle.std.proofs.Common.{rules, ◌≡◌, ◌⊎◌, Some, inl, inr, refl, sym, ap, ◌∙◌}
+use Rattle.std.proofs.Common.{rules, ◌≡◌, inl, inr, ap}
 use Rattle.desk_base.specs.Lines.{ended}
-use Rattle.game_rules.specs.Game.{other}
 use Rattle.game_laws.proofs.SoundLemmas.{side_or_other}
 use Rattle.game_report.specs.Laws.{seen}
 use Rattle.game_report.specs.Report.{AtLoser, AtWinner}

@@ -7,6 +7,7 @@ use Rattle.chess_game.specs.Way.{IsInside}
 use Rattle.game_session.specs.Aims.{AreNext, IsMover}
 use Rattle.game_session.specs.Along.{IsLeastOrNone}
 use Rattle.game_session.proofs.Slopes.{ray_slopes, slope_same}
+use Rattle.winning_sets.proofs.ValidLemmas.{valid_sound}
 use Rattle.white_player.specs.Firsts.{Firsts}
 use Rattle.white_player.proofs.FirstLemmas.{first_next, first_room, firsts_few, firsts_least, passed_on}
 use Rattle.white_player.proofs.Games.{table_is, table_of}
@@ -18,15 +19,15 @@ moves_along-moves-requires-clause-aim c =
     let valid = c.masks.ensures.valid in
     let is : c.new-sets.result ≡ table_of s 1 = table_is s 0 1 c.masks.result.now c.kept_sets.result.now c.new-sets.result refl c.masks.ensures.masks c.kept_sets.ensures.sets c.new-sets.ensures in
     record {
-      sound = subst Sound (sym c.position-position.ensures) valid.sound;
-      next = subst (λ (p : Position). AreNext p c.new-sets.result) (sym c.position-position.ensures) (first_next s valid c.requires.turn c.requires.moves c.new-sets.result is);
+      sound = subst Sound (sym c.position-position.ensures) (valid_sound s valid);
+      next = subst (λ (p : Position). AreNext p c.new-sets.result) (sym c.position-position.ensures) (first_next s valid c.requires.plan c.requires.turn c.requires.moves c.new-sets.result is);
     }
 
 pub moves_along-moves-requires-clause-few : goal.moves_along-moves-requires-clause-few
 moves_along-moves-requires-clause-few c =
     let s = c.args.solved.now in
     let is : c.new-sets.result ≡ table_of s 1 = table_is s 0 1 c.masks.result.now c.kept_sets.result.now c.new-sets.result refl c.masks.ensures.masks c.kept_sets.ensures.sets c.new-sets.ensures in
-    first_room s c.masks.ensures.valid c.requires.turn c.requires.moves c.new-sets.result is c.args.search.now c.requires.room
+    first_room s c.masks.ensures.valid c.requires.plan c.requires.turn c.requires.moves c.new-sets.result is c.args.search.now c.requires.room
 
 pub returns-in-Zero-clause-none : goal.returns-in-Zero-clause-none
 returns-in-Zero-clause-none c =
@@ -37,8 +38,8 @@ returns-in-Zero-clause-none c =
     let his = c.his_ray-his.ensures in
     let few = c.moves_along-moves.result.few in
     let All : Square → Type 0 = λ z. Unit {0} in
-    let here = passed_on s valid c.requires.turn c.requires.moves t is All c.args.man c.args.ray (HasFew few) c.position-position.result c.his_ray-his.result.man c.his_ray-his.result.number c.position-position.ensures his.man his.number c.moves_along-moves.ensures.few in
-    let lost = firsts_few s valid c.requires.turn c.requires.moves t is All c.args.man c.args.ray few here in
+    let here = passed_on s valid c.requires.plan c.requires.turn c.requires.moves t is All c.args.man c.args.ray (HasFew few) c.position-position.result c.his_ray-his.result.man c.his_ray-his.result.number c.position-position.ensures his.man his.number c.moves_along-moves.ensures.few in
+    let lost = firsts_few s valid c.requires.plan c.requires.turn c.requires.moves t is All c.args.man c.args.ray few here in
     subst (λ (f : Few). HasFew f (Firsts s.winner s.moves s.position c.args.man c.args.ray)) c.in-Zero.is lost
 
 pub returns : goal.returns
@@ -53,8 +54,8 @@ returns c =
     let mover : IsMover s.position c.args.man c.args.ray h.ray = subst (λ (p : Position). IsMover p c.args.man c.args.ray h.ray) c.position-position.ensures his.mover in
     let short = ray_slopes mover.man.kind mover.man.side c.args.ray h.ray mover.is_ray in
     let All : Square → Type 0 = λ z. Unit {0} in
-    let few = passed_on s valid c.requires.turn c.requires.moves t is All c.args.man c.args.ray (HasFew moves.few) c.position-position.result h.man h.number c.position-position.ensures his.man his.number c.moves_along-moves.ensures.few in
-    let least = passed_on s valid c.requires.turn c.requires.moves t is (IsInside c.args.frame) c.args.man c.args.ray (λ P. IsLeastOrNone P moves.least) c.position-position.result h.man h.number c.position-position.ensures his.man his.number c.moves_along-moves.ensures.least in
+    let few = passed_on s valid c.requires.plan c.requires.turn c.requires.moves t is All c.args.man c.args.ray (HasFew moves.few) c.position-position.result h.man h.number c.position-position.ensures his.man his.number c.moves_along-moves.ensures.few in
+    let least = passed_on s valid c.requires.plan c.requires.turn c.requires.moves t is (IsInside c.args.frame) c.args.man c.args.ray (λ P. IsLeastOrNone P moves.least) c.position-position.result h.man h.number c.position-position.ensures his.man his.number c.moves_along-moves.ensures.least in
     record {
       none = tt;
       line = record {
@@ -66,8 +67,8 @@ returns c =
         dx_is = slope_same h.ray.dx short.x;
         dy_is = slope_same h.ray.dy short.y;
         some = c.in_default.not-Zero;
-        few = firsts_few s valid c.requires.turn c.requires.moves t is All c.args.man c.args.ray moves.few few;
-        least = firsts_least s valid c.requires.turn c.requires.moves t is (IsInside c.args.frame) c.args.man c.args.ray moves.least least;
+        few = firsts_few s valid c.requires.plan c.requires.turn c.requires.moves t is All c.args.man c.args.ray moves.few few;
+        least = firsts_least s valid c.requires.plan c.requires.turn c.requires.moves t is (IsInside c.args.frame) c.args.man c.args.ray moves.least least;
       };
       kept = c.moves_along-moves.ensures.kept;
     }

@@ -1,5 +1,4 @@
-use Rattle.std.proofs.Common.{◌≡◌, ◌≤◌, ◌+◌, suc, subst, sym, arith}
-use Rattle.winning_sets.specs.Solve.{end_of}
+use Rattle.std.proofs.Common.{◌≡◌, ◌+◌, subst, sym, arith}
 use Rattle.white_player.specs.Game.{Game, WinPick}
 use Rattle.white_player.proofs.Games.{game_sound, lent_few, lent_next, lent_pick, table_is}
 use Rattle.white_player.proofs.session.Session.pick.Goals as goal
@@ -13,7 +12,8 @@ pub first_move-requires-clause-next : goal.first_move-requires-clause-next
 first_move-requires-clause-next c =
     let i = c.self.inside in
     let is = table_is i.solved i.ply (i.ply + 1) c.masks.result.now c.kept_sets.result.now c.new-sets.result (omega arith) c.masks.ensures.masks c.kept_sets.ensures.sets c.new-sets.ensures in
-    lent_next (record { solution = i.solved; frame = i.frame; position = i.position; ply = i.ply }) c.self.invariant.0 c.new-sets.result is
+    let turn = subst (λ (h : Game). h.position.turn ≡ h.solution.winner) (sym c.self.view_is) c.requires in
+    lent_next (record { solution = i.solved; frame = i.frame; position = i.position; ply = i.ply }) c.self.invariant.0 c.new-sets.result is turn
 
 pub first_move-requires-clause-few : goal.first_move-requires-clause-few
 first_move-requires-clause-few c =
@@ -25,6 +25,6 @@ pub returns-clause-pick : goal.returns-clause-pick
 returns-clause-pick c =
     let i = c.self.inside in
     let is = table_is i.solved i.ply (i.ply + 1) c.masks.result.now c.kept_sets.result.now c.new-sets.result (omega arith) c.masks.ensures.masks c.kept_sets.ensures.sets c.new-sets.ensures in
-    let within = subst (λ (h : Game). suc h.ply ≤ end_of h.solution) (sym c.self.view_is) c.requires.within in
+    let turn = subst (λ (h : Game). h.position.turn ≡ h.solution.winner) (sym c.self.view_is) c.requires in
     subst (λ (h : Game). WinPick h c.first_move.result) c.self.view_is
-    (lent_pick (record { solution = i.solved; frame = i.frame; position = i.position; ply = i.ply }) c.self.invariant.0 c.new-sets.result is within c.first_move.result c.first_move.ensures.pick)
+    (lent_pick (record { solution = i.solved; frame = i.frame; position = i.position; ply = i.ply }) c.self.invariant.0 c.new-sets.result is turn c.first_move.result c.first_move.ensures.pick)
