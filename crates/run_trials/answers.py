@@ -43,12 +43,13 @@ class Run:
         return range(int(found[0][2]), int(found[0][3]) + 1) if found else [0]
 
     def written(self, k, texts):
-        """What comes of one case: the line that names it, the output and the code."""
+        """What comes of one case: the line that names it, the output, the code, and what is told of files."""
         title = " / ".join(RANGE.sub(lambda m: f"{m[1]} {k}{m[4] or ''}", line) for line in self.lines)
-        if not self.answers or not CODE.match(self.answers[-1]):
+        code = next((at for at, answer in enumerate(self.answers) if CODE.match(answer)), None)
+        if code is None:
             sys.exit(f"line {self.number}: no code")
         output, front = b"", None
-        for answer in self.answers[:-1]:
+        for answer in self.answers[:code]:
             if m := FRONT.match(answer):
                 front = {"K": k, "K - 1": k - 1}.get(m[1])
                 front = int(m[1]) if front is None else front
@@ -61,7 +62,8 @@ class Run:
         output = output if front is None else output[:front]
         if output and not output.endswith(b"\n"):
             output += b"\n(no LF)\n"
-        return title.encode() + b"\n" + output + self.answers[-1].encode() + b"\n"
+        behind = "".join(answer.replace("{K}", str(k)) + "\n" for answer in self.answers[code:])
+        return title.encode() + b"\n" + output + behind.encode()
 
 
 def read(script):

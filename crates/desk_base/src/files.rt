@@ -3,7 +3,7 @@ ghost use Rattle.std.specs.FinMap as map;
 ghost use Rattle.desk_base.specs.Files.{Files, Go, contents};
 ghost use Rattle.desk_base.specs.Faults.{HasRisen};
 
-use std::alloc::Global;
+use std::alloc::{AllocError, Global};
 use thiserror::Error;
 
 /// Why a file was not fetched.
@@ -29,6 +29,28 @@ pub enum KeepError {
     /// There is no memory for the file.
     #[error("out of memory")]
     Memory,
+}
+
+impl From<AllocError> for FetchError {
+    ghost use Rattle.std.specs.Prelude.{◌≡◌};
+    ghost use Rattle.desk_base.specs.declared.files.FetchError.TheVariants.{Memory};
+
+    ghost from_gives = { λ _ why. why ≡ Memory };
+
+    fn from(_error: AllocError) -> Self {
+        FetchError::Memory
+    }
+}
+
+impl From<AllocError> for KeepError {
+    ghost use Rattle.std.specs.Prelude.{◌≡◌};
+    ghost use Rattle.desk_base.specs.declared.files.KeepError.TheVariants.{Memory};
+
+    ghost from_gives = { λ _ why. why ≡ Memory };
+
+    fn from(_error: AllocError) -> Self {
+        KeepError::Memory
+    }
 }
 
 /// A store of files by name.

@@ -1,8 +1,8 @@
-//! Rows that write to a sink in memory, and ask a shelf that keeps nothing.
+//! Rows that write to a sink in memory, and that keep and fetch files of a store in memory.
 
 ghost use Rattle.std.specs.Prelude.{◌<◌, IfOk};
 
-use desk_base::{BareShelf, FetchError, KeepError, MemSink, Shelf, Sink, put_all};
+use desk_base::{FetchError, KeepError, MemShelf, MemSink, Shelf, Sink, put_all};
 use std::alloc::Global;
 use trial_rows::{Fields, RowError, number, numbers};
 
@@ -47,22 +47,81 @@ pub fn put_row(alloc: Global, fields: &mut Fields, out: &mut String) -> Result<(
     write_text(out, sink.bytes())
 }
 
-/// `shelf NAME LIMIT TEXT`: what a shelf without files answers where it is to keep a text and then to fetch it.
-pub fn shelf_row(alloc: Global, fields: &mut Fields, out: &mut String) -> Result<(), RowError> {
+/// `keep NAME TEXT`: whether the store keeps the text.
+fn keep_step(
+    alloc: Global,
+    shelf: &mut MemShelf,
+    fields: &mut Fields,
+    out: &mut String,
+) -> Result<(), RowError> {
     let name = fields.word()?;
-    let limit = number::<usize>(fields.word()?)?;
-    let mut shelf = BareShelf::new();
     out.push_str(match shelf.keep(alloc, name, fields.rest().as_bytes()) {
         Ok(()) => "kept",
         Err(KeepError::Failed) => "failed",
         Err(KeepError::Memory) => return Err(RowError::Memory),
     })?;
-    out.push_str(match shelf.fetch(alloc, name, limit) {
-        Ok(Some(_)) => " found",
-        Ok(None) => " none",
-        Err(FetchError::Failed) => " failed",
-        Err(FetchError::TooLong) => " too long",
+    Ok(())
+}
+
+/// `fetch NAME LIMIT`: what the store has under the name, or why it gives nothing.
+fn fetch_step(
+    alloc: Global,
+    shelf: &mut MemShelf,
+    fields: &mut Fields,
+    out: &mut String,
+) -> Result<(), RowError> {
+    let name = fields.word()?;
+    let limit = number::<usize>(fields.word()?)?;
+    match shelf.fetch(alloc, name, limit) {
+        Ok(Some(bytes)) => write_file(out, bytes.as_slice())?,
+        Ok(None) => out.push_str("none")?,
+        Err(FetchError::Failed) => out.push_str("failed")?,
+        Err(FetchError::TooLong) => out.push_str("too long")?,
         Err(FetchError::Memory) => return Err(RowError::Memory),
-    })?;
+    }
+    Ok(())
+}
+
+fn write_file(out: &mut String, bytes: &[u8]) -> Result<(), RowError> {
+    out.push_str("found ")?;
+    for byte in bytes {
+        out.push(*byte as char)?;
+    }
+    Ok(())
+}
+
+/// A call of the store, or `file NAME`: what it has under the name, without a call that could fail.
+fn shelf_step(
+    alloc: Global,
+    shelf: &mut MemShelf,
+    fields: &mut Fields,
+    out: &mut String,
+) -> Result<(), RowError> {
+    match fields.word()? {
+        "keep" => keep_step(alloc, shelf, fields, out),
+        "fetch" => fetch_step(alloc, shelf, fields, out),
+        "file" => match shelf.file(fields.word()?) {
+            Some(bytes) => write_file(out, bytes),
+            None => {
+                out.push_str("none")?;
+                Ok(())
+            }
+        },
+        _ => Err(RowError::Word),
+    }
+}
+
+/// `shelf FAIL STEP/STEP ..`: what the steps answer, over a store in memory that begins without files, parted by `/`.
+pub fn shelf_row(alloc: Global, fields: &mut Fields, out: &mut String) -> Result<(), RowError> {
+    let fail = numbers::<u32>(alloc, fields.word()?)?;
+    let mut shelf = MemShelf::new(alloc, fail);
+    for text in fields.rest().split('/') {
+        if !out.is_empty() {
+            out.push('/')?;
+        }
+        let mut fields = Fields::new(text);
+        shelf_step(alloc, &mut shelf, &mut fields, out)?;
+        fields.end()?;
+    }
     Ok(())
 }

@@ -1,10 +1,12 @@
-//! The program `mate`: does what its words say with the standard input, and writes the answer to the standard output.
+//! The program `mate`: does what its words say with the standard input and the files of the working folder, and writes
+//! the answer to the standard output.
 #![tactic(auto)]
 
+mod folder;
 mod program;
 mod standard;
 
-use desk_base::BareShelf;
+use folder::FolderShelf;
 use program::{WordsError, exit_of, perform};
 use standard::{StdSink, StdSource};
 use std::alloc::AllocError;
@@ -48,7 +50,7 @@ fn words_of(rt: &HostRuntime) -> Result<Vec<String>, WordsError> {
 fn main(rt: HostRuntime) -> ExitCode {
     let mut source = StdSource::new(rt.stdin());
     let mut sink = StdSink::new(io::writer(&rt));
-    let mut shelf = BareShelf::new();
+    let mut shelf = FolderShelf::new(&rt);
     let status = perform(
         words_of(&rt),
         &mut source,

@@ -3,14 +3,13 @@
 ghost use Rattle.std.specs.Prelude.{◌≡◌, MatchResult, Some, map, string_bytes};
 ghost use Rattle.std.specs.Process.{exit_status};
 ghost use Rattle.desk_base.specs.Faults.{HasRisen};
-ghost use Rattle.desk_base.specs.Files.{no_files};
 ghost use Rattle.mate_desk.specs.Codes.{code_of};
 ghost use Rattle.mate_desk.specs.Outcome.{seen_of};
 ghost use Rattle.mate_desk.specs.Run.{RunEnds};
 ghost use Rattle.mate_main.specs.Program.{EndsWithoutWords, RefusesWords};
 
 use crate::standard::{StdSink, StdSource};
-use desk_base::{BareShelf, Shelf, Sink, Source, put_all};
+use desk_base::{MemShelf, Shelf, Sink, Source, put_all};
 use mate_desk::{Status, UsageWhy, run};
 use std::alloc::Global;
 use std::process::ExitCode;
@@ -63,25 +62,26 @@ pub struct Ran<'a> {
     pub rest: &'a [u8],
     /// The output, behind what it had before.
     pub output: Vec<u8>,
+    /// The files that it leaves.
+    pub shelf: MemShelf,
     pub read_faults: u64,
     pub write_faults: u64,
-    pub shelf_faults: u64,
 }
 
-/// The body of the program over a slice as its input and a vector as its output, of which all bytes are told, with no files.
+/// The body of the program over a slice as its input, a vector as its output and a store in memory, of which all is told.
 pub fn perform_in_memory<'a>(
     words: Result<Vec<String>, WordsError>,
     input: &'a [u8],
     output: Vec<u8>,
+    mut shelf: MemShelf,
     alloc: Global,
 ) -> Ran<'a>
-    ensures { let old = seen_of (Some input.now) (Some output.items) (Some no_files) 0 0 0 in
-        let new = seen_of (Some result.rest.now) (Some result.output.items) (Some no_files) result.read_faults result.write_faults result.shelf_faults in
+    ensures { let old = seen_of (Some input.now) (Some output.items) (Some shelf.files) 0 0 shelf.calls.faults in
+        let new = seen_of (Some result.rest.now) (Some result.output.items) (Some result.shelf.files) result.read_faults result.write_faults result.shelf.calls.faults in
         MatchResult words (λ given. RunEnds (map string_bytes given.items) result.status old new) (λ why. EndsWithoutWords why result.status old new) }
 {
     let mut source = StdSource::new(input);
     let mut sink = StdSink::new(output);
-    let mut shelf = BareShelf::new();
     let status = perform(words, &mut source, &mut sink, &mut shelf, alloc);
     let (rest, read_faults) = source.into_parts();
     let (output, write_faults) = sink.into_parts();
@@ -89,9 +89,9 @@ pub fn perform_in_memory<'a>(
         status,
         rest,
         output,
+        shelf,
         read_faults,
         write_faults,
-        shelf_faults: shelf.faults(),
     }
 }
 

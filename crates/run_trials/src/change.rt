@@ -45,6 +45,18 @@ impl Change {
     }
 }
 
+/// Changes the bytes, where they have what is to be changed.
+pub fn change_bytes(change: Change, bytes: &mut Vec<u8>) -> Result<(), ScriptWhy>
+    ensures ok { OnOk result (Fits change bytes.old.items × (bytes.new.items ≡ changed change bytes.old.items)) }
+    ensures err { OnErr result (bytes.new.items ≡ bytes.old.items) }
+{
+    if !change.fits(bytes.as_slice()) {
+        return Err(ScriptWhy::Outside);
+    }
+    change.apply(bytes)?;
+    Ok(())
+}
+
 /// The change that the words say: `cut at K`, `byte K is V` or `append V`.
 pub fn read_change(words: &[&str]) -> Result<Change, ScriptWhy> {
     match words {

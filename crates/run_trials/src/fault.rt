@@ -24,6 +24,8 @@ pub enum ScriptWhy {
     NoText,
     /// A text before has this name.
     Taken,
+    /// The store has no file of this name.
+    NoFile,
     /// Bytes or a setting belong to no text and no run.
     Stray,
     /// The bytes that are to be changed have no such place.
@@ -45,6 +47,7 @@ impl ScriptWhy {
             ScriptWhy::Escape => "escape",
             ScriptWhy::NoText => "no text",
             ScriptWhy::Taken => "second text of this name",
+            ScriptWhy::NoFile => "no file",
             ScriptWhy::Stray => "stray",
             ScriptWhy::Outside => "outside",
             ScriptWhy::Memory => "memory",

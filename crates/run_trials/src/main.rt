@@ -11,6 +11,7 @@ mod runner;
 mod setting;
 mod spelling;
 mod statement;
+mod store;
 mod texts;
 mod trial;
 mod words;

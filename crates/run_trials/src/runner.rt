@@ -3,9 +3,8 @@
 use crate::fault::{Refusal, ScriptWhy, Stop};
 use crate::report::write_run;
 use crate::statement::{Part, Statement};
-use crate::texts::Texts;
+use crate::store::{Stock, write_told};
 use crate::trial::{Case, Trial};
-use desk_base::BareShelf;
 use mate_desk::run;
 use std::alloc::Global;
 use std::io::Write;
@@ -16,9 +15,7 @@ use std::mem;
 pub struct Runner<W: Write + Drop> {
     alloc: Global,
     out: W,
-    texts: Texts,
-    /// The files. What a run keeps is there for those behind it.
-    shelf: BareShelf,
+    stock: Stock,
     block: Block,
     runs: u64,
 }
@@ -45,8 +42,7 @@ impl<W: Write + Drop> Runner<W> {
         Runner {
             alloc,
             out,
-            texts: Texts::new(alloc),
-            shelf: BareShelf::new(),
+            stock: Stock::new(alloc),
             block: Block::Nothing,
             runs: 0,
         }
@@ -94,13 +90,13 @@ impl<W: Write + Drop> Runner<W> {
         match mem::replace(&mut self.block, Block::Nothing) {
             Block::Nothing => {}
             Block::Text(NamedText { line, name, bytes }) => {
-                let added = self.texts.add(name, bytes);
+                let added = self.stock.texts.add(name, bytes);
                 added.map_err(|why| Refusal { line, why })?;
             }
             Block::Trial(trial) => {
                 let cases = trial.cases();
                 for number in cases.first..=cases.last {
-                    let case = trial.case(self.alloc, &self.texts, number)?;
+                    let case = trial.case(self.alloc, &mut self.stock, number)?;
                     self.perform(case)?;
                 }
             }
@@ -108,17 +104,22 @@ impl<W: Write + Drop> Runner<W> {
         Ok(())
     }
 
-    /// Does a run, and writes what comes of it.
+    /// Does a run, and writes what comes of it and what is to be told of files.
     fn perform(&mut self, case: Case) -> Result<(), Stop> {
         let Case {
             title,
             words,
             given,
+            questions,
         } = case;
         let (mut source, mut sink) = given.open(self.alloc)?;
-        let status = run(self.alloc, &words, &mut source, &mut sink, &mut self.shelf);
+        let shelf = &mut self.stock.shelf;
+        let status = run(self.alloc, &words, &mut source, &mut sink, shelf);
         self.runs = self.runs.saturating_add(1);
         write_run(&mut self.out, title.as_str(), sink.bytes(), status.code())?;
+        for question in &questions {
+            write_told(&mut self.out, &self.stock.shelf, question)?;
+        }
         Ok(())
     }
 }

@@ -2,14 +2,15 @@
 
 ghost use Rattle.std.specs.Prelude.{◌<◌};
 
-use crate::change::{Change, read_change};
+use crate::change::{Change, change_bytes, read_change};
 use crate::fault::ScriptWhy;
 use crate::number::read_number;
+use crate::store::{Edit, Told};
 use desk_base::{MemSink, MemSource};
 use std::alloc::{AllocError, Global};
 
 /// A setting of one run.
-#[derive(Clone, Copy, Debug, PartialEq, Eq)]
+#[derive(Drop)]
 pub enum Setting<'a> {
     /// The bytes of the text of this name come next in the input.
     Text(&'a str),
@@ -21,6 +22,12 @@ pub enum Setting<'a> {
     Write(Calls),
     /// The sink holds so many bytes.
     Room(usize),
+    /// A store without files takes the place of the one before; its calls of these numbers, counted from 1, fail.
+    NewStore(Vec<u32>),
+    /// The file of this name is set or changed.
+    File(&'a str, Edit<'a>),
+    /// This is told of the file of this name, behind the run.
+    Tell(&'a str, Told),
 }
 
 /// How the calls of a port go.
@@ -45,8 +52,29 @@ pub fn read_setting<'a>(alloc: Global, line: &'a str) -> Result<Setting<'a>, Scr
         }
         ["write", call, "fails"] => Ok(Setting::Write(Calls::Fails(read_number(call)?))),
         ["room", room] => Ok(Setting::Room(read_number(room)?)),
+        ["new", "store"] => Ok(Setting::NewStore(Vec::new(alloc))),
+        ["new", "store", "failing", "at", calls @ ..] => {
+            Ok(Setting::NewStore(read_numbers(alloc, calls)?))
+        }
+        ["file", name, "holds", text] => Ok(Setting::File(name, Edit::Text(text))),
+        ["file", name, "as", other] => Ok(Setting::File(name, Edit::File(other))),
+        ["file", name, change @ ..] => Ok(Setting::File(name, Edit::Change(read_change(change)?))),
+        ["tell", name] => Ok(Setting::Tell(name, Told::Size)),
+        ["tell", name, "at", at, "for", count] => {
+            let at = read_number(at)?;
+            let count = read_number(count)?;
+            Ok(Setting::Tell(name, Told::Bytes { at, count }))
+        }
         _ => Err(ScriptWhy::Unknown),
     }
+}
+
+fn read_numbers(alloc: Global, words: &[&str]) -> Result<Vec<u32>, ScriptWhy> {
+    let mut numbers = Vec::new(alloc);
+    for word in words {
+        numbers.push(read_number(word)?)?;
+    }
+    Ok(numbers)
 }
 
 /// How the calls of a source or a sink go.
@@ -122,10 +150,6 @@ impl Given {
 
     /// Changes the input.
     pub fn change(&mut self, change: Change) -> Result<(), ScriptWhy> {
-        if !change.fits(self.input.as_slice()) {
-            return Err(ScriptWhy::Outside);
-        }
-        change.apply(&mut self.input)?;
-        Ok(())
+        change_bytes(change, &mut self.input)
     }
 }

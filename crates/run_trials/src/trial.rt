@@ -4,8 +4,9 @@ use crate::cases::{CaseLine, Cases};
 use crate::fault::{Refusal, ScriptWhy};
 use crate::setting::{Given, Setting, read_setting};
 use crate::statement::Part;
-use crate::texts::Texts;
+use crate::store::{Question, Stock, Told};
 use crate::words::read_words;
+use desk_base::MemShelf;
 use std::alloc::Global;
 
 /// A run with what stands under it. It is done once, or once for each number of its range; there is at most one range.
@@ -67,8 +68,8 @@ impl Trial {
         Ok(())
     }
 
-    /// The case of this number.
-    pub fn case(&self, alloc: Global, texts: &Texts, number: u32) -> Result<Case, Refusal> {
+    /// The case of this number. The files of the store become what they are to be before it.
+    pub fn case(&self, alloc: Global, stock: &mut Stock, number: u32) -> Result<Case, Refusal> {
         let mut case = match Case::new(alloc, &self.head, number) {
             Ok(case) => case,
             Err(why) => return Err(Refusal {
@@ -78,7 +79,7 @@ impl Trial {
         };
         for entry in &self.entries {
             let line = entry.line;
-            let added = case.add(alloc, texts, number, &entry.part);
+            let added = case.add(alloc, stock, number, &entry.part);
             added.map_err(|why| Refusal { line, why })?;
         }
         Ok(case)
@@ -92,6 +93,8 @@ pub struct Case {
     pub title: String,
     pub words: Vec<String>,
     pub given: Given,
+    /// What is to be told of files behind it.
+    pub questions: Vec<Question>,
 }
 
 impl Case {
@@ -103,26 +106,27 @@ impl Case {
             title,
             words,
             given,
+            questions: Vec::new(alloc),
         })
     }
 
     fn add(
         &mut self,
         alloc: Global,
-        texts: &Texts,
+        stock: &mut Stock,
         number: u32,
         part: &Part,
     ) -> Result<(), ScriptWhy> {
         match part {
             Part::Bytes(bytes) => self.given.add_bytes(bytes.as_slice()),
-            Part::Setting(setting) => self.add_setting(alloc, texts, number, setting),
+            Part::Setting(setting) => self.add_setting(alloc, stock, number, setting),
         }
     }
 
     fn add_setting(
         &mut self,
         alloc: Global,
-        texts: &Texts,
+        stock: &mut Stock,
         number: u32,
         setting: &CaseLine,
     ) -> Result<(), ScriptWhy> {
@@ -130,7 +134,7 @@ impl Case {
         self.title.push_str(" / ")?;
         self.title.push_str(line.as_str())?;
         match read_setting(alloc, line.as_str())? {
-            Setting::Text(name) => self.given.add_bytes(texts.get(name)?),
+            Setting::Text(name) => self.given.add_bytes(stock.texts.get(name)?),
             Setting::Input(change) => self.given.change(change),
             Setting::Read(calls) => self.given.reads.set(calls),
             Setting::Write(calls) => self.given.writes.set(calls),
@@ -138,6 +142,19 @@ impl Case {
                 self.given.room = room;
                 Ok(())
             }
+            Setting::NewStore(fail) => {
+                stock.shelf = MemShelf::new(alloc, fail);
+                Ok(())
+            }
+            Setting::File(name, edit) => stock.edit(alloc, name, edit),
+            Setting::Tell(name, told) => self.ask(alloc, name, told),
         }
+    }
+
+    /// Adds what is to be told of a file.
+    fn ask(&mut self, alloc: Global, name: &str, told: Told) -> Result<(), ScriptWhy> {
+        let name = String::from_str(alloc, name)?;
+        self.questions.push(Question { name, told })?;
+        Ok(())
     }
 }

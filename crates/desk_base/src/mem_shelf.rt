@@ -1,0 +1,122 @@
+ghost use Rattle.std.specs.Prelude.{◌≡◌, ◌≢◌, ◌↔◌, ℕ, ◌+◌, ◌<◌, ◌≤◌, List, Option, Some, None, length, string_bytes, option_copied, IfOk, OnOk, OnErr, IsErrOf, IfSome, IsSomeAnd};
+ghost use Rattle.std.specs.FinMap as map;
+ghost use Rattle.desk_base.specs.Calls.{IsListed, no_calls, one_more, one_more_failed};
+ghost use Rattle.desk_base.specs.Faults.{HasRisen};
+ghost use Rattle.desk_base.specs.Files.{contents, no_files};
+
+use crate::calls::CallCount;
+use crate::files::{FetchError, KeepError, Shelf};
+use std::alloc::{AllocError, Global};
+use std::collections::BTreeMap;
+use std::marker::Model;
+
+/// A store of files in memory.
+#[derive(Drop)]
+pub struct MemShelf {
+    files: BTreeMap<String, Vec<u8>>,
+    calls: CallCount,
+}
+
+impl Model for MemShelf {
+    ghost use Rattle.std.specs.Prelude.{◌≤◌};
+    ghost use Rattle.desk_base.specs.Files.{files_of};
+    ghost use Rattle.desk_base.specs.Memory.{Store, store_code};
+
+    ghost Value = { Store };
+
+    ghost coded = { store_code };
+
+    ghost view = { λ s. record { files = files_of s.files.entries; calls = s.calls } };
+}
+
+impl MemShelf {
+    /// A store without files. The calls of `fetch` and `keep` whose numbers are in `fail`, counted together from 1, are to fail; calls
+    /// after the one of number 2^32 - 1 have no number.
+    pub fn new(alloc: Global, fail: Vec<u32>) -> Self
+        ensures { result ≡ record { files = no_files; calls = no_calls fail.items } }
+    {
+        MemShelf {
+            files: BTreeMap::new(alloc),
+            calls: CallCount::new(fail),
+        }
+    }
+
+    /// The bytes of the file of this name. No call is counted.
+    pub fn file(&self, name: &str) -> Option<&[u8]>
+        ensures { option_copied result ≡ map.get self.now.files name.now }
+    {
+        match self.files.get(name) {
+            Some(bytes) => Some(bytes.as_slice()),
+            None => None,
+        }
+    }
+
+    /// Gives the file of this name these bytes, in place of what it had. No call is counted.
+    pub fn set_file(&mut self, name: String, bytes: Vec<u8>) -> Result<(), AllocError>
+        ensures ok { OnOk result (self.new ≡ record self.old { files = map.insert self.old.files (string_bytes name) bytes.items }) }
+        ensures err { OnErr result (self.new ≡ self.old) }
+    {
+        let _ = self.files.insert(name, bytes)?;
+        Ok(())
+    }
+}
+
+impl Shelf for MemShelf {
+    ghost files = { λ s. Some s.files };
+
+    ghost faults = { λ s. s.calls.faults };
+
+    fn fetch(
+        &mut self,
+        alloc: Global,
+        name: &str,
+        limit: usize,
+    ) -> Result<Option<Vec<u8>>, FetchError>
+        ensures found { IfOk result (λ file. contents file ≡ map.get self.old.files name.now) }
+        ensures short { IfOk result (λ file. IfSome file (λ bytes. length bytes.items ≤ limit)) }
+        ensures same { self.new.files ≡ self.old.files }
+        ensures failed { IsErrOf result FetchError.Failed → HasRisen self.old.calls.faults self.new.calls.faults }
+        ensures never_falls { self.old.calls.faults ≤ self.new.calls.faults }
+
+        // It fails exactly at the calls that are to fail, and counts no other fault.
+        ensures listed { IsErrOf result FetchError.Failed ↔ IsListed self.old.calls }
+        ensures failing { IsListed self.old.calls → self.new ≡ record self.old { calls = one_more_failed self.old.calls } }
+        ensures passing { ¬ IsListed self.old.calls → self.new ≡ record self.old { calls = one_more self.old.calls } }
+
+        // At each other call a file is too long exactly where it exceeds the limit, and memory is wanting only where one is short enough.
+        ensures too_long { IsErrOf result FetchError.TooLong ↔ ¬ IsListed self.old.calls × IsSomeAnd (map.get self.old.files name.now) (λ bytes. limit < length bytes) }
+        ensures memory { IsErrOf result FetchError.Memory → IsSomeAnd (map.get self.old.files name.now) (λ bytes. length bytes ≤ limit) }
+    {
+        if self.calls.fails() {
+            return Err(FetchError::Failed);
+        }
+        let Some(bytes) = self.file(name) else {
+            return Ok(None);
+        };
+        if bytes.len() > limit {
+            return Err(FetchError::TooLong);
+        }
+        Ok(Some(Vec::from_slice(alloc, bytes)?))
+    }
+
+    /// Where it fails, and where there is no memory, no file changes.
+    fn keep(&mut self, alloc: Global, name: &str, bytes: &[u8]) -> Result<(), KeepError>
+        ensures kept { OnOk result (self.new.files ≡ map.insert self.old.files name.now bytes.now) }
+        ensures err { OnErr result (self.new.files ≡ self.old.files) }
+        ensures failed { IsErrOf result KeepError.Failed → HasRisen self.old.calls.faults self.new.calls.faults }
+        ensures never_falls { self.old.calls.faults ≤ self.new.calls.faults }
+
+        // It fails exactly at the calls that are to fail, and counts no other fault.
+        ensures listed { IsErrOf result KeepError.Failed ↔ IsListed self.old.calls }
+        ensures failing { IsListed self.old.calls → self.new ≡ record self.old { calls = one_more_failed self.old.calls } }
+        ensures passing { ¬ IsListed self.old.calls → self.new.calls ≡ one_more self.old.calls }
+    {
+        if self.calls.fails() {
+            return Err(KeepError::Failed);
+        }
+        let name = String::from_str(alloc, name)?;
+        let bytes = Vec::from_slice(alloc, bytes)?;
+        self.set_file(name, bytes)?;
+        Ok(())
+    }
+}
