@@ -1,5 +1,5 @@
 -- What is reported of a file, from what is fetched of it.
-use Rattle.std.proofs.Common.{◌≡◌, ◌↔◌, ℕ, ◌+◌, ◌<◌, ◌≤◌, List, [], ◌∷◌, length, map, Option, Some, None, IfSome, Result, Ok, Err, inl, inr, refl, sym, ◌∙◌, ap, subst, take, arith}
+use Rattle.std.proofs.Common.{◌≡◌, ℕ, ◌≤◌, List, [], length, Option, Some, None, IfSome, Result, Ok, Err, inl, inr, refl, sym, ◌∙◌, ap, subst, take, arith}
 use Rattle.std.specs.FinMap as files_map
 use Rattle.std.specs.Io.KnownBytes.{Consumes}
 use Rattle.std.specs.Prelude.{unwrap_or}
@@ -8,11 +8,9 @@ use Rattle.std.proofs.lemmas.List.Elements.{All-nil}
 use Rattle.claim_plan.proofs.CheckLaws.{ends_where_won}
 use Rattle.claim_plan.proofs.ClaimLemmas.{won_is_value}
 use Rattle.claim_plan.proofs.SameClaims.{same_claims_are_checked_alike}
-use Rattle.claim_plan.specs.CheckPlan.{check_plan}
 use Rattle.auto_core.specs.Automaton.{Automaton}
 use Rattle.track_word.specs.Word.{IsWord}
 use Rattle.claim_plan.specs.SameClaims.{AreCheckedAlike, AreSameSets, IsSameClaim, IsSameSet}
-use Rattle.claim_check.specs.Check.{IsChecked}
 use Rattle.desk_base.specs.Faults.{HasRisen}
 use Rattle.desk_base.specs.Files.{Files, Go}
 use Rattle.desk_base.specs.Lines.{IsLine, Lines, lines_of}
@@ -20,11 +18,9 @@ use Rattle.game_rules.specs.Game.{Position, Value}
 use Rattle.game_rules.specs.declared.men.Side.{Side}
 use Rattle.game_report.proofs.Alike.{by_claim, report_alike, report_by}
 use Rattle.game_report.specs.Report.{ByClaim, IsReport, Match}
-use Rattle.game_report.specs.Report as game
 use Rattle.chess_text.specs.PositionText.{text_of_lines}
-use Rattle.mate_plan.specs.Claim.{Claim, IsClaim, claimed_at}
+use Rattle.mate_plan.specs.Claim.{Claim, claimed_at}
 use Rattle.mate_plan.specs.Won.{Won}
-use Rattle.set_plan.specs.Outcome as plan
 use Rattle.strategy_file.proofs.FileClaims.{files_are_claims}
 use Rattle.strategy_file.proofs.SameReads.{read_is_same}
 use Rattle.strategy_file.specs.Claims.{claim_with}
@@ -34,19 +30,16 @@ use Rattle.strategy_file.specs.Layout as layout
 use Rattle.strategy_file.specs.StrategyFile.{Charts, File, charts_of}
 use Rattle.strategy_file.specs.Written.{most_bytes}
 use Rattle.winning_sets.specs.Claimed.{claim_of}
-use Rattle.winning_sets.specs.Solve.{IsSolveError, Solution}
-use Rattle.winning_sets.specs.declared.names.SolveError.TheVariants as solve_error
-use Rattle.winning_sets.specs.declared.names.StepName.{StepName}
+use Rattle.winning_sets.specs.Solve.{Solution}
 use Rattle.mate_desk.specs.Check.{CheckReports}
-use Rattle.mate_desk.specs.FileClaim.{Fetches, HasFileClaim, IsFetched, IsReadAs, LacksClaim, MissesFetch, OfClaim, OfFile, OfFound, OfOutcome, TellsChecked, TellsRead, no_claim_line, no_claim_status}
+use Rattle.mate_desk.specs.FileClaim.{Fetches, HasFileClaim, IsFetched, IsReadAs, LacksClaim, MissesFetch, OfFile, OfFound, OfOutcome, TellsChecked, TellsRead, no_claim_line, no_claim_status}
 use Rattle.mate_desk.specs.Outcome.{Ends, NeverMisses, Report, Seen, Writes, WriteFailed, done_with, of_sink, of_streams, reported_on}
-use Rattle.mate_desk.specs.Play.{EndsByLines, IsDueBy, as_played}
+use Rattle.mate_desk.specs.Play.{EndsByLines}
 use Rattle.mate_desk.specs.Resume.{GameReports, LacksBefore, ResumeEnds, ResumeReports, claimed_match}
 use Rattle.mate_desk.specs.Verdict.{mate_line}
 use Rattle.mate_desk.specs.declared.file_claim.NoClaim.{NoClaim}
 use Rattle.mate_desk.specs.declared.file_claim.NoClaim.TheVariants.{Fault, Missing, TooLong, Cut, Byte, Extra, NotKept, Over, Memory}
 use Rattle.mate_desk.specs.declared.status.Status.{Status}
-use Rattle.mate_desk.specs.declared.status.Status.TheVariants as is
 use Rattle.mate_desk.proofs.TextSteps.{known_rest}
 use Rattle.mate_desk.proofs.Writing.{at_files, at_sink, ends_as, go_same}
 
@@ -215,7 +208,7 @@ module _ (budget : ℕ) (name : List ℕ) (files : Files) (s : Solution) (h : Ha
   -- so `resume` ends as the game does
   pub game_resumes : (status : Status) (pending : List ℕ) (old new : Seen) → IfSome old.files (λ told. told ≡ files) → Go old.files new.files (λ before after. after ≡ before)
       → EndsByLines (λ lines. GameReports lines files (claim_of s)) LacksBefore (λ bytes. NeverMisses) status [] pending
-        (of_streams files old.left old.written old.read_faults old.write_faults) (of_streams files new.left new.written new.read_faults new.write_faults)
+      (of_streams files old.left old.written old.read_faults old.write_faults) (of_streams files new.left new.written new.read_faults new.write_faults)
       → ResumeEnds budget name files status pending old new
   game_resumes status pending old new kept same p =
       let on = lines_of (reported_on status p.bytes p.rest) in

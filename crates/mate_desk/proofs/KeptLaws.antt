@@ -1,5 +1,5 @@
 -- The laws of what comes of a kept file.
-use Rattle.std.proofs.Common.{◌≡◌, ◌⊎◌, ℕ, ◌+◌, ◌≤◌, List, [], ◌++◌, length, take, Option, Some, None, IfSome, Result, Ok, Err, inl, inr, refl, sym, ◌∙◌, ap, subst, arith}
+use Rattle.std.proofs.Common.{◌≡◌, ◌⊎◌, ℕ, List, [], ◌++◌, take, Option, Some, None, IfSome, Result, Ok, Err, inl, inr, sym, ◌∙◌, ap, subst, arith}
 use Rattle.std.specs.FinMap as map
 use Rattle.std.specs.Prelude.{IsSomeAnd}
 use Rattle.std.proofs.lemmas.List.{append-nil, append_cancel_left}
@@ -9,26 +9,24 @@ use Rattle.claim_plan.specs.CheckPlan.{check_plan}
 use Rattle.desk_base.specs.Files.{Files, Go}
 use Rattle.desk_base.specs.Lines.{Lines, lines_of}
 use Rattle.game_rules.specs.Game.{Sound, Value}
-use Rattle.mate_plan.specs.Claim.{Claim, IsClaim}
+use Rattle.mate_plan.specs.Claim.{Claim}
 use Rattle.set_plan.specs.Outcome as plan
 use Rattle.strategy_file.proofs.KeptFiles.{kept_file_is_claim}
 use Rattle.strategy_file.proofs.OnceLemmas.{one_outcome}
 use Rattle.strategy_file.specs.Claims.{claim_with}
-use Rattle.strategy_file.specs.KeptFile.{IsKeptFile, IsReadAsWon}
+use Rattle.strategy_file.specs.KeptFile.{IsReadAsWon}
 use Rattle.strategy_file.specs.Layout.{Refusal}
 use Rattle.strategy_file.specs.StrategyFile.{Charts, File}
-use Rattle.strategy_file.specs.Written.{most_bytes}
 use Rattle.winning_sets.specs.declared.names.StepName.{StepName}
 use Rattle.mate_desk.specs.Check.{CheckReports}
 use Rattle.mate_desk.specs.FileClaim.{OfClaim, OfFile, OfFound, OfOutcome}
 use Rattle.mate_desk.specs.Keep.{IsFileToKeep, KeepReports}
 use Rattle.mate_desk.specs.Laws.{CheckedAfterKeep, HasKept, ResumeKeeps, ResumesGame}
-use Rattle.mate_desk.specs.Order.{name_in}
 use Rattle.mate_desk.specs.Outcome.{Report, Seen, done_with, over_budget}
-use Rattle.mate_desk.specs.Report.{OfName, OfRead, OfSound}
+use Rattle.mate_desk.specs.Report.{OfRead, OfSound}
 use Rattle.mate_desk.specs.Resume.{GameReports, ResumeReports}
 use Rattle.mate_desk.specs.Text.{Text, whole, refused}
-use Rattle.mate_desk.specs.Verdict.{mate_line, no_mate_line}
+use Rattle.mate_desk.specs.Verdict.{mate_line}
 use Rattle.mate_desk.specs.declared.order.Order.TheVariants.{Keep, Check, Resume}
 use Rattle.mate_desk.specs.declared.problem.Problem.{Problem}
 use Rattle.mate_desk.specs.declared.status.Status.TheVariants as is

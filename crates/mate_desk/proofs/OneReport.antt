@@ -135,7 +135,7 @@ module _ (one other : Result Order UsageWhy) where
       (λ n. WithName name one (WithNumber budget 1 most_budget one (λ k. one ≡ Ok (Keep n k))))
       (λ n. WithName name other (WithNumber budget 1 most_budget other (λ k. other ≡ Ok (Keep n k))))
       (λ n x y. with_name one other name (WithNumber budget 1 most_budget one (λ k. one ≡ Ok (Keep n k))) (WithNumber budget 1 most_budget other (λ k. other ≡ Ok (Keep n k)))
-        (λ u v. with_number one other budget 1 most_budget (λ k. one ≡ Ok (Keep n k)) (λ k. other ≡ Ok (Keep n k)) (λ k p q. p ∙ sym q) u v) x y) a b
+      (λ u v. with_number one other budget 1 most_budget (λ k. one ≡ Ok (Keep n k)) (λ k. other ≡ Ok (Keep n k)) (λ k p q. p ∙ sym q) u v) x y) a b
   once_keeping (moves ∷ name ∷ budget ∷ word ∷ words) a b = a ∙ sym b
 
   once_of_file : (order : ℕ → Order) (words : List (List ℕ)) → FileOrdered order words one → FileOrdered order words other → one ≡ other

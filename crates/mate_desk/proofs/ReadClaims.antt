@@ -1,12 +1,11 @@
 -- What is read of a file is a claim.
-use Rattle.std.proofs.Common.{◌≡◌, ◌≢◌, ◌==◌, ◌⊎◌, ℕ, zero, suc, ◌≤◌, Bool, true, false, List, [], ◌∷◌, length, map, Option, Some, None, Result, Ok, Err, inl, inr, refl, sym, ◌∙◌, ap, subst, arith}
+use Rattle.std.proofs.Common.{◌≡◌, ◌≢◌, ◌==◌, ℕ, zero, suc, ◌≤◌, Bool, true, false, List, [], ◌∷◌, length, map, Option, Some, None, Result, Ok, Err, inl, inr, refl, sym, ◌∙◌, ap, subst, arith}
 use Rattle.std.specs.Prelude.{◌&&◌, Contains, MatchOption, if◌then◌else◌, nat_le}
 use Rattle.std.specs.List.{All}
 use Rattle.std.proofs.lemmas.Bool.{and_from, and_parts, eq-eqb, leb-true}
 use Rattle.std.proofs.lemmas.List.Elements.{All-contains, All-nil, All-cons}
 use Rattle.auto_core.specs.Automaton.{Automaton}
 use Rattle.game_rules.specs.Game.{Position, Sound}
-use Rattle.game_rules.specs.declared.men.Man.{Man}
 use Rattle.game_rules.specs.declared.men.Side.TheVariants.{White}
 use Rattle.mate_plan.specs.Claim.{Claim, ClaimedSet, IsClaim, IsLosersPly, claimed_in}
 use Rattle.rule_formula.specs.Fits.{IsGameMask}
@@ -15,7 +14,7 @@ use Rattle.set_plan.proofs.Takings.{contains_cases, contains_none}
 use Rattle.strategy_file.proofs.FileClaims.{IsFound, found_in, place_in, place_of}
 use Rattle.strategy_file.proofs.LosersPlies.{places_of-are}
 use Rattle.strategy_file.specs.Claims.{claim_with, set_with}
-use Rattle.strategy_file.specs.Layout.{Ends, Field, Give, Layout, Read, Reads, Refusal, bind, each, repeated}
+use Rattle.strategy_file.specs.Layout.{Ends, Give, Layout, Read, Reads, Refusal, bind, each, repeated}
 use Rattle.strategy_file.specs.Men.{Start, man_layout, start_layout, start_with}
 use Rattle.strategy_file.specs.StrategyFile.{Chart, Charts, File, GoesOn, chart_layout, chart_with, charts_layout, charts_with, places_of}
 use Rattle.strategy_file.specs.Tables.{Table, table_layout}

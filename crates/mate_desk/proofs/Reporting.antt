@@ -281,11 +281,11 @@ module _ (words : List (List ℕ)) (old new : Seen) (same : new.files ≡ old.fi
       command_ends status reports may_lack says lacks ends =
           run_ends words status old new (given_text (Ok problem) t) pending (lines_due t.bytes t.takes)
           (not_usage status reports may_lack NeverMisses (of_sink files old.written old.write_faults) (of_sink files new.written new.write_faults)
-            (λ report right. order_status order words (t.bytes ++ t.rest) files report (says report right)) ends)
+          (λ report right. order_status order words (t.bytes ++ t.rest) files report (says report right)) ends)
           (no_read_fault status reports may_lack NeverMisses (of_sink files old.written old.write_faults) (of_sink files new.written new.write_faults) refl refl ends)
           (ends_as status reports (λ report. Reports words (t.bytes ++ t.rest) files report) may_lack (MayLackMemory words t.bytes) NeverMisses (MayMissShelf words t.bytes) old new
-            (λ report right. (Ok order, ordered, says report right)) (λ lack. (order, ordered, lacks lack)) (λ keeping never. absurd never)
-            (at_sink files old new (known_files old.files) (unchanged old.files new.files same) status reports may_lack ends))
+          (λ report right. (Ok order, ordered, says report right)) (λ lack. (order, ordered, lacks lack)) (λ keeping never. absurd never)
+          (at_sink files old new (known_files old.files) (unchanged old.files new.files same) status reports may_lack ends))
 
 -- so it is with each command
 module _ (words : List (List ℕ)) (old new : Seen) (same : new.files ≡ old.files) (pending : List ℕ) (problem : Problem) (t : TextRead (Ok problem) pending old.left new.left) (sound : Sound problem.position) (status : Status) where
@@ -331,8 +331,8 @@ module _ (words : List (List ℕ)) (old new : Seen) (pending : List ℕ) (proble
 
   pub keep_ends : (n budget : ℕ) (name : List ℕ) → Ordered words (Ok (Keep n budget)) → name_in (Keep n budget) words ≡ Some name
       → ((files : Files) → IfSome old.files (λ told. told ≡ files)
-        → Ends status (KeepReports n budget problem name files) (¬ HasNothingToPlay n problem) (MissesKeep name (HasFileToKeep n budget problem))
-          (of_shelf old.written old.files old.write_faults old.shelf_faults) (of_shelf new.written new.files new.write_faults new.shelf_faults))
+      → Ends status (KeepReports n budget problem name files) (¬ HasNothingToPlay n problem) (MissesKeep name (HasFileToKeep n budget problem))
+      (of_shelf old.written old.files old.write_faults old.shelf_faults) (of_shelf new.written new.files new.write_faults new.shelf_faults))
       → RunEnds words status old new
   keep_ends n budget name ordered named ends =
       let order = Keep n budget in
@@ -349,25 +349,25 @@ module _ (words : List (List ℕ)) (old new : Seen) (pending : List ℕ) (proble
       (not_usage status reports lacks misses before after (λ report right. keep_status n budget problem name files report right) ended)
       (no_read_fault status reports lacks misses before after refl refl ended)
       (ends_as status reports (λ report. Reports words (t.bytes ++ t.rest) files report) lacks (MayLackMemory words t.bytes) misses (MayMissShelf words t.bytes) old new
-        (λ report right. (
-          Ok order,
-          ordered,
-          of_problem words old read refl order ordered tt pending problem t (λ r rest. OfName order words (λ name'. KeepReports n budget r name' files)) sound report
-          (subst (λ o. Named o report) (sym named) right),
-        ))
-        (λ lack. (order, ordered, behind_text words old read refl order ordered tt pending problem t (TakesMemory order) sound lack))
-        (λ keeping miss. (
-          order,
-          ordered,
-          record { named = miss.1 ∙ sym named; text = behind_text words old read refl order ordered tt pending problem t (HasFileToKeep n budget) sound miss.0 },
-        ))
-        (with_source status reports lacks misses old new ended))
+      (λ report right. (
+        Ok order,
+        ordered,
+        of_problem words old read refl order ordered tt pending problem t (λ r rest. OfName order words (λ name'. KeepReports n budget r name' files)) sound report
+            (subst (λ o. Named o report) (sym named) right),
+      ))
+      (λ lack. (order, ordered, behind_text words old read refl order ordered tt pending problem t (TakesMemory order) sound lack))
+      (λ keeping miss. (
+        order,
+        ordered,
+        record { named = miss.1 ∙ sym named; text = behind_text words old read refl order ordered tt pending problem t (HasFileToKeep n budget) sound miss.0 },
+      ))
+      (with_source status reports lacks misses old new ended))
 
 -- `check` reads nothing, and has the sink and the shelf
 module _ (words : List (List ℕ)) (old new : Seen) (status : Status) where
   pub check_ends : (budget : ℕ) (name : List ℕ) → Ordered words (Ok (Check budget)) → name_in (Check budget) words ≡ Some name → new.left ≡ old.left
       → OnFiles old.files (λ files. Ends status (CheckReports budget name files) (Unit {0}) (MissesFetch [])
-        (of_shelf old.written old.files old.write_faults old.shelf_faults) (of_shelf new.written new.files new.write_faults new.shelf_faults))
+      (of_shelf old.written old.files old.write_faults old.shelf_faults) (of_shelf new.written new.files new.write_faults new.shelf_faults))
       → RunEnds words status old new
   check_ends budget name ordered named left (files, kept, ends) =
       let order = Check budget in

@@ -1,5 +1,5 @@
 -- What a shelf has told of a file, and files that it may have where it tells nothing.
-use Rattle.std.proofs.Common.{◌≡◌, ℕ, zero, suc, ◌+◌, ◌<◌, ◌≤◌, cond, true, List, [], ◌∷◌, length, Option, Some, None, IfSome, refl, sym, ◌∙◌, ap, subst, arith}
+use Rattle.std.proofs.Common.{◌≡◌, ℕ, zero, suc, ◌+◌, ◌<◌, cond, List, [], ◌∷◌, length, Option, Some, None, IfSome, refl, sym, ◌∙◌, ap, subst, arith}
 use Rattle.std.specs.FinMap as finite
 use Rattle.std.specs.Prelude.{IsSomeAnd}
 use Rattle.std.specs.Cmp.{eq_by_cmp_equiv}
@@ -8,7 +8,6 @@ use Rattle.desk_base.specs.Files.{Files, Go, no_files}
 use Rattle.desk_base.specs.Moves.{AppendsFront}
 use Rattle.game_rules.specs.Game.{Position, Value}
 use Rattle.game_rules.specs.declared.men.Side.{Side}
-use Rattle.strategy_file.specs.Written.{most_bytes}
 use Rattle.winning_sets.specs.Solve.{IsOf, Solution}
 use Rattle.mate_desk.specs.FileClaim.{OnFiles}
 use Rattle.mate_desk.specs.Keep.{FileReports, HasFileToKeep, IsFileToKeep}

@@ -70,7 +70,6 @@ go_same files way (Some x) None is' told holds = absurd is'
 
 -- The files of a run stay, and its command sees them told. It begins when the source has failed so often.
 module _ (files : Files) (old new : Seen) (kept : IfSome old.files (λ told. told ≡ files)) (same : Go old.files new.files (λ x y. y ≡ x)) where
-
   -- what the command sees, with these bytes to come
   abbrev told : Seen → Option (List ℕ) → ℕ → Seen
   told seen left reads = of_streams files left seen.written reads seen.write_faults

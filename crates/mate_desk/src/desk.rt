@@ -55,20 +55,29 @@ pub fn run<S: Source, K: Sink, H: Shelf>(
     };
     match order {
         Order::Decide { moves, budget } => {
-            answer(alloc, TextOrder::Decide { moves, budget }, source, sink, shelf)
+            let asked = TextOrder::Decide { moves, budget };
+            answer(alloc, asked, source, sink, shelf)
         }
         Order::Least { limit, budget } => {
-            answer(alloc, TextOrder::Least { limit, budget }, source, sink, shelf)
+            let asked = TextOrder::Least { limit, budget };
+            answer(alloc, asked, source, sink, shelf)
         }
         Order::First { moves, budget } => {
-            answer(alloc, TextOrder::First { moves, budget }, source, sink, shelf)
+            let asked = TextOrder::First { moves, budget };
+            answer(alloc, asked, source, sink, shelf)
         }
         Order::Play { moves, budget } => {
-            answer(alloc, TextOrder::Play { moves, budget }, source, sink, shelf)
+            let asked = TextOrder::Play { moves, budget };
+            answer(alloc, asked, source, sink, shelf)
         }
         Order::Keep { moves, budget } => {
             let name = word_at(words, KEEP_NAME);
-            answer(alloc, TextOrder::Keep { moves, budget, name }, source, sink, shelf)
+            let asked = TextOrder::Keep {
+                moves,
+                budget,
+                name,
+            };
+            answer(alloc, asked, source, sink, shelf)
         }
         Order::Check { budget } => {
             let name = word_at(words, FILE_NAME);

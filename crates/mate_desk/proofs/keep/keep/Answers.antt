@@ -1,6 +1,6 @@
-use Rattle.std.proofs.Common.{◌≡◌, List, ℕ, inl, inr, refl, ap, ◌∙◌}
+use Rattle.std.proofs.Common.{◌≡◌, inl, inr, refl, ap, ◌∙◌}
 use Rattle.std.specs.Prelude.{Err}
-use Rattle.mate_desk.specs.Keep.{FileReports, HasFileToKeep, IsFileToKeep, KeepReports, MissesKeep}
+use Rattle.mate_desk.specs.Keep.{FileReports, HasFileToKeep, KeepReports, MissesKeep}
 use Rattle.mate_desk.specs.Outcome.{NeverMisses, done_with}
 use Rattle.mate_desk.specs.Verdict.{FitsBudget, HasNothingToPlay}
 use Rattle.mate_desk.proofs.Shelves.{kept_file, kept_reports, same_kept}

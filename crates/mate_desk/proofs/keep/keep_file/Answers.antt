@@ -1,9 +1,9 @@
-use Rattle.std.proofs.Common.{◌≡◌, Some, inl, inr, refl, subst, ap, ◌∙◌, rules}
+use Rattle.std.proofs.Common.{Some, inl, inr, refl, subst, ap, ◌∙◌, rules}
 use Rattle.std.specs.FinMap as map
 use Rattle.strategy_file.proofs.KeptFiles.{file_is_kept}
 use Rattle.winning_sets.specs.Claimed.{IsValidBy}
 use Rattle.winning_sets.specs.Solve.{IsSolution}
-use Rattle.mate_desk.specs.Keep.{FileReports, IsFileToKeep, MissesKeep}
+use Rattle.mate_desk.specs.Keep.{FileReports, IsFileToKeep}
 use Rattle.mate_desk.specs.Outcome.{Report, done_with}
 use Rattle.mate_desk.specs.Verdict.{mate_line}
 use Rattle.mate_desk.proofs.Shelves.{printed_leaving, put_leaves, same_leaves}

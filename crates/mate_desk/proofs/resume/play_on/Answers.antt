@@ -16,9 +16,9 @@ returns-in-Ok g c = record {
       let first = seen_claimed s c.whole.result c.in-Ok.session c.requires.origin c.in-Ok.ensures.ok in (
         game.new.reader.pending,
         game_ends Says LacksBefore (λ (bytes : List ℕ). NeverMisses) files 0 (claimed_match (claim_of s)) (λ lines played right. (played, right, refl))
-        [] _ (seen game.new.session) _ _ _ _ _ _ _ _ _ _ game.result c.finish.result
-        (same_played 0 game.result (seen c.in-Ok.session) (claimed_match (claim_of s)) (seen game.new.session) _ _ first (rw c.new-reader.ensures at game.ensures.plays))
-        game.ensures.read_failed game.ensures.write_failed game.ensures.writes_never_fall c.finish.ensures.never_falls c.finish.ensures.ends,
+            [] _ (seen game.new.session) _ _ _ _ _ _ _ _ _ _ game.result c.finish.result
+            (same_played 0 game.result (seen c.in-Ok.session) (claimed_match (claim_of s)) (seen game.new.session) _ _ first (rw c.new-reader.ensures at game.ensures.plays))
+            game.ensures.read_failed game.ensures.write_failed game.ensures.writes_never_fall c.finish.ensures.never_falls c.finish.ensures.ends,
       );
 }
 
@@ -28,6 +28,6 @@ returns g c = record {
       let Says : Lines → Report → Type 0 = λ lines. GameReports lines files (claim_of c.args.solved) in (
         [],
         still Says LacksBefore (λ (bytes : List ℕ). NeverMisses) files [] (omega arith) _ _ _ _ _ _ _ (λ report. ⊥) (Unit {0})
-        (λ report lines none. absurd none) (λ some. refl) (tt, record { written = c.refuse.ensures.written; files = refl }),
+            (λ report lines none. absurd none) (λ some. refl) (tt, record { written = c.refuse.ensures.written; files = refl }),
       );
 }
