@@ -3,7 +3,7 @@ use Rattle.std.proofs.Common.{◌≡◌, ℕ, List, Option, Some, None, if◌the
 use Rattle.std.specs.Prelude.{bytes_eq}
 use Rattle.mate_desk.specs.Order.{IsCommand, name_of}
 use Rattle.mate_desk.specs.declared.order.Command.{Command}
-use Rattle.mate_desk.specs.declared.order.Command.TheVariants.{Decide, Least, First, Play, Show, Drill}
+use Rattle.mate_desk.specs.declared.order.Command.TheVariants.{Decide, Least, First, Play, Keep, Check, Resume, Show, Drill}
 
 -- the command of a name
 abbrev named : List ℕ → Option Command
@@ -12,13 +12,19 @@ named word =
     else (if bytes_eq word (codes "least") then Some Least
     else (if bytes_eq word (codes "first") then Some First
     else (if bytes_eq word (codes "play") then Some Play
-    else (if bytes_eq word (codes "show") then Some Show else (if bytes_eq word (codes "drill") then Some Drill else None)))))
+    else (if bytes_eq word (codes "keep") then Some Keep
+    else (if bytes_eq word (codes "check") then Some Check
+    else (if bytes_eq word (codes "resume") then Some Resume
+    else (if bytes_eq word (codes "show") then Some Show else (if bytes_eq word (codes "drill") then Some Drill else None))))))))
 
 named_back : (command : Command) → named (name_of command) ≡ Some command
 named_back Decide = refl
 named_back Least = refl
 named_back First = refl
 named_back Play = refl
+named_back Keep = refl
+named_back Check = refl
+named_back Resume = refl
 named_back Show = refl
 named_back Drill = refl
 

@@ -35,7 +35,7 @@ of_words words bytes files order report ordered reports =
     subst P (once_words reports.0 (Ok order) words reports.1 ordered) reports.2
 
 -- the two lines begin with different letters
-one_line : (n : ℕ) → mate_line n ≡ no_mate_line n → ⊥
+pub one_line : (n : ℕ) → mate_line n ≡ no_mate_line n → ⊥
 one_line n same = let letters : ◌≡◌ {A = ℕ} 109 110 = ap (λ (line : List ℕ). get_or line 0 0) same in absurd (omega arith)
 
 module _ (n : ℕ) (problem : Problem) (text : List ℕ) where

@@ -26,12 +26,12 @@ given_bytes (Some xs) None bytes taken rest told consumed left = absurd consumed
 given_bytes (Some xs) (Some ys) bytes taken rest told consumed left = let same : bytes ≡ xs = cc in same ∙ consumed ∙ ap (λ r. taken ++ r) left
 
 -- what was written is what the sink tells
-told_bytes : (before after : Option (List ℕ)) (out text : List ℕ) → before ≡ Some out → Appends before after text → (all : List ℕ) × (after ≡ Some all) × (all ≡ out ++ text)
+pub told_bytes : (before after : Option (List ℕ)) (out text : List ℕ) → before ≡ Some out → Appends before after text → (all : List ℕ) × (after ≡ Some all) × (all ≡ out ++ text)
 told_bytes None after out text told appends = absurd (cc)
 told_bytes (Some xs) None out text told appends = absurd appends
 told_bytes (Some xs) (Some ys) out text told appends = let same : xs ≡ out = cc in (ys, refl, appends ∙ ap (λ l. l ++ text) same)
 
-take_none : (count : ℕ) (line : List ℕ) → line ≡ [] → take count line ≡ []
+pub take_none : (count : ℕ) (line : List ℕ) → line ≡ [] → take count line ≡ []
 take_none count line none = ap (λ l. take count l) none ∙ take_all count [] (omega arith)
 
 module _ (words : List (List ℕ)) (order : Order) (p : Position) (old new : Seen) (out : List ℕ) (run : HasRun words order p old new out) where

@@ -1,5 +1,8 @@
 -- Words, a text and a position have one meaning each, and so an input has one report.
 use Rattle.std.proofs.Common.{◌≡◌, ◌⊎◌, ◌++◌, ℕ, ◌+◌, ◌≤◌, List, [], ◌∷◌, Option, Some, None, Result, Ok, Err, false, inl, inr, refl, sym, ap, subst, ◌∙◌, arith}
+use Rattle.std.specs.FinMap as map
+use Rattle.std.specs.Prelude.{IsSomeAnd}
+use Rattle.std.proofs.lemmas.Option.{same_Some}
 use Rattle.desk_base.specs.Files.{Files}
 use Rattle.desk_base.specs.Lines.{Lines, full, ended, cut, long, lines_of}
 use Rattle.game_rules.specs.Game.{Position}
@@ -17,30 +20,40 @@ use Rattle.chess_text.specs.declared.reader.Stage.TheVariants.{Header}
 use Rattle.chess_text.proofs.PositionLemmas.{feeds_once}
 use Rattle.game_report.proofs.Once.{one_report as one_game}
 use Rattle.winning_sets.specs.declared.names.StepName.{StepName}
+use Rattle.mate_plan.specs.Claim.{Claim}
+use Rattle.strategy_file.proofs.OnceLemmas.{one_outcome}
+use Rattle.strategy_file.proofs.KeptFiles.{one_kept_file}
+use Rattle.strategy_file.specs.Claims.{claim_with}
+use Rattle.strategy_file.specs.Layout.{Refusal}
+use Rattle.strategy_file.specs.StrategyFile.{Charts}
+use Rattle.mate_desk.specs.Check.{CheckReports}
 use Rattle.mate_desk.specs.Decide.{DecideReports}
-use Rattle.mate_desk.specs.FaultLines.{unsound_line}
+use Rattle.mate_desk.specs.FaultLines.{not_kept_line, too_large_line, unsound_line}
+use Rattle.mate_desk.specs.FileClaim.{OfClaim, OfFile, OfFound, OfOutcome, file_refused}
 use Rattle.mate_desk.specs.First.{FirstReports}
+use Rattle.mate_desk.specs.Keep.{FileReports, KeepReports, KeptReports}
 use Rattle.mate_desk.specs.Laws.{OneReport}
 use Rattle.mate_desk.specs.Least.{LeastFinds, LeastReports, LeastStops, least_line}
-use Rattle.mate_desk.specs.Order.{ReadsNumber, FromNumber, WithNumber, DrillOrdered, MovesOrdered, ReadsMoves, ShowOrdered, Ordered, OrderedBehind, order_for, most_moves, most_budget, most_positions, most_seed, default_budget}
+use Rattle.mate_desk.specs.Order.{ReadsNumber, FromNumber, WithName, WithNumber, DrillOrdered, FileOrdered, KeepOrdered, MovesOrdered, ReadsFile, ReadsMoves, ShowOrdered, Ordered, OrderedBehind, file_order_for, name_in, order_for, most_moves, most_budget, most_positions, most_seed, default_budget}
 use Rattle.mate_desk.specs.Outcome.{Report, done_with, over_budget, refusal_as}
 use Rattle.mate_desk.specs.Play.{PlayReports, PlayedReports, as_played, first_match}
-use Rattle.mate_desk.specs.Report.{OfRead, OfSound, OfText, ReportsOrder, ReportsWords}
+use Rattle.mate_desk.specs.Report.{OfName, OfRead, OfSound, OfText, ReportsOrder, ReportsWords}
+use Rattle.mate_desk.specs.Resume.{GameReports, ResumeReports, claimed_match}
 use Rattle.mate_desk.specs.Show.{IsCheckLine, ShowReports, live_line}
 use Rattle.mate_desk.specs.Text.{Text, whole, refused, AfterLine, ReadsLines}
-use Rattle.mate_desk.specs.Verdict.{ExceedsAt, IsVerdict}
+use Rattle.mate_desk.specs.Verdict.{ExceedsAt, IsVerdict, mate_line}
 use Rattle.mate_desk.specs.declared.order.Command.{Command}
 use Rattle.mate_desk.specs.declared.order.Command.TheVariants as commands
 use Rattle.mate_desk.specs.declared.order.Order.{Order}
-use Rattle.mate_desk.specs.declared.order.Order.TheVariants.{Decide, Least, First, Play, Show, Drill}
+use Rattle.mate_desk.specs.declared.order.Order.TheVariants.{Decide, Least, First, Play, Keep, Check, Resume, Show, Drill}
 use Rattle.mate_desk.specs.declared.order.UsageWhy.{UsageWhy}
-use Rattle.mate_desk.specs.declared.order.UsageWhy.TheVariants.{NoCommand, Unknown, Count, Number, Limit}
+use Rattle.mate_desk.specs.declared.order.UsageWhy.TheVariants.{NoCommand, Unknown, Count, Number, Limit, Name}
 use Rattle.mate_desk.specs.declared.problem.Problem.{Problem}
 use Rattle.mate_desk.specs.declared.status.Status.TheVariants as is
 use Rattle.mate_desk.proofs.Commands.{once_command}
 use Rattle.mate_desk.proofs.Drilled.{once_drill}
 use Rattle.mate_desk.proofs.Listing.{once_first}
-use Rattle.mate_desk.proofs.OneStep.{exceeds_once, fits_exceeds}
+use Rattle.mate_desk.proofs.OneStep.{check_exceeds_once, exceeds_once, fits_exceeds, found_exceeds, found_once}
 
 -- a word is one number, or none for one reason
 once_number : (word : List ℕ) (low high : ℕ) (one other : Result ℕ UsageWhy) → ReadsNumber word low high one → ReadsNumber word low high other → one ≡ other
@@ -50,21 +63,25 @@ once_number word low high (Ok m) (Err Limit) a b = absurd (b.2 (omega (arith, a.
 once_number word low high (Ok m) (Err NoCommand) a b = absurd b
 once_number word low high (Ok m) (Err Unknown) a b = absurd b
 once_number word low high (Ok m) (Err Count) a b = absurd b
+once_number word low high (Ok m) (Err Name) a b = absurd b
 once_number word low high (Err Number) (Ok n) a b = absurd (a n b.0)
 once_number word low high (Err Number) (Err Number) a b = refl
 once_number word low high (Err Number) (Err Limit) a b = absurd (a b.0 b.1)
 once_number word low high (Err Number) (Err NoCommand) a b = absurd b
 once_number word low high (Err Number) (Err Unknown) a b = absurd b
 once_number word low high (Err Number) (Err Count) a b = absurd b
+once_number word low high (Err Number) (Err Name) a b = absurd b
 once_number word low high (Err Limit) (Ok n) a b = absurd (a.2 (omega (arith, b.1, b.0.value, a.1.value)) (omega (arith, b.2, b.0.value, a.1.value)))
 once_number word low high (Err Limit) (Err Number) a b = absurd (b a.0 a.1)
 once_number word low high (Err Limit) (Err Limit) a b = refl
 once_number word low high (Err Limit) (Err NoCommand) a b = absurd b
 once_number word low high (Err Limit) (Err Unknown) a b = absurd b
 once_number word low high (Err Limit) (Err Count) a b = absurd b
+once_number word low high (Err Limit) (Err Name) a b = absurd b
 once_number word low high (Err NoCommand) other a b = absurd a
 once_number word low high (Err Unknown) other a b = absurd a
 once_number word low high (Err Count) other a b = absurd a
+once_number word low high (Err Name) other a b = absurd a
 
 module _ {A : Type 0} (one other : Result A UsageWhy) where
   from_number : (number : Result ℕ UsageWhy) (F G : ℕ → Type 0) → ((n : ℕ) → F n → G n → one ≡ other) → FromNumber number one F → FromNumber number other G → one ≡ other
@@ -75,6 +92,22 @@ module _ {A : Type 0} (one other : Result A UsageWhy) where
   with_number word low high F G once (m, is_m, a) (n, is_n, b) =
       let P : Result ℕ UsageWhy → Type 0 = λ r. FromNumber r other G in
       from_number m F G once a (subst P (sym (once_number word low high m n is_m is_n)) b)
+
+-- a word is a name, or none
+with_name : {A : Type 0} (one other : Result A UsageWhy) (word : List ℕ) (F G : Type 0) → (F → G → one ≡ other) → WithName word one F → WithName word other G → one ≡ other
+with_name one other word F G once (inl (no_name, a)) (inl (also, b)) = a ∙ sym b
+with_name one other word F G once (inl (no_name, a)) (inr (named, b)) = absurd (no_name named)
+with_name one other word F G once (inr (named, a)) (inl (no_name, b)) = absurd (no_name named)
+with_name one other word F G once (inr (named, a)) (inr (also, b)) = once a b
+
+module _ (one other : Result ℕ UsageWhy) where
+  once_file_budget : (words : List (List ℕ)) → ReadsFile words one → ReadsFile words other → one ≡ other
+  once_file_budget [] a b = a ∙ sym b
+  once_file_budget (name ∷ []) a b = with_name one other name (one ≡ Ok default_budget) (other ≡ Ok default_budget) (λ x y. x ∙ sym y) a b
+  once_file_budget (name ∷ budget ∷ []) a b =
+      with_name one other name (WithNumber budget 1 most_budget one (λ k. one ≡ Ok k)) (WithNumber budget 1 most_budget other (λ k. other ≡ Ok k))
+      (λ x y. with_number one other budget 1 most_budget (λ k. one ≡ Ok k) (λ k. other ≡ Ok k) (λ k u v. u ∙ sym v) x y) a b
+  once_file_budget (name ∷ budget ∷ word ∷ words) a b = a ∙ sym b
 
 module _ (one other : Result (ℕ × ℕ) UsageWhy) where
   once_moves : (words : List (List ℕ)) → ReadsMoves words one → ReadsMoves words other → one ≡ other
@@ -90,6 +123,23 @@ module _ (one other : Result (ℕ × ℕ) UsageWhy) where
 module _ (one other : Result Order UsageWhy) where
   once_ordered : (order : ℕ → ℕ → Order) (words : List (List ℕ)) → MovesOrdered order words one → MovesOrdered order words other → one ≡ other
   once_ordered order words a b = a.2 ∙ ap (order_for order) (once_moves a.0 b.0 words a.1 b.1) ∙ sym b.2
+
+  once_keeping : (words : List (List ℕ)) → KeepOrdered words one → KeepOrdered words other → one ≡ other
+  once_keeping [] a b = a ∙ sym b
+  once_keeping (moves ∷ []) a b = a ∙ sym b
+  once_keeping (moves ∷ name ∷ []) a b =
+      with_number one other moves 0 most_moves (λ n. WithName name one (one ≡ Ok (Keep n default_budget))) (λ n. WithName name other (other ≡ Ok (Keep n default_budget)))
+      (λ n x y. with_name one other name (one ≡ Ok (Keep n default_budget)) (other ≡ Ok (Keep n default_budget)) (λ u v. u ∙ sym v) x y) a b
+  once_keeping (moves ∷ name ∷ budget ∷ []) a b =
+      with_number one other moves 0 most_moves
+      (λ n. WithName name one (WithNumber budget 1 most_budget one (λ k. one ≡ Ok (Keep n k))))
+      (λ n. WithName name other (WithNumber budget 1 most_budget other (λ k. other ≡ Ok (Keep n k))))
+      (λ n x y. with_name one other name (WithNumber budget 1 most_budget one (λ k. one ≡ Ok (Keep n k))) (WithNumber budget 1 most_budget other (λ k. other ≡ Ok (Keep n k)))
+      (λ u v. with_number one other budget 1 most_budget (λ k. one ≡ Ok (Keep n k)) (λ k. other ≡ Ok (Keep n k)) (λ k p q. p ∙ sym q) u v) x y) a b
+  once_keeping (moves ∷ name ∷ budget ∷ word ∷ words) a b = a ∙ sym b
+
+  once_of_file : (order : ℕ → Order) (words : List (List ℕ)) → FileOrdered order words one → FileOrdered order words other → one ≡ other
+  once_of_file order words a b = a.2 ∙ ap (file_order_for order) (once_file_budget a.0 b.0 words a.1 b.1) ∙ sym b.2
 
   once_show : (words : List (List ℕ)) → ShowOrdered words one → ShowOrdered words other → one ≡ other
   once_show [] a b = a ∙ sym b
@@ -109,6 +159,9 @@ module _ (one other : Result Order UsageWhy) where
   once_behind (Some commands.Least) words a b = once_ordered (λ limit budget. Least limit budget) words a b
   once_behind (Some commands.First) words a b = once_ordered (λ moves budget. First moves budget) words a b
   once_behind (Some commands.Play) words a b = once_ordered (λ moves budget. Play moves budget) words a b
+  once_behind (Some commands.Keep) words a b = once_keeping words a b
+  once_behind (Some commands.Check) words a b = once_of_file (λ budget. Check budget) words a b
+  once_behind (Some commands.Resume) words a b = once_of_file (λ budget. Resume budget) words a b
   once_behind (Some commands.Show) words a b = once_show words a b
   once_behind (Some commands.Drill) words a b = once_drilled words a b
   once_behind None words a b = a ∙ sym b
@@ -272,6 +325,68 @@ module _ (files : Files) (one other : Report) where
   once_play n budget problem rest (inr (fits, a)) (inl (t, b, j)) = absurd (fits_exceeds problem budget n t fits b)
   once_play n budget problem rest (inr (fits, a)) (inr (also, b)) = once_played n problem rest a b
 
+  once_kept_file : (winner : Side) (p : Position) (n : ℕ) (name : List ℕ) → FileReports winner p n name files one → FileReports winner p n name files other → one ≡ other
+  once_kept_file winner p n name (inl (x, a, i)) (inl (y, b, j)) =
+      i ∙ ap (λ bytes. done_with (map.insert files name bytes) (mate_line n)) ((one_kept_file winner p n).one_file x y a.file b.file) ∙ sym j
+  once_kept_file winner p n name (inl (x, a, i)) (inr (size, b, j)) = absurd (let e = (one_kept_file winner p n).same_size x size a.file b in omega (arith, e, a.small, b.large))
+  once_kept_file winner p n name (inr (size, a, i)) (inl (y, b, j)) = absurd (let e = (one_kept_file winner p n).same_size y size b.file a in omega (arith, e, b.small, a.large))
+  once_kept_file winner p n name (inr (x, a, i)) (inr (y, b, j)) =
+      i ∙ ap (λ size. refusal_as files is.File (too_large_line size) false) ((one_kept_file winner p n).one_size x y a b) ∙ sym j
+
+  once_kept : (n : ℕ) (problem : Problem) (name : List ℕ) → KeptReports n problem name files one → KeptReports n problem name files other → one ≡ other
+  once_kept n problem name (inl (none, i)) (inl (also, j)) = i ∙ sym j
+  once_kept n problem name (inl (none, i)) (inr (value, b)) = absurd (none value)
+  once_kept n problem name (inr (value, a)) (inl (none, j)) = absurd (none value)
+  once_kept n problem name (inr (value, a)) (inr (also, b)) = once_kept_file problem.winner problem.position n name a b
+
+  once_keep : (n budget : ℕ) (problem : Problem) (name : List ℕ) → KeepReports n budget problem name files one → KeepReports n budget problem name files other → one ≡ other
+  once_keep n budget problem name (inl (s, a, i)) (inl (t, b, j)) = i ∙ ap (over_budget files) (exceeds_once problem budget n s t a b) ∙ sym j
+  once_keep n budget problem name (inl (s, a, i)) (inr (fits, b)) = absurd (fits_exceeds problem budget n s fits a)
+  once_keep n budget problem name (inr (fits, a)) (inl (t, b, j)) = absurd (fits_exceeds problem budget n t fits b)
+  once_keep n budget problem name (inr (fits, a)) (inr (also, b)) = once_kept n problem name a b
+
+  -- of a file one thing is reported where it is so of each claim
+  module _ (says : Claim → Report → Type 0) (budget : ℕ) (once : (c : Claim) → says c one → says c other → one ≡ other) where
+    once_claim : (c : Claim) → OfClaim says budget files c one → OfClaim says budget files c other → one ≡ other
+    once_claim c (inl (f, a, i)) (inl (g, b, j)) = i ∙ ap (λ r. file_refused files (not_kept_line r)) (same_Some f g (found_once c budget (Some f) (Some g) a b)) ∙ sym j
+    once_claim c (inl (f, a, i)) (inr (inl (t, b, j))) = absurd (found_exceeds c budget (Some f) t a b)
+    once_claim c (inl (f, a, i)) (inr (inr (keeps, b))) = absurd (let e = found_once c budget (Some f) None a keeps in cc)
+    once_claim c (inr (inl (s, a, i))) (inl (g, b, j)) = absurd (found_exceeds c budget (Some g) s b a)
+    once_claim c (inr (inl (s, a, i))) (inr (inl (t, b, j))) = i ∙ ap (over_budget files) (check_exceeds_once c budget s t a b) ∙ sym j
+    once_claim c (inr (inl (s, a, i))) (inr (inr (keeps, b))) = absurd (found_exceeds c budget None s keeps a)
+    once_claim c (inr (inr (keeps, a))) (inl (g, b, j)) = absurd (let e = found_once c budget None (Some g) keeps b in cc)
+    once_claim c (inr (inr (keeps, a))) (inr (inl (t, b, j))) = absurd (found_exceeds c budget None t keeps b)
+    once_claim c (inr (inr (keeps, a))) (inr (inr (also, b))) = once c a b
+
+    once_outcome : (outcome : Result Charts Refusal) → OfOutcome says budget files outcome one → OfOutcome says budget files outcome other → one ≡ other
+    once_outcome (Err refusal) a b = a ∙ sym b
+    once_outcome (Ok charts) a b = once_claim (claim_with charts) a b
+
+    once_found_file : (found : Option (List ℕ)) → OfFound says budget files found one → OfFound says budget files found other → one ≡ other
+    once_found_file None a b = a ∙ sym b
+    once_found_file (Some bytes) (inl (too_long, a)) (inl (also, b)) = a ∙ sym b
+    once_found_file (Some bytes) (inl (too_long, a)) (inr (short, b)) = absurd (omega (arith, too_long, short))
+    once_found_file (Some bytes) (inr (short, a)) (inl (too_long, b)) = absurd (omega (arith, too_long, short))
+    once_found_file (Some bytes) (inr (short, (x, a, p))) (inr (also, (y, b, q))) =
+        let P : Result Charts Refusal → Type 0 = λ r. OfOutcome says budget files r other in
+        once_outcome x p (subst P (sym (one_outcome bytes x y a b)) q)
+
+    once_file : (name : List ℕ) → OfFile says budget name files one → OfFile says budget name files other → one ≡ other
+    once_file name a b = once_found_file (map.get files name) a b
+
+  once_check_file : (budget : ℕ) (name : List ℕ) → CheckReports budget name files one → CheckReports budget name files other → one ≡ other
+  once_check_file budget name a b = once_file (λ c report. report ≡ done_with files (mate_line c.moves)) budget (λ c x y. x ∙ sym y) name a b
+
+  once_resume : (budget : ℕ) (lines : Lines) (name : List ℕ) → ResumeReports budget lines name files one → ResumeReports budget lines name files other → one ≡ other
+  once_resume budget lines name a b =
+      once_file (GameReports lines files) budget
+      (λ c x y. x.2 ∙ ap (as_played files) (one_game 0 lines (claimed_match c) x.0 y.0 x.1 y.1) ∙ sym y.2) name a b
+
+  -- of a name, where it is so of each
+  once_name : (name : Option (List ℕ)) (says : List ℕ → Report → Type 0) → ((n : List ℕ) → says n one → says n other → one ≡ other) → IsSomeAnd name (λ n. says n one) → IsSomeAnd name (λ n. says n other) → one ≡ other
+  once_name (Some n) says once a b = once n a b
+  once_name None says once a b = absurd a
+
   once_shown : (p : Position) → ShowReports p files one → ShowReports p files other → one ≡ other
   once_shown p (t, a, i) (u, b, j) =
       let same : t ≡ u = a.2 ∙ ap (λ check. position_text p ++ check ++ live_line p) (once_check p a.0 b.0 a.1 b.1) ∙ sym b.2 in
@@ -304,6 +419,13 @@ module _ (files : Files) (one other : Report) where
       once_of_text (λ problem rest. FirstReports n budget problem files) (λ problem rest. once_first files one other n budget problem) bytes a b
   once_order (Play n budget) words bytes a b =
       once_of_text (λ problem rest. PlayReports n budget problem rest files) (λ problem rest. once_play n budget problem rest) bytes a b
+  once_order (Keep n budget) words bytes a b =
+      once_of_text (λ problem rest. OfName (Keep n budget) words (λ name. KeepReports n budget problem name files))
+      (λ problem rest. once_name (name_in (Keep n budget) words) (λ name. KeepReports n budget problem name files) (λ name. once_keep n budget problem name)) bytes a b
+  once_order (Check budget) words bytes a b =
+      once_name (name_in (Check budget) words) (λ name. CheckReports budget name files) (λ name. once_check_file budget name) a b
+  once_order (Resume budget) words bytes a b =
+      once_name (name_in (Resume budget) words) (λ name. ResumeReports budget (lines_of bytes) name files) (λ name. once_resume budget (lines_of bytes) name) a b
   once_order Show words bytes a b =
       once_of_text (λ problem rest. ShowReports problem.position files) (λ problem rest. once_shown problem.position) bytes a b
   once_order (Drill seed count) words bytes a b = once_drill files one other seed count a b

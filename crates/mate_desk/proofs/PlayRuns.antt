@@ -11,7 +11,7 @@ use Rattle.chess_game.proofs.UnsoundnessLemmas.{number_cases}
 use Rattle.chess_text.specs.PositionText.{text_of_lines}
 use Rattle.game_report.specs.Taken.{TakesLines}
 use Rattle.mate_desk.specs.Order.{Ordered}
-use Rattle.mate_desk.specs.Outcome.{Ends, NeverMisses, Report, Seen, of_streams}
+use Rattle.mate_desk.specs.Outcome.{NeverMisses, Report, Seen, of_streams, reported_on}
 use Rattle.mate_desk.specs.Play.{LacksAtFirst, PlayEnds, PlayReports}
 use Rattle.mate_desk.specs.Report.{MayLackMemory, MayMissShelf, Reports}
 use Rattle.mate_desk.specs.Run.{Given, IsLineDue, RunEnds}
@@ -21,9 +21,9 @@ use Rattle.mate_desk.specs.declared.order.Order.TheVariants.{Play}
 use Rattle.mate_desk.specs.declared.problem.Problem.{Problem}
 use Rattle.mate_desk.specs.declared.status.Status.{Status}
 use Rattle.mate_desk.specs.declared.status.Status.TheVariants as is
-use Rattle.mate_desk.proofs.Reporting.{files_of, known_files, line_due}
-use Rattle.mate_desk.proofs.Statuses.{play_status}
-use Rattle.mate_desk.proofs.Writing.{at_files, ends_as}
+use Rattle.mate_desk.proofs.Reporting.{files_of, known_files, line_due, takes_lines}
+use Rattle.mate_desk.proofs.Statuses.{not_usage, play_status}
+use Rattle.mate_desk.proofs.Writing.{at_files, ends_as, unchanged}
 
 take_behind : (a b : List (List ℕ)) (k j : ℕ) → k ≡ length a + j → take k (a ++ b) ≡ a ++ take j b
 take_behind [] b k j is = ap (λ n. take n b) (omega (arith, is))
@@ -33,6 +33,22 @@ take_behind (x ∷ a) b (suc k) j is = ap (λ l. x ∷ l) (take_behind a b k j (
 text_append : (a b : List (List ℕ)) → text_of_lines (a ++ b) ≡ text_of_lines a ++ text_of_lines b
 text_append [] b = refl
 text_append (l ∷ a) b = ap (λ bytes. (l ++ 10 ∷ []) ++ bytes) (text_append a b) ∙ sym (append_assoc (l ++ 10 ∷ []) (text_of_lines a) (text_of_lines b))
+
+-- a report on bytes behind others is one on all of them
+in_front : (status : Status) (front taken rest : List ℕ) → front ++ reported_on status taken rest ≡ reported_on status (front ++ taken) rest
+in_front is.ReadFault front taken rest = refl
+in_front is.Usage front taken rest = sym (append_assoc front taken rest)
+in_front is.Done front taken rest = sym (append_assoc front taken rest)
+in_front is.Text front taken rest = sym (append_assoc front taken rest)
+in_front is.Unsound front taken rest = sym (append_assoc front taken rest)
+in_front is.WriteFault front taken rest = sym (append_assoc front taken rest)
+in_front is.ShelfFault front taken rest = sym (append_assoc front taken rest)
+in_front is.Budget front taken rest = sym (append_assoc front taken rest)
+in_front is.Wide front taken rest = sym (append_assoc front taken rest)
+in_front is.Memory front taken rest = sym (append_assoc front taken rest)
+in_front is.File front taken rest = sym (append_assoc front taken rest)
+in_front is.Ended front taken rest = sym (append_assoc front taken rest)
+in_front is.TooMany front taken rest = sym (append_assoc front taken rest)
 
 module _ (words : List (List ℕ)) (old new : Seen) (same : new.files ≡ old.files) (n budget : ℕ) (ordered : Ordered words (Ok (Play n budget))) (held pending : List ℕ) (mid : Option (List ℕ)) (reads : ℕ) (later : old.read_faults ≤ reads) (problem : Problem) (t : TextRead (Ok problem) held old.left mid) (sound : Sound problem.position) where
   abbrev files : Files
@@ -66,7 +82,7 @@ module _ (words : List (List ℕ)) (old new : Seen) (same : new.files ≡ old.fi
     line_was_due k below = elim (number_cases k (length t.takes.lines)) [
       | inl less ↦
           subst (IsLineDue words files) (sym (take-append-le k t.takes.lines p.takes.lines (omega (arith, less))))
-          (line_due words old new same (Play n budget) ordered (λ none. none) held (take k t.takes.lines) (t.takes.due k less))
+          (line_due words old new same (Play n budget) ordered tt held (take k t.takes.lines) (t.takes.due k less))
       | inr (inl equal) ↦ later_due (omega (arith, equal))
       | inr (inr more) ↦ later_due (omega (arith, more))
     ]
@@ -101,16 +117,13 @@ module _ (words : List (List ℕ)) (old new : Seen) (same : new.files ≡ old.fi
       kept = known_files old.files;
     }
 
-    -- the report on what was given, or on what was taken
-    all_says : (report : Report) → PlayReports n budget problem (lines_of ((held ++ p.bytes) ++ p.rest)) files report → Reports words (taken ++ p.rest) files report
-    all_says report right =
+    -- the report on the bytes that it is on
+    says : (report : Report) → PlayReports n budget problem (lines_of (reported_on status (held ++ p.bytes) p.rest)) files report → Reports words (reported_on status taken p.rest) files report
+    says report right =
         let P : List ℕ → Type 0 = λ b. Reports words b files report in
-        let is : text_of_lines t.takes.lines ++ ((held ++ p.bytes) ++ p.rest) ≡ taken ++ p.rest =
-        sym (append_assoc (text_of_lines t.takes.lines) (held ++ p.bytes) p.rest) ∙ ap (λ b. b ++ p.rest) (sym taken_are) in
-        subst P is (behind ((held ++ p.bytes) ++ p.rest) report right)
-
-    taken_says : (report : Report) → PlayReports n budget problem (lines_of (held ++ p.bytes)) files report → Reports words taken files report
-    taken_says report right = let P : List ℕ → Type 0 = λ b. Reports words b files report in subst P (sym taken_are) (behind (held ++ p.bytes) report right)
+        let is : text_of_lines t.takes.lines ++ reported_on status (held ++ p.bytes) p.rest ≡ reported_on status taken p.rest =
+        in_front status (text_of_lines t.takes.lines) (held ++ p.bytes) p.rest ∙ ap (λ b. reported_on status b p.rest) (sym taken_are) in
+        subst P is (behind (reported_on status (held ++ p.bytes) p.rest) report right)
 
     may_lack : LacksAtFirst n problem p.bytes → MayLackMemory words taken
     may_lack lack =
@@ -120,7 +133,7 @@ module _ (words : List (List ℕ)) (old new : Seen) (same : new.files ≡ old.fi
           record {
             problem = problem;
             sound = sound;
-            lacks = lack.some;
+            holds = lack.some;
             front = text_of_lines t.takes.lines;
             pending = held;
             text = subst P (append-nil (text_of_lines t.takes.lines)) (t.reads []);
@@ -129,33 +142,19 @@ module _ (words : List (List ℕ)) (old new : Seen) (same : new.files ≡ old.fi
           },
         )
 
-    ended_all : (s : Status) → Ends s (λ report. PlayReports n budget problem (lines_of ((held ++ p.bytes) ++ p.rest)) files report) (LacksAtFirst n problem p.bytes) NeverMisses before after
-        → Ends s (λ report. Reports words (taken ++ p.rest) files report) (MayLackMemory words taken) (MayMissShelf words taken) old new
-    ended_all s ends =
-        ends_as s (λ report. PlayReports n budget problem (lines_of ((held ++ p.bytes) ++ p.rest)) files report) (λ report. Reports words (taken ++ p.rest) files report)
-        (LacksAtFirst n problem p.bytes) (MayLackMemory words taken) NeverMisses (MayMissShelf words taken) old new all_says may_lack (λ keeping never. absurd never)
-        (at_files files old new (known_files old.files) same mid new.left reads new.read_faults rises s (λ report. PlayReports n budget problem (lines_of ((held ++ p.bytes) ++ p.rest)) files report) (LacksAtFirst n problem p.bytes) ends)
-
-    ended_taken : Ends is.ReadFault (λ report. PlayReports n budget problem (lines_of (held ++ p.bytes)) files report) (LacksAtFirst n problem p.bytes) NeverMisses before after
-        → Ends is.ReadFault (λ report. Reports words taken files report) (MayLackMemory words taken) (MayMissShelf words taken) old new
-    ended_taken ends =
-        ends_as is.ReadFault (λ report. PlayReports n budget problem (lines_of (held ++ p.bytes)) files report) (λ report. Reports words taken files report)
-        (LacksAtFirst n problem p.bytes) (MayLackMemory words taken) NeverMisses (MayMissShelf words taken) old new taken_says may_lack (λ keeping never. absurd never)
-        (at_files files old new (known_files old.files) same mid new.left reads new.read_faults rises is.ReadFault (λ report. PlayReports n budget problem (lines_of (held ++ p.bytes)) files report) (LacksAtFirst n problem p.bytes) ends)
-
-  -- the run ends as the command does
-  pub play_ends : (status : Status) → PlayEnds n budget problem files status held pending before after → RunEnds words status old new
-  play_ends is.Done p = record { given = given is.Done p; takes = (pending, takes_all is.Done p); ends = ended_all is.Done p is.Done p.ends }
-  play_ends is.Text p = record { given = given is.Text p; takes = (pending, takes_all is.Text p); ends = ended_all is.Text p is.Text p.ends }
-  play_ends is.Unsound p = record { given = given is.Unsound p; takes = (pending, takes_all is.Unsound p); ends = ended_all is.Unsound p is.Unsound p.ends }
-  play_ends is.WriteFault p = record { given = given is.WriteFault p; takes = (pending, takes_all is.WriteFault p); ends = ended_all is.WriteFault p is.WriteFault p.ends }
-  play_ends is.Budget p = record { given = given is.Budget p; takes = (pending, takes_all is.Budget p); ends = ended_all is.Budget p is.Budget p.ends }
-  play_ends is.Wide p = record { given = given is.Wide p; takes = (pending, takes_all is.Wide p); ends = ended_all is.Wide p is.Wide p.ends }
-  play_ends is.Memory p = record { given = given is.Memory p; takes = (pending, takes_all is.Memory p); ends = ended_all is.Memory p is.Memory p.ends }
-  play_ends is.Ended p = record { given = given is.Ended p; takes = (pending, takes_all is.Ended p); ends = ended_all is.Ended p is.Ended p.ends }
-  play_ends is.TooMany p = record { given = given is.TooMany p; takes = (pending, takes_all is.TooMany p); ends = ended_all is.TooMany p is.TooMany p.ends }
-  play_ends is.ReadFault p = record { given = given is.ReadFault p; takes = (pending, takes_all is.ReadFault p); ends = ended_taken is.ReadFault p p.ends }
-  play_ends is.ShelfFault p = absurd p.ends.1
-  play_ends is.Usage p =
-      let report = p.ends.0 in
-      absurd (play_status n budget problem (lines_of ((held ++ p.bytes) ++ p.rest)) files report p.ends.1 (sym p.ends.2.reported))
+    -- the run ends as the command does
+    pub play_ends : RunEnds words status old new
+    play_ends =
+        let on = reported_on status (held ++ p.bytes) p.rest in
+        let reports : Report → Type 0 = PlayReports n budget problem (lines_of on) files in
+        record {
+          given = given;
+          takes =
+              takes_lines words files status taken pending
+              (not_usage status reports (LacksAtFirst n problem p.bytes) NeverMisses before after (λ report right. play_status n budget problem (lines_of on) files report right) p.ends)
+              takes_all;
+          ends =
+              ends_as status reports (λ report. Reports words (reported_on status taken p.rest) files report) (LacksAtFirst n problem p.bytes) (MayLackMemory words taken) NeverMisses (MayMissShelf words taken) old new
+              says may_lack (λ keeping never. absurd never)
+              (at_files files old new (known_files old.files) (unchanged old.files new.files same) mid new.left reads new.read_faults rises status reports (LacksAtFirst n problem p.bytes) p.ends);
+        }

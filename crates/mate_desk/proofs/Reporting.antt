@@ -1,6 +1,6 @@
 -- How a run ends, from how its parts do.
-use Rattle.std.proofs.Common.{◌≡◌, ◌<◌, ◌+◌, ◌++◌, ℕ, List, [], length, take, Option, Some, None, IfSome, Result, Ok, Err, false, inl, inr, refl, sym, ap, ◌∙◌, subst, append_assoc, arith}
-use Rattle.std.specs.Prelude.{codes, unwrap_or}
+use Rattle.std.proofs.Common.{◌≡◌, ◌≢◌, ◌<◌, ◌+◌, ◌++◌, ℕ, List, [], length, take, Option, Some, None, IfSome, Result, Ok, Err, false, inl, inr, refl, sym, ap, ◌∙◌, subst, append_assoc, arith}
+use Rattle.std.specs.Prelude.{IsSomeAnd, codes, unwrap_or}
 use Rattle.std.specs.Io.KnownBytes.{Consumes}
 use Rattle.std.proofs.KnownBytes.{Consumes-nil}
 use Rattle.std.proofs.lemmas.List.{append-nil}
@@ -12,21 +12,25 @@ use Rattle.chess_game.specs.Unsoundness.{IsFirstUnsoundness}
 use Rattle.chess_game.specs.declared.unsoundness.Unsound.{Unsound}
 use Rattle.chess_text.specs.PositionText.{text_of_lines}
 use Rattle.game_report.specs.Taken.{TakesLines}
+use Rattle.mate_desk.specs.Check.{CheckReports}
 use Rattle.mate_desk.specs.Decide.{DecideReports}
 use Rattle.mate_desk.specs.Drill.{DrillReports}
 use Rattle.mate_desk.specs.FaultLines.{unsound_line}
+use Rattle.mate_desk.specs.FileClaim.{MissesFetch, OnFiles}
 use Rattle.mate_desk.specs.First.{FirstReports, HasNoFirstMove}
+use Rattle.mate_desk.specs.Keep.{HasFileToKeep, KeepReports, MissesKeep}
 use Rattle.mate_desk.specs.Least.{LeastReports}
-use Rattle.mate_desk.specs.Order.{Ordered, usage_line}
-use Rattle.mate_desk.specs.Outcome.{Ends, Leaves, KeepsFiles, NeverMisses, Report, Seen, Writes, WriteFailed, of_sink, refusal_as}
-use Rattle.mate_desk.specs.Report.{LacksBehindText, MayLackMemory, MayMissShelf, OfText, OrderMayLack, ReadsNoText, Reports, ReportsOrder, TakesMemory}
-use Rattle.mate_desk.specs.Run.{Given, IsLineDue, RunEnds, Takes, reported_on}
+use Rattle.mate_desk.specs.Order.{Ordered, name_in, usage_line}
+use Rattle.mate_desk.specs.Outcome.{Ends, Leaves, KeepsFiles, NeverMisses, Report, Seen, Writes, WriteFailed, of_shelf, of_sink, refusal_as, reported_on}
+use Rattle.mate_desk.specs.Report.{IsBehindText, MayLackMemory, MayMissShelf, OfName, OfText, OrderMayLack, Reports, ReportsOrder, TakesMemory}
+use Rattle.mate_desk.specs.Resume.{ResumeEnds, ResumeReports}
+use Rattle.mate_desk.specs.Run.{Given, IsLineDue, RunEnds, Takes}
 use Rattle.mate_desk.specs.Show.{ShowReports}
 use Rattle.mate_desk.specs.Text.{TextAt, whole, refused, is_end, refusal_line}
 use Rattle.mate_desk.specs.TextRead.{IsMissing, IsShort, TextRead}
 use Rattle.mate_desk.specs.Verdict.{HasNothingToPlay}
 use Rattle.mate_desk.specs.declared.order.Order.{Order}
-use Rattle.mate_desk.specs.declared.order.Order.TheVariants.{Decide, Least, First, Play, Show, Drill}
+use Rattle.mate_desk.specs.declared.order.Order.TheVariants.{Decide, Least, First, Play, Keep, Check, Resume, Show, Drill}
 use Rattle.mate_desk.specs.declared.order.UsageWhy.{UsageWhy}
 use Rattle.mate_desk.specs.declared.problem.Problem.{Problem}
 use Rattle.mate_desk.specs.declared.status.Status.{Status}
@@ -35,9 +39,9 @@ use Rattle.mate_desk.specs.declared.text.LineWhy.{LineWhy}
 use Rattle.mate_desk.specs.declared.text.LineWhy.TheVariants.{Missing}
 use Rattle.mate_desk.specs.declared.text.TextEnd.{TextEnd}
 use Rattle.mate_desk.specs.declared.text.TextEnd.TheVariants.{Fault, Refused}
-use Rattle.mate_desk.proofs.Statuses.{order_status}
+use Rattle.mate_desk.proofs.Statuses.{IsOfText, keep_status, not_usage, order_status, resume_status}
 use Rattle.mate_desk.proofs.TextSteps.{known_rest}
-use Rattle.mate_desk.proofs.Writing.{at_sink, ends_as}
+use Rattle.mate_desk.proofs.Writing.{at_sink, ends_as, no_read_fault, unchanged, with_source}
 
 -- the files of a store, or none where it does not tell them
 abbrev pub files_of : Option Files → Files
@@ -55,14 +59,17 @@ same_files : (told : Option Files) → Go told told (λ before after. after ≡ 
 same_files None = tt
 same_files (Some files) = refl
 
--- where the text is refused, each order that reads one has that refusal
-refused_order : (order : Order) → (ReadsNoText order → ⊥) → (words : List (List ℕ)) (bytes : List ℕ) (files : Files) (number : ℕ) (why : LineWhy) → TextAt bytes (refused number why) → ReportsOrder order words bytes files (refusal_as files is.Text (refusal_line number why) (is_end why))
-refused_order (Decide n budget) reads words bytes files number why at = (refused number why, at, refl)
-refused_order (Least limit budget) reads words bytes files number why at = (refused number why, at, refl)
-refused_order (First n budget) reads words bytes files number why at = (refused number why, at, refl)
-refused_order (Play n budget) reads words bytes files number why at = (refused number why, at, refl)
-refused_order Show reads words bytes files number why at = (refused number why, at, refl)
-refused_order (Drill seed count) reads words bytes files number why at = absurd (reads tt)
+-- where the text is refused, each order of a text has that refusal
+refused_order : (order : Order) → IsOfText order → (words : List (List ℕ)) (bytes : List ℕ) (files : Files) (number : ℕ) (why : LineWhy) → TextAt bytes (refused number why) → ReportsOrder order words bytes files (refusal_as files is.Text (refusal_line number why) (is_end why))
+refused_order (Decide n budget) of words bytes files number why at = (refused number why, at, refl)
+refused_order (Least limit budget) of words bytes files number why at = (refused number why, at, refl)
+refused_order (First n budget) of words bytes files number why at = (refused number why, at, refl)
+refused_order (Play n budget) of words bytes files number why at = (refused number why, at, refl)
+refused_order (Keep n budget) of words bytes files number why at = (refused number why, at, refl)
+refused_order (Check budget) of words bytes files number why at = absurd of
+refused_order (Resume budget) of words bytes files number why at = absurd of
+refused_order Show of words bytes files number why at = (refused number why, at, refl)
+refused_order (Drill seed count) of words bytes files number why at = absurd of
 
 -- no line is taken
 no_lines : (IsDue : List (List ℕ) → Type 0) → TakesLines IsDue [] []
@@ -78,9 +85,53 @@ takes_nothing words files is.WriteFault = ([], no_lines (IsLineDue words files))
 takes_nothing words files is.ShelfFault = ([], no_lines (IsLineDue words files))
 takes_nothing words files is.Budget = ([], no_lines (IsLineDue words files))
 takes_nothing words files is.Wide = ([], no_lines (IsLineDue words files))
+takes_nothing words files is.File = ([], no_lines (IsLineDue words files))
 takes_nothing words files is.Memory = ([], no_lines (IsLineDue words files))
 takes_nothing words files is.Ended = ([], no_lines (IsLineDue words files))
 takes_nothing words files is.TooMany = ([], no_lines (IsLineDue words files))
+
+-- words that are an order take the lines that are due
+pub takes_lines : (words : List (List ℕ)) (files : Files) (status : Status) (taken pending : List ℕ) → status ≢ is.Usage → TakesLines (IsLineDue words files) taken pending → Takes words files status taken
+takes_lines words files is.Usage taken pending not t = absurd (not refl)
+takes_lines words files is.Done taken pending not t = (pending, t)
+takes_lines words files is.Text taken pending not t = (pending, t)
+takes_lines words files is.Unsound taken pending not t = (pending, t)
+takes_lines words files is.ReadFault taken pending not t = (pending, t)
+takes_lines words files is.WriteFault taken pending not t = (pending, t)
+takes_lines words files is.ShelfFault taken pending not t = (pending, t)
+takes_lines words files is.Budget taken pending not t = (pending, t)
+takes_lines words files is.Wide taken pending not t = (pending, t)
+takes_lines words files is.Memory taken pending not t = (pending, t)
+takes_lines words files is.File taken pending not t = (pending, t)
+takes_lines words files is.Ended taken pending not t = (pending, t)
+takes_lines words files is.TooMany taken pending not t = (pending, t)
+
+-- where the source has not failed, the report is on all bytes
+on_all : (status : Status) (taken rest : List ℕ) → status ≢ is.ReadFault → reported_on status taken rest ≡ taken ++ rest
+on_all is.ReadFault taken rest not = absurd (not refl)
+on_all is.Usage taken rest not = refl
+on_all is.Done taken rest not = refl
+on_all is.Text taken rest not = refl
+on_all is.Unsound taken rest not = refl
+on_all is.WriteFault taken rest not = refl
+on_all is.ShelfFault taken rest not = refl
+on_all is.Budget taken rest not = refl
+on_all is.Wide taken rest not = refl
+on_all is.Memory taken rest not = refl
+on_all is.File taken rest not = refl
+on_all is.Ended taken rest not = refl
+on_all is.TooMany taken rest not = refl
+
+-- so a run of an order ends whose source has not failed
+pub run_ends : (words : List (List ℕ)) (status : Status) (old new : Seen) (given : Given old new) (pending : List ℕ) → TakesLines (IsLineDue words given.files) given.taken pending → status ≢ is.Usage → status ≢ is.ReadFault
+    → Ends status (λ report. Reports words (given.taken ++ given.rest) given.files report) (MayLackMemory words given.taken) (MayMissShelf words given.taken) old new → RunEnds words status old new
+run_ends words status old new given pending takes no_usage no_fault ends =
+    let P : List ℕ → Type 0 = λ b. Ends status (λ report. Reports words b given.files report) (MayLackMemory words given.taken) (MayMissShelf words given.taken) old new in
+    record {
+      given = given;
+      takes = takes_lines words given.files status given.taken pending no_usage takes;
+      ends = subst P (sym (on_all status given.taken given.rest no_fault)) ends;
+    }
 
 module _ (words : List (List ℕ)) (old new : Seen) (same : new.files ≡ old.files) where
   leaves : Leaves (files_of old.files) old new
@@ -111,7 +162,7 @@ module _ (words : List (List ℕ)) (old new : Seen) (same : new.files ≡ old.fi
     ends = (refusal_as (files_of old.files) is.Usage (usage_line why) false, (Err why, ordered, refl), record { reported = refl; written = wrote; files = leaves });
   }
 
-  -- a command that reads no text has the sink alone
+  -- a command that reads nothing, and has the sink alone
   pub drill_ends : (seed count : ℕ) (status : Status) → Ordered words (Ok (Drill seed count)) → new.left ≡ old.left
       → ((files : Files) → Ends status (DrillReports seed count files) (0 < count) NeverMisses (of_sink files old.written old.write_faults) (of_sink files new.written new.write_faults))
       → RunEnds words status old new
@@ -124,10 +175,10 @@ module _ (words : List (List ℕ)) (old new : Seen) (same : new.files ≡ old.fi
         ends =
             ends_as status (DrillReports seed count files) (λ report. Reports words bytes files report) (0 < count) (MayLackMemory words []) NeverMisses (MayMissShelf words []) old new
             (λ report right. (Ok (Drill seed count), ordered, right)) (λ some. (Drill seed count, ordered, (refl, some))) (λ keeping never. absurd never)
-            (at_sink files old new (known_files old.files) same status (DrillReports seed count files) (0 < count) (ends files));
+            (at_sink files old new (known_files old.files) (unchanged old.files new.files same) status (DrillReports seed count files) (0 < count) (ends files));
       }
 
-  module _ (order : Order) (ordered : Ordered words (Ok order)) (reads : ReadsNoText order → ⊥) (pending : List ℕ) where
+  module _ (order : Order) (ordered : Ordered words (Ok order)) (of : IsOfText order) (pending : List ℕ) where
     abbrev files : Files
     files = files_of old.files
 
@@ -138,7 +189,7 @@ module _ (words : List (List ℕ)) (old new : Seen) (same : new.files ≡ old.fi
     pub line_due : (before : List (List ℕ)) → IsMissing before → IsLineDue words files before
     line_due before at =
         let number = length before + 1 in
-        (refusal_as files is.Text (refusal_line number Missing) (is_end Missing), (Ok order, ordered, refused_order order reads words (text_of_lines before) files number Missing at), refl)
+        (refusal_as files is.Text (refusal_line number Missing) (is_end Missing), (Ok order, ordered, refused_order order of words (text_of_lines before) files number Missing at), refl)
 
     lines_due : (bytes : List ℕ) → TakesLines IsMissing bytes pending → TakesLines (IsLineDue words files) bytes pending
     lines_due bytes t = record {
@@ -157,7 +208,7 @@ module _ (words : List (List ℕ)) (old new : Seen) (same : new.files ≡ old.fi
           takes = (pending, lines_due t.bytes t.takes);
           ends = (
             refusal_as files is.Text (refusal_line number why) (is_end why),
-            (Ok order, ordered, refused_order order reads words (t.bytes ++ t.rest) files number why (subst P (sym t.takes.bytes) t.reads)),
+            (Ok order, ordered, refused_order order of words (t.bytes ++ t.rest) files number why (subst P (sym t.takes.bytes) t.reads)),
             record { reported = refl; written = wrote; files = leaves },
           );
         }
@@ -171,7 +222,7 @@ module _ (words : List (List ℕ)) (old new : Seen) (same : new.files ≡ old.fi
           takes = (pending, lines_due t.bytes t.takes);
           ends = (
             refusal_as files is.Text (refusal_line short.number short.why) (is_end short.why),
-            (Ok order, ordered, refused_order order reads words t.bytes files short.number short.why short.text),
+            (Ok order, ordered, refused_order order of words t.bytes files short.number short.why short.text),
             record { failed = failed; short = short.short; written = wrote; files = keeps },
           );
         }
@@ -188,13 +239,13 @@ module _ (words : List (List ℕ)) (old new : Seen) (same : new.files ≡ old.fi
       pub of_problem : (says : Problem → Lines → Report → Type 0) → Sound problem.position → (report : Report) → says problem (lines_of (pending ++ t.rest)) report → OfText says files (t.bytes ++ t.rest) report
       of_problem says sound report right = (whole problem (lines_of (pending ++ t.rest)), is_whole, inr (sound, right))
 
-      pub lacks_behind : (takes : Problem → Type 0) → Sound problem.position → takes problem → LacksBehindText takes t.bytes
-      lacks_behind takes sound lacks =
+      pub behind_text : (Holds : Problem → Type 0) → Sound problem.position → Holds problem → IsBehindText Holds t.bytes
+      behind_text Holds sound holds =
           let P : List ℕ → Type 0 = λ b. TextAt b (whole problem ended) in
           record {
             problem = problem;
             sound = sound;
-            lacks = lacks;
+            holds = holds;
             front = text_of_lines t.takes.lines;
             pending = pending;
             text = subst P (append-nil (text_of_lines t.takes.lines)) (t.reads []);
@@ -202,13 +253,16 @@ module _ (words : List (List ℕ)) (old new : Seen) (same : new.files ≡ old.fi
             few = t.takes.few;
           }
 
-      unsound_order : (o : Order) → (ReadsNoText o → ⊥) → (why : Unsound) → IsFirstUnsoundness problem.position why → ReportsOrder o words (t.bytes ++ t.rest) files (refusal_as files is.Unsound (unsound_line why) false)
-      unsound_order (Decide n budget) some why fault = (whole problem (lines_of (pending ++ t.rest)), is_whole, inl (why, fault, refl))
-      unsound_order (Least limit budget) some why fault = (whole problem (lines_of (pending ++ t.rest)), is_whole, inl (why, fault, refl))
-      unsound_order (First n budget) some why fault = (whole problem (lines_of (pending ++ t.rest)), is_whole, inl (why, fault, refl))
-      unsound_order (Play n budget) some why fault = (whole problem (lines_of (pending ++ t.rest)), is_whole, inl (why, fault, refl))
-      unsound_order Show some why fault = (whole problem (lines_of (pending ++ t.rest)), is_whole, inl (why, fault, refl))
-      unsound_order (Drill seed count) some why fault = absurd (some tt)
+      unsound_order : (x : Order) → IsOfText x → (why : Unsound) → IsFirstUnsoundness problem.position why → ReportsOrder x words (t.bytes ++ t.rest) files (refusal_as files is.Unsound (unsound_line why) false)
+      unsound_order (Decide n budget) of_text why fault = (whole problem (lines_of (pending ++ t.rest)), is_whole, inl (why, fault, refl))
+      unsound_order (Least limit budget) of_text why fault = (whole problem (lines_of (pending ++ t.rest)), is_whole, inl (why, fault, refl))
+      unsound_order (First n budget) of_text why fault = (whole problem (lines_of (pending ++ t.rest)), is_whole, inl (why, fault, refl))
+      unsound_order (Play n budget) of_text why fault = (whole problem (lines_of (pending ++ t.rest)), is_whole, inl (why, fault, refl))
+      unsound_order (Keep n budget) of_text why fault = (whole problem (lines_of (pending ++ t.rest)), is_whole, inl (why, fault, refl))
+      unsound_order (Check budget) of_text why fault = absurd of_text
+      unsound_order (Resume budget) of_text why fault = absurd of_text
+      unsound_order Show of_text why fault = (whole problem (lines_of (pending ++ t.rest)), is_whole, inl (why, fault, refl))
+      unsound_order (Drill seed count) of_text why fault = absurd of_text
 
       pub unsound_ends : (why : Unsound) → IsFirstUnsoundness problem.position why → Writes [] (unsound_line why) old.written new.written (WriteFailed old new) → RunEnds words is.Unsound old new
       unsound_ends why fault wrote = record {
@@ -216,35 +270,22 @@ module _ (words : List (List ℕ)) (old new : Seen) (same : new.files ≡ old.fi
         takes = (pending, lines_due t.bytes t.takes);
         ends = (
           refusal_as files is.Unsound (unsound_line why) false,
-          (Ok order, ordered, unsound_order order reads why fault),
+          (Ok order, ordered, unsound_order order of why fault),
           record { reported = refl; written = wrote; files = leaves },
         );
       }
 
       -- the run ends as its command does, which has the sink alone
-      module _ (reports : Report → Type 0) (may_lack : Type 0) (says : (report : Report) → reports report → ReportsOrder order words (t.bytes ++ t.rest) files report) (lacks : may_lack → OrderMayLack order t.bytes) where
-        ended_as : (status : Status) → Ends status reports may_lack NeverMisses (of_sink files old.written old.write_faults) (of_sink files new.written new.write_faults)
-            → Ends status (λ report. Reports words (t.bytes ++ t.rest) files report) (MayLackMemory words t.bytes) (MayMissShelf words t.bytes) old new
-        ended_as status ends =
-            ends_as status reports (λ report. Reports words (t.bytes ++ t.rest) files report) may_lack (MayLackMemory words t.bytes) NeverMisses (MayMissShelf words t.bytes) old new
-            (λ report right. (Ok order, ordered, says report right)) (λ lack. (order, ordered, lacks lack)) (λ keeping never. absurd never)
-            (at_sink files old new (known_files old.files) same status reports may_lack ends)
-
-        pub command_ends : (status : Status) → Ends status reports may_lack NeverMisses (of_sink files old.written old.write_faults) (of_sink files new.written new.write_faults) → RunEnds words status old new
-        command_ends is.Done ends = record { given = given_text (Ok problem) t; takes = (pending, lines_due t.bytes t.takes); ends = ended_as is.Done ends }
-        command_ends is.Text ends = record { given = given_text (Ok problem) t; takes = (pending, lines_due t.bytes t.takes); ends = ended_as is.Text ends }
-        command_ends is.Unsound ends = record { given = given_text (Ok problem) t; takes = (pending, lines_due t.bytes t.takes); ends = ended_as is.Unsound ends }
-        command_ends is.WriteFault ends =
-            record { given = given_text (Ok problem) t; takes = (pending, lines_due t.bytes t.takes); ends = ended_as is.WriteFault ends }
-        command_ends is.Budget ends = record { given = given_text (Ok problem) t; takes = (pending, lines_due t.bytes t.takes); ends = ended_as is.Budget ends }
-        command_ends is.Wide ends = record { given = given_text (Ok problem) t; takes = (pending, lines_due t.bytes t.takes); ends = ended_as is.Wide ends }
-        command_ends is.Ended ends = record { given = given_text (Ok problem) t; takes = (pending, lines_due t.bytes t.takes); ends = ended_as is.Ended ends }
-        command_ends is.TooMany ends = record { given = given_text (Ok problem) t; takes = (pending, lines_due t.bytes t.takes); ends = ended_as is.TooMany ends }
-        command_ends is.Memory ends = record { given = given_text (Ok problem) t; takes = (pending, lines_due t.bytes t.takes); ends = ended_as is.Memory ends }
-        command_ends is.Usage ends =
-            absurd (order_status order words (t.bytes ++ t.rest) files ends.0 (says ends.0 ends.1) (sym ends.2.reported))
-        command_ends is.ReadFault ends = absurd (omega (arith, ends.2.failed))
-        command_ends is.ShelfFault ends = absurd ends.1
+      pub command_ends : (status : Status) (reports : Report → Type 0) (may_lack : Type 0) → ((report : Report) → reports report → ReportsOrder order words (t.bytes ++ t.rest) files report) → (may_lack → OrderMayLack order t.bytes)
+          → Ends status reports may_lack NeverMisses (of_sink files old.written old.write_faults) (of_sink files new.written new.write_faults) → RunEnds words status old new
+      command_ends status reports may_lack says lacks ends =
+          run_ends words status old new (given_text (Ok problem) t) pending (lines_due t.bytes t.takes)
+          (not_usage status reports may_lack NeverMisses (of_sink files old.written old.write_faults) (of_sink files new.written new.write_faults)
+          (λ report right. order_status order words (t.bytes ++ t.rest) files report (says report right)) ends)
+          (no_read_fault status reports may_lack NeverMisses (of_sink files old.written old.write_faults) (of_sink files new.written new.write_faults) refl refl ends)
+          (ends_as status reports (λ report. Reports words (t.bytes ++ t.rest) files report) may_lack (MayLackMemory words t.bytes) NeverMisses (MayMissShelf words t.bytes) old new
+          (λ report right. (Ok order, ordered, says report right)) (λ lack. (order, ordered, lacks lack)) (λ keeping never. absurd never)
+          (at_sink files old new (known_files old.files) (unchanged old.files new.files same) status reports may_lack ends))
 
 -- so it is with each command
 module _ (words : List (List ℕ)) (old new : Seen) (same : new.files ≡ old.files) (pending : List ℕ) (problem : Problem) (t : TextRead (Ok problem) pending old.left new.left) (sound : Sound problem.position) (status : Status) where
@@ -255,29 +296,126 @@ module _ (words : List (List ℕ)) (old new : Seen) (same : new.files ≡ old.fi
   decide_ends n budget ordered ends =
       let order = Decide n budget in
       let files = files_of old.files in
-      command_ends words old new same order ordered (λ none. none) pending problem t (DecideReports n budget problem files) (¬ HasNothingToPlay n problem)
-      (of_problem words old new same order ordered (λ none. none) pending problem t (λ r rest. DecideReports n budget r files) sound)
-      (lacks_behind words old new same order ordered (λ none. none) pending problem t (TakesMemory order) sound) status (ends files)
+      command_ends words old new same order ordered tt pending problem t status (DecideReports n budget problem files) (¬ HasNothingToPlay n problem)
+      (of_problem words old new same order ordered tt pending problem t (λ r rest. DecideReports n budget r files) sound)
+      (behind_text words old new same order ordered tt pending problem t (TakesMemory order) sound) (ends files)
 
   pub least_ends : (limit budget : ℕ) → Ordered words (Ok (Least limit budget)) → EndsWithSink (LeastReports limit budget problem) (¬ HasNothingToPlay limit problem) → RunEnds words status old new
   least_ends limit budget ordered ends =
       let order = Least limit budget in
       let files = files_of old.files in
-      command_ends words old new same order ordered (λ none. none) pending problem t (LeastReports limit budget problem files) (¬ HasNothingToPlay limit problem)
-      (of_problem words old new same order ordered (λ none. none) pending problem t (λ r rest. LeastReports limit budget r files) sound)
-      (lacks_behind words old new same order ordered (λ none. none) pending problem t (TakesMemory order) sound) status (ends files)
+      command_ends words old new same order ordered tt pending problem t status (LeastReports limit budget problem files) (¬ HasNothingToPlay limit problem)
+      (of_problem words old new same order ordered tt pending problem t (λ r rest. LeastReports limit budget r files) sound)
+      (behind_text words old new same order ordered tt pending problem t (TakesMemory order) sound) (ends files)
 
   pub first_ends : (n budget : ℕ) → Ordered words (Ok (First n budget)) → EndsWithSink (FirstReports n budget problem) (¬ HasNoFirstMove n problem) → RunEnds words status old new
   first_ends n budget ordered ends =
       let order = First n budget in
       let files = files_of old.files in
-      command_ends words old new same order ordered (λ none. none) pending problem t (FirstReports n budget problem files) (¬ HasNoFirstMove n problem)
-      (of_problem words old new same order ordered (λ none. none) pending problem t (λ r rest. FirstReports n budget r files) sound)
-      (lacks_behind words old new same order ordered (λ none. none) pending problem t (TakesMemory order) sound) status (ends files)
+      command_ends words old new same order ordered tt pending problem t status (FirstReports n budget problem files) (¬ HasNoFirstMove n problem)
+      (of_problem words old new same order ordered tt pending problem t (λ r rest. FirstReports n budget r files) sound)
+      (behind_text words old new same order ordered tt pending problem t (TakesMemory order) sound) (ends files)
 
   pub show_ends : Ordered words (Ok Show) → EndsWithSink (ShowReports problem.position) (Unit {0}) → RunEnds words status old new
   show_ends ordered ends =
       let files = files_of old.files in
-      command_ends words old new same Show ordered (λ none. none) pending problem t (ShowReports problem.position files) (Unit {0})
-      (of_problem words old new same Show ordered (λ none. none) pending problem t (λ r rest. ShowReports r.position files) sound)
-      (lacks_behind words old new same Show ordered (λ none. none) pending problem t (TakesMemory Show) sound) status (ends files)
+      command_ends words old new same Show ordered tt pending problem t status (ShowReports problem.position files) (Unit {0})
+      (of_problem words old new same Show ordered tt pending problem t (λ r rest. ShowReports r.position files) sound)
+      (behind_text words old new same Show ordered tt pending problem t (TakesMemory Show) sound) (ends files)
+
+-- `keep` has the shelf too
+module _ (words : List (List ℕ)) (old new : Seen) (pending : List ℕ) (problem : Problem) (t : TextRead (Ok problem) pending old.left new.left) (sound : Sound problem.position) (status : Status) where
+  -- what was read, with the files as they were
+  abbrev read : Seen
+  read = record { left = new.left; written = old.written; files = old.files; read_faults = old.read_faults; write_faults = old.write_faults; shelf_faults = old.shelf_faults }
+
+  pub keep_ends : (n budget : ℕ) (name : List ℕ) → Ordered words (Ok (Keep n budget)) → name_in (Keep n budget) words ≡ Some name
+      → ((files : Files) → IfSome old.files (λ told. told ≡ files)
+      → Ends status (KeepReports n budget problem name files) (¬ HasNothingToPlay n problem) (MissesKeep name (HasFileToKeep n budget problem))
+      (of_shelf old.written old.files old.write_faults old.shelf_faults) (of_shelf new.written new.files new.write_faults new.shelf_faults))
+      → RunEnds words status old new
+  keep_ends n budget name ordered named ends =
+      let order = Keep n budget in
+      let files = files_of old.files in
+      let before = of_shelf old.written old.files old.write_faults old.shelf_faults in
+      let after = of_shelf new.written new.files new.write_faults new.shelf_faults in
+      let Named : Option (List ℕ) → Report → Type 0 = λ o report. IsSomeAnd o (λ name'. KeepReports n budget problem name' files report) in
+      let reports : Report → Type 0 = KeepReports n budget problem name files in
+      let lacks : Type 0 = ¬ HasNothingToPlay n problem in
+      let misses : Option (List ℕ) → Type 0 = MissesKeep name (HasFileToKeep n budget problem) in
+      let ended : Ends status reports lacks misses before after = ends files (known_files old.files) in
+      run_ends words status old new (record { taken = t.bytes; rest = t.rest; files = files; consumed = t.taken; left = t.left; kept = known_files old.files }) pending
+      (lines_due words old read refl order ordered tt pending t.bytes t.takes)
+      (not_usage status reports lacks misses before after (λ report right. keep_status n budget problem name files report right) ended)
+      (no_read_fault status reports lacks misses before after refl refl ended)
+      (ends_as status reports (λ report. Reports words (t.bytes ++ t.rest) files report) lacks (MayLackMemory words t.bytes) misses (MayMissShelf words t.bytes) old new
+      (λ report right. (
+        Ok order,
+        ordered,
+        of_problem words old read refl order ordered tt pending problem t (λ r rest. OfName order words (λ name'. KeepReports n budget r name' files)) sound report
+            (subst (λ o. Named o report) (sym named) right),
+      ))
+      (λ lack. (order, ordered, behind_text words old read refl order ordered tt pending problem t (TakesMemory order) sound lack))
+      (λ keeping miss. (
+        order,
+        ordered,
+        record { named = miss.1 ∙ sym named; text = behind_text words old read refl order ordered tt pending problem t (HasFileToKeep n budget) sound miss.0 },
+      ))
+      (with_source status reports lacks misses old new ended))
+
+-- `check` reads nothing, and has the sink and the shelf
+module _ (words : List (List ℕ)) (old new : Seen) (status : Status) where
+  pub check_ends : (budget : ℕ) (name : List ℕ) → Ordered words (Ok (Check budget)) → name_in (Check budget) words ≡ Some name → new.left ≡ old.left
+      → OnFiles old.files (λ files. Ends status (CheckReports budget name files) (Unit {0}) (MissesFetch [])
+      (of_shelf old.written old.files old.write_faults old.shelf_faults) (of_shelf new.written new.files new.write_faults new.shelf_faults))
+      → RunEnds words status old new
+  check_ends budget name ordered named left (files, kept, ends) =
+      let order = Check budget in
+      let rest = unwrap_or old.left [] in
+      let L : Option (List ℕ) → Type 0 = λ l. IfSome l (λ told. told ≡ rest) in
+      let C : Option (List ℕ) → Type 0 = λ l. Consumes old.left l [] in
+      let Named : Option (List ℕ) → Report → Type 0 = λ o report. IsSomeAnd o (λ name'. CheckReports budget name' files report) in
+      let bytes = reported_on status [] rest in
+      record {
+        given = record {
+          taken = [];
+          rest = rest;
+          files = files;
+          consumed = subst C (sym left) (Consumes-nil old.left);
+          left = subst L (sym left) (known_rest old.left);
+          kept = kept;
+        };
+        takes = takes_nothing words files status;
+        ends =
+            ends_as status (CheckReports budget name files) (λ report. Reports words bytes files report) (Unit {0}) (MayLackMemory words []) (MissesFetch []) (MayMissShelf words []) old new
+            (λ report right. (Ok order, ordered, subst (λ o. Named o report) (sym named) right)) (λ some. (order, ordered, refl))
+            (λ keeping miss. (order, ordered, miss))
+            (with_source status (CheckReports budget name files) (Unit {0}) (MissesFetch []) old new ends);
+      }
+
+  -- `resume` reads lines alone
+  pub resume_ends : (budget : ℕ) (name : List ℕ) → Ordered words (Ok (Resume budget)) → name_in (Resume budget) words ≡ Some name
+      → OnFiles old.files (λ files. (pending : List ℕ) × ResumeEnds budget name files status pending old new) → RunEnds words status old new
+  resume_ends budget name ordered named (files, kept, (pending, p)) =
+      let order = Resume budget in
+      let Named : List ℕ → Option (List ℕ) → Report → Type 0 = λ bytes o report. IsSomeAnd o (λ name'. ResumeReports budget (lines_of bytes) name' files report) in
+      let says : (bytes : List ℕ) (report : Report) → ResumeReports budget (lines_of bytes) name files report → Reports words bytes files report =
+      λ bytes report right. (Ok order, ordered, subst (λ o. Named bytes o report) (sym named) right) in
+      let all = reported_on status p.bytes p.rest in
+      let lines : TakesLines (IsLineDue words files) p.bytes pending = record {
+        lines = p.takes.lines;
+        are_lines = p.takes.are_lines;
+        due = λ k below. let due = p.takes.due k below in (due.0, says (text_of_lines (take k p.takes.lines)) due.0 due.1, due.2);
+        bytes = p.takes.bytes;
+        few = p.takes.few;
+      } in
+      record {
+        given = record { taken = p.bytes; rest = p.rest; files = files; consumed = p.taken; left = p.left; kept = kept };
+        takes =
+            takes_lines words files status p.bytes pending
+            (not_usage status (ResumeReports budget (lines_of all) name files) (p.bytes ≡ []) (MissesFetch p.bytes) old new (λ report right. resume_status budget (lines_of all) name files report right) p.ends)
+            lines;
+        ends =
+            ends_as status (ResumeReports budget (lines_of all) name files) (λ report. Reports words all files report) (p.bytes ≡ []) (MayLackMemory words p.bytes) (MissesFetch p.bytes) (MayMissShelf words p.bytes) old new
+            (λ report right. says all report right) (λ none. (order, ordered, none)) (λ keeping miss. (order, ordered, miss)) p.ends;
+      }

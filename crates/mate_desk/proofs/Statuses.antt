@@ -1,25 +1,37 @@
 -- What the status of a run says of its words.
-use Rattle.std.proofs.Common.{◌≡◌, ◌≢◌, ◌↔◌, ℕ, List, [], length, Option, Result, Ok, Err, false, inl, inr, sym, ◌∙◌, ap, subst, refl, arith}
-use Rattle.std.specs.Prelude.{IfOk}
+use Rattle.std.proofs.Common.{◌≡◌, ◌≢◌, ◌↔◌, ℕ, List, [], length, Option, Some, None, Result, Ok, Err, false, inl, inr, sym, ◌∙◌, ap, subst, refl, arith}
+use Rattle.std.specs.FinMap as map
+use Rattle.std.specs.Prelude.{IfOk, IsSomeAnd}
 use Rattle.desk_base.specs.Files.{Files}
-use Rattle.desk_base.specs.Lines.{Lines}
-use Rattle.game_rules.specs.Game.{Position, Sound}
+use Rattle.desk_base.specs.Lines.{Lines, lines_of}
+use Rattle.game_rules.specs.Game.{Position}
 use Rattle.game_report.specs.declared.play.Ending.{Ending}
 use Rattle.game_report.specs.declared.play.Ending.TheVariants.{Mated, Wide, Quit, NoLine, Many, CutAt, LongAt}
+use Rattle.mate_plan.specs.Claim.{Claim}
+use Rattle.strategy_file.specs.Claims.{claim_with}
+use Rattle.strategy_file.specs.Layout.{Refusal}
+use Rattle.strategy_file.specs.StrategyFile.{Charts}
+use Rattle.mate_desk.specs.Check.{CheckReports}
 use Rattle.mate_desk.specs.Decide.{DecideReports}
 use Rattle.mate_desk.specs.Drill.{DrillReports, drilled, state_after}
+use Rattle.mate_desk.specs.FileClaim.{OfClaim, OfFile, OfFound, OfOutcome}
 use Rattle.mate_desk.specs.First.{FirstReports}
-use Rattle.mate_desk.specs.Laws.{FaultsAreCounted, MemoryLast, NoShelfFault, UsageExactly}
+use Rattle.mate_desk.specs.Keep.{KeepReports}
+use Rattle.mate_desk.specs.Laws.{FaultsAreCounted, MemoryLast, NoShelfFault, OrdersSome, UsageExactly}
 use Rattle.mate_desk.specs.Least.{LeastReports}
-use Rattle.mate_desk.specs.Order.{Ordered, usage_line}
-use Rattle.mate_desk.specs.Outcome.{Ends, Report, Seen, refusal_as}
+use Rattle.mate_desk.specs.Order.{Ordered, as_order, name_in, usage_line}
+use Rattle.mate_desk.specs.Outcome.{Ends, Report, Seen, done_with, refusal_as}
 use Rattle.mate_desk.specs.Play.{PlayReports, status_of}
-use Rattle.mate_desk.specs.Report.{LacksBehindText, OfRead, OfSound, OfText, OrderMayLack, OrderMayMiss, ReadsNoText, Reports, ReportsOrder, ReportsWords, TakesMemory, UsesNoShelf}
+use Rattle.mate_desk.specs.Report.{IsBehindText, OfName, OfRead, OfSound, OfText, OrderMayLack, OrderMayMiss, ReadsNoText, Reports, ReportsOrder, ReportsWords, TakesMemory, UsesNoShelf}
+use Rattle.mate_desk.specs.Resume.{GameReports, ResumeReports}
 use Rattle.mate_desk.specs.Run.{RunEnds}
 use Rattle.mate_desk.specs.Show.{ShowReports}
 use Rattle.mate_desk.specs.Text.{Text, whole, refused}
+use Rattle.mate_desk.specs.Verdict.{mate_line}
 use Rattle.mate_desk.specs.declared.order.Order.{Order}
-use Rattle.mate_desk.specs.declared.order.Order.TheVariants.{Decide, Least, First, Play, Show, Drill}
+use Rattle.mate_desk.specs.declared.order.Order.TheVariants.{Decide, Least, First, Play, Keep, Check, Resume, Show, Drill}
+use Rattle.mate_desk.specs.declared.order.TextOrder.{TextOrder}
+use Rattle.mate_desk.specs.declared.order.TextOrder.TheVariants as text_orders
 use Rattle.mate_desk.specs.declared.order.UsageWhy.{UsageWhy}
 use Rattle.mate_desk.specs.declared.problem.Problem.{Problem}
 use Rattle.mate_desk.specs.declared.status.Status.{Status}
@@ -62,6 +74,44 @@ play_status n budget problem lines files report (inl (step, over, is')) = other_
 play_status n budget problem lines files report (inr (fits, inl (none, is'))) = other_status report _ is' (λ e. absurd (cc))
 play_status n budget problem lines files report (inr (fits, inr (value, (played, right, is')))) = other_status report _ is' (ending_status played.ending)
 
+pub keep_status : (n budget : ℕ) (problem : Problem) (name : List ℕ) (files : Files) (report : Report) → KeepReports n budget problem name files report → IsNotUsage report
+keep_status n budget problem name files report (inl (step, over, is')) = other_status report _ is' (λ e. absurd (cc))
+keep_status n budget problem name files report (inr (fits, inl (none, is'))) = other_status report _ is' (λ e. absurd (cc))
+keep_status n budget problem name files report (inr (fits, inr (value, inl (bytes, file, is')))) = other_status report _ is' (λ e. absurd (cc))
+keep_status n budget problem name files report (inr (fits, inr (value, inr (size, large, is')))) = other_status report _ is' (λ e. absurd (cc))
+
+-- what comes of a file has none where what is said of its claim has none
+module _ (says : Claim → Report → Type 0) (budget : ℕ) (files : Files) (report : Report) (not : (c : Claim) → says c report → IsNotUsage report) where
+  claim_status : (c : Claim) → OfClaim says budget files c report → IsNotUsage report
+  claim_status c (inl (failed, finds, is')) = other_status report _ is' (λ e. absurd (cc))
+  claim_status c (inr (inl (step, over, is'))) = other_status report _ is' (λ e. absurd (cc))
+  claim_status c (inr (inr (keeps, right))) = not c right
+
+  outcome_status : (outcome : Result Charts Refusal) → OfOutcome says budget files outcome report → IsNotUsage report
+  outcome_status (Err refusal) is' = other_status report _ is' (λ e. absurd (cc))
+  outcome_status (Ok charts) right = claim_status (claim_with charts) right
+
+  found_status : (found : Option (List ℕ)) → OfFound says budget files found report → IsNotUsage report
+  found_status None is' = other_status report _ is' (λ e. absurd (cc))
+  found_status (Some bytes) (inl (long, is')) = other_status report _ is' (λ e. absurd (cc))
+  found_status (Some bytes) (inr (short, (outcome, file, right))) = outcome_status outcome right
+
+  pub file_status : (name : List ℕ) → OfFile says budget name files report → IsNotUsage report
+  file_status name right = found_status (map.get files name) right
+
+pub check_status : (budget : ℕ) (name : List ℕ) (files : Files) (report : Report) → CheckReports budget name files report → IsNotUsage report
+check_status budget name files report =
+    file_status (λ c r. r ≡ done_with files (mate_line c.moves)) budget files report (λ c is'. other_status report _ is' (λ e. absurd (cc))) name
+
+pub resume_status : (budget : ℕ) (lines : Lines) (name : List ℕ) (files : Files) (report : Report) → ResumeReports budget lines name files report → IsNotUsage report
+resume_status budget lines name files report =
+    file_status (GameReports lines files) budget files report (λ c game. other_status report _ game.2 (ending_status game.0.ending)) name
+
+-- what is said of a name has none where it has none of each name
+name_status : (name : Option (List ℕ)) (says : List ℕ → Report → Type 0) (report : Report) → ((n : List ℕ) → says n report → IsNotUsage report) → IsSomeAnd name (λ n. says n report) → IsNotUsage report
+name_status (Some n) says report not right = not n right
+name_status None says report not none = absurd none
+
 pub show_status : (p : Position) (files : Files) (report : Report) → ShowReports p files report → IsNotUsage report
 show_status p files report (text, shown, is') = other_status report _ is' (λ e. absurd (cc))
 
@@ -98,6 +148,13 @@ order_status (First n budget) words bytes files report =
     text_status (λ problem rest. FirstReports n budget problem files) files report (λ problem rest. first_status n budget problem files report) bytes
 order_status (Play n budget) words bytes files report =
     text_status (λ problem rest. PlayReports n budget problem rest files) files report (λ problem rest. play_status n budget problem rest files report) bytes
+order_status (Keep n budget) words bytes files report =
+    text_status (λ problem rest. OfName (Keep n budget) words (λ name. KeepReports n budget problem name files)) files report
+    (λ problem rest. name_status (name_in (Keep n budget) words) (λ name. KeepReports n budget problem name files) report (λ name. keep_status n budget problem name files report)) bytes
+order_status (Check budget) words bytes files report =
+    name_status (name_in (Check budget) words) (λ name. CheckReports budget name files) report (λ name. check_status budget name files report)
+order_status (Resume budget) words bytes files report =
+    name_status (name_in (Resume budget) words) (λ name. ResumeReports budget (lines_of bytes) name files) report (λ name. resume_status budget (lines_of bytes) name files report)
 order_status Show words bytes files report =
     text_status (λ problem rest. ShowReports problem.position files) files report (λ problem rest. show_status problem.position files report) bytes
 order_status (Drill seed count) words bytes files report = drill_status seed count files report
@@ -106,20 +163,37 @@ pub words_status : (words : List (List ℕ)) (files : Files) (answer : Result Or
 words_status words files (Err why) bytes report ordered reports same = (why, ordered)
 words_status words files (Ok order) bytes report ordered reports same = absurd (order_status order words bytes files report reports same)
 
--- each order but a drill is of a text
-pub reads_text : (order : Order) → ((seed count : ℕ) → order ≡ Drill seed count → ⊥) → ReadsNoText order → ⊥
-reads_text (Decide n budget) not none = none
-reads_text (Least limit budget) not none = none
-reads_text (First n budget) not none = none
-reads_text (Play n budget) not none = none
-reads_text Show not none = none
-reads_text (Drill seed count) not none = not seed count refl
+-- the order is of a position text
+abbrev pub IsOfText : Order → Type 0
+IsOfText (Decide n budget) = Unit {0}
+IsOfText (Least limit budget) = Unit {0}
+IsOfText (First n budget) = Unit {0}
+IsOfText (Play n budget) = Unit {0}
+IsOfText (Keep n budget) = Unit {0}
+IsOfText (Check budget) = ⊥
+IsOfText (Resume budget) = ⊥
+IsOfText Show = Unit {0}
+IsOfText (Drill seed count) = ⊥
 
--- words that are an order of a text are no order of none
+pub text_order : (o : TextOrder) → IsOfText (as_order o)
+text_order (text_orders.Decide n budget) = tt
+text_order (text_orders.Least limit budget) = tt
+text_order (text_orders.First n budget) = tt
+text_order (text_orders.Play n budget) = tt
+text_order (text_orders.Keep n budget name) = tt
+text_order text_orders.Show = tt
+
+-- words that are an order that reads something are no order that reads nothing
 pub no_textless : (words : List (List ℕ)) (order : Order) → Ordered words (Ok order) → (ReadsNoText order → ⊥) → (other : Order) → Ordered words (Ok other) → ReadsNoText other → ⊥
 no_textless words order ordered reads other also none =
     let same : order ≡ other = let e = once_words (Ok order) (Ok other) words ordered also in cc in
     reads (subst ReadsNoText (sym same) none)
+
+-- and words that are an order that uses the shelf are no order that does not
+pub no_shelfless : (words : List (List ℕ)) (order : Order) → Ordered words (Ok order) → (UsesNoShelf order → ⊥) → (answer : Result Order UsageWhy) → Ordered words answer → IfOk answer UsesNoShelf → ⊥
+no_shelfless words order ordered uses answer also none =
+    let P : Result Order UsageWhy → Type 0 = λ r. IfOk r UsesNoShelf in
+    uses (subst P (once_words answer (Ok order) words also ordered) none)
 
 -- of words that are no order one thing is reported
 usage_reported : (words : List (List ℕ)) (files : Files) (bytes : List ℕ) (report : Report) (why : UsageWhy) → Ordered words (Err why) → Reports words bytes files report → report ≡ refusal_as files is.Usage (usage_line why) false
@@ -150,6 +224,7 @@ usage_exactly words is.Done old new run = done_usage words run.given.files _ run
 usage_exactly words is.Usage old new run = done_usage words run.given.files _ run.ends.0 run.ends.1 is.Usage run.ends.2.reported
 usage_exactly words is.Text old new run = done_usage words run.given.files _ run.ends.0 run.ends.1 is.Text run.ends.2.reported
 usage_exactly words is.Unsound old new run = done_usage words run.given.files _ run.ends.0 run.ends.1 is.Unsound run.ends.2.reported
+usage_exactly words is.File old new run = done_usage words run.given.files _ run.ends.0 run.ends.1 is.File run.ends.2.reported
 usage_exactly words is.Budget old new run = done_usage words run.given.files _ run.ends.0 run.ends.1 is.Budget run.ends.2.reported
 usage_exactly words is.Wide old new run = done_usage words run.given.files _ run.ends.0 run.ends.1 is.Wide run.ends.2.reported
 usage_exactly words is.Ended old new run = done_usage words run.given.files _ run.ends.0 run.ends.1 is.Ended run.ends.2.reported
@@ -163,17 +238,20 @@ usage_exactly words is.ShelfFault old new run =
 usage_exactly words is.Memory old new run =
     other (λ same. absurd (cc)) (λ none. let lack = run.ends.0 in let both = once_words (Ok lack.0) (Err none.0) words lack.1 none.1 in absurd (cc))
 
-behind_text : (words : List (List ℕ)) (order : Order) (takes : Problem → Type 0) (taken : List ℕ) → ((problem : Problem) → takes problem → TakesMemory order problem) → Ordered words (Ok order) → LacksBehindText takes taken → (o : Order) × (problem : Problem) × Ordered words (Ok o) × Sound problem.position × TakesMemory o problem
-behind_text words order takes taken more ordered lack = (order, lack.problem, ordered, lack.sound, more lack.problem lack.lacks)
+behind_text : (words : List (List ℕ)) (order : Order) (taken : List ℕ) → Ordered words (Ok order) → IsBehindText (TakesMemory order) taken → OrdersSome words
+behind_text words order taken ordered lack = (order, ordered, inr (lack.problem, lack.sound, lack.holds))
 
-order_lacks : (words : List (List ℕ)) (order : Order) (taken : List ℕ) → Ordered words (Ok order) → OrderMayLack order taken → (o : Order) × (problem : Problem) × Ordered words (Ok o) × Sound problem.position × TakesMemory o problem
-order_lacks words (Decide n budget) taken ordered lack = behind_text words (Decide n budget) _ taken (λ problem takes. takes) ordered lack
-order_lacks words (Least limit budget) taken ordered lack = behind_text words (Least limit budget) _ taken (λ problem takes. takes) ordered lack
-order_lacks words (First n budget) taken ordered lack = behind_text words (First n budget) _ taken (λ problem takes. takes) ordered lack
-order_lacks words (Play n budget) taken ordered lack = behind_text words (Play n budget) _ taken (λ problem takes. takes) ordered lack
-order_lacks words Show taken ordered lack = behind_text words Show _ taken (λ problem takes. takes) ordered lack
+order_lacks : (words : List (List ℕ)) (order : Order) (taken : List ℕ) → Ordered words (Ok order) → OrderMayLack order taken → OrdersSome words
+order_lacks words (Decide n budget) taken ordered lack = behind_text words (Decide n budget) taken ordered lack
+order_lacks words (Least limit budget) taken ordered lack = behind_text words (Least limit budget) taken ordered lack
+order_lacks words (First n budget) taken ordered lack = behind_text words (First n budget) taken ordered lack
+order_lacks words (Play n budget) taken ordered lack = behind_text words (Play n budget) taken ordered lack
+order_lacks words (Keep n budget) taken ordered lack = behind_text words (Keep n budget) taken ordered lack
+order_lacks words (Check budget) taken ordered lack = (Check budget, ordered, inl tt)
+order_lacks words (Resume budget) taken ordered lack = (Resume budget, ordered, inl tt)
+order_lacks words Show taken ordered lack = behind_text words Show taken ordered lack
 order_lacks words (Drill seed count) taken ordered lack =
-    (Drill seed count, drilled seed 0, ordered, drill_sound (state_after seed 1), (0, lack.1, refl))
+    (Drill seed count, ordered, inr (drilled seed 0, drill_sound (state_after seed 1), (0, lack.1, refl)))
 
 pub memory_last : MemoryLast
 memory_last words old new run = let lack = run.ends.0 in order_lacks words lack.0 run.given.taken lack.1 lack.2
@@ -183,6 +261,9 @@ order_misses (Decide n budget) words taken keeping none misses = misses
 order_misses (Least limit budget) words taken keeping none misses = misses
 order_misses (First n budget) words taken keeping none misses = misses
 order_misses (Play n budget) words taken keeping none misses = misses
+order_misses (Keep n budget) words taken keeping none misses = none
+order_misses (Check budget) words taken keeping none misses = none
+order_misses (Resume budget) words taken keeping none misses = none
 order_misses Show words taken keeping none misses = misses
 order_misses (Drill seed count) words taken keeping none misses = misses
 

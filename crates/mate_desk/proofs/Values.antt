@@ -54,7 +54,7 @@ module _ (problem : Problem) (q : Position) (winner : Side) (budget n : ℕ) (po
       subst At position (subst Of same over)
 
   pub of_problem : (s : Solution) → IsOf q winner n s → IsOf problem.position problem.winner n s
-  of_problem s of = record { position = of.position ∙ position; winner_is = of.winner_is ∙ same; moves_are = of.moves_are }
+  of_problem s of = record { origin = of.origin; position = of.position ∙ position; winner_is = of.winner_is ∙ same; moves_are = of.moves_are }
 
 -- the value of a solution is that of the problem that it solves
 value_of : (problem : Problem) (n : ℕ) (s : Solution) → IsOf problem.position problem.winner n s → Value s.winner s.moves s.position ↔ Value problem.winner n problem.position

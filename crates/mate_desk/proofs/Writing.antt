@@ -1,11 +1,11 @@
 -- What was written of a fault line and of a text.
-use Rattle.std.proofs.Common.{◌≡◌, ℕ, List, [], length, Option, Some, None, IfSome, Result, Ok, Err, OnOk, OnErr, inl, inr, refl, sym, ◌∙◌, subst, arith}
+use Rattle.std.proofs.Common.{◌≡◌, ◌≢◌, ℕ, List, [], length, Option, Some, None, IfSome, Result, Ok, Err, OnOk, OnErr, inl, inr, refl, sym, ◌∙◌, subst, arith}
 use Rattle.std.specs.Io.KnownBytes.{Appends}
 use Rattle.std.proofs.lemmas.List.{take_all, append-nil}
 use Rattle.desk_base.specs.Faults.{HasRisen}
 use Rattle.desk_base.specs.Files.{Files, Go}
 use Rattle.desk_base.specs.Moves.{AppendsFront}
-use Rattle.mate_desk.specs.Outcome.{DoesReport, Ends, NeverMisses, Report, Seen, Writes, of_sink, of_streams}
+use Rattle.mate_desk.specs.Outcome.{DoesReport, Ends, NeverMisses, Report, Seen, Writes, of_shelf, of_sink, of_streams}
 use Rattle.mate_desk.specs.declared.status.Status.{Status}
 use Rattle.mate_desk.specs.declared.status.Status.TheVariants as is
 
@@ -38,6 +38,7 @@ ends_as is.ReadFault reports more may_lack lacks_more may_miss misses_more old n
 ends_as is.WriteFault reports more may_lack lacks_more may_miss misses_more old new says lacks misses ends = (ends.0, says ends.0 ends.1, ends.2)
 ends_as is.Budget reports more may_lack lacks_more may_miss misses_more old new says lacks misses ends = (ends.0, says ends.0 ends.1, ends.2)
 ends_as is.Wide reports more may_lack lacks_more may_miss misses_more old new says lacks misses ends = (ends.0, says ends.0 ends.1, ends.2)
+ends_as is.File reports more may_lack lacks_more may_miss misses_more old new says lacks misses ends = (ends.0, says ends.0 ends.1, ends.2)
 ends_as is.Ended reports more may_lack lacks_more may_miss misses_more old new says lacks misses ends = (ends.0, says ends.0 ends.1, ends.2)
 ends_as is.TooMany reports more may_lack lacks_more may_miss misses_more old new says lacks misses ends = (ends.0, says ends.0 ends.1, ends.2)
 ends_as is.Memory reports more may_lack lacks_more may_miss misses_more old new says lacks misses ends = (lacks ends.0, ends.1)
@@ -50,17 +51,25 @@ printed status reports may_lack old new due right =
     ends_as status (λ report. report ≡ due) reports ⊥ may_lack NeverMisses NeverMisses old new (λ report is'. subst reports (sym is') right) (λ none. absurd none)
     (λ keeping never. never)
 
--- The files of a run stay, and its command sees them told. It begins when the source has failed so often.
-module _ (files : Files) (old new : Seen) (kept : IfSome old.files (λ told. told ≡ files)) (same : new.files ≡ old.files) where
-  go_same : (way : Files → Files → Type 0) (before after : Option Files) → after ≡ before → IfSome before (λ told. told ≡ files) → way files files → Go before after way
-  go_same way None after is' told holds = tt
-  go_same way (Some x) (Some y) is' told holds =
-      let P : Files → Type 0 = λ x. way x y in
-      let Q : Files → Type 0 = λ y. way files y in
-      let y_is : y ≡ x = cc in
-      subst P (sym told) (subst Q (sym (y_is ∙ told)) holds)
-  go_same way (Some x) None is' told holds = absurd (cc)
+-- files that are the same are told so
+pub unchanged : (before after : Option Files) → after ≡ before → Go before after (λ x y. y ≡ x)
+unchanged before after is' = let P : Option Files → Type 0 = λ told. Go before told (λ x y. y ≡ x) in subst P (sym is') (still_there before)
+  where
+    still_there : (told : Option Files) → Go told told (λ x y. y ≡ x)
+    still_there None = tt
+    still_there (Some x) = refl
 
+-- so they are what they were
+pub go_same : (files : Files) (way : Files → Files → Type 0) (before after : Option Files) → Go before after (λ x y. y ≡ x) → IfSome before (λ told. told ≡ files) → way files files → Go before after way
+go_same files way None after is' told holds = tt
+go_same files way (Some x) (Some y) is' told holds =
+    let P : Files → Type 0 = λ x. way x y in
+    let Q : Files → Type 0 = λ y. way files y in
+    subst P (sym told) (subst Q (sym (is' ∙ told)) holds)
+go_same files way (Some x) None is' told holds = absurd is'
+
+-- The files of a run stay, and its command sees them told. It begins when the source has failed so often.
+module _ (files : Files) (old new : Seen) (kept : IfSome old.files (λ told. told ≡ files)) (same : Go old.files new.files (λ x y. y ≡ x)) where
   -- what the command sees, with these bytes to come
   abbrev told : Seen → Option (List ℕ) → ℕ → Seen
   told seen left reads = of_streams files left seen.written reads seen.write_faults
@@ -68,7 +77,7 @@ module _ (files : Files) (old new : Seen) (kept : IfSome old.files (λ told. tol
   module _ (left_old left_new : Option (List ℕ)) (reads later : ℕ) where
     does : (status : Status) (report : Report) → DoesReport status report (told old left_old reads) (told new left_new later) → DoesReport status report old new
     does status report d =
-        record { reported = d.reported; written = d.written; files = go_same (λ before after. after ≡ report.files) old.files new.files same kept d.files }
+        record { reported = d.reported; written = d.written; files = go_same files (λ before after. after ≡ report.files) old.files new.files same kept d.files }
 
     -- so the run ends as its command does
     pub at_files : (HasRisen reads later → HasRisen old.read_faults new.read_faults) → (status : Status) (reports : Report → Type 0) (may_lack : Type 0)
@@ -81,23 +90,56 @@ module _ (files : Files) (old new : Seen) (kept : IfSome old.files (λ told. tol
     at_files rises is.Wide reports may_lack ends = (ends.0, ends.1, does is.Wide ends.0 ends.2)
     at_files rises is.Ended reports may_lack ends = (ends.0, ends.1, does is.Ended ends.0 ends.2)
     at_files rises is.TooMany reports may_lack ends = (ends.0, ends.1, does is.TooMany ends.0 ends.2)
+    at_files rises is.File reports may_lack ends = (ends.0, ends.1, does is.File ends.0 ends.2)
     at_files rises is.ReadFault reports may_lack ends =
         let some = ends.2 in (
           ends.0,
           ends.1,
-          record { failed = rises some.failed; short = some.short; written = some.written; files = go_same (λ before after. after ≡ before) old.files new.files same kept refl },
+          record { failed = rises some.failed; short = some.short; written = some.written; files = go_same files (λ before after. after ≡ before) old.files new.files same kept refl },
         )
     at_files rises is.WriteFault reports may_lack ends =
         let some = ends.2 in (
           ends.0,
           ends.1,
-          record { failed = some.failed; written = some.written; files = go_same (λ before after. after ≡ ends.0.files) old.files new.files same kept some.files },
+          record { failed = some.failed; written = some.written; files = go_same files (λ before after. after ≡ ends.0.files) old.files new.files same kept some.files },
         )
     at_files rises is.ShelfFault reports may_lack ends = absurd ends.1
     at_files rises is.Memory reports may_lack ends =
-        (ends.0, record { written = ends.1.written; files = go_same (λ before after. after ≡ before) old.files new.files same kept refl })
+        (ends.0, record { written = ends.1.written; files = go_same files (λ before after. after ≡ before) old.files new.files same kept refl })
 
   -- and as one that has the sink alone, whose source does not fail
   pub at_sink : (status : Status) (reports : Report → Type 0) (may_lack : Type 0) → Ends status reports may_lack NeverMisses (of_sink files old.written old.write_faults) (of_sink files new.written new.write_faults)
       → Ends status reports may_lack NeverMisses old new
   at_sink status reports may_lack ends = at_files None None 0 0 (λ risen. absurd (omega (arith, risen))) status reports may_lack ends
+
+shelf_does : (status : Status) (report : Report) (old new : Seen) → DoesReport status report (of_shelf old.written old.files old.write_faults old.shelf_faults) (of_shelf new.written new.files new.write_faults new.shelf_faults) → DoesReport status report old new
+shelf_does status report old new d = record { reported = d.reported; written = d.written; files = d.files }
+
+-- a command that has no source does not fail to read
+pub no_read_fault : (status : Status) (reports : Report → Type 0) (may_lack : Type 0) (may_miss : Option (List ℕ) → Type 0) (old new : Seen) → old.read_faults ≡ 0 → new.read_faults ≡ 0 → Ends status reports may_lack may_miss old new → status ≢ is.ReadFault
+no_read_fault status reports may_lack may_miss old new before after ends same =
+    let P : Status → Type 0 = λ s. Ends s reports may_lack may_miss old new in
+    let failed = (subst P same ends).2.failed in
+    absurd (omega (arith, failed, before, after))
+
+-- and it ends as it does whatever the source tells
+pub with_source : (status : Status) (reports : Report → Type 0) (may_lack : Type 0) (may_miss : Option (List ℕ) → Type 0) (old new : Seen)
+    → Ends status reports may_lack may_miss (of_shelf old.written old.files old.write_faults old.shelf_faults) (of_shelf new.written new.files new.write_faults new.shelf_faults)
+    → Ends status reports may_lack may_miss old new
+with_source is.Done reports may_lack may_miss old new ends = (ends.0, ends.1, shelf_does is.Done ends.0 old new ends.2)
+with_source is.Usage reports may_lack may_miss old new ends = (ends.0, ends.1, shelf_does is.Usage ends.0 old new ends.2)
+with_source is.Text reports may_lack may_miss old new ends = (ends.0, ends.1, shelf_does is.Text ends.0 old new ends.2)
+with_source is.Unsound reports may_lack may_miss old new ends = (ends.0, ends.1, shelf_does is.Unsound ends.0 old new ends.2)
+with_source is.Budget reports may_lack may_miss old new ends = (ends.0, ends.1, shelf_does is.Budget ends.0 old new ends.2)
+with_source is.Wide reports may_lack may_miss old new ends = (ends.0, ends.1, shelf_does is.Wide ends.0 old new ends.2)
+with_source is.File reports may_lack may_miss old new ends = (ends.0, ends.1, shelf_does is.File ends.0 old new ends.2)
+with_source is.Ended reports may_lack may_miss old new ends = (ends.0, ends.1, shelf_does is.Ended ends.0 old new ends.2)
+with_source is.TooMany reports may_lack may_miss old new ends = (ends.0, ends.1, shelf_does is.TooMany ends.0 old new ends.2)
+with_source is.ReadFault reports may_lack may_miss old new ends = absurd (omega (arith, ends.2.failed))
+with_source is.WriteFault reports may_lack may_miss old new ends =
+    let some = ends.2 in (ends.0, ends.1, record { failed = some.failed; written = some.written; files = some.files })
+with_source is.ShelfFault reports may_lack may_miss old new (None, misses, miss) =
+    (None, misses, record { failed = miss.failed; written = miss.written; files = miss.files })
+with_source is.ShelfFault reports may_lack may_miss old new (Some name, misses, miss) =
+    (Some name, misses, record { failed = miss.failed; written = miss.written; files = miss.files })
+with_source is.Memory reports may_lack may_miss old new ends = (ends.0, record { written = ends.1.written; files = ends.1.files })

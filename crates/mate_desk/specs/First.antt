@@ -2,7 +2,7 @@
 use Rattle.std.specs.Prelude.{◌≡◌, ◌⊎◌, ℕ, zero, suc, ◌≤◌, List, [], ◌++◌, length, Option, Some, None, codes}
 use Rattle.std.specs.Fmt.{decimal, signed_decimal}
 use Rattle.auto_search.specs.declared.few.Few.{Few}
-use Rattle.auto_search.specs.declared.few.Few.TheVariants.{Zero, One, More}
+use Rattle.auto_search.specs.declared.few.Few.TheVariants.{One}
 use Rattle.desk_base.specs.Files.{Files}
 use Rattle.game_report.specs.Report.{all_squares}
 use Rattle.game_rules.specs.Game.{Position, other}
@@ -12,6 +12,7 @@ use Rattle.white_player.specs.Game.{HasRoom}
 use Rattle.white_player.specs.declared.first_line.FirstLine.{FirstLine}
 use Rattle.winning_sets.specs.Solve.{Solution}
 use Rattle.winning_sets.specs.declared.names.StepName.{StepName}
+use Rattle.winning_sets.specs.declared.origin.Origin.TheVariants.{Plan}
 use Rattle.mate_desk.specs.Outcome.{Report, done_with, over_budget}
 use Rattle.mate_desk.specs.Verdict.{ExceedsAt, FitsBudget}
 use Rattle.mate_desk.specs.declared.problem.Problem.{Problem}
@@ -27,9 +28,8 @@ distance_word None = codes "wide"
 
 -- whether there are several distances
 abbrev pub few_word : Few → List ℕ
-few_word Zero = codes "none"
 few_word One = codes "only"
-few_word More = codes "more"
+few_word _ = codes "more"
 
 -- the line of a ray
 abbrev pub line_of : FirstLine → List ℕ
@@ -76,8 +76,9 @@ FirstReports n budget problem files report =
 abbrev pub Adds : (List ℕ → Type 0) → (old new : List ℕ) → Type 0
 Adds Of old new = (added : List ℕ) × Of added × (new ≡ old ++ added)
 
--- the winner of a solved position is to move and has a move left, and a search for so many states serves all its sets
+-- the sets of a solved position come of a plan, its winner is to move and has a move left, and a search for so many states serves all its sets
 pub record IsServed (states : ℕ) (s : Solution) : Type 0 where
+  pub plan : s.origin ≡ Plan
   pub turn : s.position.turn ≡ s.winner
   pub moves : 1 ≤ s.moves
   pub room : HasRoom states s

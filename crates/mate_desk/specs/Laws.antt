@@ -3,19 +3,22 @@ use Rattle.std.specs.Prelude.{◌≡◌, ◌≢◌, ◌↔◌, ◌⊎◌, ℕ, �
 use Rattle.desk_base.specs.Faults.{HasRisen}
 use Rattle.desk_base.specs.Files.{Files}
 use Rattle.desk_base.specs.Lines.{Lines, lines_of}
-use Rattle.game_rules.specs.Game.{Position, Least, Sound, Value}
+use Rattle.game_rules.specs.Game.{Position, Least, Lost, Sound, Value}
 use Rattle.game_rules.specs.declared.men.Side.TheVariants.{White}
 use Rattle.chess_text.specs.PositionText.{IsWritable, position_lines, position_text}
 use Rattle.game_report.specs.Report.{IsReport, Match}
 use Rattle.game_report.specs.Report as game
+use Rattle.mate_plan.specs.Claim.{Claim}
 use Rattle.winning_sets.specs.Reach.{Reach}
 use Rattle.winning_sets.specs.declared.names.StepName.{StepName}
 use Rattle.mate_desk.specs.Decide.{IsExact}
+use Rattle.mate_desk.specs.FileClaim.{OfFile}
 use Rattle.mate_desk.specs.Least.{least_line}
-use Rattle.mate_desk.specs.Order.{Ordered}
+use Rattle.mate_desk.specs.Order.{Ordered, name_in}
 use Rattle.mate_desk.specs.Outcome.{Report, Seen, WriteFailed, done_with, over_budget}
 use Rattle.mate_desk.specs.Play.{as_played, first_match}
 use Rattle.mate_desk.specs.Report.{Reports, TakesMemory, UsesNoShelf}
+use Rattle.mate_desk.specs.Resume.{claimed_match}
 use Rattle.mate_desk.specs.Run.{RunEnds}
 use Rattle.mate_desk.specs.Text.{TextAt, white_mates, whole}
 use Rattle.mate_desk.specs.Verdict.{ExceedsAt, mate_line, no_mate_line}
@@ -80,12 +83,27 @@ UsageExactly =
     → RunEnds words status old new
     → (status ≡ is.Usage) ↔ ((why : UsageWhy) × Ordered words (Err why))
 
--- want of memory comes only after words that order something of a sound position that takes memory
+-- the order is of a file that was kept
+abbrev pub IsOfFile : Order → Type 0
+IsOfFile (orders.Decide n budget) = ⊥
+IsOfFile (orders.Least limit budget) = ⊥
+IsOfFile (orders.First n budget) = ⊥
+IsOfFile (orders.Play n budget) = ⊥
+IsOfFile (orders.Keep n budget) = ⊥
+IsOfFile (orders.Check budget) = Unit {0}
+IsOfFile (orders.Resume budget) = Unit {0}
+IsOfFile orders.Show = ⊥
+IsOfFile (orders.Drill seed count) = ⊥
+
+-- the words order something of a file that was kept, or something of a sound position that takes memory
+abbrev pub OrdersSome : List (List ℕ) → Type 0
+OrdersSome words =
+    (order : Order) × Ordered words (Ok order)
+    × (IsOfFile order ⊎ ((problem : Problem) × Sound problem.position × TakesMemory order problem))
+
+-- want of memory comes only after such words
 abbrev pub MemoryLast : Type 0
-MemoryLast =
-    (words : List (List ℕ)) (old new : Seen)
-    → RunEnds words is.Memory old new
-    → (order : Order) × (problem : Problem) × Ordered words (Ok order) × Sound problem.position × TakesMemory order problem
+MemoryLast = (words : List (List ℕ)) (old new : Seen) → RunEnds words is.Memory old new → OrdersSome words
 
 -- a run of an order that uses no file has no fault of the shelf
 abbrev pub NoShelfFault : Type 0
@@ -142,3 +160,48 @@ PlayKeeps =
     → Sound problem.position
     → Reports words bytes files report
     → PlaysGame n budget problem rest files report
+
+-- After the winner's move of this number, counted from 0, of a game that began with the claim: legal moves have led to the position, and the loser
+-- is mated within the moves that the winner has left.
+pub record IsLostGame (c : Claim) (number : ℕ) (after : Match) : Type 0 where
+  pub reached : Reach c.position after.ply after.position
+  pub lost : Lost c.winner (c.moves - (number + 1)) after.position
+
+-- What `resume` reports of the claim of a file that keeps all rules: its winner mates within its moves, and in the game with the lines each of his
+-- moves is legal and keeps the count.
+abbrev pub ResumesGame : Lines → Files → Claim → Report → Type 0
+ResumesGame lines files c report =
+    Value c.winner c.moves c.position
+    × ((played : game.Report) × IsReport 0 lines (claimed_match c) played × (report ≡ as_played files played)
+    × ((number : ℕ) (after : Match) → slice_get played.games number ≡ Some after → IsLostGame c number after))
+
+-- each report of `resume`, whoever made the file
+abbrev pub ResumeKeeps : Type 0
+ResumeKeeps =
+    (words : List (List ℕ)) (bytes : List ℕ) (files : Files) (budget : ℕ) (name : List ℕ) (report : Report)
+    → Ordered words (Ok (orders.Resume budget))
+    → name_in (orders.Resume budget) words ≡ Some name
+    → Reports words bytes files report
+    → OfFile (ResumesGame (lines_of bytes) files) budget name files report
+
+-- A run of `keep` is done and wrote that White mates within n moves of his own. Its sink and its shelf tell; the files are these then.
+pub record HasKept (words : List (List ℕ)) (n budget : ℕ) (name : List ℕ) (files : Files) (old new : Seen) : Type 0 where
+  pub ordered : Ordered words (Ok (orders.Keep n budget))
+  pub named : name_in (orders.Keep n budget) words ≡ Some name
+  pub ends : RunEnds words is.Done old new
+  pub out : List ℕ
+  pub written_before : old.written ≡ Some out
+  pub written : new.written ≡ Some (out ++ mate_line n)
+  pub before : Files
+  pub files_before : old.files ≡ Some before
+  pub files_after : new.files ≡ Some files
+
+-- After that each report of `check` of the name is that the claim mates within n moves, or names the first step that exceeds its budget.
+abbrev pub CheckedAfterKeep : Type 0
+CheckedAfterKeep =
+    (words later : List (List ℕ)) (n budget other : ℕ) (name : List ℕ) (files : Files) (old new : Seen) (bytes : List ℕ) (report : Report)
+    → HasKept words n budget name files old new
+    → Ordered later (Ok (orders.Check other))
+    → name_in (orders.Check other) later ≡ Some name
+    → Reports later bytes files report
+    → (report ≡ done_with files (mate_line n)) ⊎ ((step : StepName) × (report ≡ over_budget files step))

@@ -64,6 +64,10 @@ of_streams files left written reads writes = seen_of left written (Some files) r
 abbrev pub of_sink : Files → (written : Option (List ℕ)) → (writes : ℕ) → Seen
 of_sink files written writes = of_streams files None written 0 writes
 
+-- what a command sees that has a sink and a shelf: it reads nothing
+abbrev pub of_shelf : (written : Option (List ℕ)) → Option Files → (writes shelf : ℕ) → Seen
+of_shelf written files writes shelf = seen_of None written files 0 writes shelf
+
 -- the sink has failed in the run
 abbrev pub WriteFailed : Seen → Seen → Type 0
 WriteFailed old new = HasRisen old.write_faults new.write_faults
@@ -111,6 +115,11 @@ pub record MissesShelf (keeping : Option (List ℕ)) (old new : Seen) : Type 0 w
   pub failed : HasRisen old.shelf_faults new.shelf_faults
   pub written : Writes [] (codes "shelf fault\n") old.written new.written (WriteFailed old new)
   pub files : KeepsOthers keeping old new
+
+-- The bytes that a report is on: all that were given, or, where the source has failed, those that were taken.
+abbrev pub reported_on : Status → (taken rest : List ℕ) → List ℕ
+reported_on is.ReadFault taken rest = taken
+reported_on status taken rest = taken ++ rest
 
 -- a command without a shelf has no fault of one
 abbrev pub NeverMisses : (keeping : Option (List ℕ)) → Type 0

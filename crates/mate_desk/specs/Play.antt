@@ -6,7 +6,7 @@ use Rattle.desk_base.specs.Files.{Files}
 use Rattle.desk_base.specs.Lines.{Lines, lines_of}
 use Rattle.game_rules.specs.Game.{Value}
 use Rattle.game_report.specs.Played.{is_short}
-use Rattle.game_report.specs.Report.{IsReport, Match, ending_line}
+use Rattle.game_report.specs.Report.{ByKept, IsReport, Match, ending_line}
 use Rattle.game_report.specs.Report as game
 use Rattle.game_report.specs.Taken.{TakesLines}
 use Rattle.game_report.specs.declared.play.Ending.{Ending}
@@ -14,7 +14,7 @@ use Rattle.game_report.specs.declared.play.Ending.TheVariants.{Mated, Wide, Quit
 use Rattle.game_report.specs.declared.play.GameError.{GameError}
 use Rattle.game_report.specs.declared.play.GameError.TheVariants.{Read, Write}
 use Rattle.winning_sets.specs.declared.names.StepName.{StepName}
-use Rattle.mate_desk.specs.Outcome.{Ends, NeverMisses, Report, Seen, Writes, done_with, over_budget}
+use Rattle.mate_desk.specs.Outcome.{Ends, NeverMisses, Report, Seen, Writes, done_with, over_budget, reported_on}
 use Rattle.mate_desk.specs.Verdict.{ExceedsAt, FitsBudget, HasNothingToPlay, no_mate_line}
 use Rattle.mate_desk.specs.declared.problem.Problem.{Problem}
 use Rattle.mate_desk.specs.declared.status.Status.{Status}
@@ -22,7 +22,8 @@ use Rattle.mate_desk.specs.declared.status.Status.TheVariants as is
 
 -- the game of a problem in which nothing was moved yet
 abbrev pub first_match : ℕ → Problem → Match
-first_match n problem = record { winner = problem.winner; start = problem.position; moves = n; position = problem.position; ply = 0 }
+first_match n problem =
+    record { winner = problem.winner; start = problem.position; moves = n; strategy = ByKept; position = problem.position; ply = 0 }
 
 -- the status of a run whose game ends so
 abbrev pub status_of : Ending → Status
@@ -52,31 +53,29 @@ PlayReports n budget problem lines files report =
     ((step : StepName) × ExceedsAt problem budget n step × (report ≡ over_budget files step))
     ⊎ (FitsBudget problem budget n × PlayedReports n problem lines files report)
 
--- a line is due behind these that come behind the text: the report on them ends because they end
-abbrev pub IsReplyDue : ℕ → ℕ → Problem → Files → (before : List (List ℕ)) → Type 0
-IsReplyDue n budget problem files before =
-    (report : Report) × PlayReports n budget problem (lines_of (text_of_lines before)) files report × IsTrue report.short
+-- a line is due behind these: what `reports` says of them ends because they end
+abbrev pub IsDueBy : (Lines → Report → Type 0) → (before : List (List ℕ)) → Type 0
+IsDueBy reports before = (report : Report) × reports (lines_of (text_of_lines before)) report × IsTrue report.short
 
--- the bytes that the report is on
-abbrev pub behind_text : Status → (taken rest : List ℕ) → List ℕ
-behind_text is.ReadFault taken rest = taken
-behind_text status taken rest = taken ++ rest
+-- How a command ends that reads lines, of whose input `held` was taken before, and not read; what is held in the end is `pending`. What is
+-- reported of the lines, where memory may be wanting after these bytes, and where the shelf may fail then, is told.
+pub record EndsByLines (reports : Lines → Report → Type 0) (may_lack : (bytes : List ℕ) → Type 0) (may_miss : (bytes : List ℕ) → (keeping : Option (List ℕ)) → Type 0) (status : Status) (held pending : List ℕ) (old new : Seen) : Type 0 where
+  pub bytes : List ℕ
+  pub rest : List ℕ
+  pub taken : Consumes old.left new.left bytes
+  pub left : IfSome new.left (λ told. told ≡ rest)
+  pub takes : TakesLines (IsDueBy reports) (held ++ bytes) pending
+  pub ends : Ends status (reports (lines_of (reported_on status (held ++ bytes) rest))) (may_lack bytes) (may_miss bytes) old new
 
 -- where memory may be wanting: there is something to play, and nothing was taken
 pub record LacksAtFirst (n : ℕ) (problem : Problem) (bytes : List ℕ) : Type 0 where
   pub some : ¬ HasNothingToPlay n problem
   pub none : bytes ≡ []
 
--- How `play` ends, of whose input `held` was taken with the text, and not read; what is held in the end is `pending`.
-pub record PlayEnds (n budget : ℕ) (problem : Problem) (files : Files) (status : Status) (held pending : List ℕ) (old new : Seen) : Type 0 where
-  pub bytes : List ℕ
-  pub rest : List ℕ
-  pub taken : Consumes old.left new.left bytes
-  pub left : IfSome new.left (λ told. told ≡ rest)
-  pub takes : TakesLines (IsReplyDue n budget problem files) (held ++ bytes) pending
-  pub ends :
-      Ends status (λ report. PlayReports n budget problem (lines_of (behind_text status (held ++ bytes) rest)) files report)
-      (LacksAtFirst n problem bytes) NeverMisses old new
+-- how `play` ends
+abbrev pub PlayEnds : (n budget : ℕ) → Problem → Files → Status → (held pending : List ℕ) → Seen → Seen → Type 0
+PlayEnds n budget problem files status held pending old new =
+    EndsByLines (λ lines. PlayReports n budget problem lines files) (LacksAtFirst n problem) (λ bytes. NeverMisses) status held pending old new
 
 -- what is written after a game was played, and the status then
 abbrev pub Finishes : Result Ending GameError → Status → (old new : Option (List ℕ)) → (failed : Type 0) → Type 0

@@ -1,10 +1,10 @@
 -- How a run ends.
-use Rattle.std.specs.Prelude.{◌≡◌, ℕ, List, [], ◌++◌, IfSome, IsTrue}
+use Rattle.std.specs.Prelude.{◌≡◌, ℕ, List, [], IfSome, IsTrue}
 use Rattle.std.specs.Io.KnownBytes.{Consumes}
 use Rattle.chess_text.specs.PositionText.{text_of_lines}
 use Rattle.desk_base.specs.Files.{Files}
 use Rattle.game_report.specs.Taken.{TakesLines}
-use Rattle.mate_desk.specs.Outcome.{Report, Seen, Ends}
+use Rattle.mate_desk.specs.Outcome.{Report, Seen, Ends, reported_on}
 use Rattle.mate_desk.specs.Report.{Reports, MayLackMemory, MayMissShelf}
 use Rattle.mate_desk.specs.declared.status.Status.{Status}
 use Rattle.mate_desk.specs.declared.status.Status.TheVariants as is
@@ -27,11 +27,6 @@ IsLineDue words files before = (report : Report) × Reports words (text_of_lines
 abbrev pub Takes : List (List ℕ) → Files → Status → List ℕ → Type 0
 Takes words files is.Usage taken = taken ≡ []
 Takes words files status taken = (pending : List ℕ) × TakesLines (IsLineDue words files) taken pending
-
--- The bytes that the report is on: all that were given, or, where the source has failed, those that were taken.
-abbrev pub reported_on : Status → (taken rest : List ℕ) → List ℕ
-reported_on is.ReadFault taken rest = taken
-reported_on status taken rest = taken ++ rest
 
 -- How a run of these words with this status ends.
 pub record RunEnds (words : List (List ℕ)) (status : Status) (old new : Seen) : Type 0 where

@@ -1,19 +1,22 @@
 //! The top call.
 
-ghost use Rattle.std.specs.Prelude.{◌≡◌, IfOk, Ok, Result, map, string_bytes};
-ghost use Rattle.mate_desk.specs.Order.{Ordered};
+ghost use Rattle.std.specs.Prelude.{◌≡◌, ◌≢◌, ℕ, List, IfOk, Ok, Result, map, string_bytes};
+ghost use Rattle.mate_desk.specs.Order.{IsOrderOf, IsWithinLimits, Ordered, as_order};
 ghost use Rattle.mate_desk.specs.Outcome.{seen_of};
 ghost use Rattle.mate_desk.specs.Report.{ReadsNoText, UsesNoShelf};
 ghost use Rattle.mate_desk.specs.Run.{RunEnds};
 
+use crate::check::check;
 use crate::decide::decide;
 use crate::drill::drill;
 use crate::fault_line::{refusal_line, refuse, unsound_line};
 use crate::first::first;
+use crate::keep::keep;
 use crate::least::least;
-use crate::order::{Order, UsageWhy, order_of};
+use crate::order::{FILE_NAME, KEEP_NAME, Order, TextOrder, UsageWhy, order_of, word_at};
 use crate::play::play;
-use crate::problem::Task;
+use crate::problem::FileTask;
+use crate::resume::resume;
 use crate::show::show;
 use crate::status::Status;
 use crate::text::{TextEnd, read_problem};
@@ -21,10 +24,11 @@ use chess_game::soundness;
 use desk_base::{LineReader, Shelf, Sink, Source};
 use std::alloc::Global;
 
-/// Does what the words say, with the position text at the front of the source and the replies behind it, and writes the answer to the sink.
+/// Does what the words say, with the position text at the front of the source and the replies behind it, or with a file that was kept, and writes the
+/// answer to the sink.
 ///
-/// The words come first, then, where the order is of a text, the text line by line, then whether its position is sound, then the answer;
-/// the first refusal ends the run with its one fault line. Where writing that line fails, the status stays the refusal's. No command keeps a file yet.
+/// The words come first, then, where the order is of a text, the text line by line, then whether its position is sound, then the sets, the files and
+/// the answer; the first refusal ends the run with its one fault line. Where writing that line fails, the status stays the refusal's.
 pub fn run<S: Source, K: Sink, H: Shelf>(
     alloc: Global,
     words: &Vec<String>,
@@ -37,12 +41,11 @@ pub fn run<S: Source, K: Sink, H: Shelf>(
         (seen_of (S.left source.new) (K.written sink.new) (H.files shelf.new) (S.faults source.new) (K.faults sink.new) (H.faults shelf.new)) }
     // Where the words are no order, nothing is read.
     ensures nothing_read { result ≡ Status.Usage → source.new ≡ source.old }
-    // Nor where they are an order of no text.
+    // Nor where they are an order of no text and of no lines.
     ensures no_text_read { (order : Order) → Ordered (map string_bytes words.now.items) (Ok order) → ReadsNoText order → source.new ≡ source.old }
     // Where they are none, or one that uses no file, the shelf is not called.
     ensures shelf_untouched { (answer : Result Order UsageWhy) → Ordered (map string_bytes words.now.items) answer → IfOk answer UsesNoShelf → shelf.new ≡ shelf.old }
 {
-    let _ = shelf;
     let order = match order_of(words) {
         Ok(order) => order,
         Err(why) => {
@@ -50,9 +53,60 @@ pub fn run<S: Source, K: Sink, H: Shelf>(
             return Status::Usage;
         }
     };
-    if let Order::Drill { seed, count } = order {
-        return drill(alloc, seed, count, sink);
+    match order {
+        Order::Decide { moves, budget } => {
+            let asked = TextOrder::Decide { moves, budget };
+            answer(alloc, asked, source, sink, shelf)
+        }
+        Order::Least { limit, budget } => {
+            let asked = TextOrder::Least { limit, budget };
+            answer(alloc, asked, source, sink, shelf)
+        }
+        Order::First { moves, budget } => {
+            let asked = TextOrder::First { moves, budget };
+            answer(alloc, asked, source, sink, shelf)
+        }
+        Order::Play { moves, budget } => {
+            let asked = TextOrder::Play { moves, budget };
+            answer(alloc, asked, source, sink, shelf)
+        }
+        Order::Keep { moves, budget } => {
+            let name = word_at(words, KEEP_NAME);
+            let asked = TextOrder::Keep {
+                moves,
+                budget,
+                name,
+            };
+            answer(alloc, asked, source, sink, shelf)
+        }
+        Order::Check { budget } => {
+            let name = word_at(words, FILE_NAME);
+            check(alloc, &FileTask { name, budget }, sink, shelf)
+        }
+        Order::Resume { budget } => {
+            let name = word_at(words, FILE_NAME);
+            resume(alloc, &FileTask { name, budget }, source, sink, shelf)
+        }
+        Order::Show => answer(alloc, TextOrder::Show, source, sink, shelf),
+        Order::Drill { seed, count } => drill(alloc, seed, count, sink),
     }
+}
+
+/// Does what the order asks of the position text at the front of the source, and of the lines behind it.
+fn answer<S: Source, K: Sink, H: Shelf>(
+    alloc: Global,
+    order: TextOrder,
+    source: &mut S,
+    sink: &mut K,
+    shelf: &mut H,
+) -> Status
+    requires { IsWithinLimits (as_order order) }
+    ensures ends { (words : List (List ℕ)) → IsOrderOf order.entry words → RunEnds words result
+        (seen_of (S.left source.old) (K.written sink.old) (H.files shelf.old) (S.faults source.old) (K.faults sink.old) (H.faults shelf.old))
+        (seen_of (S.left source.new) (K.written sink.new) (H.files shelf.new) (S.faults source.new) (K.faults sink.new) (H.faults shelf.new)) }
+    ensures no_usage { result ≢ Status.Usage }
+    ensures shelf_untouched { UsesNoShelf (as_order order.entry) → shelf.new ≡ shelf.old }
+{
     let mut reader = LineReader::new();
     let problem = match read_problem(&mut reader, source) {
         Ok(problem) => problem,
@@ -72,39 +126,18 @@ pub fn run<S: Source, K: Sink, H: Shelf>(
         return Status::Unsound;
     }
     match order {
-        Order::Decide { moves, budget } => {
-            let task = Task {
-                problem,
-                moves,
-                budget,
-            };
-            decide(alloc, &task, sink)
-        }
-        Order::Least { limit, budget } => {
-            let task = Task {
-                problem,
-                moves: limit,
-                budget,
-            };
-            least(alloc, &task, sink)
-        }
-        Order::Play { moves, budget } => {
-            let task = Task {
-                problem,
-                moves,
-                budget,
-            };
+        TextOrder::Decide { moves, budget } => decide(alloc, &problem.task(moves, budget), sink),
+        TextOrder::Least { limit, budget } => least(alloc, &problem.task(limit, budget), sink),
+        TextOrder::First { moves, budget } => first(alloc, &problem.task(moves, budget), sink),
+        TextOrder::Play { moves, budget } => {
+            let task = problem.task(moves, budget);
             play(alloc, &task, &mut reader, source, sink)
         }
-        Order::First { moves, budget } => {
-            let task = Task {
-                problem,
-                moves,
-                budget,
-            };
-            first(alloc, &task, sink)
-        }
-        Order::Show => show(alloc, &problem.position, sink),
-        Order::Drill { .. } => unreachable!(),
+        TextOrder::Keep {
+            moves,
+            budget,
+            name,
+        } => keep(alloc, &problem.task(moves, budget), name, sink, shelf),
+        TextOrder::Show => show(alloc, &problem.position, sink),
     }
 }

@@ -3,11 +3,13 @@
 ghost use Rattle.std.specs.Prelude.{◌≡◌, ◌≢◌, ◌↔◌, ◌≤◌, ◌+◌, ◌++◌, IfOk, IsTrue, OnOk, length, true, false};
 ghost use Rattle.desk_base.specs.Files.{Files};
 ghost use Rattle.game_session.specs.Aims.{HasRay};
+ghost use Rattle.winning_sets.specs.declared.origin.Origin.TheVariants.{Plan};
 ghost use Rattle.mate_desk.specs.First.{Adds, AreLines, FirstReports, HasNoFirstMove, IsServed, ManText, MenText, RayText, line_of};
 ghost use Rattle.mate_desk.specs.First as specs;
 ghost use Rattle.mate_desk.specs.Outcome.{Ends, NeverMisses, of_sink};
 ghost use Rattle.mate_desk.specs.Verdict.{IsTask};
 
+use crate::fault_line::push_large;
 use crate::mates::won;
 use crate::output::{print, print_error};
 use crate::problem::Task;
@@ -16,7 +18,6 @@ use auto_search::{Few, Search};
 use chess_game::{Frame, Man, Place, Position, Side, ray as ray_of_kind};
 use chess_text::line_buffer::LineBuffer;
 use desk_base::Sink;
-use itoa::Buffer;
 use std::alloc::{AllocError, Global};
 use white_player::{FirstLine, first_moves};
 use winning_sets::{SolveError, Solved, Solver};
@@ -64,6 +65,7 @@ fn has_no_first_move(task: &Task) -> bool
 
 /// The lines of all men, and the last line.
 fn first_lines(alloc: Global, solved: &Solved) -> Result<Vec<u8>, AllocError>
+    requires plan { solved.now.origin ≡ Plan }
     requires turn { solved.now.position.turn ≡ solved.now.winner }
     requires moves { 1 ≤ solved.now.moves }
     ensures { IfOk result (λ text. AreLines solved.now.winner solved.now.moves solved.now.position text.items) }
@@ -181,7 +183,7 @@ fn push_distance(line: &mut LineBuffer, least: Option<u128>)
     ensures room { length line.new ≤ length line.old + 40 }
 {
     match least {
-        Some(distance) => line.push(Buffer::new().format(distance).as_bytes()),
+        Some(distance) => push_large(line, distance),
         None => line.push(b"wide"),
     }
 }
@@ -192,8 +194,7 @@ fn few_word(few: Few) -> &'static [u8]
     ensures short { length result.now ≤ 4 }
 {
     match few {
-        Few::Zero => b"none",
         Few::One => b"only",
-        Few::More => b"more",
+        _ => b"more",
     }
 }

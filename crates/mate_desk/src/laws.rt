@@ -1,6 +1,6 @@
 //! Laws of a run, each the contract of a function that does nothing. They are of the relation that the contract of `run` names.
 
-ghost use Rattle.mate_desk.specs.Laws.{DecidesExactly, DecideWrites, FaultsAreCounted, LeastWrites, MemoryLast, NoShelfFault, OneReport, PlayKeeps, TextIsRead, UsageExactly, WhiteIsToMate};
+ghost use Rattle.mate_desk.specs.Laws.{CheckedAfterKeep, DecidesExactly, DecideWrites, FaultsAreCounted, LeastWrites, MemoryLast, NoShelfFault, OneReport, PlayKeeps, ResumeKeeps, TextIsRead, UsageExactly, WhiteIsToMate};
 
 /// A run of `decide` that is done, on the text of a sound position and whatever comes behind it, writes `mate in n` exactly where White
 /// mates within n moves of his own, whatever is replied on the whole board, and `no mate in n` exactly where he does not.
@@ -29,7 +29,7 @@ pub fn usage_exactly()
     ensures { UsageExactly }
 {}
 
-/// Want of memory comes only after words that order something of a sound position that takes memory.
+/// Want of memory comes only after words that order something of a file that was kept, or something of a sound position that takes memory.
 pub fn memory_last()
     ensures { MemoryLast }
 {}
@@ -59,4 +59,16 @@ pub fn decides_exactly()
 /// of the winner's moves in it is legal and keeps the count: after his k-th move, whatever was replied, he still mates within n - k.
 pub fn play_keeps()
     ensures { PlayKeeps }
+{}
+
+/// Of a file whose claim keeps all rules, whoever made it, `resume` reports a game with the lines, and each of the winner's moves in it is legal and
+/// keeps the count: after his k-th move, whatever was replied, the loser is mated within n - k.
+pub fn resume_keeps()
+    ensures { ResumeKeeps }
+{}
+
+/// After a run of `keep` that wrote `mate in n`, with the files that it left, `check` of that name reports `mate in n`, or names a step that exceeds
+/// its budget.
+pub fn checked_after_keep()
+    ensures { CheckedAfterKeep }
 {}

@@ -1,15 +1,18 @@
-//! The top call: does what the words of a command line say, with the text of a position, and writes the answer.
+//! The top call: does what the words of a command line say, with the text of a position or with a file that was kept, and writes the answer.
 //!
-//! The words, the text, the soundness of its position and the output come in this order, and the first refusal ends the run. What a
-//! run does is the relation `Reports` under `specs`, and the contract of `run` says how a run may differ from it where an object fails.
+//! The words, the text, the soundness of its position, the sets, the store of files and the output come in this order, and the first refusal ends
+//! the run. What a run does is the relation `Reports` under `specs`, and the contract of `run` says how a run may differ from it where an object fails.
 #![tactic(auto)]
 
+mod check;
 mod decide;
 mod desk;
 mod drill;
 mod drill_positions;
 mod fault_line;
+mod file_claim;
 mod first;
+mod keep;
 pub mod laws;
 mod least;
 mod mates;
@@ -17,6 +20,7 @@ mod order;
 mod output;
 mod play;
 mod problem;
+mod resume;
 mod show;
 mod status;
 mod text;

@@ -1,9 +1,9 @@
 //! The words of a command line.
 
-ghost use Rattle.std.specs.Prelude.{◌≡◌, ◌↔◌, ◌≤◌, map, string_bytes, IsTrue, IfOk};
+ghost use Rattle.std.specs.Prelude.{◌≡◌, ◌↔◌, ◌<◌, ◌≤◌, map, slice_get, string_bytes, length, Some, IsTrue, IfOk};
 ghost use Rattle.std.specs.Char.{IsAsciiDigit};
 ghost use Rattle.std.specs.List.{All};
-ghost use Rattle.mate_desk.specs.Order.{DrillOrdered, IsBudget, IsCommand, IsNaturalText, IsWithinLimits, MovesOrdered, Ordered, OrderedBy, ReadsMoves, ReadsNumber, ShowOrdered, most_moves, most_seed, usage_line};
+ghost use Rattle.mate_desk.specs.Order.{DrillOrdered, FileOrdered, IsBudget, IsCommand, IsName, IsNameByte, IsNaturalText, IsWithinLimits, KeepOrdered, MovesOrdered, Ordered, OrderedBy, ReadsFile, ReadsMoves, ReadsName, ReadsNumber, ShowOrdered, most_moves, most_seed, usage_line};
 
 /// The greatest number of moves that can be asked for.
 const MOST_MOVES: u64 = 20;
@@ -17,6 +17,15 @@ pub const DEFAULT_BUDGET: u32 = 50_000;
 /// The greatest number of positions that can be asked for.
 const MOST_POSITIONS: u64 = 100;
 
+/// How long a name may be.
+const MOST_NAME_BYTES: usize = 32;
+
+/// Where the name stands among the words of `keep`, counted from 0.
+pub const KEEP_NAME: usize = 2;
+
+/// Where it stands among those of `check` and of `resume`.
+pub const FILE_NAME: usize = 1;
+
 /// What is to be done.
 #[derive(Clone, Copy, Debug, PartialEq, Eq)]
 pub enum Order {
@@ -28,10 +37,43 @@ pub enum Order {
     First { moves: u8, budget: u32 },
     /// Play a game in which White mates within so many moves of his own, whatever is replied. The budget is that of `Decide`.
     Play { moves: u8, budget: u32 },
+    /// Keep a file of the sets by which White mates within so many moves of his own, if he does. The budget is that of `Decide`.
+    Keep { moves: u8, budget: u32 },
+    /// Check the file of a name, and say within how many moves it mates. The budget is that of the plan that checks its claim.
+    Check { budget: u32 },
+    /// Check the file of a name, and play the game by its sets. The budget is that of `Check`.
+    Resume { budget: u32 },
     /// Write the position, whether its side to move is in check, and how many men are live.
     Show,
     /// Say from how many of so many positions, which follow from the seed, White mates in one move.
     Drill { seed: u64, count: u8 },
+}
+
+/// An order of a position text, with the name that its words have.
+#[derive(Clone, Copy)]
+pub enum TextOrder<'a> {
+    Decide {
+        moves: u8,
+        budget: u32,
+    },
+    Least {
+        limit: u8,
+        budget: u32,
+    },
+    First {
+        moves: u8,
+        budget: u32,
+    },
+    Play {
+        moves: u8,
+        budget: u32,
+    },
+    Keep {
+        moves: u8,
+        budget: u32,
+        name: &'a str,
+    },
+    Show,
 }
 
 /// Why words are no order. Words are looked at from the left.
@@ -47,6 +89,8 @@ pub enum UsageWhy {
     Number,
     /// A number is outside its limits.
     Limit,
+    /// A word that is to be a name is none: it is empty, it is too long, or it has another byte than small letters, digits and `_`.
+    Name,
 }
 
 impl UsageWhy {
@@ -60,6 +104,7 @@ impl UsageWhy {
             UsageWhy::Count => b"usage count\n",
             UsageWhy::Number => b"usage number\n",
             UsageWhy::Limit => b"usage limit\n",
+            UsageWhy::Name => b"usage name\n",
         }
     }
 }
@@ -85,6 +130,9 @@ enum Command {
     Least,
     First,
     Play,
+    Keep,
+    Check,
+    Resume,
     Show,
     Drill,
 }
@@ -105,6 +153,15 @@ fn command_named(word: &str) -> Option<Command>
     if word == "play" {
         return Some(Command::Play);
     }
+    if word == "keep" {
+        return Some(Command::Keep);
+    }
+    if word == "check" {
+        return Some(Command::Check);
+    }
+    if word == "resume" {
+        return Some(Command::Resume);
+    }
     if word == "show" {
         return Some(Command::Show);
     }
@@ -124,6 +181,9 @@ fn order_behind(command: Command, words: &[String]) -> Result<Order, UsageWhy>
         Command::Least => least_order(words),
         Command::First => first_order(words),
         Command::Play => play_order(words),
+        Command::Keep => keep_order(words),
+        Command::Check => check_order(words),
+        Command::Resume => resume_order(words),
         Command::Show => show_order(words),
         Command::Drill => drill_order(words),
     }
@@ -163,6 +223,66 @@ fn play_order(words: &[String]) -> Result<Order, UsageWhy>
 {
     let (moves, budget) = read_moves_and_budget(words)?;
     Ok(Order::Play { moves, budget })
+}
+
+/// The order that the words behind `keep` are.
+fn keep_order(words: &[String]) -> Result<Order, UsageWhy>
+    ensures ordered { KeepOrdered (map string_bytes words.now) result }
+    ensures within { IfOk result IsWithinLimits }
+{
+    match words {
+        [moves, name] => {
+            let moves = read_moves(moves.as_str())?;
+            read_name(name.as_str())?;
+            Ok(Order::Keep {
+                moves,
+                budget: DEFAULT_BUDGET,
+            })
+        }
+        [moves, name, budget] => {
+            let moves = read_moves(moves.as_str())?;
+            read_name(name.as_str())?;
+            let budget = read_budget(budget.as_str())?;
+            Ok(Order::Keep { moves, budget })
+        }
+        _ => Err(UsageWhy::Count),
+    }
+}
+
+/// The order that the words behind `check` are.
+fn check_order(words: &[String]) -> Result<Order, UsageWhy>
+    ensures ordered { FileOrdered (λ budget. Order.Check budget) (map string_bytes words.now) result }
+    ensures within { IfOk result IsWithinLimits }
+{
+    let budget = read_file_budget(words)?;
+    Ok(Order::Check { budget })
+}
+
+/// The order that the words behind `resume` are.
+fn resume_order(words: &[String]) -> Result<Order, UsageWhy>
+    ensures ordered { FileOrdered (λ budget. Order.Resume budget) (map string_bytes words.now) result }
+    ensures within { IfOk result IsWithinLimits }
+{
+    let budget = read_file_budget(words)?;
+    Ok(Order::Resume { budget })
+}
+
+/// The budget behind the name that the first word is, if there is one.
+fn read_file_budget(words: &[String]) -> Result<u32, UsageWhy>
+    ensures reads { ReadsFile (map string_bytes words.now) result }
+    ensures within { IfOk result IsBudget }
+{
+    match words {
+        [name] => {
+            read_name(name.as_str())?;
+            Ok(DEFAULT_BUDGET)
+        }
+        [name, budget] => {
+            read_name(name.as_str())?;
+            read_budget(budget.as_str())
+        }
+        _ => Err(UsageWhy::Count),
+    }
 }
 
 /// The number of moves that the first word is, and the budget that the second is, if there is one.
@@ -217,6 +337,17 @@ fn read_budget(word: &str) -> Result<u32, UsageWhy>
     Ok(read_number(word, 1, MOST_BUDGET)? as u32)
 }
 
+/// Whether the word is a name.
+fn read_name(word: &str) -> Result<(), UsageWhy>
+    ensures { ReadsName word.now result }
+{
+    if is_name(word.as_bytes()) {
+        Ok(())
+    } else {
+        Err(UsageWhy::Name)
+    }
+}
+
 /// The seed that the word is.
 fn read_seed(word: &str) -> Result<u64, UsageWhy>
     ensures { ReadsNumber word.now 0 most_seed result }
@@ -264,4 +395,35 @@ fn are_digits(bytes: &[u8]) -> bool
     ensures { IsTrue result ↔ All IsAsciiDigit bytes.now }
 {
     bytes.iter().all(|byte| byte.is_ascii_digit())
+}
+
+/// Whether the word is a name.
+fn is_name(word: &[u8]) -> bool
+    ensures { IsTrue result ↔ IsName word.now }
+{
+    if word.is_empty() || word.len() > MOST_NAME_BYTES {
+        return false;
+    }
+    are_name_bytes(word)
+}
+
+fn are_name_bytes(bytes: &[u8]) -> bool
+    ensures { IsTrue result ↔ All IsNameByte bytes.now }
+{
+    bytes.iter().all(|byte| is_name_byte(*byte))
+}
+
+/// Whether the byte is a small letter, a digit or `_`.
+fn is_name_byte(byte: u8) -> bool
+    ensures { IsTrue result ↔ IsNameByte byte }
+{
+    matches!(byte, b'a'..=b'z' | b'0'..=b'9' | b'_')
+}
+
+/// The word at this place, counted from 0.
+pub fn word_at(words: &Vec<String>, index: usize) -> &str
+    requires { index < length words.now.items }
+    ensures { slice_get (map string_bytes words.now.items) index ≡ Some result.now }
+{
+    words[index].as_str()
 }

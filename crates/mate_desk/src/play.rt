@@ -66,7 +66,7 @@ pub fn play<S: Source, K: Sink>(
 }
 
 /// Writes what is still to be written of a game that was played.
-fn finish<K: Sink>(played: Result<Ending, GameError>, sink: &mut K) -> Status
+pub fn finish<K: Sink>(played: Result<Ending, GameError>, sink: &mut K) -> Status
     ensures ends { Finishes played result (K.written sink.old) (K.written sink.new) (HasRisen (K.faults sink.old) (K.faults sink.new)) }
     ensures never_falls { K.faults sink.old ≤ K.faults sink.new }
 {

@@ -1,4 +1,6 @@
-//! Problems, and what is asked of one.
+//! Problems, and what is asked of one; files of a name, and what is asked of one.
+
+ghost use Rattle.std.specs.Prelude.{◌≡◌};
 
 use chess_game::{Position, Side};
 
@@ -10,10 +12,30 @@ pub struct Problem {
     pub lines: u32,
 }
 
+impl Problem {
+    /// That its winner is to mate within so many moves, or up to so many, with this budget for each plan.
+    pub fn task(self, moves: u8, budget: u32) -> Task
+        ensures { result ≡ record { problem = self; moves = moves; budget = budget } }
+    {
+        Task {
+            problem: self,
+            moves,
+            budget,
+        }
+    }
+}
+
 /// A problem, within how many moves its winner is to mate, or up to how many, and the budget of each plan.
 #[derive(Clone, Copy)]
 pub struct Task {
     pub problem: Problem,
     pub moves: u8,
+    pub budget: u32,
+}
+
+/// The file of a name, and the budget of the plan that checks its claim.
+#[derive(Clone, Copy)]
+pub struct FileTask<'a> {
+    pub name: &'a str,
     pub budget: u32,
 }

@@ -26,6 +26,8 @@ pub enum Status {
     Wide,
     /// There is no memory for the answer.
     Memory,
+    /// There is no file of the name, its bytes are no file of a claim, or the claim does not keep a rule; or the file would be too large.
+    File,
     /// The replies have ended before mate, or one of them is `quit`.
     Ended,
     /// So many reply lines were read as may be, and there is no mate.
@@ -48,6 +50,7 @@ impl Status {
             Status::Budget => 8,
             Status::Wide => 9,
             Status::Memory => 10,
+            Status::File => 11,
             Status::Ended => 12,
             Status::TooMany => 13,
         }

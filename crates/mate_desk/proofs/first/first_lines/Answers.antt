@@ -4,6 +4,7 @@ use Rattle.mate_desk.proofs.first.first_lines.Goals as goal
 
 pub push_men-requires : goal.push_men-requires
 push_men-requires c = record {
+  plan = c.requires.plan;
   turn = c.requires.turn;
   moves = c.requires.moves;
   room = λ ply mask a is.

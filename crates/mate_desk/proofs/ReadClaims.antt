@@ -1,0 +1,189 @@
+-- What is read of a file is a claim.
+use Rattle.std.proofs.Common.{◌≡◌, ◌≢◌, ◌==◌, ℕ, zero, suc, ◌≤◌, Bool, true, false, List, [], ◌∷◌, length, map, Option, Some, None, Result, Ok, Err, inl, inr, refl, sym, ◌∙◌, ap, subst, arith}
+use Rattle.std.specs.Prelude.{◌&&◌, Contains, MatchOption, if◌then◌else◌, nat_le}
+use Rattle.std.specs.List.{All}
+use Rattle.std.proofs.lemmas.Bool.{and_from, and_parts, eq-eqb, leb-true}
+use Rattle.std.proofs.lemmas.List.Elements.{All-contains, All-nil, All-cons}
+use Rattle.auto_core.specs.Automaton.{Automaton}
+use Rattle.game_rules.specs.Game.{Position, Sound}
+use Rattle.game_rules.specs.declared.men.Side.TheVariants.{White}
+use Rattle.mate_plan.specs.Claim.{Claim, ClaimedSet, IsClaim, IsLosersPly, claimed_in}
+use Rattle.rule_formula.specs.Fits.{IsGameMask}
+use Rattle.rule_formula.specs.Mean.{mask_tracks}
+use Rattle.set_plan.proofs.Takings.{contains_cases, contains_none}
+use Rattle.strategy_file.proofs.FileClaims.{IsFound, found_in, place_in, place_of}
+use Rattle.strategy_file.proofs.LosersPlies.{places_of-are}
+use Rattle.strategy_file.specs.Claims.{claim_with, set_with}
+use Rattle.strategy_file.specs.Layout.{Ends, Give, Layout, Read, Reads, Refusal, bind, each, repeated}
+use Rattle.strategy_file.specs.Men.{Start, man_layout, start_layout, start_with}
+use Rattle.strategy_file.specs.StrategyFile.{Chart, Charts, File, GoesOn, chart_layout, chart_with, charts_layout, charts_with, places_of}
+use Rattle.strategy_file.specs.Tables.{Table, table_layout}
+use Rattle.strategy_file.specs.declared.refusal.ByteWhy.{ByteWhy}
+
+-- the value is one that the layout gives of some numbers, each of which may stand in its field
+abbrev CanGive : {A : Type 0} → Layout A → A → Type 0
+CanGive (Give a) x = x ≡ a
+CanGive (Read field next) x = (n : ℕ) × (field.wrong n ≡ None) × CanGive (next n) x
+
+no_refusal : {B : Type 0} (b : B) (refusal : Refusal) → Ok b ≡ Err refusal → ⊥
+no_refusal b refusal e = cc
+
+module _ {A B : Type 0} where
+  -- what is read whole is such a value
+  record IsReadWhole (l : Layout A) (after : A → ℕ → List ℕ → Result B Refusal → Type 0) (b : B) : Type 0 where
+    value : A
+    given : CanGive l value
+    at : ℕ
+    bytes : List ℕ
+    goes_on : after value at bytes (Ok b)
+
+  module _ (after : A → ℕ → List ℕ → Result B Refusal → Type 0) (b : B) where
+    read_field : (wrong : Option ByteWhy) (Next : Type 0) (Stop : ByteWhy → Type 0) → ((why : ByteWhy) → Stop why → ⊥) → MatchOption wrong Next Stop → (wrong ≡ None) × Next
+    read_field None Next Stop never h = (refl, h)
+    read_field (Some why) Next Stop never h = absurd (never why h)
+
+    read_whole : (l : Layout A) (at : ℕ) (bytes : List ℕ) → Reads l after at bytes (Ok b) → IsReadWhole l after b
+    read_whole (Give a) at bytes h = record { value = a; given = refl; at = at; bytes = bytes; goes_on = h }
+    read_whole (Read field next) at bytes (inl (short, e)) = absurd (no_refusal b _ e)
+    read_whole (Read field next) at bytes (inr (n, rest, stands, h)) =
+        let fits = read_field (field.wrong n) _ _ (λ why e. no_refusal b _ e) h in
+        let later = read_whole (next n) _ rest fits.1 in
+        record { value = later.value; given = (n, fits.0, later.given); at = later.at; bytes = later.bytes; goes_on = later.goes_on }
+
+  -- a value of two layouts in turn
+  record InTurn (l : Layout A) (f : A → Layout B) (b : B) : Type 0 where
+    first : A
+    given : CanGive l first
+    then_given : CanGive (f first) b
+
+  in_turn : (l : Layout A) (f : A → Layout B) (b : B) → CanGive (bind l f) b → InTurn l f b
+  in_turn (Give a) f b h = record { first = a; given = refl; then_given = h }
+  in_turn (Read field next) f b (n, fits, h) =
+      let later = in_turn (next n) f b h in record { first = later.first; given = (n, fits, later.given); then_given = later.then_given }
+
+so_many : {A : Type 0} (count : ℕ) (l : Layout A) (xs : List A) → CanGive (repeated count l) xs → length xs ≡ count
+so_many zero l xs h = ap length h
+so_many {A} (suc count) l xs h =
+    let one = in_turn l (λ x. bind (repeated count l) (λ rest. Give (x ∷ rest))) xs h in
+    let rest = in_turn (repeated count l) (λ more. Give (one.first ∷ more)) xs one.then_given in
+    ap length rest.then_given ∙ ap suc (so_many count l rest.first rest.given)
+
+within : (low high n : ℕ) (why : ByteWhy) → (if nat_le low n && nat_le n high then None else Some why) ≡ None → n ≤ high
+within low high n why h = below_by (nat_le low n && nat_le n high) refl h
+  where
+    below_by : (b : Bool) → (nat_le low n && nat_le n high) ≡ b → (if b then None else Some why) ≡ None → n ≤ high
+    below_by true e h = leb-true n high (and_parts (nat_le low n) (nat_le n high) e).1
+    below_by false e h = absurd cc
+
+start_few : (start : Start) → CanGive start_layout start → length start.position.men ≤ 5
+unfolding start_layout
+start_few start (magic, magic_fits, (version, version_fits, (moves, moves_fit, (turn, turn_fits, (count, count_fits, h))))) =
+    let men = in_turn (repeated count man_layout) (λ men. Give (start_with moves turn men)) start h in
+    let P : ℕ → Type 0 = λ n. n ≤ 5 in
+    subst P (sym (ap (λ s. length s.position.men) men.then_given ∙ so_many count man_layout men.first men.given)) (within 2 5 count _ count_fits)
+
+-- each chart of a place is that of the place
+module _ (p : Position) where
+  chart_is : (place : ℕ × ℕ) (x : Chart) → CanGive (chart_layout p place) x → (table : Table) × (x ≡ chart_with p place table)
+  unfolding chart_layout
+  chart_is place x (ply, ply_fits, (mask, mask_fits, h)) =
+      let table = in_turn (table_layout (length (mask_tracks p place.1))) (λ t. Give (chart_with p place t)) x h in (table.first, table.then_given)
+
+  -- a set over the tracks of its mask's men
+  abbrev IsOver : ClaimedSet → Type 0
+  IsOver s = s.set.tracks ≡ mask_tracks p s.mask
+
+  record AreAt (places : List (ℕ × ℕ)) (xs : List Chart) : Type 0 where
+    places_are : map place_of (map set_with xs) ≡ places
+    over : All IsOver (map set_with xs)
+
+  are_at : (places : List (ℕ × ℕ)) (xs : List Chart) → CanGive (each places (chart_layout p)) xs → AreAt places xs
+  are_at [] xs h = let P : List Chart → Type 0 = λ l. AreAt [] l in subst P (sym h) (record { places_are = refl; over = All-nil IsOver })
+  are_at (place ∷ places) xs h =
+      let one = in_turn (chart_layout p place) (λ x. bind (each places (chart_layout p)) (λ rest. Give (x ∷ rest))) xs h in
+      let rest = in_turn (each places (chart_layout p)) (λ more. Give (one.first ∷ more)) xs one.then_given in
+      let later = are_at places rest.first rest.given in
+      let chart = chart_is place one.first one.given in
+      let whole : xs ≡ chart_with p place chart.0 ∷ rest.first = rest.then_given ∙ ap (λ x. x ∷ rest.first) chart.1 in
+      let P : List Chart → Type 0 = λ l. AreAt (place ∷ places) l in
+      subst P (sym whole) (record {
+        places_are = ap (λ l. place ∷ l) later.places_are;
+        over = All-cons IsOver (set_with (chart_with p place chart.0)) (map set_with rest.first) refl later.over;
+      })
+
+-- so it is of all charts of a file
+record IsRead (charts : Charts) : Type 0 where
+  sound : Sound charts.position
+  few : length charts.position.men ≤ 5
+  places_are : map place_of (claim_with charts).sets ≡ places_of charts.winner charts.position charts.moves
+  over : All (IsOver charts.position) (claim_with charts).sets
+
+charts_read : (start : Start) (charts : Charts) → Sound start.position → length start.position.men ≤ 5 → CanGive (charts_layout start) charts → IsRead charts
+unfolding charts_layout
+charts_read start charts sound few h =
+    let sets = in_turn (each (places_of White start.position start.moves) (chart_layout start.position)) (λ xs. Give (charts_with start xs)) charts h in
+    let all = are_at start.position (places_of White start.position start.moves) sets.first sets.given in
+    let P : Charts → Type 0 = λ c. IsRead c in
+    subst P (sym sets.then_given) (record { sound = sound; few = few; places_are = all.places_are; over = all.over })
+
+ends_as_given : (given charts : Charts) (at : ℕ) (bytes : List ℕ) → Ends given at bytes (Ok charts) → charts ≡ given
+ends_as_given given charts at [] h = cc
+ends_as_given given charts at (b ∷ bytes) h = absurd (cc)
+
+file_read : (bytes : List ℕ) (charts : Charts) → File bytes (Ok charts) → IsRead charts
+file_read bytes charts file =
+    let start = read_whole GoesOn charts start_layout 0 bytes file in
+    go start.value start.at start.bytes (start_few start.value start.given) start.goes_on
+  where
+    go : (start : Start) (at : ℕ) (rest : List ℕ) → length start.position.men ≤ 5 → GoesOn start at rest (Ok charts) → IsRead charts
+    go start at rest few (inl (unsound, e)) = absurd (cc)
+    go start at rest few (inr (sound, reads)) =
+        let r = read_whole Ends charts (charts_layout start) at rest reads in
+        let P : Charts → Type 0 = λ c. IsRead c in
+        subst P (sym (ends_as_given r.value charts r.at r.bytes r.goes_on)) (charts_read start r.value sound few r.given)
+
+-- there is a set at each place of one
+some_by : (b : Bool) (a : Automaton) (rest : Option Automaton) → rest ≢ None → (if b then Some a else rest) ≢ None
+some_by true a rest h = λ e. cc
+some_by false a rest h = h
+
+some_at : (b : Bool) (a : Automaton) (rest : Option Automaton) → b ≡ true → (if b then Some a else rest) ≢ None
+some_at true a rest h = λ e. cc
+some_at false a rest h = absurd cc
+
+is_some_in : (sets : List ClaimedSet) (ply mask : ℕ) → Contains {X = ℕ × ℕ} (map place_of sets) (ply, mask) → claimed_in sets ply mask ≢ None
+is_some_in [] ply mask h = absurd (contains_none (ply, mask) h)
+is_some_in (s ∷ sets) ply mask h =
+    let test = (s.ply == ply) && (s.mask == mask) in
+    elim (contains_cases (place_of s) (map place_of sets) (ply, mask) h) [
+      | inl same ↦
+          some_at test s.set (claimed_in sets ply mask)
+          (and_from (s.ply == ply) (s.mask == mask) (eq-eqb s.ply ply (ap (λ p. p.0) same)) (eq-eqb s.mask mask (ap (λ p. p.1) same)))
+      | inr later ↦ some_by test s.set (claimed_in sets ply mask) (is_some_in sets ply mask later)
+    ]
+
+module _ (charts : Charts) (h : IsRead charts) where
+  abbrev c : Claim
+  c = claim_with charts
+
+  at_place : (ply mask : ℕ) (a : Automaton) → IsFound c.sets ply mask a → IsLosersPly c.winner c.position c.moves ply × IsGameMask c.position mask
+  at_place ply mask a f =
+      let there = subst (λ ps. Contains ps (place_of f.claimed)) h.places_are (place_in c.sets f.claimed f.has) in
+      let both = (places_of-are c.winner c.position c.moves f.claimed.ply f.claimed.mask).0 there in
+      (subst (IsLosersPly c.winner c.position c.moves) f.ply_is both.0, subst (IsGameMask c.position) f.mask_is both.1)
+
+  charts_claim : IsClaim c
+  charts_claim = record {
+    sound = h.sound;
+    few = let most = h.few in omega (arith, most);
+    found = λ ply mask losers game.
+        is_some_in c.sets ply mask (subst (λ (ps : List (ℕ × ℕ)). Contains {X = ℕ × ℕ} ps (ply, mask)) (sym h.places_are) ((places_of-are c.winner c.position c.moves ply mask).1 (losers, game)));
+    only = λ ply mask a is. at_place ply mask a (found_in c.sets ply mask a is);
+    tracks = λ ply mask a is.
+        let f = found_in c.sets ply mask a is in
+        let own = All-contains (IsOver c.position) c.sets f.claimed h.over f.has in
+        ap (λ (x : Automaton). x.tracks) (sym f.set_is) ∙ own ∙ ap (λ m. mask_tracks c.position m) f.mask_is;
+  }
+
+pub read_is_claim : (bytes : List ℕ) (charts : Charts) → File bytes (Ok charts) → IsClaim (claim_with charts)
+read_is_claim bytes charts file = charts_claim charts (file_read bytes charts file)
