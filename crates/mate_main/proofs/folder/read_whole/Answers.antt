@@ -1,4 +1,4 @@
-use Rattle.std.proofs.Common.{◌≡◌, ◌<◌, length, Option, List, ℕ, IfSome, arith, subst}
+use Rattle.std.proofs.Common.{◌<◌, length, arith}
 use Rattle.mate_main.proofs.Fronts.{whole_front}
 use Rattle.mate_main.proofs.folder.read_whole.Goals as goal
 
