@@ -9,3 +9,5 @@ pub mod TruthLemmas
 pub mod Blanks
 pub mod OneReading
 pub mod OneStop
+pub mod Rays
+pub mod Answering

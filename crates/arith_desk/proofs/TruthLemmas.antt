@@ -23,16 +23,12 @@ use Rattle.formula_auto.specs.Decides.{Decides}
 use Rattle.formula_auto.specs.Step.{Says}
 use Rattle.formula_auto.proofs.Values.{place-here, place-later}
 use Rattle.arith_desk.specs.Question.{IsQuestion}
-use Rattle.arith_desk.specs.Truth.{Asks, HoldsWith, IsTrueFormula, anyhow, no_sets}
+use Rattle.arith_desk.specs.Truth.{Asks, HoldsWith, IsTrueFormula, anyhow, no_sets, with_zero}
 use Rattle.arith_desk.proofs.Counts.{few_vars}
 
 -- the further variable
 abbrev pub spare : Var
 spare = record { 0 = 16 }
-
--- the body, and the further variable is 0
-abbrev pub with_zero : Tree → Tree
-with_zero g = And g (Value spare (pos 0))
 
 -- no word is accepted
 abbrev pub HasNoWord : Automaton → Type 0
@@ -101,7 +97,7 @@ module _ (f : Tree) (a : Automaton) (decides : Decides a f no_sets) (closed : fr
         never ((decides.words one one_is).1 (at one (from word ((decides.words word (subst (λ (t : List Var). IsWord (length t) word) decides.tracks is)).0 accepts))))))
   ]
 
-same_or_not : (x y : Var) → (x ≡ y) ⊎ (x ≢ y)
+pub same_or_not : (x y : Var) → (x ≡ y) ⊎ (x ≢ y)
 same_or_not x y = elim (number x.0 y.0) [
   | inl is ↦ inl (var_is x y is)
   | inr other ↦ inr (λ e. other (ap (λ (v : Var). v.0) e))

@@ -9,7 +9,8 @@ OneMeaning = (line : List ℕ) (f g : Tree) → IsFormulaLine line f → IsFormu
 
 -- no field of a formula is refused
 abbrev pub FormulaIsNotRefused : Type 0
-FormulaIsNotRefused = (line : List ℕ) (f : Tree) (number : ℕ) → IsFormulaLine line f → IsFirstRefused line number → ⊥
+FormulaIsNotRefused =
+    (line : List ℕ) (f : Tree) (number : ℕ) → IsFormulaLine line f → IsFirstRefused line number → ⊥
 
 -- a line is refused at one field
 abbrev pub OneRefusal : Type 0

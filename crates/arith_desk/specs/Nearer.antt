@@ -1,7 +1,8 @@
 -- The nearer of two numbers on both sides of 0.
 use Rattle.std.specs.Prelude.{ℕ, ℤ, pos, neg_ℤ, Option, Some, None, nat_lt, if◌then◌else◌}
 
--- one number is given by how far it is above 0, and one by how far it is below: the nearer one, and that above where both are as near
+-- One number is given by how far it is above 0, and one by how far it is below: the nearer one, and that above where
+-- both are as near.
 abbrev pub nearer_of : (above below : Option ℕ) → Option ℤ
 nearer_of None None = None
 nearer_of (Some above) None = Some (pos above)

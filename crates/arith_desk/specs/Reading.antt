@@ -52,7 +52,8 @@ pub record IsRead (scope : List Var) (fields : List (List ℕ)) (f : Tree) (rest
   pub means : f ≡ meaning typed
 
 -- the fields begin with two formulas
-pub record IsReadJoined (connective : Connective) (scope : List Var) (fields : List (List ℕ)) (f : Tree) (rest : List (List ℕ)) : Type 0 where
+pub record IsReadJoined (connective : Connective) (scope : List Var) (fields : List (List ℕ)) (f : Tree)
+    (rest : List (List ℕ)) : Type 0 where
   pub first : Typed
   pub second : Typed
   pub first_proper : IsProper scope first
@@ -61,7 +62,8 @@ pub record IsReadJoined (connective : Connective) (scope : List Var) (fields : L
   pub means : f ≡ join connective (meaning first) (meaning second)
 
 -- the fields begin with a letter and a body
-pub record IsReadBound (quantifier : Quantifier) (scope : List Var) (fields : List (List ℕ)) (f : Tree) (rest : List (List ℕ)) : Type 0 where
+pub record IsReadBound (quantifier : Quantifier) (scope : List Var) (fields : List (List ℕ)) (f : Tree)
+    (rest : List (List ℕ)) : Type 0 where
   pub var : Var
   pub body : Typed
   pub proper : IsProper scope (Typed.Bound quantifier var body)
@@ -69,16 +71,19 @@ pub record IsReadBound (quantifier : Quantifier) (scope : List Var) (fields : Li
   pub means : f ≡ bind quantifier var (meaning body)
 
 -- the fields begin with the number of terms, the terms and the bound of a comparison
-pub record IsReadComparison (rel : Rel) (scope : List Var) (fields : List (List ℕ)) (f : Tree) (rest : List (List ℕ)) : Type 0 where
+pub record IsReadComparison (rel : Rel) (scope : List Var) (fields : List (List ℕ)) (f : Tree)
+    (rest : List (List ℕ)) : Type 0 where
   pub terms : List (ℤ × Var)
   pub bound : ℤ
   pub atom : IsAtom terms bound
   pub known : All (λ t. IsOneOf t.1 scope) terms
-  pub fields_are : fields ≡ signed_decimal (pos (length terms)) ∷ ((term_fields terms ++ signed_decimal bound ∷ []) ++ rest)
+  pub fields_are :
+    fields ≡ signed_decimal (pos (length terms)) ∷ ((term_fields terms ++ signed_decimal bound ∷ []) ++ rest)
   pub means : f ≡ tree.Lin terms rel bound
 
 -- the fields begin with so many further terms behind some terms, and with the bound behind them
-pub record IsReadTerms (scope : List Var) (old : List (ℤ × Var)) (due : ℕ) (fields : List (List ℕ)) (new : List (ℤ × Var)) (bound : ℤ) (rest : List (List ℕ)) : Type 0 where
+pub record IsReadTerms (scope : List Var) (old : List (ℤ × Var)) (due : ℕ) (fields : List (List ℕ)) (new : List (ℤ × Var))
+    (bound : ℤ) (rest : List (List ℕ)) : Type 0 where
   pub added : List (ℤ × Var)
   pub count : length added ≡ due
   pub after : new ≡ old ++ added

@@ -1,5 +1,5 @@
--- Which field is the first that cannot stand where it stands. It is given by how many fields are left from it on, itself counted. None are left
--- where fields are missing.
+-- Which field is the first that cannot stand where it stands. It is given by how many fields are left from it on, itself
+-- counted. None are left where fields are missing.
 use Rattle.std.specs.Prelude.{◌≡◌, ◌≢◌, ◌⊎◌, ℕ, zero, suc, ◌<◌, List, [], ◌∷◌, ◌++◌, length, ℤ, pos, negsuc, ◌≤ℤ◌}
 use Rattle.std.specs.List.{All}
 use Rattle.std.specs.Fmt.{signed_decimal}
@@ -35,14 +35,16 @@ IsFreshLetter scope field = (x : Var) × (x.0 < 16) × (¬ IsOneOf x scope) × (
 
 -- a letter that a quantifier around has, and no term before
 abbrev pub IsKnownLetter : List Var → List (ℤ × Var) → List ℕ → Type 0
-IsKnownLetter scope terms field = (x : Var) × (x.0 < 16) × IsOneOf x scope × All (λ t. t.1 ≢ x) terms × (field ≡ letter x)
+IsKnownLetter scope terms field =
+    (x : Var) × (x.0 < 16) × IsOneOf x scope × All (λ t. t.1 ≢ x) terms × (field ≡ letter x)
 
 -- in so many further terms behind some terms, or in the bound behind them
 abbrev pub StopsTerms : List Var → List (ℤ × Var) → ℕ → List (List ℕ) → ℕ → Type 0
 StopsTerms scope terms zero fields left = Fails (IsNumberBetween (negsuc 999) (pos 1000)) fields left
 StopsTerms scope terms (suc due) fields left =
     Fails IsFactorField fields left
-    ⊎ ((a : ℤ) × (rest : List (List ℕ)) × IsFactor a × (fields ≡ signed_decimal a ∷ rest) × Fails (IsKnownLetter scope terms) rest left)
+    ⊎ ((a : ℤ) × (rest : List (List ℕ)) × IsFactor a × (fields ≡ signed_decimal a ∷ rest)
+        × Fails (IsKnownLetter scope terms) rest left)
     ⊎ ((a : ℤ) × (x : Var) × (rest : List (List ℕ)) × IsFactor a × IsOneOf x scope × All (λ t. t.1 ≢ x) terms
         × (fields ≡ signed_decimal a ∷ letter x ∷ rest) × StopsTerms scope (terms ++ (a, x) ∷ []) due rest left)
 
@@ -50,40 +52,48 @@ StopsTerms scope terms (suc due) fields left =
 abbrev pub StopsComparison : List Var → List (List ℕ) → ℕ → Type 0
 StopsComparison scope fields left =
     Fails (IsNumberBetween (pos 1) (pos 8)) fields left
-    ⊎ ((due : ℕ) × (rest : List (List ℕ)) × (0 < due) × (due < 9) × (fields ≡ signed_decimal (pos due) ∷ rest) × StopsTerms scope [] due rest left)
+    ⊎ ((due : ℕ) × (rest : List (List ℕ)) × (0 < due) × (due < 9) × (fields ≡ signed_decimal (pos due) ∷ rest)
+        × StopsTerms scope [] due rest left)
 
 -- in a formula that the fields are to begin with, within quantifiers of these letters
 pub data Stops : List Var → List (List ℕ) → ℕ → Type 0 where
   at_word : (scope : List Var) (fields : List (List ℕ)) (left : ℕ) → Fails IsWord fields left → Stops scope fields left
-  behind_not : (scope : List Var) (fields rest : List (List ℕ)) (left : ℕ) → fields ≡ word_text Not ∷ rest → Stops scope rest left → Stops scope fields left
-  in_first : (scope : List Var) (connective : Connective) (fields rest : List (List ℕ)) (left : ℕ) → fields ≡ word_text (Join connective) ∷ rest
+  behind_not : (scope : List Var) (fields rest : List (List ℕ)) (left : ℕ) → fields ≡ word_text Not ∷ rest
       → Stops scope rest left → Stops scope fields left
-  in_second : (scope : List Var) (connective : Connective) (first : Typed) (fields rest : List (List ℕ)) (left : ℕ) → IsProper scope first
-      → fields ≡ word_text (Join connective) ∷ (spelled first ++ rest) → Stops scope rest left → Stops scope fields left
-  at_letter : (scope : List Var) (quantifier : Quantifier) (fields rest : List (List ℕ)) (left : ℕ) → fields ≡ word_text (Bind quantifier) ∷ rest
+  in_first : (scope : List Var) (connective : Connective) (fields rest : List (List ℕ)) (left : ℕ)
+      → fields ≡ word_text (Join connective) ∷ rest
+      → Stops scope rest left → Stops scope fields left
+  in_second : (scope : List Var) (connective : Connective) (first : Typed) (fields rest : List (List ℕ)) (left : ℕ)
+      → IsProper scope first → fields ≡ word_text (Join connective) ∷ (spelled first ++ rest)
+      → Stops scope rest left → Stops scope fields left
+  at_letter : (scope : List Var) (quantifier : Quantifier) (fields rest : List (List ℕ)) (left : ℕ)
+      → fields ≡ word_text (Bind quantifier) ∷ rest
       → Fails (IsFreshLetter scope) rest left → Stops scope fields left
-  in_body : (scope : List Var) (quantifier : Quantifier) (x : Var) (fields rest : List (List ℕ)) (left : ℕ) → x.0 < 16 → ¬ IsOneOf x scope
-      → fields ≡ word_text (Bind quantifier) ∷ letter x ∷ rest → Stops (x ∷ scope) rest left → Stops scope fields left
-  in_comparison : (scope : List Var) (rel : Rel) (fields rest : List (List ℕ)) (left : ℕ) → fields ≡ word_text (Compare rel) ∷ rest
-      → StopsComparison scope rest left → Stops scope fields left
+  in_body : (scope : List Var) (quantifier : Quantifier) (x : Var) (fields rest : List (List ℕ)) (left : ℕ)
+      → x.0 < 16 → ¬ IsOneOf x scope → fields ≡ word_text (Bind quantifier) ∷ letter x ∷ rest → Stops (x ∷ scope) rest left → Stops scope fields left
+  in_comparison : (scope : List Var) (rel : Rel) (fields rest : List (List ℕ)) (left : ℕ)
+      → fields ≡ word_text (Compare rel) ∷ rest → StopsComparison scope rest left → Stops scope fields left
 
 -- in one of two formulas
 abbrev pub StopsJoined : List Var → List (List ℕ) → ℕ → Type 0
 StopsJoined scope fields left =
     Stops scope fields left
-    ⊎ ((first : Typed) × (rest : List (List ℕ)) × IsProper scope first × (fields ≡ spelled first ++ rest) × Stops scope rest left)
+    ⊎ ((first : Typed) × (rest : List (List ℕ)) × IsProper scope first × (fields ≡ spelled first ++ rest)
+        × Stops scope rest left)
 
 -- in a letter or the body behind it
 abbrev pub StopsBound : List Var → List (List ℕ) → ℕ → Type 0
 StopsBound scope fields left =
     Fails (IsFreshLetter scope) fields left
-    ⊎ ((x : Var) × (rest : List (List ℕ)) × (x.0 < 16) × (¬ IsOneOf x scope) × (fields ≡ letter x ∷ rest) × Stops (x ∷ scope) rest left)
+    ⊎ ((x : Var) × (rest : List (List ℕ)) × (x.0 < 16) × (¬ IsOneOf x scope) × (fields ≡ letter x ∷ rest)
+        × Stops (x ∷ scope) rest left)
 
 -- in the formula that all of the fields are to be, or behind it
 abbrev pub StopsWhole : List (List ℕ) → ℕ → Type 0
 StopsWhole fields left =
     Stops [] fields left
-    ⊎ ((f : Typed) × (rest : List (List ℕ)) × IsProper [] f × (fields ≡ spelled f ++ rest) × (0 < left) × (left ≡ length rest))
+    ⊎ ((f : Typed) × (rest : List (List ℕ)) × IsProper [] f × (fields ≡ spelled f ++ rest) × (0 < left)
+        × (left ≡ length rest))
 
 -- so many fields were left there
 abbrev pub IsStop : (ℕ → Type 0) → Stop → Type 0

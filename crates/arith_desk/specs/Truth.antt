@@ -47,13 +47,19 @@ pub record Asks (f : Tree) (x : Var) (g : Tree) : Type 0 where
 abbrev pub IsTruth : Tree → Truth → Type 0
 IsTruth f truths.False = ¬ IsTrueFormula f
 IsTruth f truths.True = IsTrueFormula f × ((x : Var) (g : Tree) → ¬ Asks f x g)
-IsTruth f (truths.Witness w) = (x : Var) × (g : Tree) × Asks f x g × IsNearest (HoldsWith x g) w × (unsigned_abs w ≤ 2 ^ 64)
+IsTruth f (truths.Witness w) =
+    (x : Var) × (g : Tree) × Asks f x g × IsNearest (HoldsWith x g) w × (unsigned_abs w ≤ 2 ^ 64)
 IsTruth f truths.WitnessWide = (x : Var) × (g : Tree) × Asks f x g × IsWide (HoldsWith x g)
 
--- The formula that is compiled: where a number is asked for, the body and a further variable with the value 0, and else the formula itself.
+-- the formula holds, and a further variable is 0
+abbrev pub with_zero : Tree → Tree
+with_zero g = And g (Value (record { 0 = 16 }) (pos 0))
+
+-- The formula that is compiled: where a number is asked for, the body and a further variable with the value 0, and else
+-- the formula itself.
 abbrev pub IsCompiledFor : Tree → Tree → Type 0
 IsCompiledFor f q =
-    ((x : Var) × (g : Tree) × Asks f x g × (q ≡ And g (Value (record { 0 = 16 }) (pos 0))))
+    ((x : Var) × (g : Tree) × Asks f x g × (q ≡ with_zero g))
     ⊎ (((x : Var) (g : Tree) → ¬ Asks f x g) × (q ≡ f))
 
 -- each of its steps is within the budget
@@ -66,4 +72,5 @@ IsOver f budget why = (q : Tree) × IsCompiledFor f q × IsCompileError q (table
 
 -- the number up to 2^64 or down to -2^64 that is the nearest to 0, or that there is none
 abbrev pub IsNearestFound : (ℤ → Type 0) → Option ℤ → Type 0
-IsNearestFound P found = MatchOption found ((n : ℤ) → P n → 2 ^ 64 < unsigned_abs n) (λ w. IsNearest P w × (unsigned_abs w ≤ 2 ^ 64))
+IsNearestFound P found =
+    MatchOption found ((n : ℤ) → P n → 2 ^ 64 < unsigned_abs n) (λ w. IsNearest P w × (unsigned_abs w ≤ 2 ^ 64))

@@ -11,6 +11,7 @@ ghost use Rattle.formula_auto.specs.Compiled.{IsCompileError};
 ghost use Rattle.arith_desk.specs.Nearer.{nearer_of};
 ghost use Rattle.arith_desk.specs.Question.{IsQuestion};
 ghost use Rattle.arith_desk.specs.Truth.{IsNearestFound, IsOver, IsTrueFormula, IsTruth, IsWithin, no_sets};
+ghost use Rattle.arith_desk.specs.Truth.{with_zero as with_zero_tree};
 
 use crate::building::joined;
 use crate::slots::is_one_of;
@@ -31,7 +32,8 @@ const FAR: u128 = 0x1_0000_0000_0000_0000;
 pub enum Truth {
     False,
     True,
-    /// It holds, and says that there is a number: this is the one nearest to 0, and the positive one of two that are as near.
+    /// It holds, and says that there is a number: this is the one nearest to 0, and the positive one of two that are as
+    /// near.
     Witness(i128),
     /// It holds, and says that there is a number, but none up to 2^64 or down to -2^64.
     WitnessWide,
@@ -47,7 +49,8 @@ pub fn decide_closed(alloc: Global, f: &Formula, budget: u32) -> Result<Truth, C
 {
     match f {
         Formula::Ex { var, body } => {
-            if is_free(alloc, *var, body)? {
+            let free = is_free(alloc, *var, body)?;
+            if free {
                 return seek(alloc, *var, body, budget);
             }
             decide(alloc, f, budget)
@@ -68,7 +71,8 @@ fn is_free(alloc: Global, var: Var, f: &Formula) -> Result<bool, AllocError>
 fn decide(alloc: Global, f: &Formula, budget: u32) -> Result<Truth, CompileError>
     requires question { IsQuestion (tree_of f.now) }
     requires budget { (1 ≤ budget) × (budget ≤ 200000) }
-    ensures truth { IfOk result (λ truth. ((truth ≡ Truth.True) × IsTrueFormula (tree_of f.now)) ⊎ ((truth ≡ Truth.False) × (¬ IsTrueFormula (tree_of f.now)))) }
+    ensures truth { IfOk result (λ truth.
+        ((truth ≡ Truth.True) × IsTrueFormula (tree_of f.now)) ⊎ ((truth ≡ Truth.False) × (¬ IsTrueFormula (tree_of f.now)))) }
     ensures within { OnOk result (FirstOver (steps (tree_of f.now)) no_sets budget 1 None) }
     ensures over { IfErr result (IsCompileError (tree_of f.now) (tables []) 0 budget) }
 {
@@ -87,8 +91,8 @@ fn seek(alloc: Global, var: Var, body: &Formula, budget: u32) -> Result<Truth, C
     requires free { IsFree var (tree_of body.now) }
     requires budget { (1 ≤ budget) × (budget ≤ 200000) }
     ensures truth { IfOk result (IsTruth (tree.Ex var (tree_of body.now))) }
-    ensures within { OnOk result (FirstOver (steps (tree.And (tree_of body.now) (tree.Value (record { 0 = 16 }) (pos 0)))) no_sets budget 1 None) }
-    ensures over { IfErr result (IsCompileError (tree.And (tree_of body.now) (tree.Value (record { 0 = 16 }) (pos 0))) (tables []) 0 budget) }
+    ensures within { OnOk result (FirstOver (steps (with_zero_tree (tree_of body.now))) no_sets budget 1 None) }
+    ensures over { IfErr result (IsCompileError (with_zero_tree (tree_of body.now)) (tables []) 0 budget) }
 {
     let f = with_zero(alloc, body)?;
     let sets = SetTable::new(alloc);
@@ -105,7 +109,7 @@ fn seek(alloc: Global, var: Var, body: &Formula, budget: u32) -> Result<Truth, C
 
 /// The formula holds, and a further variable is 0.
 fn with_zero(alloc: Global, f: &Formula) -> Result<Formula, AllocError>
-    ensures { IfOk result (λ made. tree_of made ≡ tree.And (tree_of f.now) (tree.Value (record { 0 = 16 }) (pos 0))) }
+    ensures { IfOk result (λ made. tree_of made ≡ with_zero_tree (tree_of f.now)) }
 {
     joined(alloc, Connective::And, copy(alloc, f)?, value(Var(16), 0))
 }

@@ -8,8 +8,8 @@ use std::alloc::AllocError;
 /// Why a line is no formula.
 #[derive(Clone, Copy, PartialEq, Eq, Debug)]
 pub enum ArithError {
-    /// The field of this number, counted from 1, is the first that cannot stand where it stands. Where fields are missing, it is the one
-    /// past the last.
+    /// The field of this number, counted from 1, is the first that cannot stand where it stands. Where fields are missing,
+    /// it is the one past the last.
     Field(u32),
     /// Memory ran out.
     Memory,
@@ -26,7 +26,8 @@ impl From<AllocError> for ArithError {
 /// Why reading stopped.
 #[derive(Clone, Copy, PartialEq, Eq, Debug)]
 pub enum Stop {
-    /// A field cannot stand where it stands. So many are left from it on, itself counted; none are where fields are missing.
+    /// A field cannot stand where it stands. So many are left from it on, itself counted; none are where fields are
+    /// missing.
     Left(usize),
     /// Memory ran out.
     Memory,

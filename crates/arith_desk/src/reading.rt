@@ -2,11 +2,9 @@
 ghost use Rattle.std.specs.Prelude.{◌≡◌, ◌≤◌, ◌∷◌, ◌++◌, [], length, IfOk, IfErr, OnOk};
 ghost use Rattle.lin_formula.specs.TreeOf.{tree_of};
 ghost use Rattle.arith_desk.specs.Line.{texts};
-ghost use Rattle.arith_desk.specs.Words as words;
 ghost use Rattle.arith_desk.specs.Stops.{IsStop, Stops, StopsComparison, StopsJoined, StopsBound, StopsTerms, StopsWhole};
 ghost use Rattle.arith_desk.specs.Reading.{IsFormulaLine, IsRead, IsReadBound, IsReadComparison, IsReadJoined, IsReadTerms, IsReadWhole, IsRefusal};
 ghost use Rattle.arith_desk.specs.Question.{IsQuestion};
-ghost use Rattle.track_word.specs.Atom.{IsDistinct};
 
 use crate::building::{bound as bound_formula, compared, denied, joined as joined_formula};
 use crate::errors::{ArithError, Stop};
@@ -46,7 +44,8 @@ fn whole(alloc: Global, fields: Fields) -> Result<Formula, Stop>
     }
 }
 
-/// The formula that the fields begin with, and the fields after it. The scope has the letters of the quantifiers around it.
+/// The formula that the fields begin with, and the fields after it. The scope has the letters of the quantifiers around
+/// it.
 #[cycle(formula)]
 fn formula<'a>(
     alloc: Global,
