@@ -78,9 +78,9 @@ one_or_not x [] = inr (λ h. h)
 one_or_not x (y ∷ ys) = elim (same_or_not x y) [
   | inl is ↦ inl (inl is)
   | inr other ↦ elim (one_or_not x ys) [
-      | inl there ↦ inl (inr there)
-      | inr never ↦ inr (neither other never)
-    ]
+    | inl there ↦ inl (inr there)
+    | inr never ↦ inr (neither other never)
+  ]
 ]
   where
     neither : (x ≡ y → ⊥) → (IsOneOf x ys → ⊥) → IsOneOf x (y ∷ ys) → ⊥

@@ -82,6 +82,7 @@ same_factor y z fy fz e = same_number y z (low y fy.1) (high y fy.2) (low z fz.1
   where
     low : (a : ℤ) → negsuc 63 ≤ℤ a → negsuc 999 ≤ℤ a
     low a h = omega (arith, ints)
+
     high : (a : ℤ) → a ≤ℤ pos 64 → a ≤ℤ pos 1000
     high a h = omega (arith, ints)
 

@@ -78,7 +78,7 @@ pub record IsReadComparison (rel : Rel) (scope : List Var) (fields : List (List 
   pub atom : IsAtom terms bound
   pub known : All (λ t. IsOneOf t.1 scope) terms
   pub fields_are :
-    fields ≡ signed_decimal (pos (length terms)) ∷ ((term_fields terms ++ signed_decimal bound ∷ []) ++ rest)
+      fields ≡ signed_decimal (pos (length terms)) ∷ ((term_fields terms ++ signed_decimal bound ∷ []) ++ rest)
   pub means : f ≡ tree.Lin terms rel bound
 
 -- the fields begin with so many further terms behind some terms, and with the bound behind them

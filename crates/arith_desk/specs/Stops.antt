@@ -44,16 +44,16 @@ StopsTerms scope terms zero fields left = Fails (IsNumberBetween (negsuc 999) (p
 StopsTerms scope terms (suc due) fields left =
     Fails IsFactorField fields left
     ⊎ ((a : ℤ) × (rest : List (List ℕ)) × IsFactor a × (fields ≡ signed_decimal a ∷ rest)
-        × Fails (IsKnownLetter scope terms) rest left)
+    × Fails (IsKnownLetter scope terms) rest left)
     ⊎ ((a : ℤ) × (x : Var) × (rest : List (List ℕ)) × IsFactor a × IsOneOf x scope × All (λ t. t.1 ≢ x) terms
-        × (fields ≡ signed_decimal a ∷ letter x ∷ rest) × StopsTerms scope (terms ++ (a, x) ∷ []) due rest left)
+    × (fields ≡ signed_decimal a ∷ letter x ∷ rest) × StopsTerms scope (terms ++ (a, x) ∷ []) due rest left)
 
 -- in the number of terms, in the terms or in the bound
 abbrev pub StopsComparison : List Var → List (List ℕ) → ℕ → Type 0
 StopsComparison scope fields left =
     Fails (IsNumberBetween (pos 1) (pos 8)) fields left
     ⊎ ((due : ℕ) × (rest : List (List ℕ)) × (0 < due) × (due < 9) × (fields ≡ signed_decimal (pos due) ∷ rest)
-        × StopsTerms scope [] due rest left)
+    × StopsTerms scope [] due rest left)
 
 -- in a formula that the fields are to begin with, within quantifiers of these letters
 pub data Stops : List Var → List (List ℕ) → ℕ → Type 0 where
@@ -79,21 +79,21 @@ abbrev pub StopsJoined : List Var → List (List ℕ) → ℕ → Type 0
 StopsJoined scope fields left =
     Stops scope fields left
     ⊎ ((first : Typed) × (rest : List (List ℕ)) × IsProper scope first × (fields ≡ spelled first ++ rest)
-        × Stops scope rest left)
+    × Stops scope rest left)
 
 -- in a letter or the body behind it
 abbrev pub StopsBound : List Var → List (List ℕ) → ℕ → Type 0
 StopsBound scope fields left =
     Fails (IsFreshLetter scope) fields left
     ⊎ ((x : Var) × (rest : List (List ℕ)) × (x.0 < 16) × (¬ IsOneOf x scope) × (fields ≡ letter x ∷ rest)
-        × Stops (x ∷ scope) rest left)
+    × Stops (x ∷ scope) rest left)
 
 -- in the formula that all of the fields are to be, or behind it
 abbrev pub StopsWhole : List (List ℕ) → ℕ → Type 0
 StopsWhole fields left =
     Stops [] fields left
     ⊎ ((f : Typed) × (rest : List (List ℕ)) × IsProper [] f × (fields ≡ spelled f ++ rest) × (0 < left)
-        × (left ≡ length rest))
+    × (left ≡ length rest))
 
 -- so many fields were left there
 abbrev pub IsStop : (ℕ → Type 0) → Stop → Type 0

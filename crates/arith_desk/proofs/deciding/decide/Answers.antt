@@ -14,10 +14,11 @@ returns-then-is_empty-clause-truth c =
 pub returns-clause-truth : goal.returns-clause-truth
 returns-clause-truth c =
     let decides = rw c.new-sets.ensures at c.in_ok-a.ensures.decides in
-    inl
-    (refl,
-    closed_true (tree_of c.args.f.now) c.in_ok-a.a decides c.requires.question.closed
-    (λ none.
-    let empty = c.is_empty.ensures.1 none in
-    let some = c.if-is_empty.false in
-    cc))
+    inl (
+      refl,
+      closed_true (tree_of c.args.f.now) c.in_ok-a.a decides c.requires.question.closed
+          (λ none.
+          let empty = c.is_empty.ensures.1 none in
+          let some = c.if-is_empty.false in
+          cc),
+    )

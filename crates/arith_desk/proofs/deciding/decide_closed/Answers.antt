@@ -10,6 +10,6 @@ returns-in_err-free-in-Ex-clause-over c =
 
 pub returns-then-free-clause-within : goal.returns-then-free-clause-within
 returns-then-free-clause-within c =
-    let free = (rw c.deref.ensures at c.in_ok-free.ensures).0 c.if-free.true in
+    let free = (rw c.deref.ensures at c.in_ok-free-in-Ex.ensures).0 c.if-free.true in
     rw c.in-Ex.is
     (on_ok_weaker c.seek.result (λ h. asked_within c.in-Ex.var (tree_of c.in-Ex.body.value) c.args.budget free h) (rw c.deref-then-free.ensures at c.seek.ensures.within))
