@@ -1,11 +1,10 @@
 -- What is answered of a formula, from what was found.
-use Rattle.std.proofs.Common.{◌≡◌, ◌↔◌, ◌⊎◌, inl, inr, ℕ, ◌^◌, ◌<◌, ◌≤◌, List, [], ◌∷◌, ℤ, pos, Option, Some, None, refl, sym, ap, ◌∙◌, subst, arith}
-use Rattle.std.specs.Prelude.{unsigned_abs}
+use Rattle.std.proofs.Common.{◌≡◌, ◌⊎◌, inl, inr, ℕ, List, [], ◌∷◌, ℤ, pos, Some, None, refl, sym, subst}
 use Rattle.track_word.specs.declared.tracks.Var.{Var}
 use Rattle.auto_core.specs.Automaton.{Automaton, IsAutomaton}
 use Rattle.auto_core.specs.Integers.{IsAccepted}
 use Rattle.auto_core.specs.Reduced.{IsReduced}
-use Rattle.lin_formula.specs.Tree.{Tree, Ex, And, Or, Not, Lin, Value, Among, free_vars, steps}
+use Rattle.lin_formula.specs.Tree.{Tree, Ex, free_vars, steps}
 use Rattle.lin_formula.specs.Free.{IsFree, IsOneOf}
 use Rattle.lin_formula.proofs.FreeVars.{free_vars-free}
 use Rattle.lin_formula.specs.SetOf.{tables}
@@ -17,7 +16,7 @@ use Rattle.formula_auto.specs.declared.errors.CompileError.TheVariants as compil
 use Rattle.arith_desk.specs.declared.deciding.Truth.{Truth}
 use Rattle.arith_desk.specs.declared.deciding.Truth.TheVariants as truths
 use Rattle.arith_desk.specs.Question.{IsQuestion}
-use Rattle.arith_desk.specs.Truth.{Asks, HoldsWith, IsNearest, IsNearestFound, IsOver, IsTrueFormula, IsTruth, IsWide, IsWithin, no_sets, with_zero}
+use Rattle.arith_desk.specs.Truth.{Asks, HoldsWith, IsNearest, IsNearestFound, IsOver, IsTrueFormula, IsTruth, IsWithin, no_sets, with_zero}
 use Rattle.arith_desk.proofs.TruthLemmas.{HasNoWord, hit_holds, holds_hit, same_or_not, some_holds, some_word}
 
 nearest_along : (P Q : ℤ → Type 0) (w : ℤ) → ((n : ℤ) → P n → Q n) → ((n : ℤ) → Q n → P n) → IsNearest P w → IsNearest Q w

@@ -1,27 +1,20 @@
 -- Fields begin with one formula, or stop at one place.
-use Rattle.std.proofs.Common.{◌≡◌, ◌≢◌, inl, inr, ℕ, zero, suc, ◌+◌, ◌-◌, ◌<◌, ◌≤◌, ◌^◌, List, [], ◌∷◌, ◌++◌, length, ℤ, pos, negsuc, ◌≤ℤ◌, ◌==◌, if◌then◌else◌, refl, sym, ap, ◌∙◌, subst, append_assoc, length-append, arith}
+use Rattle.std.proofs.Common.{◌≡◌, ℕ, ◌<◌, ◌^◌, List, [], ◌∷◌, ◌++◌, length, ℤ, pos, negsuc, ◌≤ℤ◌, ◌==◌, if◌then◌else◌, refl, sym, ap, ◌∙◌, subst, append_assoc, arith}
 use Rattle.std.specs.List.{All}
 use Rattle.std.specs.Fmt.{signed_decimal}
 use Rattle.std.specs.Int.Signed.{mag}
 use Rattle.std.proofs.lemmas.Int.{ints}
 use Rattle.std.proofs.lemmas.Fmt.{signed_decimal_injective}
-use Rattle.std.proofs.lemmas.List.{append-nil}
 use Rattle.std.proofs.lemmas.List.Elements.{All-head, All-tail}
 use Rattle.track_word.specs.declared.tracks.Var.{Var}
-use Rattle.track_word.specs.declared.atoms.Rel.{Rel}
 use Rattle.track_word.specs.declared.atoms.Rel.TheVariants.{Le, Eq}
-use Rattle.track_word.specs.Atom.{IsAtom, IsBound, IsCoefficient, IsDistinct}
-use Rattle.lin_formula.specs.Tree.{Tree}
-use Rattle.lin_formula.specs.Free.{IsOneOf}
-use Rattle.arith_desk.specs.declared.words.Connective.{Connective}
+use Rattle.track_word.specs.Atom.{IsAtom, IsBound, IsCoefficient}
 use Rattle.arith_desk.specs.declared.words.Connective.TheVariants.{And, Or}
-use Rattle.arith_desk.specs.declared.words.Quantifier.{Quantifier}
 use Rattle.arith_desk.specs.declared.words.Quantifier.TheVariants as quantifiers
 use Rattle.arith_desk.specs.declared.words.Word.{Word}
 use Rattle.arith_desk.specs.declared.words.Word.TheVariants.{Not, Join, Bind, Compare}
 use Rattle.arith_desk.specs.Words.{IsFactor, letter, word_text}
-use Rattle.arith_desk.specs.Typed.{Typed, Compared, Denied, Joined, Bound, IsProper, meaning, spelled, term_fields}
-use Rattle.arith_desk.specs.Stops.{Fails, IsFactorField, IsFreshLetter, IsKnownLetter, IsNumberBetween, IsWord, Stops, StopsBound, StopsComparison, StopsJoined, StopsTerms, StopsWhole, at_word, behind_not, in_first, in_second, at_letter, in_body, in_comparison}
+use Rattle.arith_desk.specs.Typed.{Typed, Compared, Denied, Joined, Bound, IsProper, spelled, term_fields}
 use Rattle.arith_desk.proofs.ReadLemmas.{same_letter}
 
 -- the second byte tells words apart

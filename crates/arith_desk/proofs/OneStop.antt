@@ -1,5 +1,5 @@
 -- Fields stop at one place, and not where they begin with a formula.
-use Rattle.std.proofs.Common.{◌≡◌, ◌≢◌, inl, inr, ℕ, zero, suc, ◌+◌, ◌-◌, ◌<◌, ◌≤◌, List, [], ◌∷◌, ◌++◌, length, ℤ, pos, negsuc, ◌≤ℤ◌, refl, sym, ap, ◌∙◌, subst, append_assoc, length-append, arith}
+use Rattle.std.proofs.Common.{◌≡◌, ◌≢◌, inl, inr, ℕ, zero, suc, ◌<◌, List, [], ◌∷◌, ◌++◌, length, ℤ, pos, negsuc, refl, sym, ap, ◌∙◌, subst, append_assoc, arith}
 use Rattle.std.specs.List.{All}
 use Rattle.std.specs.Fmt.{signed_decimal}
 use Rattle.std.proofs.lemmas.Int.{ints}
@@ -13,10 +13,9 @@ use Rattle.arith_desk.specs.declared.words.Connective.{Connective}
 use Rattle.arith_desk.specs.declared.words.Quantifier.{Quantifier}
 use Rattle.arith_desk.specs.declared.words.Word.{Word}
 use Rattle.arith_desk.specs.declared.words.Word.TheVariants.{Not, Join, Bind, Compare}
-use Rattle.arith_desk.specs.Words.{IsFactor, letter, word_text}
+use Rattle.arith_desk.specs.Words.{letter, word_text}
 use Rattle.arith_desk.specs.Typed.{Typed, Compared, Denied, Joined, Bound, IsProper, meaning, spelled, term_fields}
 use Rattle.arith_desk.specs.Stops.{Fails, IsFactorField, IsFreshLetter, IsKnownLetter, IsNumberBetween, IsWord, Stops, StopsBound, StopsComparison, StopsJoined, StopsTerms, StopsWhole, at_word, behind_not, in_first, in_second, at_letter, in_body, in_comparison}
-use Rattle.arith_desk.specs.Reading.{IsFirstRefused, IsFormulaLine}
 use Rattle.arith_desk.specs.Laws.{FormulaIsNotRefused, OneMeaning, OneRefusal}
 use Rattle.arith_desk.proofs.ReadLemmas.{same_letter}
 use Rattle.arith_desk.proofs.Blanks.{same_fields}

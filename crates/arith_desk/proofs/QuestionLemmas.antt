@@ -1,10 +1,9 @@
 -- What is typed may be asked.
-use Rattle.std.proofs.Common.{◌≡◌, ◌≢◌, ◌⊎◌, inl, inr, ℕ, suc, ◌+◌, ◌<◌, ◌≤◌, List, [], ◌∷◌, ◌++◌, length, ℤ, refl, sym, ap, ◌∙◌, subst, length-append, arith}
+use Rattle.std.proofs.Common.{◌≡◌, ◌≢◌, ◌⊎◌, inl, inr, ℕ, ◌+◌, ◌<◌, ◌≤◌, List, [], ◌∷◌, ◌++◌, length, ℤ, refl, sym, ap, ◌∙◌, subst, length-append, arith}
 use Rattle.std.specs.List.{All}
 use Rattle.std.proofs.lemmas.List.Elements.{All-cons, All-head, All-nil, All-tail}
 use Rattle.track_word.specs.declared.tracks.Var.{Var}
-use Rattle.track_word.specs.Atom.{atom_tracks, term_vars}
-use Rattle.lin_formula.specs.Tree as tree
+use Rattle.track_word.specs.Atom.{term_vars}
 use Rattle.lin_formula.specs.Tree.{Tree, IsWellMade, free_vars, memberships, steps, vars_of}
 use Rattle.lin_formula.specs.Free.{IsFree, IsOneOf}
 use Rattle.lin_formula.proofs.FreeVars.{free_vars-free, one_of-with_var, one_of-with_vars}
@@ -15,7 +14,6 @@ use Rattle.arith_desk.specs.declared.words.Quantifier.TheVariants as quantifiers
 use Rattle.arith_desk.specs.Line.{AreFields, parted}
 use Rattle.arith_desk.specs.Typed.{Typed, Compared, Denied, Joined, Bound, IsProper, bind, join, meaning, spelled}
 use Rattle.arith_desk.specs.Question.{IsQuestion}
-use Rattle.arith_desk.specs.Reading.{IsReadWhole}
 
 known_terms : (scope : List Var) (terms : List (ℤ × Var)) (x : Var) → All (λ t. IsOneOf t.1 scope) terms → IsOneOf x (term_vars terms) → IsOneOf x scope
 known_terms scope [] x known is = absurd is

@@ -1,11 +1,11 @@
 -- The numbers that a search in both directions meets.
-use Rattle.std.proofs.Common.{◌≡◌, ◌↔◌, ℕ, ◌^◌, ◌≤◌, List, [], ◌∷◌, ℤ, pos, negsuc, ◌+ℤ◌, ◌*ℤ◌, Bor, Option, Some, None, slice_index_or, refl, sym, ap, ◌∙◌, subst, arith}
-use Rattle.std.specs.Prelude.{neg_ℤ, slice_set}
+use Rattle.std.proofs.Common.{◌≡◌, ℕ, ◌^◌, [], ◌∷◌, ℤ, pos, negsuc, ◌+ℤ◌, ◌*ℤ◌, Option, Some, None, refl, sym, ap, ◌∙◌, subst, arith}
+use Rattle.std.specs.Prelude.{neg_ℤ}
 use Rattle.std.proofs.lemmas.Int.{ints}
 use Rattle.auto_core.specs.Automaton.{Automaton}
 use Rattle.auto_core.specs.Integers.{IsAccepted}
 use Rattle.auto_search.specs.declared.way.Way.{Way}
-use Rattle.auto_search.specs.Way.{IsHit, IsLeastFound, IsSlope, IsWay, tuple_at, value_after}
+use Rattle.auto_search.specs.Way.{IsLeastFound, tuple_at}
 use Rattle.arith_desk.proofs.Nearests.{IsLeastOf}
 
 -- a way from 0 and 0 along the first track

@@ -20,8 +20,8 @@ use Rattle.arith_desk.specs.declared.words.Word.TheVariants.{Not, Join, Bind, Co
 use Rattle.arith_desk.specs.declared.errors.Stop.{Stop}
 use Rattle.arith_desk.specs.declared.errors.Stop.TheVariants.{Left, Memory}
 use Rattle.arith_desk.specs.Words.{IsFactor, letter, word_text}
-use Rattle.arith_desk.specs.Typed.{Typed, Compared, Denied, Joined, Bound, IsProper, bind, join, meaning, spelled, term_fields}
-use Rattle.arith_desk.specs.Stops.{Fails, IsFactorField, IsFreshLetter, IsKnownLetter, IsNumberBetween, IsStop, Stops, StopsBound, StopsComparison, StopsJoined, StopsTerms, at_letter, in_body, in_comparison, in_first, in_second}
+use Rattle.arith_desk.specs.Typed.{Typed, Compared, Denied, Joined, Bound, bind, join, meaning, spelled, term_fields}
+use Rattle.arith_desk.specs.Stops.{Fails, IsFactorField, IsKnownLetter, IsNumberBetween, IsStop, Stops, StopsBound, StopsJoined, StopsTerms, at_letter, in_body, in_first, in_second}
 use Rattle.arith_desk.specs.Reading.{IsRead, IsReadBound, IsReadComparison, IsReadJoined, IsReadTerms}
 
 -- where the first field is missing or another one

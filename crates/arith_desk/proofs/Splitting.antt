@@ -1,8 +1,7 @@
 -- The fields of a line, one after another.
-use Rattle.std.proofs.Common.{◌≡◌, ◌≢◌, ℕ, List, [], ◌∷◌, ◌++◌, refl, sym, ap, ◌∙◌, append_assoc}
-use Rattle.std.specs.List.{All}
+use Rattle.std.proofs.Common.{◌≡◌, ◌≢◌, ℕ, List, [], ◌∷◌, ◌++◌, refl, ap, ◌∙◌, append_assoc}
 use Rattle.std.proofs.lemmas.List.Elements.{All-cons, All-nil}
-use Rattle.arith_desk.specs.Line.{AddsFields, AreFields, HasNoBlank, parted}
+use Rattle.arith_desk.specs.Line.{AddsFields, HasNoBlank, parted}
 
 pub one_field : (line : List ℕ) (old new : List (List ℕ)) → HasNoBlank line → new ≡ old ++ line ∷ [] → AddsFields line old new
 one_field line old new no_blank is = record {

@@ -1,5 +1,5 @@
 -- What the automata of closed formulas answer.
-use Rattle.std.proofs.Common.{◌≡◌, ◌≢◌, ◌↔◌, ◌⊎◌, inl, inr, ℕ, zero, suc, ◌+◌, ◌^◌, ◌<◌, ◌≤◌, List, [], ◌∷◌, ◌++◌, length, map, ℤ, pos, Bool, true, false, nat_lt, ◌==◌, if◌then◌else◌, get_or, IsTrue, refl, sym, ap, ◌∙◌, subst, arith, eq-eqb, length-append}
+use Rattle.std.proofs.Common.{◌≡◌, ◌≢◌, ◌⊎◌, inl, inr, ℕ, zero, suc, ◌^◌, ◌<◌, List, [], ◌∷◌, ◌++◌, length, map, ℤ, pos, Bool, true, false, nat_lt, ◌==◌, if◌then◌else◌, get_or, IsTrue, refl, sym, ap, ◌∙◌, subst, arith, eq-eqb, length-append}
 use Rattle.std.specs.List.{All, AllPairs}
 use Rattle.std.proofs.lemmas.Bool.{lt-ltb}
 use Rattle.std.proofs.lemmas.List.{append-nil}
@@ -7,23 +7,23 @@ use Rattle.std.proofs.lemmas.List.Elements.{All-cons, All-head, All-nil, All-tai
 use Rattle.std.proofs.lemmas.List.Kept.{AllPairs-from_increasing}
 use Rattle.track_word.specs.declared.tracks.Var.{Var}
 use Rattle.track_word.specs.Word.{IsWord, Spells, spelled, val}
-use Rattle.track_word.specs.Tracks.{IsAscending, Values, place, values_at, with_var, with_vars, word_values}
+use Rattle.track_word.specs.Tracks.{IsAscending, place, values_at, with_var, with_vars, word_values}
 use Rattle.track_word.proofs.Spelling.{Spells-spelled, bound_of, fits-bound}
 use Rattle.auto_core.specs.Automaton.{Automaton, Accepts, IsAutomaton, is_final, state_of}
 use Rattle.auto_core.specs.Integers.{IsAccepted}
 use Rattle.auto_core.specs.Reduced.{IsReduced}
 use Rattle.auto_reduce.proofs.Empties.{no_word}
-use Rattle.lin_formula.specs.Tree.{Tree, And, Ex, Value, IsWellMade, free_vars, memberships, steps, vars_of}
+use Rattle.lin_formula.specs.Tree.{Tree, Ex, free_vars, memberships, steps, vars_of}
 use Rattle.lin_formula.specs.Holds.{Holds, with_value}
 use Rattle.lin_formula.specs.Free.{IsFree, IsOneOf}
 use Rattle.lin_formula.proofs.Coincide.{coincide}
 use Rattle.lin_formula.proofs.FreeVars.{free_vars-ascend, free_vars-free, one_of-with_var, one_of-with_vars, one_of-without_var, var_is}
-use Rattle.formula_auto.specs.Compiled.{HasSets, IsCompilable, IsSetFor}
+use Rattle.formula_auto.specs.Compiled.{IsCompilable, IsSetFor}
 use Rattle.formula_auto.specs.Decides.{Decides}
 use Rattle.formula_auto.specs.Step.{Says}
 use Rattle.formula_auto.proofs.Values.{place-here, place-later}
 use Rattle.arith_desk.specs.Question.{IsQuestion}
-use Rattle.arith_desk.specs.Truth.{Asks, HoldsWith, IsTrueFormula, anyhow, no_sets, with_zero}
+use Rattle.arith_desk.specs.Truth.{HoldsWith, IsTrueFormula, anyhow, no_sets, with_zero}
 use Rattle.arith_desk.proofs.Counts.{few_vars}
 
 -- the further variable

@@ -1,10 +1,10 @@
 -- What a whole line is read as.
-use Rattle.std.proofs.Common.{◌≡◌, ◌≢◌, inl, inr, ℕ, zero, suc, ◌+◌, ◌-◌, ◌<◌, ◌≤◌, List, [], ◌∷◌, ◌++◌, length, ℤ, Bor, refl, sym, ap, ◌∙◌, subst, length-append, arith}
+use Rattle.std.proofs.Common.{◌≡◌, inl, inr, ℕ, zero, suc, ◌+◌, ◌-◌, ◌≤◌, List, [], ◌∷◌, ◌++◌, length, ℤ, Bor, sym, ap, ◌∙◌, subst, length-append, arith}
 use Rattle.std.proofs.lemmas.List.{length-map}
 use Rattle.track_word.specs.declared.tracks.Var.{Var}
 use Rattle.lin_formula.specs.Tree.{Tree}
 use Rattle.arith_desk.specs.Line.{AddsFields, AreFields, parted, texts}
-use Rattle.arith_desk.specs.Typed.{Typed, IsProper, spelled}
+use Rattle.arith_desk.specs.Typed.{spelled}
 use Rattle.arith_desk.specs.Question.{IsQuestion}
 use Rattle.arith_desk.specs.Reading.{IsFirstRefused, IsFormulaLine, IsReadWhole}
 use Rattle.arith_desk.specs.Stops.{Fails, Stops, StopsComparison, StopsTerms, StopsWhole, at_word, behind_not, in_first, in_second, at_letter, in_body, in_comparison}

@@ -1,5 +1,5 @@
 -- Formulas that may be asked.
-use Rattle.std.specs.Prelude.{◌≡◌, ℕ, ◌<◌, ◌≤◌, [], length}
+use Rattle.std.specs.Prelude.{◌≡◌, ◌<◌, ◌≤◌, [], length}
 use Rattle.std.specs.List.{All}
 use Rattle.lin_formula.specs.Tree.{Tree, IsWellMade, free_vars, memberships, steps, vars_of}
 

@@ -1,5 +1,5 @@
 -- What fields and lines are read as.
-use Rattle.std.specs.Prelude.{◌≡◌, ◌≢◌, ℕ, ◌+◌, ◌≤◌, List, [], ◌∷◌, ◌++◌, length, ℤ, pos, negsuc, ◌≤ℤ◌}
+use Rattle.std.specs.Prelude.{◌≡◌, ℕ, ◌+◌, List, [], ◌∷◌, ◌++◌, length, ℤ, pos}
 use Rattle.std.specs.List.{All}
 use Rattle.std.specs.Fmt.{signed_decimal}
 use Rattle.track_word.specs.declared.tracks.Var.{Var}

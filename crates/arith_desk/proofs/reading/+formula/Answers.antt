@@ -3,7 +3,7 @@ use Rattle.std.proofs.lemmas.Result.{IfErr-weaker, IfOk-weaker, err_from_is_err_
 use Rattle.lin_formula.specs.TreeOf.{tree_of}
 use Rattle.arith_desk.specs.declared.words.Word.TheVariants.{Not, Join, Bind, Compare}
 use Rattle.arith_desk.specs.Line.{texts}
-use Rattle.arith_desk.specs.Words.{IsNamed, word_text}
+use Rattle.arith_desk.specs.Words.{word_text}
 use Rattle.arith_desk.specs.Stops.{IsWord, Stops, StopsBound, StopsComparison, StopsJoined, at_word, behind_not, in_comparison}
 use Rattle.arith_desk.proofs.ReadLemmas.{fails_front, fails_none, read_bound, read_comparison, read_joined, read_not, stop_along, stops_bound, stops_joined}
 use Rattle.arith_desk.proofs.reading.+formula.Goals as goal

@@ -1,4 +1,4 @@
-use Rattle.std.proofs.Common.{◌≡◌, ◌≤◌, ◌+◌, ◌-◌, length, refl, arith, sym, ap, ◌∙◌, subst}
+use Rattle.std.proofs.Common.{◌≡◌, ◌+◌, ◌-◌, length, refl, arith, subst}
 use Rattle.lin_formula.specs.TreeOf.{tree_of}
 use Rattle.arith_desk.specs.Line.{AreFields, texts}
 use Rattle.arith_desk.specs.Reading.{IsFirstRefused}

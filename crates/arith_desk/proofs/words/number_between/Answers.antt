@@ -1,4 +1,4 @@
-use Rattle.std.proofs.Common.{◌≡◌, sym, ◌∙◌, arith}
+use Rattle.std.proofs.Common.{sym, ◌∙◌, arith}
 use Rattle.std.proofs.lemmas.Int.{ints}
 use Rattle.arith_desk.proofs.Signed.{between_fits, same_spelled}
 use Rattle.arith_desk.proofs.words.number_between.Goals as goal
