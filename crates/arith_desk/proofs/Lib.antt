@@ -11,3 +11,4 @@ pub mod OneReading
 pub mod OneStop
 pub mod Rays
 pub mod Answering
+pub mod OneAnswer
