@@ -5,17 +5,17 @@ use Rattle.desk_base.specs.Lines.{Lines, lines_of}
 use Rattle.game_rules.specs.Game.{Sound, Value}
 use Rattle.chess_game.proofs.UnsoundnessLemmas.{unsound_refuted}
 use Rattle.chess_text.specs.declared.reader.Stage.TheVariants.{Header}
-use Rattle.mate_desk.specs.Decide.{DecideReports, IsExact}
+use Rattle.desk_solve.specs.Decide.{DecideReports, IsExact}
 use Rattle.mate_desk.specs.Laws.{DecidesExactly}
-use Rattle.mate_desk.specs.Order.{Ordered}
-use Rattle.mate_desk.specs.Outcome.{Report}
+use Rattle.desk_words.specs.Order.{Ordered}
+use Rattle.desk_report.specs.Outcome.{Report}
 use Rattle.mate_desk.specs.Report.{OfRead, OfSound, OfText, Reports, ReportsOrder, ReportsWords}
-use Rattle.mate_desk.specs.Text.{Text, TextAt, whole}
-use Rattle.mate_desk.specs.Verdict.{IsVerdict, mate_line, no_mate_line}
-use Rattle.mate_desk.specs.declared.order.Order.{Order}
-use Rattle.mate_desk.specs.declared.order.Order.TheVariants.{Decide}
-use Rattle.mate_desk.specs.declared.order.UsageWhy.{UsageWhy}
-use Rattle.mate_desk.specs.declared.problem.Problem.{Problem}
+use Rattle.desk_report.specs.Text.{Text, TextAt, whole}
+use Rattle.desk_solve.specs.Verdict.{IsVerdict, mate_line, no_mate_line}
+use Rattle.desk_words.specs.declared.order.Order.{Order}
+use Rattle.desk_words.specs.declared.order.Order.TheVariants.{Decide}
+use Rattle.desk_words.specs.declared.order.UsageWhy.{UsageWhy}
+use Rattle.desk_report.specs.declared.problem.Problem.{Problem}
 use Rattle.mate_desk.proofs.OneReport.{once_text, once_words}
 
 -- what is reported of the text of a sound problem is what its order says

@@ -26,34 +26,34 @@ use Rattle.strategy_file.proofs.KeptFiles.{one_kept_file}
 use Rattle.strategy_file.specs.Claims.{claim_with}
 use Rattle.strategy_file.specs.Layout.{Refusal}
 use Rattle.strategy_file.specs.StrategyFile.{Charts}
-use Rattle.mate_desk.specs.Check.{CheckReports}
-use Rattle.mate_desk.specs.Decide.{DecideReports}
-use Rattle.mate_desk.specs.FaultLines.{not_kept_line, too_large_line, unsound_line}
-use Rattle.mate_desk.specs.FileClaim.{OfClaim, OfFile, OfFound, OfOutcome, file_refused}
-use Rattle.mate_desk.specs.First.{FirstReports}
-use Rattle.mate_desk.specs.Keep.{FileReports, KeepReports, KeptReports}
+use Rattle.desk_games.specs.Check.{CheckReports}
+use Rattle.desk_solve.specs.Decide.{DecideReports}
+use Rattle.desk_report.specs.FaultLines.{not_kept_line, too_large_line, unsound_line}
+use Rattle.desk_games.specs.FileClaim.{OfClaim, OfFile, OfFound, OfOutcome, file_refused}
+use Rattle.desk_solve.specs.First.{FirstReports}
+use Rattle.desk_games.specs.Keep.{FileReports, KeepReports, KeptReports}
 use Rattle.mate_desk.specs.Laws.{OneReport}
-use Rattle.mate_desk.specs.Least.{LeastFinds, LeastReports, LeastStops, least_line}
-use Rattle.mate_desk.specs.Order.{ReadsNumber, FromNumber, WithName, WithNumber, DrillOrdered, FileOrdered, KeepOrdered, MovesOrdered, ReadsFile, ReadsMoves, ShowOrdered, Ordered, OrderedBehind, file_order_for, name_in, order_for, most_moves, most_budget, most_positions, most_seed, default_budget}
-use Rattle.mate_desk.specs.Outcome.{Report, done_with, over_budget, refusal_as}
-use Rattle.mate_desk.specs.Play.{PlayReports, PlayedReports, as_played, first_match}
+use Rattle.desk_solve.specs.Least.{LeastFinds, LeastReports, LeastStops, least_line}
+use Rattle.desk_words.specs.Order.{ReadsNumber, FromNumber, WithName, WithNumber, DrillOrdered, FileOrdered, KeepOrdered, MovesOrdered, ReadsFile, ReadsMoves, ShowOrdered, Ordered, OrderedBehind, file_order_for, name_in, order_for, most_moves, most_budget, most_positions, most_seed, default_budget}
+use Rattle.desk_report.specs.Outcome.{Report, done_with, over_budget, refusal_as}
+use Rattle.desk_games.specs.Play.{PlayReports, PlayedReports, as_played, first_match}
 use Rattle.mate_desk.specs.Report.{OfName, OfRead, OfSound, OfText, ReportsOrder, ReportsWords}
-use Rattle.mate_desk.specs.Resume.{GameReports, ResumeReports, claimed_match}
+use Rattle.desk_games.specs.Resume.{GameReports, ResumeReports, claimed_match}
 use Rattle.mate_desk.specs.Show.{IsCheckLine, ShowReports, live_line}
-use Rattle.mate_desk.specs.Text.{Text, whole, refused, AfterLine, ReadsLines}
-use Rattle.mate_desk.specs.Verdict.{ExceedsAt, IsVerdict, mate_line}
-use Rattle.mate_desk.specs.declared.order.Command.{Command}
-use Rattle.mate_desk.specs.declared.order.Command.TheVariants as commands
-use Rattle.mate_desk.specs.declared.order.Order.{Order}
-use Rattle.mate_desk.specs.declared.order.Order.TheVariants.{Decide, Least, First, Play, Keep, Check, Resume, Show, Drill}
-use Rattle.mate_desk.specs.declared.order.UsageWhy.{UsageWhy}
-use Rattle.mate_desk.specs.declared.order.UsageWhy.TheVariants.{NoCommand, Unknown, Count, Number, Limit, Name}
-use Rattle.mate_desk.specs.declared.problem.Problem.{Problem}
-use Rattle.mate_desk.specs.declared.status.Status.TheVariants as is
-use Rattle.mate_desk.proofs.Commands.{once_command}
-use Rattle.mate_desk.proofs.Drilled.{once_drill}
-use Rattle.mate_desk.proofs.Listing.{once_first}
-use Rattle.mate_desk.proofs.OneStep.{check_exceeds_once, exceeds_once, fits_exceeds, found_exceeds, found_once}
+use Rattle.desk_report.specs.Text.{Text, whole, refused, AfterLine, ReadsLines}
+use Rattle.desk_solve.specs.Verdict.{ExceedsAt, IsVerdict, mate_line}
+use Rattle.desk_words.specs.declared.order.Command.{Command}
+use Rattle.desk_words.specs.declared.order.Command.TheVariants as commands
+use Rattle.desk_words.specs.declared.order.Order.{Order}
+use Rattle.desk_words.specs.declared.order.Order.TheVariants.{Decide, Least, First, Play, Keep, Check, Resume, Show, Drill}
+use Rattle.desk_words.specs.declared.order.UsageWhy.{UsageWhy}
+use Rattle.desk_words.specs.declared.order.UsageWhy.TheVariants.{NoCommand, Unknown, Count, Number, Limit, Name}
+use Rattle.desk_report.specs.declared.problem.Problem.{Problem}
+use Rattle.desk_report.specs.declared.status.Status.TheVariants as is
+use Rattle.desk_words.proofs.Commands.{once_command}
+use Rattle.desk_solve.proofs.Drilled.{once_drill}
+use Rattle.desk_solve.proofs.Listing.{once_first}
+use Rattle.desk_solve.proofs.OneStep.{check_exceeds_once, exceeds_once, fits_exceeds, found_exceeds, found_once}
 
 -- a word is one number, or none for one reason
 once_number : (word : List ℕ) (low high : ℕ) (one other : Result ℕ UsageWhy) → ReadsNumber word low high one → ReadsNumber word low high other → one ≡ other

@@ -12,44 +12,37 @@ use Rattle.chess_game.specs.Unsoundness.{IsFirstUnsoundness}
 use Rattle.chess_game.specs.declared.unsoundness.Unsound.{Unsound}
 use Rattle.chess_text.specs.PositionText.{text_of_lines}
 use Rattle.game_report.specs.Taken.{TakesLines}
-use Rattle.mate_desk.specs.Check.{CheckReports}
-use Rattle.mate_desk.specs.Decide.{DecideReports}
-use Rattle.mate_desk.specs.Drill.{DrillReports}
-use Rattle.mate_desk.specs.FaultLines.{unsound_line}
-use Rattle.mate_desk.specs.FileClaim.{MissesFetch, OnFiles}
-use Rattle.mate_desk.specs.First.{FirstReports, HasNoFirstMove}
-use Rattle.mate_desk.specs.Keep.{HasFileToKeep, KeepReports, MissesKeep}
-use Rattle.mate_desk.specs.Least.{LeastReports}
-use Rattle.mate_desk.specs.Order.{Ordered, name_in, usage_line}
-use Rattle.mate_desk.specs.Outcome.{Ends, Leaves, KeepsFiles, NeverMisses, Report, Seen, Writes, WriteFailed, of_shelf, of_sink, refusal_as, reported_on}
+use Rattle.desk_games.specs.Check.{CheckReports}
+use Rattle.desk_solve.specs.Decide.{DecideReports}
+use Rattle.desk_solve.specs.Drill.{DrillReports}
+use Rattle.desk_report.specs.FaultLines.{unsound_line}
+use Rattle.desk_games.specs.FileClaim.{MissesFetch, OnFiles}
+use Rattle.desk_solve.specs.First.{FirstReports, HasNoFirstMove}
+use Rattle.desk_games.specs.Keep.{HasFileToKeep, KeepReports, MissesKeep}
+use Rattle.desk_solve.specs.Least.{LeastReports}
+use Rattle.desk_words.specs.Order.{Ordered, name_in, usage_line}
+use Rattle.desk_report.specs.Outcome.{Ends, Leaves, KeepsFiles, NeverMisses, Report, Seen, Writes, WriteFailed, of_shelf, of_sink, refusal_as, reported_on}
 use Rattle.mate_desk.specs.Report.{IsBehindText, MayLackMemory, MayMissShelf, OfName, OfText, OrderMayLack, Reports, ReportsOrder, TakesMemory}
-use Rattle.mate_desk.specs.Resume.{ResumeEnds, ResumeReports}
+use Rattle.desk_games.specs.Resume.{ResumeEnds, ResumeReports}
 use Rattle.mate_desk.specs.Run.{Given, IsLineDue, RunEnds, Takes}
 use Rattle.mate_desk.specs.Show.{ShowReports}
-use Rattle.mate_desk.specs.Text.{TextAt, whole, refused, is_end, refusal_line}
-use Rattle.mate_desk.specs.TextRead.{IsMissing, IsShort, TextRead}
-use Rattle.mate_desk.specs.Verdict.{HasNothingToPlay}
-use Rattle.mate_desk.specs.declared.order.Order.{Order}
-use Rattle.mate_desk.specs.declared.order.Order.TheVariants.{Decide, Least, First, Play, Keep, Check, Resume, Show, Drill}
-use Rattle.mate_desk.specs.declared.order.UsageWhy.{UsageWhy}
-use Rattle.mate_desk.specs.declared.problem.Problem.{Problem}
-use Rattle.mate_desk.specs.declared.status.Status.{Status}
-use Rattle.mate_desk.specs.declared.status.Status.TheVariants as is
-use Rattle.mate_desk.specs.declared.text.LineWhy.{LineWhy}
-use Rattle.mate_desk.specs.declared.text.LineWhy.TheVariants.{Missing}
-use Rattle.mate_desk.specs.declared.text.TextEnd.{TextEnd}
-use Rattle.mate_desk.specs.declared.text.TextEnd.TheVariants.{Fault, Refused}
+use Rattle.desk_report.specs.Text.{TextAt, whole, refused, is_end, refusal_line}
+use Rattle.desk_report.specs.TextRead.{IsMissing, IsShort, TextRead}
+use Rattle.desk_solve.specs.Verdict.{HasNothingToPlay}
+use Rattle.desk_words.specs.declared.order.Order.{Order}
+use Rattle.desk_words.specs.declared.order.Order.TheVariants.{Decide, Least, First, Play, Keep, Check, Resume, Show, Drill}
+use Rattle.desk_words.specs.declared.order.UsageWhy.{UsageWhy}
+use Rattle.desk_report.specs.declared.problem.Problem.{Problem}
+use Rattle.desk_report.specs.declared.status.Status.{Status}
+use Rattle.desk_report.specs.declared.status.Status.TheVariants as is
+use Rattle.desk_report.specs.declared.text.LineWhy.{LineWhy}
+use Rattle.desk_report.specs.declared.text.LineWhy.TheVariants.{Missing}
+use Rattle.desk_report.specs.declared.text.TextEnd.{TextEnd}
+use Rattle.desk_report.specs.declared.text.TextEnd.TheVariants.{Fault, Refused}
 use Rattle.mate_desk.proofs.Statuses.{IsOfText, keep_status, not_usage, order_status, resume_status}
-use Rattle.mate_desk.proofs.TextSteps.{known_rest}
-use Rattle.mate_desk.proofs.Writing.{at_sink, ends_as, no_read_fault, unchanged, with_source}
-
--- the files of a store, or none where it does not tell them
-abbrev pub files_of : Option Files → Files
-files_of told = unwrap_or told no_files
-
-pub known_files : (told : Option Files) → IfSome told (λ files. files ≡ files_of told)
-known_files None = tt
-known_files (Some files) = refl
+use Rattle.desk_games.proofs.Shelves.{files_of, known_files}
+use Rattle.desk_report.proofs.TextSteps.{known_rest}
+use Rattle.desk_report.proofs.Writing.{at_sink, ends_as, no_read_fault, unchanged, with_source}
 
 left_files : (told : Option Files) → Go told told (λ before after. after ≡ files_of told)
 left_files None = tt

@@ -11,33 +11,33 @@ use Rattle.mate_plan.specs.Claim.{Claim}
 use Rattle.strategy_file.specs.Claims.{claim_with}
 use Rattle.strategy_file.specs.Layout.{Refusal}
 use Rattle.strategy_file.specs.StrategyFile.{Charts}
-use Rattle.mate_desk.specs.Check.{CheckReports}
-use Rattle.mate_desk.specs.Decide.{DecideReports}
-use Rattle.mate_desk.specs.Drill.{DrillReports, drilled, state_after}
-use Rattle.mate_desk.specs.FileClaim.{OfClaim, OfFile, OfFound, OfOutcome}
-use Rattle.mate_desk.specs.First.{FirstReports}
-use Rattle.mate_desk.specs.Keep.{KeepReports}
+use Rattle.desk_games.specs.Check.{CheckReports}
+use Rattle.desk_solve.specs.Decide.{DecideReports}
+use Rattle.desk_solve.specs.Drill.{DrillReports, drilled, state_after}
+use Rattle.desk_games.specs.FileClaim.{OfClaim, OfFile, OfFound, OfOutcome}
+use Rattle.desk_solve.specs.First.{FirstReports}
+use Rattle.desk_games.specs.Keep.{KeepReports}
 use Rattle.mate_desk.specs.Laws.{FaultsAreCounted, MemoryLast, NoShelfFault, OrdersSome, UsageExactly}
-use Rattle.mate_desk.specs.Least.{LeastReports}
-use Rattle.mate_desk.specs.Order.{Ordered, as_order, name_in, usage_line}
-use Rattle.mate_desk.specs.Outcome.{Ends, Report, Seen, done_with, refusal_as}
-use Rattle.mate_desk.specs.Play.{PlayReports, status_of}
+use Rattle.desk_solve.specs.Least.{LeastReports}
+use Rattle.desk_words.specs.Order.{Ordered, as_order, name_in, usage_line}
+use Rattle.desk_report.specs.Outcome.{Ends, Report, Seen, done_with, refusal_as}
+use Rattle.desk_games.specs.Play.{PlayReports, status_of}
 use Rattle.mate_desk.specs.Report.{IsBehindText, OfName, OfRead, OfSound, OfText, OrderMayLack, OrderMayMiss, ReadsNoText, Reports, ReportsOrder, ReportsWords, TakesMemory, UsesNoShelf}
-use Rattle.mate_desk.specs.Resume.{GameReports, ResumeReports}
+use Rattle.desk_games.specs.Resume.{GameReports, ResumeReports}
 use Rattle.mate_desk.specs.Run.{RunEnds}
 use Rattle.mate_desk.specs.Show.{ShowReports}
-use Rattle.mate_desk.specs.Text.{Text, whole, refused}
-use Rattle.mate_desk.specs.Verdict.{mate_line}
-use Rattle.mate_desk.specs.declared.order.Order.{Order}
-use Rattle.mate_desk.specs.declared.order.Order.TheVariants.{Decide, Least, First, Play, Keep, Check, Resume, Show, Drill}
-use Rattle.mate_desk.specs.declared.order.TextOrder.{TextOrder}
-use Rattle.mate_desk.specs.declared.order.TextOrder.TheVariants as text_orders
-use Rattle.mate_desk.specs.declared.order.UsageWhy.{UsageWhy}
-use Rattle.mate_desk.specs.declared.problem.Problem.{Problem}
-use Rattle.mate_desk.specs.declared.status.Status.{Status}
-use Rattle.mate_desk.specs.declared.status.Status.TheVariants as is
+use Rattle.desk_report.specs.Text.{Text, whole, refused}
+use Rattle.desk_solve.specs.Verdict.{mate_line}
+use Rattle.desk_words.specs.declared.order.Order.{Order}
+use Rattle.desk_words.specs.declared.order.Order.TheVariants.{Decide, Least, First, Play, Keep, Check, Resume, Show, Drill}
+use Rattle.desk_words.specs.declared.order.TextOrder.{TextOrder}
+use Rattle.desk_words.specs.declared.order.TextOrder.TheVariants as text_orders
+use Rattle.desk_words.specs.declared.order.UsageWhy.{UsageWhy}
+use Rattle.desk_report.specs.declared.problem.Problem.{Problem}
+use Rattle.desk_report.specs.declared.status.Status.{Status}
+use Rattle.desk_report.specs.declared.status.Status.TheVariants as is
 use Rattle.mate_desk.proofs.OneReport.{once_words}
-use Rattle.mate_desk.proofs.Rooks.{drill_sound}
+use Rattle.desk_solve.proofs.Rooks.{drill_sound}
 
 -- what is reported of an order has another status than words that are none
 abbrev pub IsNotUsage : Report → Type 0

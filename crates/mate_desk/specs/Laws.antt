@@ -11,23 +11,23 @@ use Rattle.game_report.specs.Report as game
 use Rattle.mate_plan.specs.Claim.{Claim}
 use Rattle.winning_sets.specs.Reach.{Reach}
 use Rattle.winning_sets.specs.declared.names.StepName.{StepName}
-use Rattle.mate_desk.specs.Decide.{IsExact}
-use Rattle.mate_desk.specs.FileClaim.{OfFile}
-use Rattle.mate_desk.specs.Least.{least_line}
-use Rattle.mate_desk.specs.Order.{Ordered, name_in}
-use Rattle.mate_desk.specs.Outcome.{Report, Seen, WriteFailed, done_with, over_budget}
-use Rattle.mate_desk.specs.Play.{as_played, first_match}
+use Rattle.desk_solve.specs.Decide.{IsExact}
+use Rattle.desk_games.specs.FileClaim.{OfFile}
+use Rattle.desk_solve.specs.Least.{least_line}
+use Rattle.desk_words.specs.Order.{Ordered, name_in}
+use Rattle.desk_report.specs.Outcome.{Report, Seen, WriteFailed, done_with, over_budget}
+use Rattle.desk_games.specs.Play.{as_played, first_match}
 use Rattle.mate_desk.specs.Report.{Reports, TakesMemory, UsesNoShelf}
-use Rattle.mate_desk.specs.Resume.{claimed_match}
+use Rattle.desk_games.specs.Resume.{claimed_match}
 use Rattle.mate_desk.specs.Run.{RunEnds}
-use Rattle.mate_desk.specs.Text.{TextAt, white_mates, whole}
-use Rattle.mate_desk.specs.Verdict.{ExceedsAt, mate_line, no_mate_line}
-use Rattle.mate_desk.specs.declared.order.Order.{Order}
-use Rattle.mate_desk.specs.declared.order.Order.TheVariants as orders
-use Rattle.mate_desk.specs.declared.order.UsageWhy.{UsageWhy}
-use Rattle.mate_desk.specs.declared.problem.Problem.{Problem}
-use Rattle.mate_desk.specs.declared.status.Status.{Status}
-use Rattle.mate_desk.specs.declared.status.Status.TheVariants as is
+use Rattle.desk_report.specs.Text.{TextAt, white_mates, whole}
+use Rattle.desk_solve.specs.Verdict.{ExceedsAt, mate_line, no_mate_line}
+use Rattle.desk_words.specs.declared.order.Order.{Order}
+use Rattle.desk_words.specs.declared.order.Order.TheVariants as orders
+use Rattle.desk_words.specs.declared.order.UsageWhy.{UsageWhy}
+use Rattle.desk_report.specs.declared.problem.Problem.{Problem}
+use Rattle.desk_report.specs.declared.status.Status.{Status}
+use Rattle.desk_report.specs.declared.status.Status.TheVariants as is
 
 -- What `decide` wrote behind the bytes `old`: one of the two lines, the one exactly where White mates within n moves of his own, and the
 -- other exactly where he does not.
@@ -65,16 +65,6 @@ LeastWrites =
     (words : List (List ℕ)) (limit budget : ℕ) (p : Position) (old new : Seen) (out : List ℕ)
     → HasRun words (orders.Least limit budget) p old new out
     → (all : List ℕ) × (new.written ≡ Some all) × WritesLeast limit p out all
-
--- the text of a position, whatever comes behind it, is read as that position, with White to mate, and has so many lines
-abbrev pub TextIsRead : Type 0
-TextIsRead =
-    (p : Position) (rest : List ℕ) → IsWritable p
-    → TextAt (position_text p ++ rest) (whole (white_mates p (length (position_lines p))) (lines_of rest))
-
--- each text that is read has White to mate
-abbrev pub WhiteIsToMate : Type 0
-WhiteIsToMate = (bytes : List ℕ) (problem : Problem) (rest : Lines) → TextAt bytes (whole problem rest) → problem.winner ≡ White
 
 -- the status is that of words that are no order exactly where they are none
 abbrev pub UsageExactly : Type 0

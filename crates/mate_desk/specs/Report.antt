@@ -5,26 +5,26 @@ use Rattle.desk_base.specs.Lines.{Lines, ended, lines_of}
 use Rattle.game_rules.specs.Game.{Position, Sound}
 use Rattle.chess_game.specs.Unsoundness.{IsFirstUnsoundness}
 use Rattle.chess_game.specs.declared.unsoundness.Unsound.{Unsound}
-use Rattle.mate_desk.specs.Check.{CheckReports}
-use Rattle.mate_desk.specs.Decide.{DecideReports}
-use Rattle.mate_desk.specs.Drill.{DrillReports, IsDrilled}
-use Rattle.mate_desk.specs.FaultLines.{unsound_line}
-use Rattle.mate_desk.specs.FileClaim.{MissesFetch}
-use Rattle.mate_desk.specs.First.{FirstReports, HasNoFirstMove}
-use Rattle.mate_desk.specs.Keep.{HasFileToKeep, KeepReports}
-use Rattle.mate_desk.specs.Least.{LeastReports}
-use Rattle.mate_desk.specs.Order.{Ordered, name_in, usage_line}
-use Rattle.mate_desk.specs.Outcome.{NeverMisses, Report, refusal_as}
-use Rattle.mate_desk.specs.Play.{PlayReports}
-use Rattle.mate_desk.specs.Resume.{ResumeReports}
+use Rattle.desk_games.specs.Check.{CheckReports}
+use Rattle.desk_solve.specs.Decide.{DecideReports}
+use Rattle.desk_solve.specs.Drill.{DrillReports, IsDrilled}
+use Rattle.desk_report.specs.FaultLines.{unsound_line}
+use Rattle.desk_games.specs.FileClaim.{MissesFetch}
+use Rattle.desk_solve.specs.First.{FirstReports, HasNoFirstMove}
+use Rattle.desk_games.specs.Keep.{HasFileToKeep, KeepReports}
+use Rattle.desk_solve.specs.Least.{LeastReports}
+use Rattle.desk_words.specs.Order.{Ordered, name_in, usage_line}
+use Rattle.desk_report.specs.Outcome.{NeverMisses, Report, refusal_as}
+use Rattle.desk_games.specs.Play.{PlayReports}
+use Rattle.desk_games.specs.Resume.{ResumeReports}
 use Rattle.mate_desk.specs.Show.{ShowReports}
-use Rattle.mate_desk.specs.Text.{Text, TextAt, whole, refused, is_end, refusal_line}
-use Rattle.mate_desk.specs.Verdict.{HasNothingToPlay}
-use Rattle.mate_desk.specs.declared.order.Order.{Order}
-use Rattle.mate_desk.specs.declared.order.Order.TheVariants as orders
-use Rattle.mate_desk.specs.declared.order.UsageWhy.{UsageWhy}
-use Rattle.mate_desk.specs.declared.problem.Problem.{Problem}
-use Rattle.mate_desk.specs.declared.status.Status.TheVariants as is
+use Rattle.desk_report.specs.Text.{Text, TextAt, whole, refused, is_end, refusal_line}
+use Rattle.desk_solve.specs.Verdict.{HasNothingToPlay}
+use Rattle.desk_words.specs.declared.order.Order.{Order}
+use Rattle.desk_words.specs.declared.order.Order.TheVariants as orders
+use Rattle.desk_words.specs.declared.order.UsageWhy.{UsageWhy}
+use Rattle.desk_report.specs.declared.problem.Problem.{Problem}
+use Rattle.desk_report.specs.declared.status.Status.TheVariants as is
 
 -- the report on a position is that it is not sound, or else what `reports` says
 abbrev pub OfSound : (Report → Type 0) → Files → Position → Report → Type 0

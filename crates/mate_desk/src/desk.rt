@@ -1,25 +1,22 @@
 //! The top call.
 
 ghost use Rattle.std.specs.Prelude.{◌≡◌, ◌≢◌, ℕ, List, IfOk, Ok, Result, map, string_bytes};
-ghost use Rattle.mate_desk.specs.Order.{IsOrderOf, IsWithinLimits, Ordered, as_order};
-ghost use Rattle.mate_desk.specs.Outcome.{seen_of};
+ghost use Rattle.desk_words.specs.Order.{IsOrderOf, IsWithinLimits, Ordered, as_order};
+ghost use Rattle.desk_report.specs.Outcome.{seen_of};
 ghost use Rattle.mate_desk.specs.Report.{ReadsNoText, UsesNoShelf};
 ghost use Rattle.mate_desk.specs.Run.{RunEnds};
 
-use crate::check::check;
-use crate::decide::decide;
-use crate::drill::drill;
-use crate::fault_line::{refusal_line, refuse, unsound_line};
-use crate::first::first;
-use crate::keep::keep;
-use crate::least::least;
-use crate::order::{FILE_NAME, KEEP_NAME, Order, TextOrder, UsageWhy, order_of, word_at};
-use crate::play::play;
-use crate::problem::FileTask;
-use crate::resume::resume;
+use desk_games::check::check;
+use desk_solve::decide::decide;
+use desk_solve::drill::drill;
+use desk_report::{FileTask, Status, TextEnd, read_problem, refusal_line, refuse, unsound_line};
+use desk_solve::first::first;
+use desk_games::keep::keep;
+use desk_solve::least::least;
+use desk_words::{FILE_NAME, KEEP_NAME, Order, TextOrder, UsageWhy, order_of, word_at};
+use desk_games::play::play;
+use desk_games::resume::resume;
 use crate::show::show;
-use crate::status::Status;
-use crate::text::{TextEnd, read_problem};
 use chess_game::soundness;
 use desk_base::{LineReader, Shelf, Sink, Source};
 use std::alloc::Global;

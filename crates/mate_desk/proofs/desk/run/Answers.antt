@@ -1,6 +1,6 @@
 use Rattle.std.proofs.Common.{map, string_bytes, Ok, refl, subst}
-use Rattle.mate_desk.specs.Order.{Ordered}
-use Rattle.mate_desk.specs.declared.order.Order.{Order}
+use Rattle.desk_words.specs.Order.{Ordered}
+use Rattle.desk_words.specs.declared.order.Order.{Order}
 use Rattle.mate_desk.proofs.Reporting.{check_ends, drill_ends, resume_ends, usage_ends}
 use Rattle.mate_desk.proofs.Statuses.{no_shelfless, no_textless}
 use Rattle.mate_desk.proofs.desk.run.Goals as goal

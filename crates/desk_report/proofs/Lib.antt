@@ -1,0 +1,4 @@
+pub mod RoundTrip
+pub mod TextSteps
+pub mod WhiteToMate
+pub mod Writing
