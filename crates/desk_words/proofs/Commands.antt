@@ -3,7 +3,7 @@ use Rattle.std.proofs.Common.{◌≡◌, ℕ, List, Option, Some, None, if◌the
 use Rattle.std.specs.Prelude.{bytes_eq}
 use Rattle.desk_words.specs.Order.{IsCommand, name_of}
 use Rattle.desk_words.specs.declared.order.Command.{Command}
-use Rattle.desk_words.specs.declared.order.Command.TheVariants.{Decide, Least, First, Play, Keep, Check, Resume, Show, Drill}
+use Rattle.desk_words.specs.declared.order.Command.TheVariants.{Decide, Least, First, Play, Keep, Check, Resume, Show, Drill, Arith}
 
 -- the command of a name
 abbrev named : List ℕ → Option Command
@@ -15,7 +15,8 @@ named word =
     else (if bytes_eq word (codes "keep") then Some Keep
     else (if bytes_eq word (codes "check") then Some Check
     else (if bytes_eq word (codes "resume") then Some Resume
-    else (if bytes_eq word (codes "show") then Some Show else (if bytes_eq word (codes "drill") then Some Drill else None))))))))
+    else (if bytes_eq word (codes "show") then Some Show
+    else (if bytes_eq word (codes "drill") then Some Drill else (if bytes_eq word (codes "arith") then Some Arith else None)))))))))
 
 named_back : (command : Command) → named (name_of command) ≡ Some command
 named_back Decide = refl
@@ -27,6 +28,7 @@ named_back Check = refl
 named_back Resume = refl
 named_back Show = refl
 named_back Drill = refl
+named_back Arith = refl
 
 same_command : (one other : Command) → name_of one ≡ name_of other → one ≡ other
 same_command one other same = let e : Some one ≡ Some other = sym (named_back one) ∙ ap named same ∙ named_back other in cc

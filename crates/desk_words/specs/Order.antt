@@ -6,7 +6,7 @@ use Rattle.std.specs.Str.Parse.{digits_value}
 use Rattle.desk_words.specs.declared.order.Command.{Command}
 use Rattle.desk_words.specs.declared.order.Command.TheVariants as commands
 use Rattle.desk_words.specs.declared.order.Order.{Order}
-use Rattle.desk_words.specs.declared.order.Order.TheVariants.{Decide, Least, First, Play, Keep, Check, Resume, Show, Drill}
+use Rattle.desk_words.specs.declared.order.Order.TheVariants.{Decide, Least, First, Play, Keep, Check, Resume, Show, Drill, Arith}
 use Rattle.desk_words.specs.declared.order.TextOrder.{TextOrder}
 use Rattle.desk_words.specs.declared.order.TextOrder.TheVariants as text_orders
 use Rattle.desk_words.specs.declared.order.UsageWhy.{UsageWhy}
@@ -131,6 +131,12 @@ DrillOrdered (seed ∷ count ∷ []) answer =
     WithNumber seed 0 most_seed answer (λ s. WithNumber count 0 most_positions answer (λ k. answer ≡ Ok (Drill s k)))
 DrillOrdered (seed ∷ count ∷ word ∷ words) answer = answer ≡ Err Count
 
+-- what the words behind `arith` order: a budget, if there is one
+abbrev pub ArithOrdered : List (List ℕ) → Result Order UsageWhy → Type 0
+ArithOrdered [] answer = answer ≡ Ok (Arith default_budget)
+ArithOrdered (budget ∷ []) answer = WithNumber budget 1 most_budget answer (λ b. answer ≡ Ok (Arith b))
+ArithOrdered (budget ∷ word ∷ words) answer = answer ≡ Err Count
+
 -- the name of a command
 abbrev pub name_of : Command → List ℕ
 name_of commands.Decide = codes "decide"
@@ -142,6 +148,7 @@ name_of commands.Check = codes "check"
 name_of commands.Resume = codes "resume"
 name_of commands.Show = codes "show"
 name_of commands.Drill = codes "drill"
+name_of commands.Arith = codes "arith"
 
 -- the command that the word names, or that it names none
 abbrev pub IsCommand : List ℕ → Option Command → Type 0
@@ -159,6 +166,7 @@ OrderedBy commands.Check words answer = FileOrdered (λ budget. Check budget) wo
 OrderedBy commands.Resume words answer = FileOrdered (λ budget. Resume budget) words answer
 OrderedBy commands.Show words answer = ShowOrdered words answer
 OrderedBy commands.Drill words answer = DrillOrdered words answer
+OrderedBy commands.Arith words answer = ArithOrdered words answer
 
 abbrev pub OrderedBehind : Option Command → List (List ℕ) → Result Order UsageWhy → Type 0
 OrderedBehind (Some command) words answer = OrderedBy command words answer
@@ -180,6 +188,7 @@ name_in (Check budget) words = slice_get words 1
 name_in (Resume budget) words = slice_get words 1
 name_in Show words = None
 name_in (Drill seed count) words = None
+name_in (Arith budget) words = None
 
 -- an order of a text as an order
 abbrev pub as_order : TextOrder → Order
@@ -219,6 +228,7 @@ IsWithinLimits (Check budget) = IsBudget budget
 IsWithinLimits (Resume budget) = IsBudget budget
 IsWithinLimits Show = Unit {0}
 IsWithinLimits (Drill seed count) = (seed ≤ most_seed) × (count ≤ most_positions)
+IsWithinLimits (Arith budget) = IsBudget budget
 
 -- the fault line of words that are no order
 abbrev pub usage_line : UsageWhy → List ℕ

@@ -3,7 +3,7 @@
 ghost use Rattle.std.specs.Prelude.{◌≡◌, ◌↔◌, ◌<◌, ◌≤◌, map, slice_get, string_bytes, length, Some, IsTrue, IfOk};
 ghost use Rattle.std.specs.Char.{IsAsciiDigit};
 ghost use Rattle.std.specs.List.{All};
-ghost use Rattle.desk_words.specs.Order.{DrillOrdered, FileOrdered, IsBudget, IsCommand, IsName, IsNameByte, IsNaturalText, IsWithinLimits, KeepOrdered, MovesOrdered, Ordered, OrderedBy, ReadsFile, ReadsMoves, ReadsName, ReadsNumber, ShowOrdered, most_moves, most_seed, usage_line};
+ghost use Rattle.desk_words.specs.Order.{ArithOrdered, DrillOrdered, FileOrdered, IsBudget, IsCommand, IsName, IsNameByte, IsNaturalText, IsWithinLimits, KeepOrdered, MovesOrdered, Ordered, OrderedBy, ReadsFile, ReadsMoves, ReadsName, ReadsNumber, ShowOrdered, most_moves, most_seed, usage_line};
 
 /// The greatest number of moves that can be asked for.
 const MOST_MOVES: u64 = 20;
@@ -47,6 +47,8 @@ pub enum Order {
     Show,
     /// Say from how many of so many positions, which follow from the seed, White mates in one move.
     Drill { seed: u64, count: u8 },
+    /// Say whether the formula that the first line is holds over all integers. The budget bounds the states of each step.
+    Arith { budget: u32 },
 }
 
 /// An order of a position text, with the name that its words have.
@@ -135,6 +137,7 @@ enum Command {
     Resume,
     Show,
     Drill,
+    Arith,
 }
 
 /// The command of this name.
@@ -168,6 +171,9 @@ fn command_named(word: &str) -> Option<Command>
     if word == "drill" {
         return Some(Command::Drill);
     }
+    if word == "arith" {
+        return Some(Command::Arith);
+    }
     None
 }
 
@@ -186,6 +192,7 @@ fn order_behind(command: Command, words: &[String]) -> Result<Order, UsageWhy>
         Command::Resume => resume_order(words),
         Command::Show => show_order(words),
         Command::Drill => drill_order(words),
+        Command::Arith => arith_order(words),
     }
 }
 
@@ -318,6 +325,22 @@ fn drill_order(words: &[String]) -> Result<Order, UsageWhy>
         [seed, count] => Ok(Order::Drill {
             seed: read_seed(seed.as_str())?,
             count: read_count(count.as_str())?,
+        }),
+        _ => Err(UsageWhy::Count),
+    }
+}
+
+/// The order that the words behind `arith` are.
+fn arith_order(words: &[String]) -> Result<Order, UsageWhy>
+    ensures ordered { ArithOrdered (map string_bytes words.now) result }
+    ensures within { IfOk result IsWithinLimits }
+{
+    match words {
+        [] => Ok(Order::Arith {
+            budget: DEFAULT_BUDGET,
+        }),
+        [budget] => Ok(Order::Arith {
+            budget: read_budget(budget.as_str())?,
         }),
         _ => Err(UsageWhy::Count),
     }
