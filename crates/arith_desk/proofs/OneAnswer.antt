@@ -39,7 +39,7 @@ module _ (f : Tree) (x y : Var) (g h : Tree) (a : Asks f x g) (b : Asks f y h) w
       subst At (sym same_var) (subst Of (sym same_body) is)
 
 -- a formula that asks for a number holds where there is one
-asked_holds : (f : Tree) (x : Var) (g : Tree) (n : ℤ) → Asks f x g → HoldsWith x g n → IsTrueFormula f
+pub asked_holds : (f : Tree) (x : Var) (g : Tree) (n : ℤ) → Asks f x g → HoldsWith x g n → IsTrueFormula f
 asked_holds f x g n a holds = subst IsTrueFormula (sym a.is) (n, holds)
 
 pub one_truth : OneTruth

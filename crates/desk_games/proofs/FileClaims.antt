@@ -34,7 +34,7 @@ use Rattle.winning_sets.specs.Solve.{Solution}
 use Rattle.desk_games.specs.Check.{CheckReports}
 use Rattle.desk_games.specs.FileClaim.{Fetches, HasFileClaim, IsFetched, IsReadAs, LacksClaim, MissesFetch, OfFile, OfFound, OfOutcome, TellsChecked, TellsRead, no_claim_line, no_claim_status}
 use Rattle.desk_report.specs.Outcome.{Ends, NeverMisses, Report, Seen, Writes, WriteFailed, done_with, of_sink, of_streams, reported_on}
-use Rattle.desk_games.specs.Play.{EndsByLines}
+use Rattle.desk_report.specs.ByLines.{EndsByLines}
 use Rattle.desk_games.specs.Resume.{GameReports, LacksBefore, ResumeEnds, ResumeReports, claimed_match}
 use Rattle.desk_solve.specs.Verdict.{mate_line}
 use Rattle.desk_games.specs.declared.file_claim.NoClaim.{NoClaim}

@@ -26,7 +26,8 @@ use Rattle.winning_sets.specs.Claimed.{claim_of}
 use Rattle.winning_sets.specs.Solve.{IsOf, Solution}
 use Rattle.winning_sets.specs.declared.origin.Origin.TheVariants as origin
 use Rattle.desk_report.specs.Outcome.{DoesReport, Ends, NeverMisses, Report, Seen, Writes, of_sink, of_streams, reported_on}
-use Rattle.desk_games.specs.Play.{EndsByLines, Finishes, IsDueBy, PlayReports, as_played, first_match, status_of}
+use Rattle.desk_report.specs.ByLines.{EndsByLines, IsDueBy}
+use Rattle.desk_games.specs.Play.{Finishes, PlayReports, as_played, first_match, status_of}
 use Rattle.desk_games.specs.Resume.{claimed_match}
 use Rattle.desk_solve.specs.Verdict.{FitsBudget}
 use Rattle.desk_report.specs.declared.problem.Problem.{Problem}

@@ -1,20 +1,18 @@
 -- What is reported of `play`, and how it ends.
-use Rattle.std.specs.Prelude.{◌≡◌, ◌⊎◌, ℕ, List, [], ◌++◌, Option, IfSome, Result, Ok, Err, IsTrue, codes}
-use Rattle.std.specs.Io.KnownBytes.{Consumes}
-use Rattle.chess_text.specs.PositionText.{text_of_lines}
+use Rattle.std.specs.Prelude.{◌≡◌, ◌⊎◌, ℕ, List, [], Option, Result, Ok, Err, codes}
 use Rattle.desk_base.specs.Files.{Files}
-use Rattle.desk_base.specs.Lines.{Lines, lines_of}
+use Rattle.desk_base.specs.Lines.{Lines}
 use Rattle.game_rules.specs.Game.{Value}
 use Rattle.game_report.specs.Played.{is_short}
 use Rattle.game_report.specs.Report.{ByKept, IsReport, Match, ending_line}
 use Rattle.game_report.specs.Report as game
-use Rattle.game_report.specs.Taken.{TakesLines}
 use Rattle.game_report.specs.declared.play.Ending.{Ending}
 use Rattle.game_report.specs.declared.play.Ending.TheVariants.{Mated, Wide, Quit, NoLine, Many, CutAt, LongAt}
 use Rattle.game_report.specs.declared.play.GameError.{GameError}
 use Rattle.game_report.specs.declared.play.GameError.TheVariants.{Read, Write}
 use Rattle.winning_sets.specs.declared.names.StepName.{StepName}
-use Rattle.desk_report.specs.Outcome.{Ends, NeverMisses, Report, Seen, Writes, done_with, over_budget, reported_on}
+use Rattle.desk_report.specs.ByLines.{EndsByLines}
+use Rattle.desk_report.specs.Outcome.{NeverMisses, Report, Seen, Writes, done_with, over_budget}
 use Rattle.desk_solve.specs.Verdict.{ExceedsAt, FitsBudget, HasNothingToPlay, no_mate_line}
 use Rattle.desk_report.specs.declared.problem.Problem.{Problem}
 use Rattle.desk_report.specs.declared.status.Status.{Status}
@@ -52,20 +50,6 @@ abbrev pub PlayReports : ℕ → ℕ → Problem → Lines → Files → Report 
 PlayReports n budget problem lines files report =
     ((step : StepName) × ExceedsAt problem budget n step × (report ≡ over_budget files step))
     ⊎ (FitsBudget problem budget n × PlayedReports n problem lines files report)
-
--- a line is due behind these: what `reports` says of them ends because they end
-abbrev pub IsDueBy : (Lines → Report → Type 0) → (before : List (List ℕ)) → Type 0
-IsDueBy reports before = (report : Report) × reports (lines_of (text_of_lines before)) report × IsTrue report.short
-
--- How a command ends that reads lines, of whose input `held` was taken before, and not read; what is held in the end is `pending`. What is
--- reported of the lines, where memory may be wanting after these bytes, and where the shelf may fail then, is told.
-pub record EndsByLines (reports : Lines → Report → Type 0) (may_lack : (bytes : List ℕ) → Type 0) (may_miss : (bytes : List ℕ) → (keeping : Option (List ℕ)) → Type 0) (status : Status) (held pending : List ℕ) (old new : Seen) : Type 0 where
-  pub bytes : List ℕ
-  pub rest : List ℕ
-  pub taken : Consumes old.left new.left bytes
-  pub left : IfSome new.left (λ told. told ≡ rest)
-  pub takes : TakesLines (IsDueBy reports) (held ++ bytes) pending
-  pub ends : Ends status (reports (lines_of (reported_on status (held ++ bytes) rest))) (may_lack bytes) (may_miss bytes) old new
 
 -- where memory may be wanting: there is something to play, and nothing was taken
 pub record LacksAtFirst (n : ℕ) (problem : Problem) (bytes : List ℕ) : Type 0 where

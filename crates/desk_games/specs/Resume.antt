@@ -7,7 +7,8 @@ use Rattle.game_report.specs.Report as game
 use Rattle.mate_plan.specs.Claim.{Claim}
 use Rattle.desk_games.specs.FileClaim.{MissesFetch, OfFile}
 use Rattle.desk_report.specs.Outcome.{Report, Seen}
-use Rattle.desk_games.specs.Play.{EndsByLines, as_played}
+use Rattle.desk_report.specs.ByLines.{EndsByLines}
+use Rattle.desk_games.specs.Play.{as_played}
 use Rattle.desk_report.specs.declared.status.Status.{Status}
 
 -- the game of a claim in which nothing was moved yet

@@ -7,8 +7,8 @@ ghost use Rattle.winning_sets.specs.Claimed.{claim_of};
 ghost use Rattle.winning_sets.specs.declared.origin.Origin.TheVariants as origin;
 ghost use Rattle.desk_games.specs.FileClaim.{OnFiles};
 ghost use Rattle.desk_words.specs.Order.{IsBudget};
+ghost use Rattle.desk_report.specs.ByLines.{EndsByLines};
 ghost use Rattle.desk_report.specs.Outcome.{NeverMisses, of_streams, seen_of};
-ghost use Rattle.desk_games.specs.Play.{EndsByLines};
 ghost use Rattle.desk_games.specs.Resume.{GameReports, LacksBefore, ResumeEnds};
 
 use desk_report::{FileTask, Status, refuse};

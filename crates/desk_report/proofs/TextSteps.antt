@@ -94,7 +94,7 @@ pub known_rest : (after : Option (List ℕ)) → IfSome after (λ told. told ≡
 known_rest None = tt
 known_rest (Some bytes) = refl
 
-no_rest : (after : Option (List ℕ)) → IsAtEnd after → IfSome after (λ told. told ≡ [])
+pub no_rest : (after : Option (List ℕ)) → IsAtEnd after → IfSome after (λ told. told ≡ [])
 no_rest None end = tt
 no_rest (Some bytes) end = end
 

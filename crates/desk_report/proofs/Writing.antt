@@ -1,11 +1,11 @@
 -- What was written of a fault line and of a text.
-use Rattle.std.proofs.Common.{◌≡◌, ◌≢◌, ℕ, List, [], length, Option, Some, None, IfSome, Result, Ok, Err, OnOk, OnErr, inl, inr, refl, sym, ◌∙◌, subst, arith}
+use Rattle.std.proofs.Common.{◌≡◌, ◌≢◌, ℕ, List, [], ◌++◌, length, Option, Some, None, IfSome, Result, Ok, Err, OnOk, OnErr, inl, inr, refl, sym, ◌∙◌, subst, arith}
 use Rattle.std.specs.Io.KnownBytes.{Appends}
 use Rattle.std.proofs.lemmas.List.{take_all, append-nil}
 use Rattle.desk_base.specs.Faults.{HasRisen}
 use Rattle.desk_base.specs.Files.{Files, Go}
 use Rattle.desk_base.specs.Moves.{AppendsFront}
-use Rattle.desk_report.specs.Outcome.{DoesReport, Ends, NeverMisses, Report, Seen, Writes, of_shelf, of_sink, of_streams}
+use Rattle.desk_report.specs.Outcome.{DoesReport, Ends, NeverMisses, Report, Seen, Writes, of_shelf, of_sink, of_streams, reported_on}
 use Rattle.desk_report.specs.declared.status.Status.{Status}
 use Rattle.desk_report.specs.declared.status.Status.TheVariants as is
 
@@ -143,3 +143,19 @@ with_source is.ShelfFault reports may_lack may_miss old new (None, misses, miss)
 with_source is.ShelfFault reports may_lack may_miss old new (Some name, misses, miss) =
     (Some name, misses, record { failed = miss.failed; written = miss.written; files = miss.files })
 with_source is.Memory reports may_lack may_miss old new ends = (ends.0, record { written = ends.1.written; files = ends.1.files })
+
+-- where the source has not failed, the report is on all bytes
+pub on_all : (status : Status) (taken rest : List ℕ) → status ≢ is.ReadFault → reported_on status taken rest ≡ taken ++ rest
+on_all is.ReadFault taken rest not = absurd (not refl)
+on_all is.Usage taken rest not = refl
+on_all is.Done taken rest not = refl
+on_all is.Text taken rest not = refl
+on_all is.Unsound taken rest not = refl
+on_all is.WriteFault taken rest not = refl
+on_all is.ShelfFault taken rest not = refl
+on_all is.Budget taken rest not = refl
+on_all is.Wide taken rest not = refl
+on_all is.Memory taken rest not = refl
+on_all is.File taken rest not = refl
+on_all is.Ended taken rest not = refl
+on_all is.TooMany taken rest not = refl

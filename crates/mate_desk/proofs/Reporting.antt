@@ -42,7 +42,7 @@ use Rattle.desk_report.specs.declared.text.TextEnd.TheVariants.{Fault, Refused}
 use Rattle.mate_desk.proofs.Statuses.{IsOfText, keep_status, not_usage, order_status, resume_status}
 use Rattle.desk_games.proofs.Shelves.{files_of, known_files}
 use Rattle.desk_report.proofs.TextSteps.{known_rest}
-use Rattle.desk_report.proofs.Writing.{at_sink, ends_as, no_read_fault, unchanged, with_source}
+use Rattle.desk_report.proofs.Writing.{at_sink, ends_as, no_read_fault, on_all, unchanged, with_source}
 
 left_files : (told : Option Files) → Go told told (λ before after. after ≡ files_of told)
 left_files None = tt
@@ -98,22 +98,6 @@ takes_lines words files is.Memory taken pending not t = (pending, t)
 takes_lines words files is.File taken pending not t = (pending, t)
 takes_lines words files is.Ended taken pending not t = (pending, t)
 takes_lines words files is.TooMany taken pending not t = (pending, t)
-
--- where the source has not failed, the report is on all bytes
-on_all : (status : Status) (taken rest : List ℕ) → status ≢ is.ReadFault → reported_on status taken rest ≡ taken ++ rest
-on_all is.ReadFault taken rest not = absurd (not refl)
-on_all is.Usage taken rest not = refl
-on_all is.Done taken rest not = refl
-on_all is.Text taken rest not = refl
-on_all is.Unsound taken rest not = refl
-on_all is.WriteFault taken rest not = refl
-on_all is.ShelfFault taken rest not = refl
-on_all is.Budget taken rest not = refl
-on_all is.Wide taken rest not = refl
-on_all is.Memory taken rest not = refl
-on_all is.File taken rest not = refl
-on_all is.Ended taken rest not = refl
-on_all is.TooMany taken rest not = refl
 
 -- so a run of an order ends whose source has not failed
 pub run_ends : (words : List (List ℕ)) (status : Status) (old new : Seen) (given : Given old new) (pending : List ℕ) → TakesLines (IsLineDue words given.files) given.taken pending → status ≢ is.Usage → status ≢ is.ReadFault

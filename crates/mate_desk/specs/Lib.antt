@@ -3,6 +3,7 @@ pub mod Report
 pub mod Run
 pub mod Show
 pub use Rattle.desk_words.specs.Order
+pub use Rattle.desk_report.specs.ByLines
 pub use Rattle.desk_report.specs.Codes
 pub use Rattle.desk_report.specs.FaultLines
 pub use Rattle.desk_report.specs.Outcome
