@@ -8,7 +8,7 @@ use Rattle.game_rules.specs.Game.{Value}
 use Rattle.game_report.specs.Played.{is_short}
 use Rattle.game_report.specs.Report.{ByKept, IsReport, Match, ending_line}
 use Rattle.game_report.specs.Report as game
-use Rattle.game_report.specs.Taken.{TakesLines}
+use Rattle.desk_text.specs.Taken.{TakesLines}
 use Rattle.game_report.specs.declared.play.Ending.{Ending}
 use Rattle.game_report.specs.declared.play.Ending.TheVariants.{Mated, Wide, Quit, NoLine, Many, CutAt, LongAt}
 use Rattle.game_report.specs.declared.play.GameError.{GameError}
@@ -16,7 +16,7 @@ use Rattle.game_report.specs.declared.play.GameError.TheVariants.{Read, Write}
 use Rattle.winning_sets.specs.declared.names.StepName.{StepName}
 use Rattle.desk_report.specs.Outcome.{Ends, NeverMisses, Report, Seen, Writes, done_with, over_budget, reported_on}
 use Rattle.desk_solve.specs.Verdict.{ExceedsAt, FitsBudget, HasNothingToPlay, no_mate_line}
-use Rattle.desk_report.specs.declared.problem.Problem.{Problem}
+use Rattle.desk_text.specs.declared.problem.Problem.{Problem}
 use Rattle.desk_report.specs.declared.status.Status.{Status}
 use Rattle.desk_report.specs.declared.status.Status.TheVariants as is
 

@@ -13,7 +13,7 @@ use Rattle.white_player.proofs.FirstLemmas.{firsts_ray, firsts_value, line_first
 use Rattle.winning_sets.specs.Solve.{IsOf, Solution}
 use Rattle.desk_solve.specs.First.{Adds, AreLines, FirstReports, HasNoFirstMove, LinesReport, Listed, ManText, RayText, line_of}
 use Rattle.desk_report.specs.Outcome.{Report, done_with, over_budget}
-use Rattle.desk_report.specs.declared.problem.Problem.{Problem}
+use Rattle.desk_text.specs.declared.problem.Problem.{Problem}
 use Rattle.desk_solve.proofs.OneStep.{exceeds_once, fits_exceeds}
 
 -- a list of texts, and one text more

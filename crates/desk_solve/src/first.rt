@@ -8,7 +8,8 @@ ghost use Rattle.desk_solve.specs.First as specs;
 ghost use Rattle.desk_report.specs.Outcome.{Ends, NeverMisses, of_sink};
 ghost use Rattle.desk_solve.specs.Verdict.{IsTask};
 
-use desk_report::{Status, Task, print, print_error, push_large};
+use desk_report::{Status, print, print_error, push_large};
+use desk_text::Task;
 use crate::mates::won;
 use auto_search::{Few, Search};
 use chess_game::Frame;
