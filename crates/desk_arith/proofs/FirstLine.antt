@@ -10,15 +10,15 @@ use Rattle.desk_base.specs.Lines.{IsLine, Lines, full, lines_of, part_of}
 use Rattle.desk_base.specs.Reading.{Takes}
 use Rattle.desk_base.specs.declared.line.Line.TheVariants.{Full, End}
 use Rattle.desk_base.specs.declared.line.LineError.TheVariants as fails
-use Rattle.game_report.specs.Taken.{TakesLines}
+use Rattle.desk_text.specs.Taken.{TakesLines}
 use Rattle.desk_report.specs.ByLines.{IsDueBy}
 use Rattle.desk_report.specs.Outcome.{Ends, NeverMisses, Report, Seen, Writes, of_sink, of_streams, reported_on}
-use Rattle.desk_report.specs.Text.{is_end, refusal_line}
+use Rattle.desk_text.specs.Text.{is_end, refusal_line}
 use Rattle.desk_report.specs.declared.status.Status.{Status}
 use Rattle.desk_report.specs.declared.status.Status.TheVariants as is
-use Rattle.desk_report.specs.declared.text.LineWhy.{LineWhy}
-use Rattle.desk_report.specs.declared.text.LineWhy.TheVariants.{Long, Cut, Missing}
-use Rattle.desk_report.proofs.TextSteps.{known_rest, no_rest}
+use Rattle.desk_text.specs.declared.text.LineWhy.{LineWhy}
+use Rattle.desk_text.specs.declared.text.LineWhy.TheVariants.{Long, Cut, Missing}
+use Rattle.desk_text.proofs.TextSteps.{known_rest, no_rest}
 use Rattle.desk_report.proofs.Writing.{at_sink, ends_as, no_read_fault, on_all}
 use Rattle.desk_arith.specs.Arith.{ArithEnds, ArithReports, IsBehindLine, LineReports, refused_as}
 

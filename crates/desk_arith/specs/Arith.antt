@@ -11,11 +11,11 @@ use Rattle.desk_base.specs.Files.{Files}
 use Rattle.desk_base.specs.Lines.{IsLine, Lines, full, ended, cut, long}
 use Rattle.desk_report.specs.ByLines.{EndsByLines}
 use Rattle.desk_report.specs.Outcome.{NeverMisses, Report, Seen, done_with, refusal_as}
-use Rattle.desk_report.specs.Text.{is_end, refusal_line}
+use Rattle.desk_text.specs.Text.{is_end, refusal_line}
 use Rattle.desk_report.specs.declared.status.Status.{Status}
 use Rattle.desk_report.specs.declared.status.Status.TheVariants as is
-use Rattle.desk_report.specs.declared.text.LineWhy.{LineWhy}
-use Rattle.desk_report.specs.declared.text.LineWhy.TheVariants.{Long, Cut, Missing}
+use Rattle.desk_text.specs.declared.text.LineWhy.{LineWhy}
+use Rattle.desk_text.specs.declared.text.LineWhy.TheVariants.{Long, Cut, Missing}
 
 -- the line with a number, with which what the formula says there is one of holds
 abbrev pub witness_line : ℤ → List ℕ

@@ -8,7 +8,7 @@ ghost use Rattle.desk_base.specs.Files.{Files};
 ghost use Rattle.arith_desk.specs.Question.{IsQuestion};
 ghost use Rattle.desk_words.specs.Order.{IsBudget};
 ghost use Rattle.desk_report.specs.Outcome.{Ends, NeverMisses, Writes, of_sink, of_streams};
-ghost use Rattle.desk_report.specs.Text as texts;
+ghost use Rattle.desk_text.specs.Text as texts;
 ghost use Rattle.desk_arith.specs.Arith.{ArithEnds, FormulaReports, LineReports};
 ghost use Rattle.desk_arith.specs.Arith as specs;
 

@@ -40,7 +40,7 @@ use Rattle.desk_solve.specs.Verdict.{mate_line}
 use Rattle.desk_games.specs.declared.file_claim.NoClaim.{NoClaim}
 use Rattle.desk_games.specs.declared.file_claim.NoClaim.TheVariants.{Fault, Missing, TooLong, Cut, Byte, Extra, NotKept, Over, Memory}
 use Rattle.desk_report.specs.declared.status.Status.{Status}
-use Rattle.desk_report.proofs.TextSteps.{known_rest}
+use Rattle.desk_text.proofs.TextSteps.{known_rest}
 use Rattle.desk_report.proofs.Writing.{at_files, at_sink, ends_as, go_same}
 
 -- two claims that are the same as a third are the same

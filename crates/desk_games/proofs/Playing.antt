@@ -16,7 +16,7 @@ use Rattle.game_report.specs.Laws.{seen, strategy_by}
 use Rattle.game_report.specs.Played.{IsDue, IsPlayed, Ports, is_short}
 use Rattle.game_report.specs.Report.{IsReport, Match, ending_line}
 use Rattle.game_report.specs.Report as game
-use Rattle.game_report.specs.Taken.{TakesLines}
+use Rattle.desk_text.specs.Taken.{TakesLines}
 use Rattle.game_report.specs.declared.play.Ending.{Ending}
 use Rattle.game_report.specs.declared.play.Ending.TheVariants.{Mated, Wide, Quit, NoLine, Many, CutAt, LongAt}
 use Rattle.game_report.specs.declared.play.GameError.{GameError}
@@ -30,9 +30,9 @@ use Rattle.desk_report.specs.ByLines.{EndsByLines, IsDueBy}
 use Rattle.desk_games.specs.Play.{Finishes, PlayReports, as_played, first_match, status_of}
 use Rattle.desk_games.specs.Resume.{claimed_match}
 use Rattle.desk_solve.specs.Verdict.{FitsBudget}
-use Rattle.desk_report.specs.declared.problem.Problem.{Problem}
+use Rattle.desk_text.specs.declared.problem.Problem.{Problem}
 use Rattle.desk_report.specs.declared.status.Status.{Status}
-use Rattle.desk_report.proofs.TextSteps.{known_rest}
+use Rattle.desk_text.proofs.TextSteps.{known_rest}
 use Rattle.desk_report.proofs.Writing.{at_sink, ends_as}
 
 -- a text, and a fault line behind it

@@ -10,7 +10,7 @@ use Rattle.winning_sets.specs.declared.names.StepName.{StepName}
 use Rattle.desk_report.specs.FaultLines.{too_large_line}
 use Rattle.desk_report.specs.Outcome.{Report, done_with, over_budget, refusal_as}
 use Rattle.desk_solve.specs.Verdict.{ExceedsAt, FitsBudget, mate_line, no_mate_line}
-use Rattle.desk_report.specs.declared.problem.Problem.{Problem}
+use Rattle.desk_text.specs.declared.problem.Problem.{Problem}
 use Rattle.desk_report.specs.declared.status.Status.TheVariants as is
 
 -- the bytes are the file of what is kept, and no more than a file may have

@@ -14,7 +14,7 @@ use Rattle.winning_sets.specs.declared.names.StepName.{StepName}
 use Rattle.desk_report.specs.ByLines.{EndsByLines}
 use Rattle.desk_report.specs.Outcome.{NeverMisses, Report, Seen, Writes, done_with, over_budget}
 use Rattle.desk_solve.specs.Verdict.{ExceedsAt, FitsBudget, HasNothingToPlay, no_mate_line}
-use Rattle.desk_report.specs.declared.problem.Problem.{Problem}
+use Rattle.desk_text.specs.declared.problem.Problem.{Problem}
 use Rattle.desk_report.specs.declared.status.Status.{Status}
 use Rattle.desk_report.specs.declared.status.Status.TheVariants as is
 

@@ -8,7 +8,8 @@ ghost use Rattle.desk_report.specs.Outcome.{Ends, of_shelf};
 
 use desk_solve::decide::verdict_line;
 use crate::file_claim::{fetch_claim, refuse_file};
-use desk_report::{FileTask, Status, print};
+use desk_report::{Status, print};
+use desk_text::FileTask;
 use desk_base::{Shelf, Sink};
 use std::alloc::Global;
 

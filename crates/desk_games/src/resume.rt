@@ -11,7 +11,8 @@ ghost use Rattle.desk_report.specs.ByLines.{EndsByLines};
 ghost use Rattle.desk_report.specs.Outcome.{NeverMisses, of_streams, seen_of};
 ghost use Rattle.desk_games.specs.Resume.{GameReports, LacksBefore, ResumeEnds};
 
-use desk_report::{FileTask, Status, refuse};
+use desk_report::{Status, refuse};
+use desk_text::FileTask;
 use crate::file_claim::{fetch_claim, refuse_file};
 use crate::play::finish;
 use chess_game::Frame;

@@ -1,4 +1,1 @@
-pub mod RoundTrip
-pub mod TextSteps
-pub mod WhiteToMate
 pub mod Writing

@@ -7,9 +7,9 @@ ghost use Rattle.chess_text.specs.ManLine.{side_letter};
 ghost use Rattle.strategy_file.specs.Layout as layout;
 ghost use Rattle.desk_report.specs.FaultLines as specs;
 ghost use Rattle.desk_report.specs.Outcome.{Writes};
-ghost use Rattle.desk_report.specs.Text as texts;
+ghost use Rattle.desk_text.specs.Text as texts;
 
-use crate::text::LineWhy;
+use desk_text::LineWhy;
 use chess_game::{Side, Unsound};
 use chess_text::line_buffer::LineBuffer;
 use claim_plan::{Rule, RuleAt};

@@ -1,26 +1,19 @@
 -- The lines of the winner's first moves, and that an input of `first` has one report.
-use Rattle.std.proofs.Common.{◌≡◌, ◌≢◌, ◌↔◌, ℕ, zero, suc, ◌+◌, ◌≤◌, Bool, false, IsTrue, List, [], ◌++◌, length, Option, Some, None, inl, inr, refl, sym, ap, subst, ◌∙◌, append_assoc, arith}
-use Rattle.std.specs.Prelude.{IsSomeAnd, codes, is_some}
+use Rattle.std.proofs.Common.{◌≡◌, ◌↔◌, ℕ, zero, suc, ◌+◌, ◌≤◌, Bool, false, IsTrue, List, [], ◌++◌, length, inl, inr, refl, sym, ap, subst, ◌∙◌, append_assoc, arith}
+use Rattle.std.specs.Prelude.{codes}
 use Rattle.std.proofs.lemmas.List.{append-nil}
-use Rattle.std.proofs.lemmas.Option.{same_Some}
 use Rattle.desk_base.specs.Files.{Files}
-use Rattle.game_rules.specs.Game.{Position, Value, man_at}
-use Rattle.game_rules.specs.Rays.{ray_of}
-use Rattle.game_rules.specs.declared.men.Man.{Man}
-use Rattle.game_rules.specs.declared.men.Place.TheVariants.{Gone}
-use Rattle.game_rules.specs.declared.men.Ray.{Ray}
+use Rattle.game_rules.specs.Game.{Position, Value}
 use Rattle.game_rules.specs.declared.men.Side.{Side}
 use Rattle.game_laws.proofs.SoundLemmas.{side_or_other}
 use Rattle.game_report.specs.Report.{all_squares}
-use Rattle.game_session.specs.Aims.{HasRay, IsMover}
-use Rattle.game_session.proofs.Picks.{mover_at}
-use Rattle.game_session.proofs.Tuples.{stands_live}
+use Rattle.game_session.specs.Aims.{HasRay}
 use Rattle.white_player.specs.Firsts.{Firsts}
 use Rattle.white_player.proofs.FirstLemmas.{firsts_ray, firsts_value, line_first, line_once}
 use Rattle.winning_sets.specs.Solve.{IsOf, Solution}
 use Rattle.desk_solve.specs.First.{Adds, AreLines, FirstReports, HasNoFirstMove, LinesReport, Listed, ManText, RayText, line_of}
 use Rattle.desk_report.specs.Outcome.{Report, done_with, over_budget}
-use Rattle.desk_report.specs.declared.problem.Problem.{Problem}
+use Rattle.desk_text.specs.declared.problem.Problem.{Problem}
 use Rattle.desk_solve.proofs.OneStep.{exceeds_once, fits_exceeds}
 
 -- a list of texts, and one text more
@@ -82,28 +75,6 @@ module _ (winner : Side) (n : ℕ) (p : Position) where
       let rays : (man ray : ℕ) → RayText winner n p man ray [] = λ man ray. inl (λ distance first. none (firsts_value winner n p man ray distance some first), refl) in
       let men : (before : ℕ) → ManText winner n p (suc before) [] = λ before. listed_empty (RayText winner n p (suc before)) (rays (suc before)) 8 in
       ([], listed_empty (λ before. ManText winner n p (suc before)) men (length p.men), refl)
-
--- whether a man has a ray of this number
-module _ (p : Position) (man number : ℕ) (him : Man) (is : man_at p man ≡ Some him) where
-  same_mover : (r : Ray) (mover : IsMover p man number r) → mover.man ≡ him
-  same_mover r mover = same_Some mover.man him (sym mover.is_man ∙ is)
-
-  moves_on : HasRay p man number → (him.side ≡ p.turn) × (him.place ≢ Gone)
-  moves_on ray =
-      let mover = ray.1 in
-      let same : mover.man ≡ him = same_mover ray.0 mover in
-      (subst (λ m. m.side ≡ p.turn) same mover.turn, subst (λ m. m.place ≢ Gone) same (stands_live mover.man mover.square mover.stands))
-
-  goes_on : (ray : HasRay p man number) → ray_of him.kind him.side number ≡ Some ray.0
-  goes_on ray = subst (λ m. ray_of m.kind m.side number ≡ Some ray.0) (same_mover ray.0 ray.1) ray.1.is_ray
-
-  pub idle_ray : ((him.side ≡ p.turn) × (him.place ≢ Gone) → ⊥) → IsTrue false ↔ HasRay p man number
-  idle_ray idle = (λ t. absurd (cc), λ ray. absurd (idle (moves_on ray)))
-
-  pub live_ray : (him.side ≡ p.turn) × (him.place ≢ Gone) → (found : Option Ray) (test : Bool) → test ≡ is_some found → found ≡ ray_of him.kind him.side number → IsTrue test ↔ HasRay p man number
-  live_ray live (Some r) test is_test is_ray =
-      (λ _. (r, mover_at p man number him r is (subst (λ o. IsSomeAnd o (λ m. (m.side ≡ p.turn) × (m.place ≢ Gone))) (sym is) live) (sym is_ray)), λ _. is_test)
-  live_ray live None test is_test is_ray = (λ t. absurd (cc), λ ray. let none : None ≡ Some ray.0 = is_ray ∙ goes_on ray in absurd (cc))
 
 -- a test that says no
 pub not_so : (P : Type 0) (test : Bool) → IsTrue test ↔ P → test ≡ false → ¬ P

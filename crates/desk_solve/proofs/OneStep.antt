@@ -10,7 +10,7 @@ use Rattle.winning_sets.specs.declared.names.SolveError.TheVariants as solve_err
 use Rattle.mate_plan.specs.declared.names.PartName.{PartName}
 use Rattle.winning_sets.specs.declared.names.StepName.{StepName}
 use Rattle.desk_solve.specs.Verdict.{ExceedsAt, FitsBudget}
-use Rattle.desk_report.specs.declared.problem.Problem.{Problem}
+use Rattle.desk_text.specs.declared.problem.Problem.{Problem}
 use Rattle.mate_plan.proofs.PlanOnce.{ends_once}
 
 -- the name without the number of moves

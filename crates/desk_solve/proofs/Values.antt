@@ -15,7 +15,7 @@ use Rattle.winning_sets.specs.declared.names.SolveError.TheVariants as solve_err
 use Rattle.winning_sets.specs.declared.names.StepName.{StepName}
 use Rattle.desk_solve.specs.Least.{LeastFinds}
 use Rattle.desk_solve.specs.Verdict.{ExceedsAt, FitsBudget, HasNothingToPlay, IsVerdict, mate_line, no_mate_line}
-use Rattle.desk_report.specs.declared.problem.Problem.{Problem}
+use Rattle.desk_text.specs.declared.problem.Problem.{Problem}
 
 -- with the winner to move and no move there is no step
 no_ply : (winner : Side) → last_ply winner winner 0 ≡ 0

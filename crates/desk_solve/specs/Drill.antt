@@ -12,7 +12,7 @@ use Rattle.winning_sets.specs.declared.names.StepName.{StepName}
 use Rattle.desk_words.specs.Order.{default_budget}
 use Rattle.desk_report.specs.Outcome.{Report, done_with, over_budget}
 use Rattle.desk_solve.specs.Verdict.{ExceedsAt, FitsBudget}
-use Rattle.desk_report.specs.declared.problem.Problem.{Problem}
+use Rattle.desk_text.specs.declared.problem.Problem.{Problem}
 
 -- the state after this one
 abbrev pub next_state : ℕ → ℕ

@@ -15,7 +15,7 @@ use Rattle.winning_sets.specs.declared.names.StepName.{StepName}
 use Rattle.winning_sets.specs.declared.origin.Origin.TheVariants.{Plan}
 use Rattle.desk_report.specs.Outcome.{Report, done_with, over_budget}
 use Rattle.desk_solve.specs.Verdict.{ExceedsAt, FitsBudget}
-use Rattle.desk_report.specs.declared.problem.Problem.{Problem}
+use Rattle.desk_text.specs.declared.problem.Problem.{Problem}
 
 -- the winner has no first move: no move of his own is left, or the loser is to move
 abbrev pub HasNoFirstMove : ℕ → Problem → Type 0

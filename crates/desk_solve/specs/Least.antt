@@ -6,7 +6,7 @@ use Rattle.game_rules.specs.Game as game
 use Rattle.winning_sets.specs.declared.names.StepName.{StepName}
 use Rattle.desk_report.specs.Outcome.{Report, done_with, over_budget}
 use Rattle.desk_solve.specs.Verdict.{ExceedsAt, FitsBudget}
-use Rattle.desk_report.specs.declared.problem.Problem.{Problem}
+use Rattle.desk_text.specs.declared.problem.Problem.{Problem}
 
 -- the line that says within how few moves the winner mates, or that he does not within the limit
 abbrev pub least_line : ℕ → Option ℕ → List ℕ

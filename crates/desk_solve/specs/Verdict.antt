@@ -7,8 +7,8 @@ use Rattle.winning_sets.specs.Solve.{IsWithin, IsSolveError}
 use Rattle.winning_sets.specs.declared.names.SolveError.TheVariants as solve_error
 use Rattle.winning_sets.specs.declared.names.StepName.{StepName}
 use Rattle.desk_words.specs.Order.{IsBudget, most_moves}
-use Rattle.desk_report.specs.declared.problem.Problem.{Problem}
-use Rattle.desk_report.specs.declared.problem.Task.{Task}
+use Rattle.desk_text.specs.declared.problem.Problem.{Problem}
+use Rattle.desk_text.specs.declared.problem.Task.{Task}
 
 -- the two lines of a verdict
 abbrev pub mate_line : ℕ → List ℕ

@@ -1,20 +1,21 @@
 //! The winner's first moves, ray by ray.
 
-ghost use Rattle.std.specs.Prelude.{◌≡◌, ◌≢◌, ◌↔◌, ◌≤◌, ◌+◌, ◌++◌, IfOk, IsTrue, OnOk, length, true, false};
+ghost use Rattle.std.specs.Prelude.{◌≡◌, ◌↔◌, ◌≤◌, ◌+◌, ◌++◌, IfOk, IsTrue, OnOk, length};
 ghost use Rattle.desk_base.specs.Files.{Files};
-ghost use Rattle.game_session.specs.Aims.{HasRay};
 ghost use Rattle.winning_sets.specs.declared.origin.Origin.TheVariants.{Plan};
 ghost use Rattle.desk_solve.specs.First.{Adds, AreLines, FirstReports, HasNoFirstMove, IsServed, ManText, MenText, RayText, line_of};
 ghost use Rattle.desk_solve.specs.First as specs;
 ghost use Rattle.desk_report.specs.Outcome.{Ends, NeverMisses, of_sink};
 ghost use Rattle.desk_solve.specs.Verdict.{IsTask};
 
-use desk_report::{Status, Task, print, print_error, push_large};
+use desk_report::{Status, print, print_error, push_large};
+use desk_text::Task;
 use crate::mates::won;
 use auto_search::{Few, Search};
-use chess_game::{Frame, Man, Place, Position, Side, ray as ray_of_kind};
+use chess_game::Frame;
 use chess_text::line_buffer::LineBuffer;
 use desk_base::Sink;
+use game_session::has_ray;
 use std::alloc::{AllocError, Global};
 use white_player::{FirstLine, first_moves};
 use winning_sets::{SolveError, Solved, Solver};
@@ -131,27 +132,6 @@ fn push_ray(
         }
         None => Ok(()),
     }
-}
-
-/// Whether the man is live and of the side.
-fn is_live_of(man: Man, side: Side) -> bool
-    ensures yes { result ≡ true → (man.side ≡ side) × (man.place ≢ Place.Gone) }
-    ensures no { result ≡ false → (man.side ≡ side) × (man.place ≢ Place.Gone) → ⊥ }
-{
-    man.side == side && man.place != Place::Gone
-}
-
-/// Whether the man is a live one of the side to move, and one of his rays has this number.
-fn has_ray(p: &Position, man: u8, number: u8) -> bool
-    requires first { 1 ≤ man }
-    requires last { man ≤ length p.now.men }
-    ensures { IsTrue result ↔ HasRay p.now man number }
-{
-    let him = p.man(man);
-    if !is_live_of(him, p.turn()) {
-        return false;
-    }
-    ray_of_kind(him.kind, him.side, number).is_some()
 }
 
 /// The line of a ray.

@@ -9,7 +9,8 @@ ghost use Rattle.desk_report.specs.Outcome.{Ends, NeverMisses, of_sink};
 ghost use Rattle.desk_solve.specs.Verdict.{HasNothingToPlay, IsTask};
 
 use crate::mates::{number_line, won};
-use desk_report::{Status, Task, print, print_error};
+use desk_report::{Status, print, print_error};
+use desk_text::Task;
 use chess_text::line_buffer::LineBuffer;
 use desk_base::Sink;
 use std::alloc::Global;

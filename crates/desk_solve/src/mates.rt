@@ -8,7 +8,7 @@ ghost use Rattle.winning_sets.specs.declared.names.StepName.{StepName};
 ghost use Rattle.desk_words.specs.Order.{most_moves};
 ghost use Rattle.desk_solve.specs.Verdict.{ExceedsAt, FitsBudget, HasNothingToPlay};
 
-use desk_report::Problem;
+use desk_text::Problem;
 use chess_text::line_buffer::LineBuffer;
 use winning_sets::{SolveError, Solved, Solver};
 

@@ -10,12 +10,12 @@ use Rattle.mate_desk.specs.Laws.{DecidesExactly}
 use Rattle.desk_words.specs.Order.{Ordered}
 use Rattle.desk_report.specs.Outcome.{Report}
 use Rattle.mate_desk.specs.Report.{OfRead, OfSound, OfText, Reports, ReportsOrder, ReportsWords}
-use Rattle.desk_report.specs.Text.{Text, TextAt, whole}
+use Rattle.desk_text.specs.Text.{Text, TextAt, whole}
 use Rattle.desk_solve.specs.Verdict.{IsVerdict, mate_line, no_mate_line}
 use Rattle.desk_words.specs.declared.order.Order.{Order}
 use Rattle.desk_words.specs.declared.order.Order.TheVariants.{Decide}
 use Rattle.desk_words.specs.declared.order.UsageWhy.{UsageWhy}
-use Rattle.desk_report.specs.declared.problem.Problem.{Problem}
+use Rattle.desk_text.specs.declared.problem.Problem.{Problem}
 use Rattle.mate_desk.proofs.OneReport.{once_text, once_words}
 
 -- what is reported of the text of a sound problem is what its order says

@@ -23,7 +23,7 @@ use Rattle.desk_report.specs.Outcome as desk
 use Rattle.desk_games.specs.Play.{PlayReports, first_match}
 use Rattle.desk_games.specs.Resume.{claimed_match}
 use Rattle.desk_words.specs.declared.order.Order.TheVariants.{Play}
-use Rattle.desk_report.specs.declared.problem.Problem.{Problem}
+use Rattle.desk_text.specs.declared.problem.Problem.{Problem}
 use Rattle.mate_desk.proofs.Exact.{of_text, of_words}
 
 -- after the winner's move of this number

@@ -25,10 +25,10 @@ use Rattle.mate_desk.specs.Laws.{CheckedAfterKeep, HasKept, ResumeKeeps, Resumes
 use Rattle.desk_report.specs.Outcome.{Report, Seen, done_with, over_budget}
 use Rattle.mate_desk.specs.Report.{OfRead, OfSound}
 use Rattle.desk_games.specs.Resume.{GameReports, ResumeReports}
-use Rattle.desk_report.specs.Text.{Text, whole, refused}
+use Rattle.desk_text.specs.Text.{Text, whole, refused}
 use Rattle.desk_solve.specs.Verdict.{mate_line}
 use Rattle.desk_words.specs.declared.order.Order.TheVariants.{Keep, Check, Resume}
-use Rattle.desk_report.specs.declared.problem.Problem.{Problem}
+use Rattle.desk_text.specs.declared.problem.Problem.{Problem}
 use Rattle.desk_report.specs.declared.status.Status.TheVariants as is
 use Rattle.mate_desk.proofs.Exact.{of_words, one_line}
 use Rattle.mate_desk.proofs.Following.{claim_keeps}

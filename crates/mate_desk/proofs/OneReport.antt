@@ -40,7 +40,7 @@ use Rattle.desk_games.specs.Play.{PlayReports, PlayedReports, as_played, first_m
 use Rattle.mate_desk.specs.Report.{OfName, OfRead, OfSound, OfText, ReportsOrder, ReportsWords}
 use Rattle.desk_games.specs.Resume.{GameReports, ResumeReports, claimed_match}
 use Rattle.mate_desk.specs.Show.{IsCheckLine, ShowReports, live_line}
-use Rattle.desk_report.specs.Text.{Text, whole, refused, AfterLine, ReadsLines}
+use Rattle.desk_text.specs.Text.{Text, whole, refused, AfterLine, ReadsLines}
 use Rattle.desk_solve.specs.Verdict.{ExceedsAt, IsVerdict, mate_line}
 use Rattle.desk_words.specs.declared.order.Command.{Command}
 use Rattle.desk_words.specs.declared.order.Command.TheVariants as commands
@@ -48,7 +48,7 @@ use Rattle.desk_words.specs.declared.order.Order.{Order}
 use Rattle.desk_words.specs.declared.order.Order.TheVariants.{Decide, Least, First, Play, Keep, Check, Resume, Show, Drill}
 use Rattle.desk_words.specs.declared.order.UsageWhy.{UsageWhy}
 use Rattle.desk_words.specs.declared.order.UsageWhy.TheVariants.{NoCommand, Unknown, Count, Number, Limit, Name}
-use Rattle.desk_report.specs.declared.problem.Problem.{Problem}
+use Rattle.desk_text.specs.declared.problem.Problem.{Problem}
 use Rattle.desk_report.specs.declared.status.Status.TheVariants as is
 use Rattle.desk_words.proofs.Commands.{once_command}
 use Rattle.desk_solve.proofs.Drilled.{once_drill}

@@ -9,16 +9,16 @@ use Rattle.desk_base.specs.Lines.{IsLine, ended, lines_of}
 use Rattle.game_rules.specs.Game.{Sound}
 use Rattle.chess_game.proofs.UnsoundnessLemmas.{number_cases}
 use Rattle.chess_text.specs.PositionText.{text_of_lines}
-use Rattle.game_report.specs.Taken.{TakesLines}
+use Rattle.desk_text.specs.Taken.{TakesLines}
 use Rattle.desk_words.specs.Order.{Ordered}
 use Rattle.desk_report.specs.Outcome.{NeverMisses, Report, Seen, of_streams, reported_on}
 use Rattle.desk_games.specs.Play.{LacksAtFirst, PlayEnds, PlayReports}
 use Rattle.mate_desk.specs.Report.{MayLackMemory, MayMissShelf, Reports}
 use Rattle.mate_desk.specs.Run.{Given, IsLineDue, RunEnds}
-use Rattle.desk_report.specs.Text.{TextAt, whole}
-use Rattle.desk_report.specs.TextRead.{TextRead}
+use Rattle.desk_text.specs.Text.{TextAt, whole}
+use Rattle.desk_text.specs.TextRead.{TextRead}
 use Rattle.desk_words.specs.declared.order.Order.TheVariants.{Play}
-use Rattle.desk_report.specs.declared.problem.Problem.{Problem}
+use Rattle.desk_text.specs.declared.problem.Problem.{Problem}
 use Rattle.desk_report.specs.declared.status.Status.{Status}
 use Rattle.desk_report.specs.declared.status.Status.TheVariants as is
 use Rattle.desk_games.proofs.Shelves.{files_of, known_files}

@@ -11,7 +11,7 @@ use Rattle.game_rules.specs.Game.{Sound}
 use Rattle.chess_game.specs.Unsoundness.{IsFirstUnsoundness}
 use Rattle.chess_game.specs.declared.unsoundness.Unsound.{Unsound}
 use Rattle.chess_text.specs.PositionText.{text_of_lines}
-use Rattle.game_report.specs.Taken.{TakesLines}
+use Rattle.desk_text.specs.Taken.{TakesLines}
 use Rattle.desk_games.specs.Check.{CheckReports}
 use Rattle.desk_solve.specs.Decide.{DecideReports}
 use Rattle.desk_solve.specs.Drill.{DrillReports}
@@ -26,22 +26,22 @@ use Rattle.mate_desk.specs.Report.{IsBehindText, MayLackMemory, MayMissShelf, Of
 use Rattle.desk_games.specs.Resume.{ResumeEnds, ResumeReports}
 use Rattle.mate_desk.specs.Run.{Given, IsLineDue, RunEnds, Takes}
 use Rattle.mate_desk.specs.Show.{ShowReports}
-use Rattle.desk_report.specs.Text.{TextAt, whole, refused, is_end, refusal_line}
-use Rattle.desk_report.specs.TextRead.{IsMissing, IsShort, TextRead}
+use Rattle.desk_text.specs.Text.{TextAt, whole, refused, is_end, refusal_line}
+use Rattle.desk_text.specs.TextRead.{IsMissing, IsShort, TextRead}
 use Rattle.desk_solve.specs.Verdict.{HasNothingToPlay}
 use Rattle.desk_words.specs.declared.order.Order.{Order}
 use Rattle.desk_words.specs.declared.order.Order.TheVariants.{Decide, Least, First, Play, Keep, Check, Resume, Show, Drill}
 use Rattle.desk_words.specs.declared.order.UsageWhy.{UsageWhy}
-use Rattle.desk_report.specs.declared.problem.Problem.{Problem}
+use Rattle.desk_text.specs.declared.problem.Problem.{Problem}
 use Rattle.desk_report.specs.declared.status.Status.{Status}
 use Rattle.desk_report.specs.declared.status.Status.TheVariants as is
-use Rattle.desk_report.specs.declared.text.LineWhy.{LineWhy}
-use Rattle.desk_report.specs.declared.text.LineWhy.TheVariants.{Missing}
-use Rattle.desk_report.specs.declared.text.TextEnd.{TextEnd}
-use Rattle.desk_report.specs.declared.text.TextEnd.TheVariants.{Fault, Refused}
+use Rattle.desk_text.specs.declared.text.LineWhy.{LineWhy}
+use Rattle.desk_text.specs.declared.text.LineWhy.TheVariants.{Missing}
+use Rattle.desk_text.specs.declared.text.TextEnd.{TextEnd}
+use Rattle.desk_text.specs.declared.text.TextEnd.TheVariants.{Fault, Refused}
 use Rattle.mate_desk.proofs.Statuses.{IsOfText, keep_status, not_usage, order_status, resume_status}
 use Rattle.desk_games.proofs.Shelves.{files_of, known_files}
-use Rattle.desk_report.proofs.TextSteps.{known_rest}
+use Rattle.desk_text.proofs.TextSteps.{known_rest}
 use Rattle.desk_report.proofs.Writing.{at_sink, ends_as, no_read_fault, on_all, unchanged, with_source}
 
 left_files : (told : Option Files) → Go told told (λ before after. after ≡ files_of told)

@@ -26,14 +26,14 @@ use Rattle.mate_desk.specs.Report.{IsBehindText, OfName, OfRead, OfSound, OfText
 use Rattle.desk_games.specs.Resume.{GameReports, ResumeReports}
 use Rattle.mate_desk.specs.Run.{RunEnds}
 use Rattle.mate_desk.specs.Show.{ShowReports}
-use Rattle.desk_report.specs.Text.{Text, whole, refused}
+use Rattle.desk_text.specs.Text.{Text, whole, refused}
 use Rattle.desk_solve.specs.Verdict.{mate_line}
 use Rattle.desk_words.specs.declared.order.Order.{Order}
 use Rattle.desk_words.specs.declared.order.Order.TheVariants.{Decide, Least, First, Play, Keep, Check, Resume, Show, Drill}
 use Rattle.desk_words.specs.declared.order.TextOrder.{TextOrder}
 use Rattle.desk_words.specs.declared.order.TextOrder.TheVariants as text_orders
 use Rattle.desk_words.specs.declared.order.UsageWhy.{UsageWhy}
-use Rattle.desk_report.specs.declared.problem.Problem.{Problem}
+use Rattle.desk_text.specs.declared.problem.Problem.{Problem}
 use Rattle.desk_report.specs.declared.status.Status.{Status}
 use Rattle.desk_report.specs.declared.status.Status.TheVariants as is
 use Rattle.mate_desk.proofs.OneReport.{once_words}

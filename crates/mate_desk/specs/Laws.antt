@@ -20,12 +20,12 @@ use Rattle.desk_games.specs.Play.{as_played, first_match}
 use Rattle.mate_desk.specs.Report.{Reports, TakesMemory, UsesNoShelf}
 use Rattle.desk_games.specs.Resume.{claimed_match}
 use Rattle.mate_desk.specs.Run.{RunEnds}
-use Rattle.desk_report.specs.Text.{TextAt, white_mates, whole}
+use Rattle.desk_text.specs.Text.{TextAt, white_mates, whole}
 use Rattle.desk_solve.specs.Verdict.{ExceedsAt, mate_line, no_mate_line}
 use Rattle.desk_words.specs.declared.order.Order.{Order}
 use Rattle.desk_words.specs.declared.order.Order.TheVariants as orders
 use Rattle.desk_words.specs.declared.order.UsageWhy.{UsageWhy}
-use Rattle.desk_report.specs.declared.problem.Problem.{Problem}
+use Rattle.desk_text.specs.declared.problem.Problem.{Problem}
 use Rattle.desk_report.specs.declared.status.Status.{Status}
 use Rattle.desk_report.specs.declared.status.Status.TheVariants as is
 

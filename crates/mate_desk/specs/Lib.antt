@@ -3,13 +3,14 @@ pub mod Report
 pub mod Run
 pub mod Show
 pub use Rattle.desk_words.specs.Order
+pub use Rattle.desk_text.specs.Taken
+pub use Rattle.desk_text.specs.Text
+pub use Rattle.desk_text.specs.TextLaws
+pub use Rattle.desk_text.specs.TextRead
 pub use Rattle.desk_report.specs.ByLines
 pub use Rattle.desk_report.specs.Codes
 pub use Rattle.desk_report.specs.FaultLines
 pub use Rattle.desk_report.specs.Outcome
-pub use Rattle.desk_report.specs.Text
-pub use Rattle.desk_report.specs.TextLaws
-pub use Rattle.desk_report.specs.TextRead
 pub use Rattle.desk_solve.specs.Decide
 pub use Rattle.desk_solve.specs.Drill
 pub use Rattle.desk_solve.specs.First

@@ -19,12 +19,12 @@ use Rattle.desk_report.specs.Outcome.{NeverMisses, Report, refusal_as}
 use Rattle.desk_games.specs.Play.{PlayReports}
 use Rattle.desk_games.specs.Resume.{ResumeReports}
 use Rattle.mate_desk.specs.Show.{ShowReports}
-use Rattle.desk_report.specs.Text.{Text, TextAt, whole, refused, is_end, refusal_line}
+use Rattle.desk_text.specs.Text.{Text, TextAt, whole, refused, is_end, refusal_line}
 use Rattle.desk_solve.specs.Verdict.{HasNothingToPlay}
 use Rattle.desk_words.specs.declared.order.Order.{Order}
 use Rattle.desk_words.specs.declared.order.Order.TheVariants as orders
 use Rattle.desk_words.specs.declared.order.UsageWhy.{UsageWhy}
-use Rattle.desk_report.specs.declared.problem.Problem.{Problem}
+use Rattle.desk_text.specs.declared.problem.Problem.{Problem}
 use Rattle.desk_report.specs.declared.status.Status.TheVariants as is
 
 -- the report on a position is that it is not sound, or else what `reports` says

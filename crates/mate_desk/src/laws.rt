@@ -1,6 +1,6 @@
 //! Laws of a run, each the contract of a function that does nothing. They are of the relation that the contract of `run` names.
 
-ghost use Rattle.desk_report.specs.TextLaws.{TextIsRead, WhiteIsToMate};
+ghost use Rattle.desk_text.specs.TextLaws.{TextIsRead, WhiteIsToMate};
 ghost use Rattle.mate_desk.specs.Laws.{CheckedAfterKeep, DecidesExactly, DecideWrites, FaultsAreCounted, LeastWrites, MemoryLast, NoShelfFault, OneReport, PlayKeeps, ResumeKeeps, UsageExactly};
 
 /// A run of `decide` that is done, on the text of a sound position and whatever comes behind it, writes `mate in n` exactly where White

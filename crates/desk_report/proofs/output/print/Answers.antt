@@ -1,7 +1,7 @@
 use Rattle.std.proofs.Common.{refl}
-use Rattle.mate_desk.specs.Outcome.{done_with}
-use Rattle.mate_desk.proofs.Writing.{text_written}
-use Rattle.mate_desk.proofs.output.print.Goals as goal
+use Rattle.desk_report.specs.Outcome.{done_with}
+use Rattle.desk_report.proofs.Writing.{text_written}
+use Rattle.desk_report.proofs.output.print.Goals as goal
 
 pub returns-in-Ok : goal.returns-in-Ok
 returns-in-Ok g c = record {

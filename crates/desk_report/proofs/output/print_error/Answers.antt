@@ -1,6 +1,6 @@
 use Rattle.std.proofs.Common.{refl}
-use Rattle.mate_desk.specs.Outcome.{over_budget}
-use Rattle.mate_desk.proofs.output.print_error.Goals as goal
+use Rattle.desk_report.specs.Outcome.{over_budget}
+use Rattle.desk_report.proofs.output.print_error.Goals as goal
 
 pub returns-in-Over : goal.returns-in-Over
 returns-in-Over g c = record {

@@ -5,7 +5,7 @@ use Rattle.game_rules.specs.Game.{Value}
 use Rattle.desk_solve.specs.Drill.{DrillFinds, drilled, next_state, problem_of, state_after}
 use Rattle.desk_words.specs.Order.{default_budget}
 use Rattle.desk_solve.specs.Verdict.{ExceedsAt, FitsBudget}
-use Rattle.desk_report.specs.declared.problem.Problem.{Problem}
+use Rattle.desk_text.specs.declared.problem.Problem.{Problem}
 use Rattle.desk_solve.proofs.Drilled.{finds_more}
 use Rattle.desk_solve.proofs.Rooks.{drill_sound}
 use Rattle.desk_solve.proofs.drill.count_mates.Goals as goal

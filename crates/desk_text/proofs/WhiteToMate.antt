@@ -6,9 +6,9 @@ use Rattle.chess_text.specs.PositionText.{Turnout}
 use Rattle.chess_text.specs.PositionText as turnouts
 use Rattle.chess_text.specs.declared.reader.Stage.{Stage}
 use Rattle.chess_text.specs.declared.reader.Stage.TheVariants.{Header}
-use Rattle.desk_report.specs.TextLaws.{WhiteIsToMate}
-use Rattle.desk_report.specs.Text.{AfterLine, ReadsLines, white_mates, whole}
-use Rattle.desk_report.specs.declared.problem.Problem.{Problem}
+use Rattle.desk_text.specs.TextLaws.{WhiteIsToMate}
+use Rattle.desk_text.specs.Text.{AfterLine, ReadsLines, white_mates, whole}
+use Rattle.desk_text.specs.declared.problem.Problem.{Problem}
 
 module _ (problem : Problem) (behind : Lines) where
   white_after : (turnout : Turnout) (number : ℕ) (rest : Lines) (F : Stage → Type 0) → ((next : Stage) → F next → problem.winner ≡ White) → AfterLine turnout number rest (whole problem behind) F → problem.winner ≡ White

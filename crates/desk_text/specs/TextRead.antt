@@ -3,13 +3,13 @@ use Rattle.std.specs.Prelude.{◌≡◌, ℕ, ◌+◌, List, ◌++◌, length, O
 use Rattle.std.specs.Io.KnownBytes.{Consumes}
 use Rattle.chess_text.specs.PositionText.{text_of_lines}
 use Rattle.desk_base.specs.Lines.{lines_of}
-use Rattle.game_report.specs.Taken.{TakesLines}
-use Rattle.desk_report.specs.Text.{TextAt, whole, refused, is_end}
-use Rattle.desk_report.specs.declared.problem.Problem.{Problem}
-use Rattle.desk_report.specs.declared.text.LineWhy.{LineWhy}
-use Rattle.desk_report.specs.declared.text.LineWhy.TheVariants.{Missing}
-use Rattle.desk_report.specs.declared.text.TextEnd.{TextEnd}
-use Rattle.desk_report.specs.declared.text.TextEnd.TheVariants.{Fault, Refused}
+use Rattle.desk_text.specs.Taken.{TakesLines}
+use Rattle.desk_text.specs.Text.{TextAt, whole, refused, is_end}
+use Rattle.desk_text.specs.declared.problem.Problem.{Problem}
+use Rattle.desk_text.specs.declared.text.LineWhy.{LineWhy}
+use Rattle.desk_text.specs.declared.text.LineWhy.TheVariants.{Missing}
+use Rattle.desk_text.specs.declared.text.TextEnd.{TextEnd}
+use Rattle.desk_text.specs.declared.text.TextEnd.TheVariants.{Fault, Refused}
 
 -- these bytes are no text because they end
 pub record IsShort (bytes : List ℕ) : Type 0 where

@@ -9,9 +9,9 @@ use Rattle.chess_text.specs.PositionText as turnouts
 use Rattle.chess_text.specs.declared.man_line.TextWhy.TheVariants as grammar
 use Rattle.chess_text.specs.declared.reader.Stage.{Stage}
 use Rattle.chess_text.specs.declared.reader.Stage.TheVariants.{Header}
-use Rattle.desk_report.specs.declared.problem.Problem.{Problem}
-use Rattle.desk_report.specs.declared.text.LineWhy.{LineWhy}
-use Rattle.desk_report.specs.declared.text.LineWhy.TheVariants.{Grammar, Long, Cut, Missing}
+use Rattle.desk_text.specs.declared.problem.Problem.{Problem}
+use Rattle.desk_text.specs.declared.text.LineWhy.{LineWhy}
+use Rattle.desk_text.specs.declared.text.LineWhy.TheVariants.{Grammar, Long, Cut, Missing}
 
 -- What an input begins with: the text of a problem, and the lines that come after it, or the first line that is refused.
 pub data Text : Type 0 where

@@ -1,6 +1,6 @@
 use Rattle.std.proofs.Common.{sym, ◌∙◌, arith}
-use Rattle.desk_report.proofs.TextSteps.{fed_more, fed_whole, answer_more, answer_whole, line_read, goes_on, is_whole, is_wrong, is_missing, is_cut, is_long, is_fault}
-use Rattle.desk_report.proofs.text.read_problem.Goals as goal
+use Rattle.desk_text.proofs.TextSteps.{fed_more, fed_whole, answer_more, answer_whole, line_read, goes_on, is_whole, is_wrong, is_missing, is_cut, is_long, is_fault}
+use Rattle.desk_text.proofs.text.read_problem.Goals as goal
 
 pub loop-text-preserved : goal.loop-text-preserved
 loop-text-preserved g c =

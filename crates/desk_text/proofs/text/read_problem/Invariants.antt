@@ -1,6 +1,6 @@
 use Rattle.std.proofs.Common.{◌≡◌, ◌+◌, ◌≤◌, None}
-use Rattle.desk_report.proofs.TextSteps.{SoFar, IsFew, lines_left}
-use Rattle.desk_report.proofs.text.read_problem.Given as goal
+use Rattle.desk_text.proofs.TextSteps.{SoFar, IsFew, lines_left}
+use Rattle.desk_text.proofs.text.read_problem.Given as goal
 
 abbrev pub invariant-loop-text : goal.invariant-loop-text
 invariant-loop-text g l =

@@ -4,8 +4,8 @@ use Rattle.desk_base.specs.Lines.{Lines, lines_of}
 use Rattle.game_rules.specs.Game.{Position}
 use Rattle.game_rules.specs.declared.men.Side.TheVariants.{White}
 use Rattle.chess_text.specs.PositionText.{IsWritable, position_lines, position_text}
-use Rattle.desk_report.specs.Text.{TextAt, white_mates, whole}
-use Rattle.desk_report.specs.declared.problem.Problem.{Problem}
+use Rattle.desk_text.specs.Text.{TextAt, white_mates, whole}
+use Rattle.desk_text.specs.declared.problem.Problem.{Problem}
 
 -- the text of a position, whatever comes behind it, is read as that position, with White to mate, and has so many lines
 abbrev pub TextIsRead : Type 0

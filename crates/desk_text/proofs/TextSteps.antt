@@ -21,12 +21,12 @@ use Rattle.chess_text.specs.declared.reader.Stage.{Stage}
 use Rattle.chess_text.specs.declared.reader.Stage.TheVariants as stages
 use Rattle.chess_text.specs.declared.reader.Fed.{Fed}
 use Rattle.chess_text.specs.declared.reader.Fed.TheVariants.{More, Whole}
-use Rattle.game_report.specs.Taken.{TakesLines}
-use Rattle.desk_report.specs.Text.{Text, white_mates, whole, refused, AfterLine, ReadsLines, TextAt, is_end}
-use Rattle.desk_report.specs.TextRead.{IsMissing, TextRead}
-use Rattle.desk_report.specs.declared.text.LineWhy.{LineWhy}
-use Rattle.desk_report.specs.declared.text.LineWhy.TheVariants.{Grammar, Long, Cut, Missing}
-use Rattle.desk_report.specs.declared.text.TextEnd.TheVariants.{Fault, Refused}
+use Rattle.desk_text.specs.Taken.{TakesLines}
+use Rattle.desk_text.specs.Text.{Text, white_mates, whole, refused, AfterLine, ReadsLines, TextAt, is_end}
+use Rattle.desk_text.specs.TextRead.{IsMissing, TextRead}
+use Rattle.desk_text.specs.declared.text.LineWhy.{LineWhy}
+use Rattle.desk_text.specs.declared.text.LineWhy.TheVariants.{Grammar, Long, Cut, Missing}
+use Rattle.desk_text.specs.declared.text.TextEnd.TheVariants.{Fault, Refused}
 
 -- how many lines may come before the last
 abbrev pub lines_left : Stage → ℕ

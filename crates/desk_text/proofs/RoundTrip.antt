@@ -23,8 +23,8 @@ use Rattle.chess_text.specs.PositionText as turnouts
 use Rattle.chess_text.specs.declared.reader.Stage.{Stage}
 use Rattle.chess_text.specs.declared.reader.Stage.TheVariants.{Header}
 use Rattle.chess_text.proofs.PositionLemmas.{spelled_is_accepted}
-use Rattle.desk_report.specs.TextLaws.{TextIsRead}
-use Rattle.desk_report.specs.Text.{ReadsLines, white_mates, whole}
+use Rattle.desk_text.specs.TextLaws.{TextIsRead}
+use Rattle.desk_text.specs.Text.{ReadsLines, white_mates, whole}
 
 -- bytes of which none is LF, at most so many
 record IsShort (bytes : List ℕ) (most : ℕ) : Type 0 where

@@ -2,8 +2,8 @@
 
 ghost use Rattle.std.specs.Prelude.{◌≡◌, ℕ, ◌+◌, ◌≤◌, [], length, IsErrOf, IfOk, None};
 ghost use Rattle.desk_base.specs.Faults.{HasRisen};
-ghost use Rattle.desk_report.specs.Text.{why_word};
-ghost use Rattle.desk_report.specs.TextRead.{TextRead};
+ghost use Rattle.desk_text.specs.Text.{why_word};
+ghost use Rattle.desk_text.specs.TextRead.{TextRead};
 
 use crate::problem::Problem;
 use chess_game::Side;
