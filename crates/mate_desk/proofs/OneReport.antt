@@ -34,7 +34,7 @@ use Rattle.desk_solve.specs.First.{FirstReports}
 use Rattle.desk_games.specs.Keep.{FileReports, KeepReports, KeptReports}
 use Rattle.mate_desk.specs.Laws.{OneReport}
 use Rattle.desk_solve.specs.Least.{LeastFinds, LeastReports, LeastStops, least_line}
-use Rattle.desk_words.specs.Order.{ReadsNumber, FromNumber, WithName, WithNumber, DrillOrdered, FileOrdered, KeepOrdered, MovesOrdered, ReadsFile, ReadsMoves, ShowOrdered, Ordered, OrderedBehind, file_order_for, name_in, order_for, most_moves, most_budget, most_positions, most_seed, default_budget}
+use Rattle.desk_words.specs.Order.{ReadsNumber, FromNumber, WithName, WithNumber, ArithOrdered, DrillOrdered, FileOrdered, KeepOrdered, MovesOrdered, ReadsFile, ReadsMoves, ShowOrdered, Ordered, OrderedBehind, file_order_for, name_in, order_for, most_moves, most_budget, most_positions, most_seed, default_budget}
 use Rattle.desk_report.specs.Outcome.{Report, done_with, over_budget, refusal_as}
 use Rattle.desk_games.specs.Play.{PlayReports, PlayedReports, as_played, first_match}
 use Rattle.mate_desk.specs.Report.{OfName, OfRead, OfSound, OfText, ReportsOrder, ReportsWords}
@@ -45,12 +45,13 @@ use Rattle.desk_solve.specs.Verdict.{ExceedsAt, IsVerdict, mate_line}
 use Rattle.desk_words.specs.declared.order.Command.{Command}
 use Rattle.desk_words.specs.declared.order.Command.TheVariants as commands
 use Rattle.desk_words.specs.declared.order.Order.{Order}
-use Rattle.desk_words.specs.declared.order.Order.TheVariants.{Decide, Least, First, Play, Keep, Check, Resume, Show, Drill}
+use Rattle.desk_words.specs.declared.order.Order.TheVariants.{Decide, Least, First, Play, Keep, Check, Resume, Show, Drill, Arith}
 use Rattle.desk_words.specs.declared.order.UsageWhy.{UsageWhy}
 use Rattle.desk_words.specs.declared.order.UsageWhy.TheVariants.{NoCommand, Unknown, Count, Number, Limit, Name}
 use Rattle.desk_text.specs.declared.problem.Problem.{Problem}
 use Rattle.desk_report.specs.declared.status.Status.TheVariants as is
 use Rattle.desk_words.proofs.Commands.{once_command}
+use Rattle.desk_arith.proofs.Once.{once_arith}
 use Rattle.desk_solve.proofs.Drilled.{once_drill}
 use Rattle.desk_solve.proofs.Listing.{once_first}
 use Rattle.desk_solve.proofs.OneStep.{check_exceeds_once, exceeds_once, fits_exceeds, found_exceeds, found_once}
@@ -154,6 +155,12 @@ module _ (one other : Result Order UsageWhy) where
       a b
   once_drilled (seed ∷ count ∷ word ∷ words) a b = a ∙ sym b
 
+  once_asked : (words : List (List ℕ)) → ArithOrdered words one → ArithOrdered words other → one ≡ other
+  once_asked [] a b = a ∙ sym b
+  once_asked (budget ∷ []) a b =
+      with_number one other budget 1 most_budget (λ k. one ≡ Ok (Arith k)) (λ k. other ≡ Ok (Arith k)) (λ k u v. u ∙ sym v) a b
+  once_asked (budget ∷ word ∷ words) a b = a ∙ sym b
+
   once_behind : (command : Option Command) (words : List (List ℕ)) → OrderedBehind command words one → OrderedBehind command words other → one ≡ other
   once_behind (Some commands.Decide) words a b = once_ordered (λ moves budget. Decide moves budget) words a b
   once_behind (Some commands.Least) words a b = once_ordered (λ limit budget. Least limit budget) words a b
@@ -164,6 +171,7 @@ module _ (one other : Result Order UsageWhy) where
   once_behind (Some commands.Resume) words a b = once_of_file (λ budget. Resume budget) words a b
   once_behind (Some commands.Show) words a b = once_show words a b
   once_behind (Some commands.Drill) words a b = once_drilled words a b
+  once_behind (Some commands.Arith) words a b = once_asked words a b
   once_behind None words a b = a ∙ sym b
 
   pub once_words : (words : List (List ℕ)) → Ordered words one → Ordered words other → one ≡ other
@@ -429,6 +437,7 @@ module _ (files : Files) (one other : Report) where
   once_order Show words bytes a b =
       once_of_text (λ problem rest. ShowReports problem.position files) (λ problem rest. once_shown problem.position) bytes a b
   once_order (Drill seed count) words bytes a b = once_drill files one other seed count a b
+  once_order (Arith budget) words bytes a b = once_arith files one other budget (lines_of bytes) a b
 
   once_answer : (answer : Result Order UsageWhy) (words : List (List ℕ)) (bytes : List ℕ) → ReportsWords answer words bytes files one → ReportsWords answer words bytes files other → one ≡ other
   once_answer (Err why) words bytes a b = a ∙ sym b

@@ -12,6 +12,7 @@ use Rattle.chess_game.specs.Unsoundness.{IsFirstUnsoundness}
 use Rattle.chess_game.specs.declared.unsoundness.Unsound.{Unsound}
 use Rattle.chess_text.specs.PositionText.{text_of_lines}
 use Rattle.desk_text.specs.Taken.{TakesLines}
+use Rattle.desk_arith.specs.Arith.{ArithEnds, ArithReports, IsBehindLine}
 use Rattle.desk_games.specs.Check.{CheckReports}
 use Rattle.desk_solve.specs.Decide.{DecideReports}
 use Rattle.desk_solve.specs.Drill.{DrillReports}
@@ -21,7 +22,7 @@ use Rattle.desk_solve.specs.First.{FirstReports, HasNoFirstMove}
 use Rattle.desk_games.specs.Keep.{HasFileToKeep, KeepReports, MissesKeep}
 use Rattle.desk_solve.specs.Least.{LeastReports}
 use Rattle.desk_words.specs.Order.{Ordered, name_in, usage_line}
-use Rattle.desk_report.specs.Outcome.{Ends, Leaves, KeepsFiles, NeverMisses, Report, Seen, Writes, WriteFailed, of_shelf, of_sink, refusal_as, reported_on}
+use Rattle.desk_report.specs.Outcome.{Ends, Leaves, KeepsFiles, NeverMisses, Report, Seen, Writes, WriteFailed, of_shelf, of_sink, of_streams, refusal_as, reported_on}
 use Rattle.mate_desk.specs.Report.{IsBehindText, MayLackMemory, MayMissShelf, OfName, OfText, OrderMayLack, Reports, ReportsOrder, TakesMemory}
 use Rattle.desk_games.specs.Resume.{ResumeEnds, ResumeReports}
 use Rattle.mate_desk.specs.Run.{Given, IsLineDue, RunEnds, Takes}
@@ -30,7 +31,7 @@ use Rattle.desk_text.specs.Text.{TextAt, whole, refused, is_end, refusal_line}
 use Rattle.desk_text.specs.TextRead.{IsMissing, IsShort, TextRead}
 use Rattle.desk_solve.specs.Verdict.{HasNothingToPlay}
 use Rattle.desk_words.specs.declared.order.Order.{Order}
-use Rattle.desk_words.specs.declared.order.Order.TheVariants.{Decide, Least, First, Play, Keep, Check, Resume, Show, Drill}
+use Rattle.desk_words.specs.declared.order.Order.TheVariants.{Decide, Least, First, Play, Keep, Check, Resume, Show, Drill, Arith}
 use Rattle.desk_words.specs.declared.order.UsageWhy.{UsageWhy}
 use Rattle.desk_text.specs.declared.problem.Problem.{Problem}
 use Rattle.desk_report.specs.declared.status.Status.{Status}
@@ -39,10 +40,10 @@ use Rattle.desk_text.specs.declared.text.LineWhy.{LineWhy}
 use Rattle.desk_text.specs.declared.text.LineWhy.TheVariants.{Missing}
 use Rattle.desk_text.specs.declared.text.TextEnd.{TextEnd}
 use Rattle.desk_text.specs.declared.text.TextEnd.TheVariants.{Fault, Refused}
-use Rattle.mate_desk.proofs.Statuses.{IsOfText, keep_status, not_usage, order_status, resume_status}
+use Rattle.mate_desk.proofs.Statuses.{IsOfText, arith_status, keep_status, not_usage, order_status, resume_status}
 use Rattle.desk_games.proofs.Shelves.{files_of, known_files}
 use Rattle.desk_text.proofs.TextSteps.{known_rest}
-use Rattle.desk_report.proofs.Writing.{at_sink, ends_as, no_read_fault, on_all, unchanged, with_source}
+use Rattle.desk_report.proofs.Writing.{at_files, at_sink, ends_as, no_read_fault, on_all, unchanged, with_source}
 
 left_files : (told : Option Files) → Go told told (λ before after. after ≡ files_of told)
 left_files None = tt
@@ -63,6 +64,7 @@ refused_order (Check budget) of words bytes files number why at = absurd of
 refused_order (Resume budget) of words bytes files number why at = absurd of
 refused_order Show of words bytes files number why at = (refused number why, at, refl)
 refused_order (Drill seed count) of words bytes files number why at = absurd of
+refused_order (Arith budget) of words bytes files number why at = absurd of
 
 -- no line is taken
 no_lines : (IsDue : List (List ℕ) → Type 0) → TakesLines IsDue [] []
@@ -240,6 +242,7 @@ module _ (words : List (List ℕ)) (old new : Seen) (same : new.files ≡ old.fi
       unsound_order (Resume budget) of_text why fault = absurd of_text
       unsound_order Show of_text why fault = (whole problem (lines_of (pending ++ t.rest)), is_whole, inl (why, fault, refl))
       unsound_order (Drill seed count) of_text why fault = absurd of_text
+      unsound_order (Arith budget) of_text why fault = absurd of_text
 
       pub unsound_ends : (why : Unsound) → IsFirstUnsoundness problem.position why → Writes [] (unsound_line why) old.written new.written (WriteFailed old new) → RunEnds words is.Unsound old new
       unsound_ends why fault wrote = record {
@@ -395,4 +398,44 @@ module _ (words : List (List ℕ)) (old new : Seen) (status : Status) where
         ends =
             ends_as status (ResumeReports budget (lines_of all) name files) (λ report. Reports words all files report) (p.bytes ≡ []) (MayLackMemory words p.bytes) (MissesFetch p.bytes) (MayMissShelf words p.bytes) old new
             (λ report right. says all report right) (λ none. (order, ordered, none)) (λ keeping miss. (order, ordered, miss)) p.ends;
+      }
+
+-- `arith` reads a line, and has the sink alone
+module _ (words : List (List ℕ)) (old new : Seen) (status : Status) (budget : ℕ) where
+  abbrev seen_in : Files → Seen → Seen
+  seen_in files seen = of_streams files seen.left seen.written seen.read_faults seen.write_faults
+
+  abbrev EndsOnFiles : Type 0
+  EndsOnFiles = (files : Files) → (pending : List ℕ) × ArithEnds budget files status pending (seen_in files old) (seen_in files new)
+
+  pub arith_no_usage : EndsOnFiles → status ≢ is.Usage
+  arith_no_usage ends =
+      let files = files_of old.files in
+      let p : ArithEnds budget files status (ends files).0 (seen_in files old) (seen_in files new) = (ends files).1 in
+      let all = lines_of (reported_on status p.bytes p.rest) in
+      not_usage status (ArithReports budget all files) (IsBehindLine p.bytes) NeverMisses (seen_in files old) (seen_in files new)
+      (λ report right. arith_status budget all files report right) p.ends
+
+  pub arith_ends : Ordered words (Ok (Arith budget)) → new.files ≡ old.files → EndsOnFiles → RunEnds words status old new
+  arith_ends ordered same ends =
+      let order = Arith budget in
+      let files = files_of old.files in
+      let pending = (ends files).0 in
+      let p : ArithEnds budget files status pending (seen_in files old) (seen_in files new) = (ends files).1 in
+      let all = reported_on status p.bytes p.rest in
+      let lines : TakesLines (IsLineDue words files) p.bytes pending = record {
+        lines = p.takes.lines;
+        are_lines = p.takes.are_lines;
+        due = λ k below. let due = p.takes.due k below in (due.0, (Ok order, ordered, due.1), due.2);
+        bytes = p.takes.bytes;
+        few = p.takes.few;
+      } in
+      let reports : Report → Type 0 = ArithReports budget (lines_of all) files in
+      record {
+        given = record { taken = p.bytes; rest = p.rest; files = files; consumed = p.taken; left = p.left; kept = known_files old.files };
+        takes = takes_lines words files status p.bytes pending (arith_no_usage ends) lines;
+        ends =
+            ends_as status reports (λ report. Reports words all files report) (IsBehindLine p.bytes) (MayLackMemory words p.bytes) NeverMisses (MayMissShelf words p.bytes) old new
+            (λ report right. (Ok order, ordered, right)) (λ lack. (order, ordered, lack)) (λ keeping never. absurd never)
+            (at_files files old new (known_files old.files) (unchanged old.files new.files same) old.left new.left old.read_faults new.read_faults (λ risen. risen) status reports (IsBehindLine p.bytes) p.ends);
       }

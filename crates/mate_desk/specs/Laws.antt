@@ -1,13 +1,19 @@
 -- Laws of what a run does.
-use Rattle.std.specs.Prelude.{◌≡◌, ◌≢◌, ◌↔◌, ◌⊎◌, ℕ, ◌+◌, ◌-◌, List, ◌++◌, length, Option, Some, Ok, Err, slice_get}
+use Rattle.std.specs.Prelude.{◌≡◌, ◌≢◌, ◌↔◌, ◌⊎◌, ℕ, ◌+◌, ◌-◌, List, ◌++◌, length, false, Option, Some, Ok, Err, slice_get}
 use Rattle.desk_base.specs.Faults.{HasRisen}
 use Rattle.desk_base.specs.Files.{Files}
-use Rattle.desk_base.specs.Lines.{Lines, lines_of}
+use Rattle.desk_base.specs.Lines.{Lines, full, lines_of}
 use Rattle.game_rules.specs.Game.{Position, Least, Lost, Sound, Value}
 use Rattle.game_rules.specs.declared.men.Side.TheVariants.{White}
 use Rattle.chess_text.specs.PositionText.{IsWritable, position_lines, position_text}
 use Rattle.game_report.specs.Report.{IsReport, Match}
 use Rattle.game_report.specs.Report as game
+use Rattle.lin_formula.specs.Tree.{Tree}
+use Rattle.formula_auto.specs.declared.errors.CompileError.TheVariants.{Over}
+use Rattle.arith_desk.specs.Reading.{IsFormulaLine}
+use Rattle.arith_desk.specs.Truth.{IsOver}
+use Rattle.desk_arith.specs.Answer.{Answers}
+use Rattle.desk_arith.specs.Arith.{step_line}
 use Rattle.mate_plan.specs.Claim.{Claim}
 use Rattle.winning_sets.specs.Reach.{Reach}
 use Rattle.winning_sets.specs.declared.names.StepName.{StepName}
@@ -15,7 +21,7 @@ use Rattle.desk_solve.specs.Decide.{IsExact}
 use Rattle.desk_games.specs.FileClaim.{OfFile}
 use Rattle.desk_solve.specs.Least.{least_line}
 use Rattle.desk_words.specs.Order.{Ordered, name_in}
-use Rattle.desk_report.specs.Outcome.{Report, Seen, WriteFailed, done_with, over_budget}
+use Rattle.desk_report.specs.Outcome.{Report, Seen, WriteFailed, done_with, over_budget, refusal_as}
 use Rattle.desk_games.specs.Play.{as_played, first_match}
 use Rattle.mate_desk.specs.Report.{Reports, TakesMemory, UsesNoShelf}
 use Rattle.desk_games.specs.Resume.{claimed_match}
@@ -84,12 +90,17 @@ IsOfFile (orders.Check budget) = Unit {0}
 IsOfFile (orders.Resume budget) = Unit {0}
 IsOfFile orders.Show = ⊥
 IsOfFile (orders.Drill seed count) = ⊥
+IsOfFile (orders.Arith budget) = ⊥
 
--- the words order something of a file that was kept, or something of a sound position that takes memory
+-- the order is of a formula that is typed as a line
+abbrev pub IsOfFormula : Order → Type 0
+IsOfFormula order = (budget : ℕ) × (order ≡ orders.Arith budget)
+
+-- the words order something of a file that was kept, of a formula, or of a sound position, and there it takes memory
 abbrev pub OrdersSome : List (List ℕ) → Type 0
 OrdersSome words =
     (order : Order) × Ordered words (Ok order)
-    × (IsOfFile order ⊎ ((problem : Problem) × Sound problem.position × TakesMemory order problem))
+    × (IsOfFile order ⊎ IsOfFormula order ⊎ ((problem : Problem) × Sound problem.position × TakesMemory order problem))
 
 -- want of memory comes only after such words
 abbrev pub MemoryLast : Type 0
@@ -195,3 +206,19 @@ CheckedAfterKeep =
     → name_in (orders.Check other) later ≡ Some name
     → Reports later bytes files report
     → (report ≡ done_with files (mate_line n)) ⊎ ((step : StepName) × (report ≡ over_budget files step))
+
+-- What `arith` reports of a formula: the first of its steps that exceeds the budget, or a line that answers it.
+abbrev pub ReportsAnswer : (budget : ℕ) → Tree → Files → Report → Type 0
+ReportsAnswer budget f files report =
+    ((step : ℕ) × IsOver f budget (Over step) × (report ≡ refusal_as files is.Budget (step_line step) false))
+    ⊎ ((line : List ℕ) × Answers f line × (report ≡ done_with files line))
+
+-- each report of `arith` on a line that is a formula, whatever comes behind it
+abbrev pub AnswersExactly : Type 0
+AnswersExactly =
+    (words : List (List ℕ)) (bytes : List ℕ) (files : Files) (budget : ℕ) (line : List ℕ) (rest : Lines) (f : Tree) (report : Report)
+    → Ordered words (Ok (orders.Arith budget))
+    → lines_of bytes ≡ full line rest
+    → IsFormulaLine line f
+    → Reports words bytes files report
+    → ReportsAnswer budget f files report

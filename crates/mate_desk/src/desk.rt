@@ -6,6 +6,7 @@ ghost use Rattle.desk_report.specs.Outcome.{seen_of};
 ghost use Rattle.mate_desk.specs.Report.{ReadsNoText, UsesNoShelf};
 ghost use Rattle.mate_desk.specs.Run.{RunEnds};
 
+use desk_arith::arith::arith;
 use desk_games::check::check;
 use desk_solve::decide::decide;
 use desk_solve::drill::drill;
@@ -22,8 +23,8 @@ use chess_game::soundness;
 use desk_base::{LineReader, Shelf, Sink, Source};
 use std::alloc::Global;
 
-/// Does what the words say, with the position text at the front of the source and the replies behind it, or with a file that was kept, and writes the
-/// answer to the sink.
+/// Does what the words say, with the position text at the front of the source and the replies behind it, with a file that was kept, or with a formula
+/// typed as a line, and writes the answer to the sink.
 ///
 /// The words come first, then, where the order is of a text, the text line by line, then whether its position is sound, then the sets, the files and
 /// the answer; the first refusal ends the run with its one fault line. Where writing that line fails, the status stays the refusal's.
@@ -87,6 +88,7 @@ pub fn run<S: Source, K: Sink, H: Shelf>(
         }
         Order::Show => answer(alloc, TextOrder::Show, source, sink, shelf),
         Order::Drill { seed, count } => drill(alloc, seed, count, sink),
+        Order::Arith { budget } => arith(alloc, budget, source, sink),
     }
 }
 
