@@ -400,21 +400,24 @@ module _ (words : List (List ℕ)) (old new : Seen) (status : Status) where
             (λ report right. says all report right) (λ none. (order, ordered, none)) (λ keeping miss. (order, ordered, miss)) p.ends;
       }
 
--- `arith` reads a line, and has the sink alone
+-- `arith` has not the status of words that are no order
+pub arith_no_usage : (status : Status) (budget : ℕ) (left after written later : Option (List ℕ)) (reads reads_later writes writes_later : ℕ)
+    → ((files : Files) → (pending : List ℕ) × ArithEnds budget files status pending (of_streams files left written reads writes) (of_streams files after later reads_later writes_later))
+    → status ≢ is.Usage
+arith_no_usage status budget left after written later reads reads_later writes writes_later ends =
+    let old = of_streams no_files left written reads writes in
+    let new = of_streams no_files after later reads_later writes_later in
+    let p : ArithEnds budget no_files status (ends no_files).0 old new = (ends no_files).1 in
+    let all = lines_of (reported_on status p.bytes p.rest) in
+    not_usage status (ArithReports budget all no_files) (IsBehindLine p.bytes) NeverMisses old new (λ report right. arith_status budget all no_files report right) p.ends
+
+-- it reads a line, and has the sink alone
 module _ (words : List (List ℕ)) (old new : Seen) (status : Status) (budget : ℕ) where
   abbrev seen_in : Files → Seen → Seen
   seen_in files seen = of_streams files seen.left seen.written seen.read_faults seen.write_faults
 
   abbrev EndsOnFiles : Type 0
   EndsOnFiles = (files : Files) → (pending : List ℕ) × ArithEnds budget files status pending (seen_in files old) (seen_in files new)
-
-  pub arith_no_usage : EndsOnFiles → status ≢ is.Usage
-  arith_no_usage ends =
-      let files = files_of old.files in
-      let p : ArithEnds budget files status (ends files).0 (seen_in files old) (seen_in files new) = (ends files).1 in
-      let all = lines_of (reported_on status p.bytes p.rest) in
-      not_usage status (ArithReports budget all files) (IsBehindLine p.bytes) NeverMisses (seen_in files old) (seen_in files new)
-      (λ report right. arith_status budget all files report right) p.ends
 
   pub arith_ends : Ordered words (Ok (Arith budget)) → new.files ≡ old.files → EndsOnFiles → RunEnds words status old new
   arith_ends ordered same ends =
@@ -433,7 +436,8 @@ module _ (words : List (List ℕ)) (old new : Seen) (status : Status) (budget : 
       let reports : Report → Type 0 = ArithReports budget (lines_of all) files in
       record {
         given = record { taken = p.bytes; rest = p.rest; files = files; consumed = p.taken; left = p.left; kept = known_files old.files };
-        takes = takes_lines words files status p.bytes pending (arith_no_usage ends) lines;
+        takes = takes_lines words files status p.bytes pending
+            (arith_no_usage status budget old.left new.left old.written new.written old.read_faults new.read_faults old.write_faults new.write_faults ends) lines;
         ends =
             ends_as status reports (λ report. Reports words all files report) (IsBehindLine p.bytes) (MayLackMemory words p.bytes) NeverMisses (MayMissShelf words p.bytes) old new
             (λ report right. (Ok order, ordered, right)) (λ lack. (order, ordered, lack)) (λ keeping never. absurd never)

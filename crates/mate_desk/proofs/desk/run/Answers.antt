@@ -150,7 +150,7 @@ returns-in-Arith-clause-ends g c =
     arith_ends words _ _ c.arith.result c.in-Arith.budget (subst IsOrdered c.in-Arith.is c.in-Ok.ensures.ordered) refl c.arith.ensures.ends
 
 pub returns-in-Arith-clause-nothing_read : goal.returns-in-Arith-clause-nothing_read
-returns-in-Arith-clause-nothing_read g c = λ usage. absurd (arith_no_usage (map string_bytes c.args.words.now.items) _ _ c.arith.result c.in-Arith.budget c.arith.ensures.ends usage)
+returns-in-Arith-clause-nothing_read g c = λ usage. absurd (arith_no_usage c.arith.result c.in-Arith.budget _ _ _ _ _ _ _ _ c.arith.ensures.ends usage)
 
 pub returns-in-Arith-clause-no_text_read : goal.returns-in-Arith-clause-no_text_read
 returns-in-Arith-clause-no_text_read g c = λ other also none.
