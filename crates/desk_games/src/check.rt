@@ -6,11 +6,11 @@ ghost use Rattle.desk_games.specs.FileClaim.{MissesFetch, OnFiles};
 ghost use Rattle.desk_words.specs.Order.{IsBudget};
 ghost use Rattle.desk_report.specs.Outcome.{Ends, of_shelf};
 
-use desk_solve::decide::verdict_line;
 use crate::file_claim::{fetch_claim, refuse_file};
-use desk_report::{Status, print};
-use desk_text::FileTask;
 use desk_base::{Shelf, Sink};
+use desk_report::{Status, print};
+use desk_solve::decide::verdict_line;
+use desk_text::FileTask;
 use std::alloc::Global;
 
 /// Checks the claim of the file of a name, and writes within how many moves its winner mates.

@@ -9,11 +9,11 @@ ghost use Rattle.desk_games.specs.FileClaim.{Fetches, IsFetched, OnFiles, TellsC
 ghost use Rattle.desk_words.specs.Order.{IsBudget};
 ghost use Rattle.desk_report.specs.Outcome.{Writes};
 
-use desk_report::{Status, budget_line, byte_line, cut_line, extra_line, not_kept_line, refuse};
 use chess_text::line_buffer::LineBuffer;
 use claim_check::{CheckError, check};
 use claim_plan::RuleAt;
 use desk_base::{FetchError, Shelf, Sink};
+use desk_report::{Status, budget_line, byte_line, cut_line, extra_line, not_kept_line, refuse};
 use std::alloc::Global;
 use strategy_file::{ByteWhy, Claim, FileError, read_file};
 use winning_sets::{Solved, StepName};

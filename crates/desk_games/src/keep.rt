@@ -9,11 +9,11 @@ ghost use Rattle.desk_games.specs.Keep.{FileReports, HasFileToKeep, IsFileToKeep
 ghost use Rattle.desk_report.specs.Outcome.{Ends, of_shelf};
 ghost use Rattle.desk_solve.specs.Verdict.{HasNothingToPlay, IsTask};
 
-use desk_solve::decide::verdict_line;
-use desk_report::{Status, print, print_error, refuse, too_large_line};
-use desk_text::Task;
-use desk_solve::won;
 use desk_base::{KeepError, Shelf, Sink};
+use desk_report::{Status, print, print_error, refuse, too_large_line};
+use desk_solve::decide::verdict_line;
+use desk_solve::won;
+use desk_text::Task;
 use std::alloc::Global;
 use strategy_file::{WriteFileError, write_file};
 use winning_sets::{Solved, Solver};

@@ -8,12 +8,12 @@ ghost use Rattle.desk_report.specs.Outcome.{Writes, of_streams};
 ghost use Rattle.desk_games.specs.Play.{Finishes, PlayEnds, status_of};
 ghost use Rattle.desk_solve.specs.Verdict.{IsTask};
 
-use desk_solve::decide::verdict_line;
-use desk_report::{Status, print, print_error, refusal_line, refuse};
-use desk_text::{LineWhy, Task};
-use desk_solve::won;
 use chess_game::Frame;
 use desk_base::{LineReader, Sink, Source};
+use desk_report::{Status, print, print_error, refusal_line, refuse};
+use desk_solve::decide::verdict_line;
+use desk_solve::won;
+use desk_text::{LineWhy, Task};
 use game_report::{Ending, GameError, play_game};
 use std::alloc::Global;
 use white_player::Session;

@@ -9,11 +9,11 @@ ghost use Rattle.desk_report.specs.FaultLines as specs;
 ghost use Rattle.desk_report.specs.Outcome.{Writes};
 ghost use Rattle.desk_text.specs.Text as texts;
 
-use desk_text::LineWhy;
 use chess_game::{Side, Unsound};
 use chess_text::line_buffer::LineBuffer;
 use claim_plan::{Rule, RuleAt};
 use desk_base::{Sink, put_all};
+use desk_text::LineWhy;
 use itoa::Buffer;
 use strategy_file::ByteWhy;
 use winning_sets::{Part, StepName};

@@ -8,10 +8,10 @@ ghost use Rattle.desk_report.specs.Outcome.{Ends, NeverMisses, of_sink};
 ghost use Rattle.desk_solve.specs.Verdict.{HasNothingToPlay, IsTask, mate_line, no_mate_line};
 
 use crate::mates::{number_line, won};
-use desk_report::{Status, print, print_error};
-use desk_text::Task;
 use chess_text::line_buffer::LineBuffer;
 use desk_base::Sink;
+use desk_report::{Status, print, print_error};
+use desk_text::Task;
 use std::alloc::Global;
 use winning_sets::Solver;
 

@@ -12,11 +12,11 @@ ghost use Rattle.desk_solve.specs.Verdict.{ExceedsAt, FitsBudget};
 
 use crate::drill_positions::{Generator, problem_of};
 use crate::mates::won;
-use desk_words::DEFAULT_BUDGET;
-use desk_report::{Status, print, print_error};
-use desk_text::Problem;
 use chess_text::line_buffer::LineBuffer;
 use desk_base::Sink;
+use desk_report::{Status, print, print_error};
+use desk_text::Problem;
+use desk_words::DEFAULT_BUDGET;
 use std::alloc::Global;
 use winning_sets::{SolveError, Solver};
 

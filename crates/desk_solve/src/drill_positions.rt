@@ -6,8 +6,8 @@ ghost use Rattle.game_laws.specs.Symmetry.{mapped_place, shift};
 ghost use Rattle.desk_solve.specs.Drill.{next_state};
 ghost use Rattle.desk_solve.specs.Drill as specs;
 
-use desk_text::Problem;
 use chess_game::{Kind, Man, Place, Position, Side};
+use desk_text::Problem;
 
 const MULTIPLIER: u64 = 6_364_136_223_846_793_005;
 

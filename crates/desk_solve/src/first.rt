@@ -8,13 +8,13 @@ ghost use Rattle.desk_solve.specs.First as specs;
 ghost use Rattle.desk_report.specs.Outcome.{Ends, NeverMisses, of_sink};
 ghost use Rattle.desk_solve.specs.Verdict.{IsTask};
 
-use desk_report::{Status, print, print_error, push_large};
-use desk_text::Task;
 use crate::mates::won;
 use auto_search::{Few, Search};
 use chess_game::Frame;
 use chess_text::line_buffer::LineBuffer;
 use desk_base::Sink;
+use desk_report::{Status, print, print_error, push_large};
+use desk_text::Task;
 use game_session::has_ray;
 use std::alloc::{AllocError, Global};
 use white_player::{FirstLine, first_moves};

@@ -8,8 +8,8 @@ ghost use Rattle.winning_sets.specs.declared.names.StepName.{StepName};
 ghost use Rattle.desk_words.specs.Order.{most_moves};
 ghost use Rattle.desk_solve.specs.Verdict.{ExceedsAt, FitsBudget, HasNothingToPlay};
 
-use desk_text::Problem;
 use chess_text::line_buffer::LineBuffer;
+use desk_text::Problem;
 use winning_sets::{SolveError, Solved, Solver};
 
 /// The solved position, where the winner mates within so many moves from there. Where he is to move and has none, nothing has to be computed.

@@ -3,4 +3,6 @@
 
 mod order;
 
-pub use order::{DEFAULT_BUDGET, FILE_NAME, KEEP_NAME, Order, TextOrder, UsageWhy, order_of, word_at};
+pub use order::{
+    DEFAULT_BUDGET, FILE_NAME, KEEP_NAME, Order, TextOrder, UsageWhy, order_of, word_at,
+};

@@ -21,7 +21,8 @@ use Rattle.desk_words.specs.declared.order.Order.{Order}
 use Rattle.desk_words.specs.declared.order.Order.TheVariants.{Decide, Arith}
 use Rattle.desk_words.specs.declared.order.UsageWhy.{UsageWhy}
 use Rattle.desk_text.specs.declared.problem.Problem.{Problem}
-use Rattle.mate_desk.proofs.OneReport.{once_text, once_words}
+use Rattle.desk_words.proofs.OneOrder.{once_words}
+use Rattle.desk_text.proofs.OneText.{once_text}
 
 -- what is reported of the text of a sound problem is what its order says
 pub of_sound : (says : Report → Type 0) (files : Files) (problem : Problem) (report : Report) → Sound problem.position → OfSound says files problem.position report → says report

@@ -38,7 +38,7 @@ use Rattle.desk_words.specs.declared.order.UsageWhy.{UsageWhy}
 use Rattle.desk_text.specs.declared.problem.Problem.{Problem}
 use Rattle.desk_report.specs.declared.status.Status.{Status}
 use Rattle.desk_report.specs.declared.status.Status.TheVariants as is
-use Rattle.mate_desk.proofs.OneReport.{once_words}
+use Rattle.desk_words.proofs.OneOrder.{once_words}
 use Rattle.desk_solve.proofs.Rooks.{drill_sound}
 
 -- what is reported of an order has another status than words that are none

@@ -6,21 +6,21 @@ ghost use Rattle.desk_report.specs.Outcome.{seen_of};
 ghost use Rattle.mate_desk.specs.Report.{ReadsNoText, UsesNoShelf};
 ghost use Rattle.mate_desk.specs.Run.{RunEnds};
 
-use desk_arith::arith::arith;
-use desk_games::check::check;
-use desk_solve::decide::decide;
-use desk_solve::drill::drill;
-use desk_report::{Status, refusal_line, refuse, unsound_line};
-use desk_text::{FileTask, TextEnd, read_problem};
-use desk_solve::first::first;
-use desk_games::keep::keep;
-use desk_solve::least::least;
-use desk_words::{FILE_NAME, KEEP_NAME, Order, TextOrder, UsageWhy, order_of, word_at};
-use desk_games::play::play;
-use desk_games::resume::resume;
 use crate::show::show;
 use chess_game::soundness;
+use desk_arith::arith::arith;
 use desk_base::{LineReader, Shelf, Sink, Source};
+use desk_games::check::check;
+use desk_games::keep::keep;
+use desk_games::play::play;
+use desk_games::resume::resume;
+use desk_report::{Status, refusal_line, refuse, unsound_line};
+use desk_solve::decide::decide;
+use desk_solve::drill::drill;
+use desk_solve::first::first;
+use desk_solve::least::least;
+use desk_text::{FileTask, TextEnd, read_problem};
+use desk_words::{FILE_NAME, KEEP_NAME, Order, TextOrder, UsageWhy, order_of, word_at};
 use std::alloc::Global;
 
 /// Does what the words say, with the position text at the front of the source and the replies behind it, with a file that was kept, or with a formula

@@ -7,11 +7,11 @@ ghost use Rattle.desk_report.specs.Outcome.{Ends, NeverMisses, of_sink};
 ghost use Rattle.mate_desk.specs.Show.{IsCheckLine, IsShown, ShowReports, live_line};
 ghost use Rattle.mate_desk.specs.Show as specs;
 
-use desk_report::{Status, print, refuse};
 use chess_game::{Man, Place, Position, in_check};
 use chess_text::line_buffer::LineBuffer;
 use chess_text::position_bytes;
 use desk_base::Sink;
+use desk_report::{Status, print, refuse};
 use std::alloc::{AllocError, Global};
 
 /// Writes the position, whether its side to move is in check, and how many men are live.
