@@ -23,12 +23,7 @@ use lin_formula::Formula;
 use std::alloc::Global;
 
 /// Writes whether the formula that the first line is holds over all integers.
-pub fn arith<S: Source, K: Sink>(
-    alloc: Global,
-    budget: u32,
-    source: &mut S,
-    sink: &mut K,
-) -> Status
+pub fn arith<S: Source, K: Sink>(alloc: Global, budget: u32, source: &mut S, sink: &mut K) -> Status
     requires { IsBudget budget }
     ensures ends { (files : Files) → (pending : List ℕ) ×
         ArithEnds budget files result pending
@@ -51,7 +46,8 @@ pub fn arith<S: Source, K: Sink>(
 /// Writes that the first line is refused, as far as the sink takes it.
 fn refuse_line<K: Sink>(sink: &mut K, why: LineWhy) -> Status
     ensures status { result ≡ Status.Text }
-    ensures written { Writes [] (texts.refusal_line 1 why) (K.written sink.old) (K.written sink.new) (HasRisen (K.faults sink.old) (K.faults sink.new)) }
+    ensures written { Writes [] (texts.refusal_line 1 why) (K.written sink.old) (K.written sink.new)
+        (HasRisen (K.faults sink.old) (K.faults sink.new)) }
 {
     let line = refusal_line(1, why);
     refuse(sink, line.as_slice());
