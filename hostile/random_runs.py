@@ -28,7 +28,7 @@ MATED = HEAD + b"turn B\nW K 0 -2\nW R 10 0\nW R 10 1\nB K 0 0\nend\n"
 BLACK_FIRST = HEAD + b"turn B\nW K 0 -2\nW R 10 1\nW R 2 7\nB K 1 0\nend\n"
 GOOD = [LADDER, MATED, BLACK_FIRST, HEAD + b"turn W\nW K 0 0\nB K 10 0\nend\n", HEAD + b"turn B\nW K 5 5\nB P 1 2\nB K -3 -3\nW Q gone\nW N 7 7\nend\n"]
 EDGES = [2**63 - 1, -2**63, 2**63, -2**63 - 1, 2**64, 10**19, 10**18, 2**31, 10**40, 0, -1, 20, 21, 100, 101, 200000, 200001]
-# What may come with each code. With the codes 9, 12 and 13 the game may have lines before.
+# What may come with each code where the reader does not say it. With the codes 3, 9, 12 and 13 the lines of a game may come before.
 NAMED = rb"over budget at moves [0-9]+ ply [0-9]+ men [0-9]+ part [a-z]+ at [0-9]+\n"
 GAME = rb"((white [1-8] \S+ \S+|illegal|unreadable)\n)*"
 WHYS = rb"(magic|version|moves|turn|count|side|kind|place|unsound|ply|men|states|entry|flag)"
@@ -36,6 +36,7 @@ RULES = rb"(sign|same|guard|first|left|stale)"
 ANSWERS = {
     0: rb"mate in [0-9]+\n|no mate in [0-9]+\n|least [0-9]+\n|none up to [0-9]+\n|(man [1-5] step -?[012] -?[012] least (wide|[0-9]+) (only|more)\n)*end\n|"
     rb"[0-9]+ of [0-9]+ mate in 1\n|" + GAME + rb"mate\n",
+    3: GAME + rb"text line [0-9]+ (cut|long)\n",
     8: NAMED,
     9: GAME + rb"wide\n",
     11: rb"file (missing|too long|cut at [0-9]+|byte [0-9]+ " + WHYS + rb"|extra at [0-9]+|not kept at ply [0-9]+ men [0-9]+ rule " + RULES + rb"|too large [0-9]+)\n",
