@@ -1,0 +1,305 @@
+#!/usr/bin/env python3
+"""usage: random_runs.py [PROGRAM] [--seed S] [--count N]
+
+Runs the program `mate` N times, with words, texts, replies and files drawn from the seed: changes of good ones, and new ones put together of
+the pieces that the formats know. Each run has to end in 30 seconds with a code of docs/FORMATS.md, without a byte on standard error, and with the
+output that belongs to the code: where a reader of this folder's own (reader.py) says what has to come, with just that. Each run that ends
+otherwise is printed. Then the codes are counted. PROGRAM is ../crates/mate_main/out/mate_main if left out; the code is 0 where nothing was found.
+"""
+import argparse
+import collections
+import pathlib
+import random
+import re
+import subprocess
+import sys
+import tempfile
+import time
+
+import reader
+from reader import Lines, Refused
+
+HERE = pathlib.Path(__file__).resolve().parent
+BUILT = HERE.parent / "crates/mate_main/out/mate_main"
+SECONDS, LINES = 30, 10000
+HEAD = b"infinite chess 1\n"
+LADDER = HEAD + b"turn W\nW K 0 -2\nW R 10 1\nW R 5 7\nB K 0 0\nend\n"
+MATED = HEAD + b"turn B\nW K 0 -2\nW R 10 0\nW R 10 1\nB K 0 0\nend\n"
+BLACK_FIRST = HEAD + b"turn B\nW K 0 -2\nW R 10 1\nW R 2 7\nB K 1 0\nend\n"
+GOOD = [LADDER, MATED, BLACK_FIRST, HEAD + b"turn W\nW K 0 0\nB K 10 0\nend\n", HEAD + b"turn B\nW K 5 5\nB P 1 2\nB K -3 -3\nW Q gone\nW N 7 7\nend\n"]
+EDGES = [2**63 - 1, -2**63, 2**63, -2**63 - 1, 2**64, 10**19, 10**18, 2**31, 10**40, 0, -1, 20, 21, 100, 101, 200000, 200001]
+# What may come with each code where the reader does not say it. With the codes 3, 9, 12 and 13 the lines of a game may come before.
+NAMED = rb"over budget at moves [0-9]+ ply [0-9]+ men [0-9]+ part [a-z]+ at [0-9]+\n"
+GAME = rb"((white [1-8] \S+ \S+|illegal|unreadable)\n)*"
+WHYS = rb"(magic|version|moves|turn|count|side|kind|place|unsound|ply|men|states|entry|flag)"
+RULES = rb"(sign|same|guard|first|left|stale)"
+ANSWERS = {
+    0: rb"mate in [0-9]+\n|no mate in [0-9]+\n|least [0-9]+\n|none up to [0-9]+\n|(man [1-5] step -?[012] -?[012] least (wide|[0-9]+) (only|more)\n)*end\n|"
+    rb"[0-9]+ of [0-9]+ mate in 1\n|" + GAME + rb"mate\n",
+    3: GAME + rb"text line [0-9]+ (cut|long)\n",
+    8: NAMED,
+    9: GAME + rb"wide\n",
+    11: rb"file (missing|too long|cut at [0-9]+|byte [0-9]+ " + WHYS + rb"|extra at [0-9]+|not kept at ply [0-9]+ men [0-9]+ rule " + RULES + rb"|too large [0-9]+)\n",
+    12: GAME + rb"ended\n",
+    13: GAME + rb"too many lines\n",
+}
+
+
+class Case:
+    """A run: its words, its input and the file `a` of its folder; the output and code that have to come, if they are known."""
+
+    def __init__(self, words, text=b"", file=None, wanted=None):
+        self.words, self.text, self.file, self.wanted = words, text, file, wanted
+
+
+def drawn_number(draw):
+    small = draw.random() < 0.6
+    number = draw.randrange(-12, 13) if small else draw.choice(EDGES) + draw.choice([0, 0, 1, -1])
+    spelled = str(number)
+    if draw.random() < 0.06:
+        spelled = draw.choice(["+", "0", "-", "00", "", "--"]) + spelled
+    if draw.random() < 0.03:
+        spelled += draw.choice([".", "x", "\r", "\t", "\0", "é", "0" * 30])
+    return spelled.encode()
+
+
+def changed(draw, data):
+    """The bytes with a few changes."""
+    data = bytearray(data)
+    for _ in range(draw.choice([1, 1, 1, 2, 3])):
+        at = draw.randrange(len(data) + 1)
+        piece = bytes(draw.choice([10, 32, 32, 48, 45, 87, 66, 75, 13, 0, 255, draw.randrange(256)]) for _ in range(draw.choice([1, 1, 2, 5])))
+        pick = draw.randrange(6)
+        if pick == 0:
+            del data[at:]
+        elif pick == 1:
+            del data[at:at + len(piece)]
+        elif pick == 2:
+            data[at:at] = piece
+        elif pick == 3:
+            data[at:at + len(piece)] = piece
+        elif pick == 4:
+            lines = bytes(data).split(b"\n")
+            lines.insert(draw.randrange(len(lines) + 1), draw.choice(lines))
+            data = bytearray(b"\n".join(lines))
+        else:
+            lines = bytes(data).split(b"\n")
+            del lines[draw.randrange(len(lines))]
+            data = bytearray(b"\n".join(lines))
+    return bytes(data)
+
+
+def drawn_words(draw):
+    words = [draw.choice([*reader.SHAPES, b"", b"Decide", b"decide ", b"mate", b"--help", b"\xff"] if draw.random() < 0.2 else [*reader.SHAPES])]
+    for limits in reader.SHAPES.get(words[0], [reader.MOVES]):
+        if limits is None and draw.random() < 0.8:
+            words.append(bytes(draw.choice(b"abz09_") for _ in range(draw.choice([0, 1, 2, 5, 31, 32, 33]))))
+        elif limits is None:
+            words.append(draw.choice([b"a.b", b"A", b"../a", b"a b", b"a/b", b".", "ä".encode(), b"a\n", b"-", b"a" * 300]))
+        elif draw.random() < 0.5:
+            words.append(str(draw.randrange(limits[0], limits[1] + 1)).encode())
+        else:
+            words.append(drawn_number(draw).replace(b"\0", b"0"))
+    pick = draw.random()
+    if pick < 0.1:
+        words.insert(draw.randrange(len(words) + 1), draw.choice([b"", b"1", b"a", b"\xc3", b"show", b"z" * 5000]))
+    elif pick < 0.3 and len(words) > 1:
+        words.pop()
+    elif pick < 0.32:
+        words = []
+    return words
+
+
+def words_case(draw):
+    """Words, with no input behind them: where they are in order, the text or the file is missing."""
+    words = drawn_words(draw)
+    try:
+        command, given = reader.read_words(words)
+    except Refused as why:
+        return Case(words, wanted=(f"{why.line}\n".encode(), why.code))
+    if command == "drill":
+        # A drill takes a tenth of a second for each position.
+        words[2] = b"0"
+        return Case(words, wanted=(b"0 of 0 mate in 1\n", 0))
+    if command in ("check", "resume"):
+        return Case(words, wanted=(b"file missing\n", 11))
+    return Case(words, wanted=(b"text line 1 missing\n", 3))
+
+
+def drawn_text(draw):
+    if draw.random() < 0.4:
+        return changed(draw, draw.choice(GOOD))
+    lines = [b"infinite chess 1", b"turn " + draw.choice([b"W", b"B"])]
+    men = [b"W K", b"B K"] + [draw.choice([b"W", b"B"]) + b" " + draw.choice([b"Q", b"R", b"B", b"N", b"P"]) for _ in range(draw.choice([0, 0, 1, 2, 2, 3, 3, 4]))]
+    if draw.random() < 0.1:
+        men[draw.randrange(len(men))] = draw.choice([b"W K", b"B K", b"B R"])
+    draw.shuffle(men)
+    near = draw.random() < 0.8
+    for man in men:
+        if draw.random() < 0.08:
+            lines.append(man + b" gone")
+        elif near:
+            lines.append(man + b" %d %d" % (draw.randrange(-6, 7), draw.randrange(-6, 7)))
+        else:
+            lines.append(man + b" " + drawn_number(draw) + b" " + drawn_number(draw))
+    text = b"\n".join(lines + [b"end", b""])
+    return changed(draw, text) if draw.random() < 0.1 else text + draw.choice([b"", b"", b"x", b"quit\n", b"a" * 300])
+
+
+def text_case(draw):
+    """A text, with a command that takes one."""
+    moves = draw.choice([0, 0, 0, 1, 1, 2])
+    budget = draw.choice([1, 2, 5, 20, 100, 500]) if moves < 2 else draw.choice([1, 20, 60])
+    command = draw.choice(["show", "show", "decide", "least", "first", "play", "keep"])
+    words = [command] if command == "show" else [command, str(moves)] + ["a"] * (command == "keep") + [str(budget)]
+    words = [word.encode() for word in words]
+    text = drawn_text(draw)
+    lines = Lines(text)
+    try:
+        turn, men = reader.read_text(lines)
+        reader.require_sound(turn, men)
+    except Refused as why:
+        return Case(words, text, wanted=(f"{why.line}\n".encode(), why.code))
+    if command == "show":
+        return Case(words, text, wanted=(reader.shown(turn, men).encode(), 0))
+    if command == "first" and (turn == 1 or moves == 0):
+        return Case(words, text, wanted=(b"end\n", 0))
+    if turn == 0 and moves == 0:
+        return Case(words, text, wanted=(b"none up to 0\n" if command == "least" else b"no mate in 0\n", 0))
+    return Case(words, text)
+
+
+def drawn_reply(draw):
+    pick = draw.random()
+    if pick < 0.015:
+        return draw.choice([b"quit", b"4 0 0"])
+    if pick < 0.7:
+        return draw.choice([b"%d" % draw.randrange(0, 10), b"4", b"4"]) + b" " + drawn_number(draw) + b" " + drawn_number(draw)
+    if pick < 0.85:
+        return changed(draw, draw.choice([b"4 0 0", b"quit", b"4 2 0"])).replace(b"\n", b" ")
+    return draw.choice([b"", b" ", b"Quit", b"quit ", b"a" * draw.choice([199, 200]), b"4 0 0 ", b" 4 0 0", b"4\t0 0", b"4 0 0\r", b"mate", b"end"])
+
+
+def game(lines):
+    """What is written, and the code, of a game from BLACK_FIRST: Black's one legal move is his king's to 0 0, and then he is mated on 2 0."""
+    written, count = b"", 0
+    try:
+        while count < LINES:
+            line = lines.next()
+            count += 1
+            move = None if line is None else reader.read_reply(line)
+            if line is None or move == "quit":
+                return written + b"ended\n", 12
+            if move == (4, 0, 0):
+                return written + b"white 3 2 0\nmate\n", 0
+            written += b"illegal\n" if move else b"unreadable\n"
+    except Refused as why:
+        return written + f"{why.line}\n".encode(), why.code
+    return written + b"too many lines\n", 13
+
+
+def replies_case(draw, kept):
+    """A game with some dozens of replies."""
+    replies = b"".join(drawn_reply(draw) + b"\n" for _ in range(draw.choice([0, 1, 5, 40, 40])))
+    replies += draw.choice([b"", b"", b"4 0 0\n", b"4 0 0", b"quit\n", b"quit", b"a" * 201, b"x\n" * 200, b"x\n" * 10000])
+    if draw.random() < 0.5:
+        return Case([b"resume", b"a"], replies, kept[1], game(Lines(replies)))
+    text = BLACK_FIRST + replies
+    lines = Lines(text)
+    reader.read_text(lines)
+    return Case([b"play", b"1"], text, None, game(lines))
+
+
+def changed_file(draw, data):
+    data = bytearray(data)
+    for _ in range(draw.choice([1, 1, 1, 2, 4])):
+        at = draw.randrange(len(data) + 1) if draw.random() < 0.5 else draw.randrange(min(len(data), 300) + 1)
+        value = draw.choice([0, 1, 2, 3, 4, 5, 6, 9, 15, 20, 21, 127, 128, 255, draw.randrange(256)])
+        pick = draw.randrange(8)
+        if pick == 0:
+            del data[at:]
+        elif pick == 1:
+            data[at:at] = bytes([value]) * draw.choice([1, 4, 19])
+        elif pick == 2:
+            del data[at:at + draw.choice([1, 4, 19])]
+        else:
+            data[at:at + 1] = bytes([value])
+    return bytes(data)
+
+
+def file_case(draw, kept):
+    data = changed_file(draw, draw.choice(kept)) if draw.random() < 0.97 else bytes(draw.randrange(256) for _ in range(draw.randrange(300)))
+    budget = draw.choice([b"1", b"10", b"100", b"500"])
+    words = [draw.choice([b"check", b"check", b"resume"]), b"a", budget]
+    try:
+        reader.read_file(data)
+    except reader.Refusal as why:
+        return Case(words, b"quit\n", data, (f"file {why}\n".encode(), 11))
+    return Case(words, b"quit\n", data)
+
+
+def run(program, folder, case):
+    """The output, the code and the standard error. A signal that ends the process is a code below 0."""
+    file = folder / "a"
+    file.unlink(missing_ok=True)
+    if case.file is not None:
+        file.write_bytes(case.file)
+    ended = subprocess.run([program, *case.words], cwd=folder, input=case.text, capture_output=True, timeout=SECONDS)
+    return ended.stdout, ended.returncode, ended.stderr
+
+
+def fault(case, output, code, errors):
+    """What is wrong with an end, or None."""
+    if errors:
+        return "standard error"
+    if case.wanted:
+        return None if (output, code) == case.wanted else f"wanted {case.wanted}"
+    if code not in ANSWERS:
+        return "code"
+    return None if re.fullmatch(ANSWERS[code], output) else "output"
+
+
+def files(program, folder):
+    """The kept files of three positions."""
+    for text, moves in [(LADDER, b"1"), (BLACK_FIRST, b"1"), (MATED, b"0")]:
+        run(program, folder, Case([b"keep", moves, b"a"], text))
+        yield (folder / "a").read_bytes()
+
+
+def main():
+    parser = argparse.ArgumentParser(usage=__doc__)
+    parser.add_argument("program", nargs="?", default=BUILT)
+    parser.add_argument("--seed", type=int, default=1)
+    parser.add_argument("--count", type=int, default=100000)
+    given = parser.parse_args()
+    draw, begun, wrong, slowest = random.Random(given.seed), time.time(), 0, 0
+    codes, kinds, known = collections.Counter(), collections.Counter(), 0
+    with tempfile.TemporaryDirectory() as top:
+        folder, program = pathlib.Path(top), pathlib.Path(given.program).resolve()
+        kept = list(files(program, folder))
+        makers = {"words": words_case, "texts": text_case, "games": lambda it: replies_case(it, kept), "files": lambda it: file_case(it, kept)}
+        for number in range(given.count):
+            kind = draw.choices(list(makers), [400, 400, 5, 195])[0]
+            case, started = makers[kind](draw), time.time()
+            try:
+                output, code, errors = run(program, folder, case)
+                why = fault(case, output, code, errors)
+            except subprocess.TimeoutExpired:
+                code, output, errors, why = "none", b"", b"", f"no end in {SECONDS} s"
+            slowest = max(slowest, time.time() - started)
+            kinds[kind] += 1
+            codes[code] += 1
+            known += case.wanted is not None
+            if why:
+                wrong += 1
+                file = None if case.file is None else case.file[:600].hex()
+                print(f"{number}: {why}\n  words {case.words}\n  input {case.text[:600]}\n  file {file}\n  code {code}, {output[:300]}, {errors[:300]}", flush=True)
+    spread = ", ".join(f"{kind} {count}" for kind, count in sorted(kinds.items()))
+    print(f"seed {given.seed}: {given.count} runs ({spread}), {known} of them with a known answer; {time.time() - begun:.0f} s, the slowest {slowest:.1f} s")
+    print("codes: " + ", ".join(f"{code}: {count}" for code, count in sorted(codes.items(), key=lambda it: str(it[0]).zfill(3))))
+    print(f"{wrong} wrong ends")
+    return 1 if wrong else 0
+
+
+if __name__ == "__main__":
+    sys.exit(main())

@@ -1,0 +1,164 @@
+"""A reader of words, texts and replies, written from docs/FORMATS.md; it shares nothing with the program. Files are read, and attacks found,
+by ../crates/file_trials/random_files.py, which is such a reader too. A man is (side, kind, place): side 0 White, 1 Black; the kinds
+king, queen, rook, bishop, knight, pawn are 0 to 5; the place of a captured man is None."""
+import pathlib
+import re
+import sys
+
+sys.path.insert(0, str(pathlib.Path(__file__).resolve().parent.parent / "crates/file_trials"))
+from random_files import Refusal, bears, is_sound, read as read_file  # noqa: E402, F401
+
+LINE = 200
+SIDES, KINDS = b"WB", b"KQRBNP"
+NATURAL = re.compile(rb"0|[1-9][0-9]*")
+NUMBER = re.compile(rb"0|-?[1-9][0-9]*")
+MAN = re.compile(rb"([WB]) ([KQRBNP]) (gone|([^ ]+) ([^ ]+))", re.DOTALL)
+REPLY = re.compile(rb"([1-8]) ([^ ]+) ([^ ]+)", re.DOTALL)
+NAME = re.compile(rb"[a-z0-9_]{1,32}")
+# For each command the limits of its words; a name has none. The budget may be left out.
+MOVES, BUDGET = (0, 20), (1, 200000)
+SHAPES = {
+    b"decide": [MOVES, BUDGET], b"least": [MOVES, BUDGET], b"first": [MOVES, BUDGET], b"play": [MOVES, BUDGET],
+    b"keep": [MOVES, None, BUDGET], b"check": [None, BUDGET], b"resume": [None, BUDGET],
+    b"show": [], b"drill": [(0, 2**64 - 1), (0, 100)],
+}
+
+
+class Refused(Exception):
+    """A refusal: its code and its fault line."""
+
+    def __init__(self, code, line):
+        super().__init__(line)
+        self.code, self.line = code, line
+
+
+def read_words(words):
+    """The command and its words, or a refusal."""
+    try:
+        [word.decode() for word in words]
+    except UnicodeDecodeError:
+        raise Refused(2, "usage unknown") from None
+    if not words:
+        raise Refused(2, "usage no command")
+    if words[0] not in SHAPES:
+        raise Refused(2, "usage unknown")
+    shape = SHAPES[words[0]]
+    least = len(shape) - (1 if BUDGET in shape else 0)
+    if not least <= len(words) - 1 <= len(shape):
+        raise Refused(2, "usage count")
+    for limits, word in zip(shape, words[1:]):
+        if limits is None:
+            if not NAME.fullmatch(word):
+                raise Refused(2, "usage name")
+        elif not NATURAL.fullmatch(word):
+            raise Refused(2, "usage number")
+        elif len(word) > 20 or not limits[0] <= int(word) <= limits[1]:
+            raise Refused(2, "usage limit")
+    return words[0].decode(), words[1:]
+
+
+class Lines:
+    """The lines of an input. Where one that is due cannot be had, that is a refusal."""
+
+    def __init__(self, data):
+        self.data, self.at, self.number = data, 0, 0
+
+    def next(self):
+        """The next line, or None where the input ends before it."""
+        self.number += 1
+        end = self.data.find(b"\n", self.at)
+        length = (end if end >= 0 else len(self.data)) - self.at
+        if length > LINE:
+            self.refuse("long")
+        if end < 0 and length:
+            self.refuse("cut")
+        if end < 0:
+            return None
+        line, self.at = self.data[self.at:end], end + 1
+        return line
+
+    def refuse(self, why):
+        raise Refused(3, f"text line {self.number} {why}")
+
+
+def coordinate(field):
+    """The number of 64 bits that a field spells, or None."""
+    if len(field) <= 20 and NUMBER.fullmatch(field) and -2**63 <= int(field) < 2**63:
+        return int(field)
+    return None
+
+
+def read_text(lines):
+    """The side to move and the men of a position text, or its refusal."""
+    def due():
+        line = lines.next()
+        if line is None:
+            lines.refuse("missing")
+        return line
+
+    if due() != b"infinite chess 1":
+        lines.refuse("header")
+    line = due()
+    if line not in (b"turn W", b"turn B"):
+        lines.refuse("turn")
+    turn, men = SIDES.index(line[5:]), []
+    while True:
+        line = due()
+        if line == b"end":
+            if len(men) < 2:
+                lines.refuse("few")
+            return turn, men
+        if len(men) == 5:
+            lines.refuse("many")
+        shape = MAN.fullmatch(line)
+        if not shape:
+            lines.refuse("man")
+        place = None
+        # The two fields of the second shape may not be read as `gone`: there is one field then.
+        if shape[4] is not None:
+            place = coordinate(shape[4]), coordinate(shape[5])
+            if None in place:
+                lines.refuse("number")
+        men.append((SIDES.index(shape[1]), KINDS.index(shape[2]), place))
+
+
+def require_sound(turn, men):
+    """Refuses a position that is not sound, for the first reason."""
+    kings = [[man for man in men if man[0] == side and man[1] == 0] for side in (0, 1)]
+    for reason, fails in [("no king", lambda its: not its), ("many kings", lambda its: len(its) > 1), ("king gone", lambda its: its[0][2] is None)]:
+        for side in (0, 1):
+            if fails(kings[side]):
+                raise Refused(4, f"unsound {reason} {'WB'[side]}")
+    for a, one in enumerate(men):
+        for b in range(a + 1, len(men)):
+            if one[2] is not None and one[2] == men[b][2]:
+                raise Refused(4, f"unsound same square {a + 1} {b + 1}")
+    if is_attacked(turn, kings[1 - turn][0][2], men):
+        raise Refused(4, "unsound other side in check")
+
+
+def is_attacked(side, square, men):
+    """Whether a man of the side bears on the square."""
+    return any(man[0] == side and man[2] is not None and bears(man, square, men) for man in men)
+
+
+def shown(turn, men):
+    """What `show` writes."""
+    text = f"infinite chess 1\nturn {'WB'[turn]}\n"
+    for side, kind, place in men:
+        where = "gone" if place is None else f"{place[0]} {place[1]}"
+        text += f"{'WB'[side]} {'KQRBNP'[kind]} {where}\n"
+    king = next(man for man in men if man[0] == turn and man[1] == 0)
+    check = "yes" if is_attacked(1 - turn, king[2], men) else "no"
+    return f"{text}end\ncheck {check}\nlive {sum(man[2] is not None for man in men)}\n"
+
+
+def read_reply(line):
+    """The move of a reply as (man, x, y), `quit`, or None where the line is none."""
+    if line == b"quit":
+        return "quit"
+    shape = REPLY.fullmatch(line)
+    if not shape:
+        return None
+    move = int(shape[1]), coordinate(shape[2]), coordinate(shape[3])
+    return None if None in move else move
