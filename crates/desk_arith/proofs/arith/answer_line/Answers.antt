@@ -23,6 +23,6 @@ returns-in-Err-Field g c = record {
       let number = c.in-Err-Field.number in (
         refusal_as files is.Text (field_line number) false,
         inl (number, rw c.in-Err-Field.field-0-is at c.in-Err-Field.ensures.refused, refl),
-        record { reported = refl; written = rw (c.as_slice.ensures, c.field_line-fault.ensures) at c.refuse.ensures.written; files = refl },
+        record { reported = refl; written = rw (c.as_slice.ensures, c.field_line-fault.ensures, c.in-Err-Field.field-0-is) at c.refuse.ensures.written; files = refl },
       );
 }

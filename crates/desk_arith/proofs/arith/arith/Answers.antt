@@ -1,4 +1,4 @@
-use Rattle.std.proofs.Common.{ap}
+use Rattle.std.proofs.Common.{Err, ap}
 use Rattle.desk_base.specs.Reading.{Reading}
 use Rattle.desk_text.proofs.TextSteps.{line_read}
 use Rattle.desk_arith.proofs.FirstLine.{cut_ends, fault_ends, line_ends, long_ends, missing_ends}
@@ -61,6 +61,6 @@ returns-in-Err-Read g c = record {
       let reader = c.next_line.new.self in (
         reader.pending,
         fault_ends c.args.budget files reader.line reader.pending call.within _ _ _ _ _ _ _ _
-            (rw (c.new-reader.ensures, c.in-Err-Read.field-0-is) at (call.lines fresh)) (call.failed fresh c.in-Err-Read.field-0-is) c.refuse.ensures.written,
+            (rw (c.new-reader.ensures, c.in-Err-Read.field-0-is) at (call.lines fresh)) (call.failed fresh (ap Err c.in-Err-Read.field-0-is)) c.refuse.ensures.written,
       );
 }
