@@ -89,6 +89,6 @@ module _ (f : Tree) where
     fails = fails_of truth h;
     number = λ w small. (
       written truth h w small,
-      λ asked. ap truth_line (one_truth f truth (truths.Witness w) h (asked.0, asked.1, asked.2.0, asked.2.1, small)),
+      λ asked. ap truth_line (one_truth f truth (truths.Witness w) h (asked.0, asked.1, asked.2, asked.3, small)),
     );
   }
