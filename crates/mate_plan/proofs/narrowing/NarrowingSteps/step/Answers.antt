@@ -44,8 +44,7 @@ returns-clause-answers c =
 pub returns-clause-fits : goal.returns-clause-fits
 returns-clause-fits c = λ rest (sound, all, set, room).
     let on : IsSetOn (mask_tracks c.args.self.now.bench.now.position.now c.args.self.now.stage.mask) c.in-Some.source = rw c.in-Some.is at c.requires.fits.1.2 in
-    let item = safe_item_on c.args.self.now.bench.now.position.now (game_of c.args.self.now.bench.now.position.now c.requires.fits.1.0 c.args.self.now.bench.now.few) c.put.new.self c.args.self.now.stage.mask c.args.bearing.now (All-head (λ b. IsBearer c.args.self.now.bench.now.position.now.men c.args.self.now.stage.mask b.man b.ray b.king) c.args.bearing.now c.requires.fits.0 c.requires.fits.1.1) c.in_ok-id.id (tree_of c.in_ok-formula.formula) c.in_ok-formula.ensures.tree c.in-Some.source c.in_ok-id.ensures.ok on in
-    (
+    let item = safe_item_on c.args.self.now.bench.now.position.now (game_of c.args.self.now.bench.now.position.now c.requires.fits.1.0 c.args.self.now.bench.now.few) c.put.new.self c.args.self.now.stage.mask c.args.bearing.now (All-head (λ b. IsBearer c.args.self.now.bench.now.position.now.men c.args.self.now.stage.mask b.man b.ray b.king) c.args.bearing.now c.requires.fits.0 c.requires.fits.1.1) c.in_ok-id.id (tree_of c.in_ok-formula.formula) c.in_ok-formula.ensures.tree c.in-Some.source c.in_ok-id.ensures.ok on in (
       sound,
       λ k d within. all (suc k) d (omega (arith, within)),
       made_on (mask_tracks c.args.self.now.bench.now.position.now c.args.self.now.stage.mask) (tree_of c.in_ok-formula.formula) item.some item.over c.in_ok-made.made.set c.in_ok-made.ensures.set,
