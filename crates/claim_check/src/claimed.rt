@@ -1,5 +1,5 @@
 //! The sets that are claimed, one by one, and as levels of a plan.
-ghost use Rattle.std.specs.Prelude.{◌≡◌, [], IfOk, option_copied, slice_index_or};
+ghost use Rattle.std.specs.Prelude.{◌≡◌, IfOk, option_copied};
 ghost use Rattle.lin_formula.specs.SetOf.{Table, as_set};
 ghost use Rattle.rule_formula.specs.Fits.{IsGameMask, masks_of};
 ghost use Rattle.rule_formula.specs.Mean.{mask_tracks as tracks_at};
@@ -12,29 +12,16 @@ use crate::bench::Bench;
 use auto_core::Auto;
 use chess_game::Position;
 use lin_formula::SetId;
-use mask_sets::MaskSets;
 use mate_plan::{LevelNames, one_level};
 use std::alloc::AllocError;
-use winning_sets::{ClaimedSets, PlySets};
-
-/// The sets of a ply, and none past the last ply.
-fn sets_of_ply(plies: &[PlySets], ply: u8) -> &[Auto]
-    ensures { result.now ≡ slice_index_or plies.now ply [] }
-{
-    if (ply as usize) < plies.len() {
-        plies[ply as usize].as_slice()
-    } else {
-        &[]
-    }
-}
+use winning_sets::{ClaimedSets, set_at};
 
 /// The set that is claimed at a ply for a mask.
 pub(crate) fn claimed_set(claimed: &ClaimedSets, ply: u8, mask: u8) -> Option<&Auto>
     requires { claimed.now.masks.items ≡ masks_of claimed.now.position }
     ensures { option_copied result ≡ claimed_at (claim_in claimed.now) ply mask }
 {
-    let sets = sets_of_ply(claimed.plies.as_slice(), ply);
-    MaskSets::new(claimed.masks.as_slice(), sets).get(mask)
+    set_at(claimed.masks.as_slice(), claimed.plies.as_slice(), ply, mask)
 }
 
 /// The level that has a copy of this set for a mask, and no set for the others.

@@ -17,8 +17,8 @@ pub(crate) fn sets_of_ply(plies: &[PlySets], ply: u8) -> &[Auto]
     }
 }
 
-/// The set of a ply and a mask, where each ply has one for each of the masks.
-pub(crate) fn set_at<'a>(
+/// The set of a ply and a mask, where each ply has one for each of the masks. Past the last ply there is none.
+pub fn set_at<'a>(
     masks: &'a [u8],
     plies: &'a [PlySets],
     ply: u8,
