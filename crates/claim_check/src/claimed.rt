@@ -8,11 +8,9 @@ ghost use Rattle.mate_plan.specs.Claim.{claimed_at, claimed_level as level_at};
 ghost use Rattle.mate_plan.specs.Levels.{AreNamesIn, level_in};
 ghost use Rattle.claim_check.specs.Ready.{AreSigned, IsReady, claim_in};
 
-use crate::bench::Bench;
 use auto_core::Auto;
-use chess_game::Position;
 use lin_formula::SetId;
-use mate_plan::{LevelNames, one_level};
+use mate_plan::{Bench, LevelNames, Work, one_level};
 use std::alloc::AllocError;
 use winning_sets::{ClaimedSets, set_at};
 
@@ -26,24 +24,25 @@ pub(crate) fn claimed_set(claimed: &ClaimedSets, ply: u8, mask: u8) -> Option<&A
 
 /// The level that has a copy of this set for a mask, and no set for the others.
 pub(crate) fn lone_level(
-    bench: &mut Bench,
-    p: &Position,
+    bench: &Bench,
+    work: &mut Work,
     mask: u8,
     set: &Auto,
 ) -> Result<LevelNames, AllocError>
-    requires mask { IsGameMask p.now mask }
-    requires set { IsSetOn (tracks_at p.now mask) set.now }
-    ensures names { IfOk result (AreNamesIn p.now bench.new.sets) }
-    ensures set { IfOk result (λ level. level_in p.now bench.new.sets level mask ≡ Table set.now) }
-    ensures budget { bench.new.memo.budget ≡ bench.old.memo.budget }
+    requires mask { IsGameMask bench.now.position.now mask }
+    requires set { IsSetOn (tracks_at bench.now.position.now mask) set.now }
+    ensures names { IfOk result (AreNamesIn bench.now.position.now work.new.sets) }
+    ensures set { IfOk result (λ level. level_in bench.now.position.now work.new.sets level mask ≡ Table set.now) }
+    ensures grows { Grows work.old.sets work.new.sets }
+    ensures budget { work.new.memo.budget ≡ work.old.memo.budget }
 {
-    let name = bench.sets.put(set.copy()?)?;
-    one_level(bench.alloc, p, mask, Some(name))
+    let name = work.sets.put(set.copy()?)?;
+    one_level(bench, mask, Some(name))
 }
 
 /// The name of a copy of the set that is claimed at a ply for a mask.
 fn claimed_name(
-    bench: &mut Bench,
+    work: &mut Work,
     claimed: &ClaimedSets,
     ply: u8,
     mask: u8,
@@ -51,35 +50,36 @@ fn claimed_name(
     requires ready { IsReady claimed.now }
     requires signed { AreSigned (claim_in claimed.now) }
     ensures set { IfOk result (λ name.
-        set_at bench.new.sets name ≡ as_set (claimed_at (claim_in claimed.now) ply mask)) }
-    ensures name { IfOk result (IsNameOn (tracks_at claimed.now.position mask) bench.new.sets) }
-    ensures grows { Grows bench.old.sets bench.new.sets }
-    ensures budget { bench.new.memo.budget ≡ bench.old.memo.budget }
+        set_at work.new.sets name ≡ as_set (claimed_at (claim_in claimed.now) ply mask)) }
+    ensures name { IfOk result (IsNameOn (tracks_at claimed.now.position mask) work.new.sets) }
+    ensures grows { Grows work.old.sets work.new.sets }
+    ensures budget { work.new.memo.budget ≡ work.old.memo.budget }
 {
     match claimed_set(claimed, ply, mask) {
         None => Ok(None),
-        Some(set) => Ok(Some(bench.sets.put(set.copy()?)?)),
+        Some(set) => Ok(Some(work.sets.put(set.copy()?)?)),
     }
 }
 
 /// What is claimed at a ply, for each mask. Past the last ply nothing is.
 pub(crate) fn claimed_level(
-    bench: &mut Bench,
+    bench: &Bench,
+    work: &mut Work,
     claimed: &ClaimedSets,
     ply: u8,
 ) -> Result<LevelNames, AllocError>
     requires ready { IsReady claimed.now }
     requires signed { AreSigned (claim_in claimed.now) }
     ensures level { IfOk result (λ level.
-        level_in claimed.now.position bench.new.sets level ≡ level_at (claim_in claimed.now) ply) }
-    ensures names { IfOk result (AreNamesIn claimed.now.position bench.new.sets) }
-    ensures grows { Grows bench.old.sets bench.new.sets }
-    ensures budget { bench.new.memo.budget ≡ bench.old.memo.budget }
+        level_in claimed.now.position work.new.sets level ≡ level_at (claim_in claimed.now) ply) }
+    ensures names { IfOk result (AreNamesIn claimed.now.position work.new.sets) }
+    ensures grows { Grows work.old.sets work.new.sets }
+    ensures budget { work.new.memo.budget ≡ work.old.memo.budget }
 {
     let mut level = LevelNames::new(bench.alloc);
     let masks = claimed.masks.as_slice();
     for mask in masks {
-        level.push(claimed_name(bench, claimed, ply, *mask)?)?;
+        level.push(claimed_name(work, claimed, ply, *mask)?)?;
     }
     Ok(level)
 }

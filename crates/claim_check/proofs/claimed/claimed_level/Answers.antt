@@ -17,7 +17,7 @@ loop-mask-preserved c =
     let masks = c.as_slice-masks.result.now in
     let less : c.loop-mask.mask-index < length masks = c.loop-mask-test.true in
     let is = get_or_default masks c.loop-mask.mask-index 0 (get_or masks c.loop-mask.mask-index 0) less in
-    let named = given_ends d c.args.ply c.args.bench.now.memo.budget _ _ c.in_ok-claimed_name.ensures.set in
+    let named = given_ends d c.args.ply c.args.work.now.memo.budget _ _ c.in_ok-claimed_name.ensures.set in
     record {
       so_far = rw c.in_ok-push.ensures.ok
           (so_far_more _ _ _ _ _ _ _ _ _ _ _ _ _ c.loop-mask.invariant.so_far less is refl refl named c.in_ok-claimed_name.ensures.name c.in_ok-claimed_name.ensures.grows);
@@ -27,7 +27,7 @@ loop-mask-preserved c =
 pub returns-clause-level : goal.returns-clause-level
 returns-clause-level c =
     let d = claim_in c.args.claimed.now in
-    let budget = c.args.bench.now.memo.budget in
+    let budget = c.args.work.now.memo.budget in
     let At : List ℕ → Type 0 = λ ms. Ends (for_masks ms (given d c.args.ply) no_sets) budget (level_of c.loop-mask.bench.sets ms c.loop-mask.level) in
     given_level d c.args.ply c.requires.ready.claim budget _
     (subst At (c.as_slice-masks.ensures ∙ c.requires.ready.masks) (so_far_ends _ _ _ _ _ _ _ _ c.loop-mask.invariant.so_far c.loop-mask-test.false))
