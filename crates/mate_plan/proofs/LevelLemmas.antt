@@ -13,7 +13,7 @@ use Rattle.rule_formula.specs.Trees.{tracks_of}
 use Rattle.set_plan.specs.Sets.{Grows, IsNameOn, IsSetOn, set_at}
 use Rattle.set_plan.proofs.Items.{drop_front}
 use Rattle.mate_plan.specs.Formulas.{name_from, name_of}
-use Rattle.mate_plan.specs.Levels.{AreNames, level_from, level_of}
+use Rattle.mate_plan.specs.Levels.{AreNames, HaveNames, level_from, level_of}
 use Rattle.mate_plan.specs.Plan.{Level, level_with, no_sets}
 
 abbrev Names : Type 0
@@ -32,12 +32,6 @@ set_from sets mask (m ∷ masks) (id ∷ names) level found e =
 
 pub set_of_name : (sets : List Automaton) (masks : List ℕ) (names : Names) (mask : ℕ) → level_of sets masks names mask ≡ set_at sets (name_of masks names mask)
 set_of_name sets masks names mask = set_from sets mask masks names no_sets None refl
-
--- a name for each of the first masks, as many as there are
-abbrev pub HaveNames : List Man → List Automaton → List ℕ → List (Option SetId) → Type 0
-HaveNames stock sets masks [] = Unit {0}
-HaveNames stock sets [] (id ∷ ids) = ⊥
-HaveNames stock sets (mask ∷ masks) (id ∷ ids) = IsNameOn (tracks_of stock (is_live mask)) sets id × HaveNames stock sets masks ids
 
 pub have_from_are : (stock : List Man) (sets : List Automaton) (masks : List ℕ) (names : Names) → AreNames stock sets masks names → HaveNames stock sets masks names
 have_from_are stock sets [] [] are = tt

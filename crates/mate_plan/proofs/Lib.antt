@@ -8,7 +8,6 @@ pub mod PartAnswers
 pub mod Counts
 pub mod Starts
 pub mod LostParts
-pub mod Narrowings
 pub mod LostLevels
 pub mod UnionAnswers
 pub mod SafeAnswers

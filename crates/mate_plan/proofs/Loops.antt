@@ -1,95 +1,84 @@
 -- A level that is made mask by mask.
-use Rattle.std.proofs.Common.{◌≡◌, ℕ, ◌+◌, ◌<◌, ◌≤◌, List, [], ◌∷◌, ◌++◌, length, drop, Option, get_or, refl, sym, ap, ◌∙◌, subst}
+use Rattle.std.proofs.Common.{◌≡◌, ℕ, zero, suc, List, [], ◌∷◌, ◌++◌, length, drop, Option, sym, ap, ◌∙◌, subst}
 use Rattle.std.specs.Prelude.{Contains}
-use Rattle.std.proofs.lemmas.List.{length_push, drop_all}
-use Rattle.std.proofs.lemmas.List.Elements.{Contains-get_or}
 use Rattle.auto_core.specs.Automaton.{Automaton}
 use Rattle.game_rules.specs.Game.{Position}
 use Rattle.game_rules.specs.declared.men.Man.{Man}
 use Rattle.lin_formula.specs.SetOf.{SetOf}
 use Rattle.lin_formula.specs.declared.formula.SetId.{SetId}
 use Rattle.rule_formula.specs.Fits.{IsGameMask, masks_of}
-use Rattle.rule_formula.specs.Placed.{is_live}
-use Rattle.rule_formula.specs.Trees.{tracks_of}
+use Rattle.rule_formula.specs.Mean.{mask_tracks}
 use Rattle.rule_formula.proofs.MasksTheorem.{masks_are}
-use Rattle.set_plan.specs.Outcome.{Ends, IsPlanError}
+use Rattle.set_plan.specs.Outcome.{Answers, Ends, IsPlanError}
+use Rattle.set_plan.specs.Program.{Give}
 use Rattle.set_plan.specs.Sets.{Grows, IsNameOn, set_at}
 use Rattle.set_plan.specs.declared.stop.PlanError.{PlanError}
-use Rattle.set_plan.proofs.Composition.{Ends-give, Error-bind, LeadsTo, LeadsTo-error, LeadsTo-later, LeadsTo-self}
-use Rattle.set_plan.proofs.Items.{drop_front}
-use Rattle.mate_plan.specs.Levels.{AreNames, level_of}
-use Rattle.mate_plan.specs.Plan.{Level, Program, for_masks, level_with, no_sets}
+use Rattle.set_plan.proofs.Composition.{Ends-bind, Ends-give, Error-bind}
+use Rattle.set_plan.proofs.Takings.{contains_head, contains_rest}
+use Rattle.mate_plan.specs.Levels.{AreNames, AreNamesIn, AreNamesSoFar, HaveNames, level_in, level_of}
+use Rattle.mate_plan.specs.Plan.{Level, Program, for_masks, level_with, no_sets, with_mask}
 use Rattle.mate_plan.specs.declared.names.PartName.{PartName}
-use Rattle.mate_plan.proofs.LevelLemmas.{HaveNames, are_from_have, from_none, grows-grows, grows_self, have-grows, have_level-grows, have_push, level_push}
+use Rattle.mate_plan.proofs.LevelLemmas.{from_none, have-grows, have_level-grows, have_push, level_push}
 
-module _ (stock : List Man) (masks : List ℕ) (f : ℕ → Program SetOf) (budget : ℕ) (old : List Automaton) where
-  -- the first so many sets are made and have these names, and what is left leads to the end
-  pub record SoFar (sets : List Automaton) (done : ℕ) (names : List (Option SetId)) : Type 0 where
-    pub count : length names ≡ done
-    pub have : HaveNames stock sets masks names
-    pub grows : Grows old sets
-    pub left : LeadsTo (for_masks (drop done masks) f (level_of sets masks names)) (for_masks masks f no_sets) budget
+abbrev Names : Type 0
+Names = List (Option SetId)
 
-  pub so_far_none : SoFar old 0 []
-  so_far_none =
-      let Left : Level → Type 0 = λ level. LeadsTo (for_masks masks f level) (for_masks masks f no_sets) budget in
-      record {
-        count = refl;
-        have = tt;
-        grows = grows_self old;
-        left = subst Left (sym (from_none old no_sets masks)) (LeadsTo-self (for_masks masks f no_sets) budget);
-      }
+-- what is left after one more name
+left_more : (masks : List ℕ) (names : Names) (mask : ℕ) (rest : List ℕ) (id : Option SetId) → drop (length names) masks ≡ mask ∷ rest → drop (length (names ++ id ∷ [])) masks ≡ rest
+left_more [] [] mask rest id e = absurd (cc)
+left_more [] (n ∷ names) mask rest id e = absurd (cc)
+left_more (m ∷ masks) [] mask rest id e = cc
+left_more (m ∷ masks) (n ∷ names) mask rest id e = left_more masks names mask rest id e
 
-  as_planned : (g : ℕ → Program SetOf) (mask now : ℕ) (s : SetOf) → g ≡ f → now ≡ budget → Ends (g mask) now s → Ends (f mask) budget s
-  as_planned g mask now s same kept made =
-      let Of : (ℕ → Program SetOf) → Type 0 = λ h. Ends (h mask) now s in
-      let Within : ℕ → Type 0 = λ b. Ends (f mask) b s in
-      subst Within kept (subst Of same made)
+-- where no mask is left, each has a name
+all_named : (stock : List Man) (sets : List Automaton) (masks : List ℕ) (names : Names) → HaveNames stock sets masks names → drop (length names) masks ≡ [] → AreNames stock sets masks names
+all_named stock sets [] [] have e = tt
+all_named stock sets [] (id ∷ ids) have e = have
+all_named stock sets (mask ∷ masks) [] have e = absurd (cc)
+all_named stock sets (mask ∷ masks) (id ∷ ids) have e = (have.0, all_named stock sets masks ids have.1 e)
 
-  -- one more set
-  pub so_far_more : (sets new : List Automaton) (done mask now : ℕ) (names : List (Option SetId)) (id : Option SetId) (g : ℕ → Program SetOf) → SoFar sets done names → done < length masks → mask ≡ get_or masks done mask → g ≡ f → now ≡ budget → Ends (g mask) now (set_at new id) → IsNameOn (tracks_of stock (is_live mask)) new id → Grows sets new → SoFar new (done + 1) (names ++ id ∷ [])
-  so_far_more sets new done mask now names id g so_far less is same kept made on grows =
-      let ends : Ends (f mask) budget (set_at new id) = as_planned g mask now (set_at new id) same kept made in
-      let front : drop done masks ≡ mask ∷ drop (done + 1) masks = drop_front masks done mask less is in
-      let next : drop (length names) masks ≡ mask ∷ drop (done + 1) masks = subst (λ (n : ℕ). drop n masks ≡ mask ∷ drop (done + 1) masks) (sym so_far.count) front in
-      let have : HaveNames stock new masks names = have-grows stock sets new masks names grows so_far.have in
-      let level = level_of sets masks names in
-      let more : level_of new masks (names ++ id ∷ []) ≡ level_with level mask (set_at new id) =
-      level_push new masks names mask (drop (done + 1) masks) id next ∙ ap (λ (l : Level). level_with l mask (set_at new id)) (have_level-grows stock sets new masks names grows so_far.have) in
-      let Left : List ℕ → Type 0 = λ left. LeadsTo (for_masks left f level) (for_masks masks f no_sets) budget in
-      let After : Level → Type 0 = λ l. LeadsTo (for_masks (drop (done + 1) masks) f l) (for_masks masks f no_sets) budget in
-      record {
-        count = length_push names id ∙ ap (λ n. n + 1) so_far.count;
-        have = have_push stock new masks names mask (drop (done + 1) masks) id next have on;
-        grows = grows-grows old sets new so_far.grows grows;
-        left = subst After (sym more)
-            (LeadsTo-later (f mask) (λ s. for_masks (drop (done + 1) masks) f (level_with level mask s)) (for_masks masks f no_sets) budget (set_at new id) ends (subst Left front so_far.left));
-      }
+-- what comes next is one of the masks
+next_of : (masks : List ℕ) (n mask : ℕ) (rest : List ℕ) → drop n masks ≡ mask ∷ rest → Contains masks mask
+next_of [] zero mask rest e = absurd (cc)
+next_of [] (suc n) mask rest e = absurd (cc)
+next_of (m ∷ masks) zero mask rest e =
+    let same : m ≡ mask = cc in
+    subst (λ (k : ℕ). Contains (m ∷ masks) k) same (contains_head m masks)
+next_of (m ∷ masks) (suc n) mask rest e = contains_rest m masks mask (next_of masks n mask rest e)
 
-  -- an error at the next set is one of the whole
-  pub so_far_error : (sets : List Automaton) (done mask now : ℕ) (names : List (Option SetId)) (g : ℕ → Program SetOf) (e : PlanError PartName) → SoFar sets done names → done < length masks → mask ≡ get_or masks done mask → g ≡ f → now ≡ budget → IsPlanError (g mask) now e → IsPlanError (for_masks masks f no_sets) budget e
-  so_far_error sets done mask now names g e so_far less is same kept found =
-      let Of : (ℕ → Program SetOf) → Type 0 = λ h. IsPlanError (h mask) now e in
-      let Within : ℕ → Type 0 = λ b. IsPlanError (f mask) b e in
-      let error : IsPlanError (f mask) budget e = subst Within kept (subst Of same found) in
-      let front : drop done masks ≡ mask ∷ drop (done + 1) masks = drop_front masks done mask less is in
-      let level = level_of sets masks names in
-      let Left : List ℕ → Type 0 = λ left. LeadsTo (for_masks left f level) (for_masks masks f no_sets) budget in
-      LeadsTo-error (for_masks (mask ∷ drop (done + 1) masks) f level) (for_masks masks f no_sets) budget (subst Left front so_far.left) e
-      (Error-bind (f mask) (λ s. for_masks (drop (done + 1) masks) f (level_with level mask s)) budget e error)
+module _ (p : Position) where
+  pub mask_here : (sets : List Automaton) (names : Names) (mask : ℕ) (rest : List ℕ) → AreNamesSoFar p sets names (mask ∷ rest) → IsGameMask p mask
+  mask_here sets names mask rest so_far = (masks_are p mask).0 (next_of (masks_of p) (length names) mask rest so_far.left)
 
-  -- all sets
-  pub so_far_ends : (sets : List Automaton) (done : ℕ) (names : List (Option SetId)) → SoFar sets done names → length masks ≤ done → Ends (for_masks masks f no_sets) budget (level_of sets masks names)
-  so_far_ends sets done names so_far all =
-      let level = level_of sets masks names in
-      let Left : List ℕ → Type 0 = λ left. LeadsTo (for_masks left f level) (for_masks masks f no_sets) budget in
-      (subst Left (drop_all done masks all) so_far.left).ends level (Ends-give budget level)
+  pub so_far_none : (sets : List Automaton) (masks : List ℕ) → masks ≡ masks_of p → AreNamesSoFar p sets [] masks
+  so_far_none sets masks are = record { have = tt; left = sym are }
 
-  pub so_far_names : (sets : List Automaton) (done : ℕ) (names : List (Option SetId)) → SoFar sets done names → done ≡ length masks → AreNames stock sets masks names
-  so_far_names sets done names so_far all = are_from_have stock sets masks names (so_far.count ∙ all) so_far.have
+  pub so_far_names : (sets : List Automaton) (names : Names) → AreNamesSoFar p sets names [] → AreNamesIn p sets names
+  so_far_names sets names so_far = all_named p.men sets (masks_of p) names so_far.have so_far.left
 
--- each mask that is gone through is one of the game
-pub mask_here : (p : Position) (masks : List ℕ) (done : ℕ) (m : ℕ) → masks ≡ masks_of p → done < length masks → IsGameMask p (get_or masks done m)
-mask_here p masks done m is less =
-    let Among : List ℕ → Type 0 = λ l. Contains l (get_or masks done m) in
-    (masks_are p (get_or masks done m)).0 (subst Among is (Contains-get_or masks done m less))
+  pub level_none : (sets : List Automaton) → level_in p sets [] ≡ no_sets
+  level_none sets = from_none sets no_sets (masks_of p)
+
+  module _ (old new : List Automaton) (names : Names) (mask : ℕ) (rest : List ℕ) (so_far : AreNamesSoFar p old names (mask ∷ rest)) (grows : Grows old new) (id : Option SetId) where
+    -- one more name
+    pub so_far_more : IsNameOn (mask_tracks p mask) new id → AreNamesSoFar p new (names ++ id ∷ []) rest
+    so_far_more on = record {
+      have = have_push p.men new (masks_of p) names mask rest id so_far.left (have-grows p.men old new (masks_of p) names grows so_far.have) on;
+      left = left_more (masks_of p) names mask rest id so_far.left;
+    }
+
+    more : level_in p new (names ++ id ∷ []) ≡ level_with (level_in p old names) mask (set_at new id)
+    more =
+        level_push new (masks_of p) names mask rest id so_far.left
+        ∙ ap (λ (l : Level). level_with l mask (set_at new id)) (have_level-grows p.men old new (masks_of p) names grows so_far.have)
+
+    -- one more set
+    pub with_mask_ends : (f : ℕ → Program SetOf) (budget : ℕ) → Ends (f mask) budget (set_at new id) → Ends (with_mask f mask (level_in p old names)) budget (level_in p new (names ++ id ∷ []))
+    with_mask_ends f budget ends =
+        let level = level_with (level_in p old names) mask (set_at new id) in
+        subst (λ (l : Level). Ends (with_mask f mask (level_in p old names)) budget l) (sym more)
+        (Ends-bind (f mask) (λ s. Give (level_with (level_in p old names) mask s)) budget (set_at new id) level ends (Ends-give budget level))
+
+-- an error at a set is one of the level
+pub with_mask_error : (f : ℕ → Program SetOf) (mask budget : ℕ) (level : Level) (e : PlanError PartName) → IsPlanError (f mask) budget e → IsPlanError (with_mask f mask level) budget e
+with_mask_error f mask budget level e error = Error-bind (f mask) (λ s. Give (level_with level mask s)) budget e error

@@ -7,16 +7,17 @@ use Rattle.game_rules.specs.declared.men.Side.{Side}
 use Rattle.lin_formula.specs.SetOf.{SetOf, Nothing}
 use Rattle.rule_formula.specs.Fits.{mask_of}
 use Rattle.rule_formula.specs.declared.opt.Bearing.{Bearing}
-use Rattle.set_plan.specs.Program.{Item, Give}
+use Rattle.set_plan.specs.Program.{Item, Give, each}
 use Rattle.set_plan.specs.Same.{SameSets, SameItem}
 use Rattle.set_plan.specs.Unite.{Made, join, make, two, unite, without}
 use Rattle.set_plan.proofs.Alike.{Alike, SameSets-self}
 use Rattle.set_plan.proofs.Combined.{SameItems, SameMade, Empty-alike, bind-alike, join-alike, make-alike, unite-alike, without-alike}
+use Rattle.set_plan.proofs.Folds.{each-alike}
 use Rattle.set_plan.proofs.SameSets.{SameItem-sets}
 use Rattle.set_plan.proofs.Unique.{Ends-not_stops, Ends-one, Stops-one}
 use Rattle.mate_plan.specs.declared.names.Part.{Part}
 use Rattle.mate_plan.specs.declared.names.Part.TheVariants as kind
-use Rattle.mate_plan.specs.Plan.{Level, Program, Rules, backward, backward_from, bear_item, bear_items, choices_into, difference, for_masks, forward, image_item, image_items, is_even, kept_level, level_with, lost_level, lost_set, lost_set_if, name, narrow, no_sets, plan, point_level, pre_item, pre_items, reach_level, reach_more, reach_set, rest_set, safe_item, turn_at, union, win_level, win_set}
+use Rattle.mate_plan.specs.Plan.{Level, Program, Rules, backward, backward_from, bear_item, bear_items, choices_into, difference, for_masks, forward, image_item, image_items, is_even, kept_level, level_with, lost_level, lost_set, lost_set_if, name, narrow, narrow_by, no_sets, plan, point_level, pre_item, pre_items, reach_level, reach_more, reach_set, rest_set, safe_item, turn_at, union, win_level, win_set, with_mask}
 use Rattle.mate_plan.specs.Once.{EndsOnce, SameLevels, SameLists}
 use Rattle.mate_plan.specs.PlanOf.{last_ply, plan_of, plan_to, rules_of}
 
@@ -41,10 +42,11 @@ two-same s t u v first second zero = first
 two-same s t u v first second (suc k) = second
 
 pub for_masks-alike : (masks : List ℕ) (f g : ℕ → Program SetOf) (l m : Level) → ((mask : ℕ) → Alike SameSets (f mask) (g mask)) → SameLevels l m → Alike SameLevels (for_masks masks f l) (for_masks masks g m)
-for_masks-alike [] f g l m sets levels = levels
-for_masks-alike (mask ∷ masks) f g l m sets levels =
-    bind-alike SameSets SameLevels (f mask) (g mask) (λ s. for_masks masks f (level_with l mask s)) (λ s. for_masks masks g (level_with m mask s)) (sets mask)
-    (λ s t same. for_masks-alike masks f g (level_with l mask s) (level_with m mask t) sets (level_with-same l m mask s t levels same))
+for_masks-alike masks f g l m sets levels =
+    each-alike SameLevels (with_mask f) (with_mask g)
+    (λ mask k j same. bind-alike SameSets SameLevels (f mask) (g mask) (λ s. Give (level_with k mask s)) (λ s. Give (level_with j mask s)) (sets mask)
+    (λ s t one. level_with-same k j mask s t same one))
+    masks l m levels
 
 pub map-items : {X : Type 0} (f g : X → Item) → ((x : X) → SameItem (f x) (g x)) → (xs : List X) → SameItems (map f xs) (map g xs)
 map-items f g same [] = tt
@@ -89,20 +91,23 @@ module _ (rules : Rules) where
   bear-same side mask s t sets =
       map-items (bear_item rules mask s) (bear_item rules mask t) (λ b. SameItem-sets (rules.bear mask b) (λ _. s) (λ _. t) (λ k. sets)) (rules.bearings side mask)
 
-  pub narrow-alike : (ply mask : ℕ) (bearings : List Bearing) (m n : Made) → SameMade m n → Alike SameSets (narrow rules ply mask bearings m) (narrow rules ply mask bearings n)
-  narrow-alike ply mask [] m n same = same.sets
-  narrow-alike ply mask (b ∷ bearings) m n same =
-      let At : ℕ → Type 0 = λ k. Alike SameSets (narrow rules ply mask (b ∷ bearings) (m.0, m.1)) (narrow rules ply mask (b ∷ bearings) (n.0, k)) in
+  narrow_by-alike : (ply mask : ℕ) (b : Bearing) (m n : Made) → SameMade m n → Alike SameMade (narrow_by rules ply mask b m) (narrow_by rules ply mask b n)
+  narrow_by-alike ply mask b m n same =
+      let At : ℕ → Type 0 = λ k. Alike SameMade (narrow_by rules ply mask b m) (narrow_by rules ply mask b (n.0, k)) in
       subst At same.at
-      (bind-alike SameMade SameSets (make (name ply mask kind.Safe) m.1 (safe_item rules mask m.0 b)) (make (name ply mask kind.Safe) m.1 (safe_item rules mask n.0 b)) (λ made. narrow rules ply mask bearings made) (λ made. narrow rules ply mask bearings made)
       (make-alike (name ply mask kind.Safe) m.1 (safe_item rules mask m.0 b) (safe_item rules mask n.0 b) (SameItem-sets (rules.safe mask b) (λ _. m.0) (λ _. n.0) (λ k. same.sets)))
-      (λ a c more. narrow-alike ply mask bearings a c more))
+
+  narrow-alike : (ply mask : ℕ) (bearings : List Bearing) (s t : SetOf) → SameSets s t → Alike SameSets (narrow rules ply mask bearings s) (narrow rules ply mask bearings t)
+  narrow-alike ply mask bearings s t same =
+      bind-alike SameMade SameSets (each bearings (narrow_by rules ply mask) (s, 1)) (each bearings (narrow_by rules ply mask) (t, 1)) (λ made. Give made.0) (λ made. Give made.0)
+      (each-alike SameMade (narrow_by rules ply mask) (narrow_by rules ply mask) (narrow_by-alike ply mask) bearings (s, 1) (t, 1) (record { sets = same; at = refl }))
+      (λ a b made. made.sets)
 
   pub reach_set-alike : (side : Side) (ply : ℕ) (l m : Level) (mask : ℕ) → SameLevels l m → Alike SameSets (reach_set rules side ply l mask) (reach_set rules side ply m mask)
   reach_set-alike side ply l m mask levels =
-      bind-alike SameSets SameSets (union rules ply mask kind.Image (image_items rules side mask l)) (union rules ply mask kind.Image (image_items rules side mask m)) (λ moved. narrow rules ply mask (rules.bearings (other side) mask) (moved, 1)) (λ moved. narrow rules ply mask (rules.bearings (other side) mask) (moved, 1))
+      bind-alike SameSets SameSets (union rules ply mask kind.Image (image_items rules side mask l)) (union rules ply mask kind.Image (image_items rules side mask m)) (narrow rules ply mask (rules.bearings (other side) mask)) (narrow rules ply mask (rules.bearings (other side) mask))
       (union-alike ply mask kind.Image (image_items rules side mask l) (image_items rules side mask m) (image-same side mask l m levels))
-      (λ s t same. narrow-alike ply mask (rules.bearings (other side) mask) (s, 1) (t, 1) (record { sets = same; at = refl }))
+      (λ s t same. narrow-alike ply mask (rules.bearings (other side) mask) s t same)
 
   pub reach_level-alike : (side : Side) (ply : ℕ) (l m : Level) → SameLevels l m → Alike SameLevels (reach_level rules side ply l) (reach_level rules side ply m)
   reach_level-alike side ply l m levels =

@@ -1,5 +1,5 @@
 -- Levels as the sets that are kept make them.
-use Rattle.std.specs.Prelude.{ℕ, List, [], ◌∷◌, Option}
+use Rattle.std.specs.Prelude.{◌≡◌, ℕ, List, [], ◌∷◌, length, drop, Option}
 use Rattle.auto_core.specs.Automaton.{Automaton}
 use Rattle.game_rules.specs.Game.{Position}
 use Rattle.game_rules.specs.declared.men.Man.{Man}
@@ -34,3 +34,14 @@ level_in p sets ids = level_of sets (masks_of p) ids
 -- a name for each mask of the position
 abbrev pub AreNamesIn : Position → List Automaton → List (Option SetId) → Type 0
 AreNamesIn p sets ids = AreNames p.men sets (masks_of p) ids
+
+-- a name for each of the first masks, as many as there are names, of a set over the tracks of its men
+abbrev pub HaveNames : List Man → List Automaton → List ℕ → List (Option SetId) → Type 0
+HaveNames stock sets masks [] = Unit {0}
+HaveNames stock sets [] (id ∷ ids) = ⊥
+HaveNames stock sets (mask ∷ masks) (id ∷ ids) = IsNameOn (tracks_of stock (is_live mask)) sets id × HaveNames stock sets masks ids
+
+-- a name for each of the first masks of the position, which are followed by these
+pub record AreNamesSoFar (p : Position) (sets : List Automaton) (ids : List (Option SetId)) (rest : List ℕ) : Type 0 where
+  pub have : HaveNames p.men sets (masks_of p) ids
+  pub left : drop (length ids) (masks_of p) ≡ rest

@@ -8,7 +8,7 @@ use Rattle.lin_formula.specs.Tree.{Tree}
 use Rattle.lin_formula.specs.SetOf.{SetOf, Nothing}
 use Rattle.rule_formula.specs.declared.opt.Opt.{Opt}
 use Rattle.set_plan.specs.Program as set_plan
-use Rattle.set_plan.specs.Program.{Item, Give, Ask, Empty, ◌>>=◌}
+use Rattle.set_plan.specs.Program.{Item, Give, Ask, Empty, each, ◌>>=◌}
 use Rattle.set_plan.specs.Unite as set_plan_unite
 use Rattle.set_plan.specs.Unite.{Made, make, remainder, together, two}
 use Rattle.rule_formula.specs.declared.opt.Bearing.{Bearing}
@@ -43,12 +43,15 @@ no_sets mask = Nothing
 abbrev pub level_with : Level → ℕ → SetOf → Level
 level_with level mask s k = if k == mask then s else level k
 
--- a set for each of the masks, one after the other, beside the sets that there are so far
-abbrev pub for_masks : List ℕ → (ℕ → Program SetOf) → Level → Program Level
-for_masks [] f level = Give level
-for_masks (mask ∷ masks) f level = do
+-- beside the sets that there are so far, that of the mask
+abbrev pub with_mask : (ℕ → Program SetOf) → ℕ → Level → Program Level
+with_mask f mask level = do
   s ← f mask
-  for_masks masks f (level_with level mask s)
+  Give (level_with level mask s)
+
+-- beside the sets that there are so far, one for each of the masks, one after the other
+abbrev pub for_masks : List ℕ → (ℕ → Program SetOf) → Level → Program Level
+for_masks masks f level = each masks (with_mask f) level
 
 abbrev pub name : ℕ → ℕ → Part → PartName
 name ply mask p = record { ply = ply; mask = mask; part = p }
@@ -96,18 +99,21 @@ module _ (rules : Rules) where
   abbrev pub safe_item : ℕ → SetOf → Bearing → Item
   safe_item mask source b = record { formula = rules.safe mask b; sets = λ _. source }
 
-  -- the set made narrower by each of the bearings in turn
-  abbrev pub narrow : ℕ → ℕ → List Bearing → Made → Program SetOf
-  narrow ply mask [] (s, at) = Give s
-  narrow ply mask (b ∷ bearings) (s, at) = do
-    made ← make (name ply mask kind.Safe) at (safe_item mask s b)
-    narrow ply mask bearings made
+  -- the set made narrower by one bearing
+  abbrev pub narrow_by : ℕ → ℕ → Bearing → Made → Program Made
+  narrow_by ply mask b so_far = make (name ply mask kind.Safe) so_far.1 (safe_item mask so_far.0 b)
+
+  -- the set made narrower by each of the bearings in turn, as a part of its own
+  abbrev pub narrow : ℕ → ℕ → List Bearing → SetOf → Program SetOf
+  narrow ply mask bearings s = do
+    made ← each bearings (narrow_by ply mask) (s, 1)
+    Give made.0
 
   -- what is reached at a ply with one mask, from what is reached at the ply before, where the side moves
   abbrev pub reach_set : Side → ℕ → Level → ℕ → Program SetOf
   reach_set side ply level mask = do
     moved ← union ply mask kind.Image (image_items side mask level)
-    narrow ply mask (rules.bearings (other side) mask) (moved, 1)
+    narrow ply mask (rules.bearings (other side) mask) moved
 
   abbrev pub reach_level : Side → ℕ → Level → Program Level
   reach_level side ply level = for_masks rules.masks (reach_set side ply level) no_sets

@@ -1,6 +1,5 @@
 //! Whether each position of a set has a move into a level: replies have answers, and quiet positions have replies.
-ghost use Rattle.std.specs.Prelude.{◌≡◌, ◌≤◌, Bool, IfOk, length};
-ghost use Rattle.game_rules.specs.Game.{Sound};
+ghost use Rattle.std.specs.Prelude.{◌≡◌, Bool, IfOk};
 ghost use Rattle.rule_formula.specs.Fits.{IsGameMask};
 ghost use Rattle.rule_formula.specs.Mean.{mask_tracks as tracks_at};
 ghost use Rattle.set_plan.specs.Outcome.{Answers};
@@ -9,67 +8,41 @@ ghost use Rattle.mate_plan.specs.Levels.{AreNamesIn, level_in};
 ghost use Rattle.mate_plan.specs.PlanOf.{rules_of};
 ghost use Rattle.mate_plan.specs.Questions as questions;
 
+use crate::bench::{Bench, Work};
 use crate::lending::{is_lacking, keep_left, left_without, lent};
-use crate::level::{LevelNames, name_in};
+use crate::level::name_in;
 use crate::names::{Part, PartName};
-use crate::stage::{MovesInto, StageSet};
+use crate::stage::{MovesInto, PartMoves, PartSet, StageSet};
 use crate::tracks::mask_tracks;
 use crate::unions::{check_set, pre_set};
-use chess_game::Position;
 use formula_auto::Memo;
 use lin_formula::SetId;
-use rule_formula::masks;
 use set_plan::{PlanError, Sets, is_within};
-use std::alloc::Global;
 
-/// A set from each of whose positions a move is to lead into a level.
-#[derive(Clone, Copy)]
-struct Moves<'a> {
-    set: StageSet,
-    into: &'a LevelNames,
-    /// The part that has the moves.
-    found: Part,
-    /// The part of what is left without a move.
-    missing: Part,
-}
-
-/// Whether the side has a move into the level from each position of the set.
+/// Whether the side has a move into the level from each position of the set. What is left without one is this part.
 fn have_moves(
-    alloc: Global,
+    bench: &Bench,
     memo: &mut Memo,
     sets: &Sets,
-    p: &Position,
-    moves: &Moves,
+    moves: &PartMoves,
+    missing: Part,
 ) -> Result<bool, PlanError<PartName>>
-    requires sound { Sound p.now }
-    requires men { length p.now.men ≤ 8 }
-    requires source { IsNameOn (tracks_at p.now moves.now.set.stage.mask) sets.now moves.now.set.name }
-    requires into { AreNamesIn p.now sets.now moves.now.into.now }
+    requires source { IsNameOn (tracks_at bench.now.position.now moves.now.set.stage.mask) sets.now moves.now.set.name }
+    requires into { AreNamesIn bench.now.position.now sets.now moves.now.into.now }
     ensures answers { Answers
-        (questions.have_moves (rules_of p.now) moves.now.set.stage.side moves.now.set.stage.ply moves.now.set.stage.mask
-        moves.now.found moves.now.missing (set_at sets.now moves.now.set.name) (level_in p.now sets.now moves.now.into.now))
+        (questions.have_moves (rules_of bench.now.position.now) moves.now.set.stage.side moves.now.set.stage.ply
+        moves.now.set.stage.mask moves.now.part missing (set_at sets.now moves.now.set.name)
+        (level_in bench.now.position.now sets.now moves.now.into.now))
         memo.old.budget (λ (b : Bool). b) result }
     ensures budget { memo.new.budget ≡ memo.old.budget }
 {
-    let stage = moves.set.stage;
-    let name = moves.set.name;
-    let all = masks(alloc, p)?;
-    let found = pre_set(
-        alloc,
-        memo,
-        sets,
-        p,
-        all.as_slice(),
-        stage,
-        moves.found,
-        name,
-        moves.into,
-    )?;
-    let tracks = mask_tracks(alloc, p, stage.mask)?;
+    let StageSet { stage, name } = moves.set;
+    let found = pre_set(bench, memo, sets, moves)?;
+    let tracks = mask_tracks(bench.alloc, bench.position, stage.mask)?;
     is_within(
-        alloc,
+        bench.alloc,
         &tracks,
-        stage.part(moves.missing),
+        stage.part(missing),
         lent(sets, name),
         found.as_ref(),
         memo.budget(),
@@ -78,108 +51,87 @@ fn have_moves(
 
 /// The name of what is in the set where the side is not in check.
 fn quiet_name(
-    alloc: Global,
-    memo: &mut Memo,
-    sets: &mut Sets,
-    p: &Position,
+    bench: &Bench,
+    work: &mut Work,
     set: StageSet,
 ) -> Result<Option<SetId>, PlanError<PartName>>
-    requires sound { Sound p.now }
-    requires men { length p.now.men ≤ 8 }
-    requires mask { IsGameMask p.now set.stage.mask }
-    requires source { IsNameOn (tracks_at p.now set.stage.mask) sets.old set.name }
+    requires mask { IsGameMask bench.now.position.now set.stage.mask }
+    requires source { IsNameOn (tracks_at bench.now.position.now set.stage.mask) work.old.sets set.name }
     ensures answers { Answers
-        (questions.quiet_set (rules_of p.now) set.stage.side set.stage.ply set.stage.mask (set_at sets.old set.name))
-        memo.old.budget (λ name. set_at sets.new name) result }
-    ensures name { IfOk result (IsNameOn (tracks_at p.now set.stage.mask) sets.new) }
-    ensures grows { Grows sets.old sets.new }
-    ensures budget { memo.new.budget ≡ memo.old.budget }
+        (questions.quiet_set (rules_of bench.now.position.now) set.stage.side set.stage.ply set.stage.mask
+        (set_at work.old.sets set.name))
+        work.old.memo.budget (λ name. set_at work.new.sets name) result }
+    ensures name { IfOk result (IsNameOn (tracks_at bench.now.position.now set.stage.mask) work.new.sets) }
+    ensures grows { Grows work.old.sets work.new.sets }
+    ensures budget { work.new.memo.budget ≡ work.old.memo.budget }
 {
-    let check = check_set(alloc, memo, sets, p, set.stage, set.name)?;
-    let left = left_without(
-        alloc,
-        sets,
-        p,
-        set.stage.part(Part::Quiet),
-        set.name,
-        check.as_ref(),
-        memo.budget(),
-    )?;
-    Ok(keep_left(sets, set.name, left)?)
+    let check = check_set(bench, &mut work.memo, &work.sets, set)?;
+    let whole = PartSet {
+        part: set.stage.part(Part::Quiet),
+        name: set.name,
+    };
+    let budget = work.memo.budget();
+    let left = left_without(bench, &work.sets, whole, check.as_ref(), budget)?;
+    Ok(keep_left(&mut work.sets, set.name, left)?)
 }
 
 /// Whether the side that is to move has an answer into the other level from each position of the stage's set.
 pub fn are_answered(
-    alloc: Global,
-    memo: &mut Memo,
-    sets: &Sets,
-    p: &Position,
+    bench: &Bench,
+    work: &mut Work,
     moves: &MovesInto,
 ) -> Result<bool, PlanError<PartName>>
-    requires sound { Sound p.now }
-    requires men { length p.now.men ≤ 8 }
-    requires from { AreNamesIn p.now sets.now moves.now.from.now }
-    requires into { AreNamesIn p.now sets.now moves.now.into.now }
+    requires from { AreNamesIn bench.now.position.now work.old.sets moves.now.from.now }
+    requires into { AreNamesIn bench.now.position.now work.old.sets moves.now.into.now }
     ensures answers { Answers
-        (questions.are_answered (rules_of p.now) moves.now.stage.side moves.now.stage.ply
-        (level_in p.now sets.now moves.now.from.now) (level_in p.now sets.now moves.now.into.now) moves.now.stage.mask)
-        memo.old.budget (λ (b : Bool). b) result }
-    ensures budget { memo.new.budget ≡ memo.old.budget }
+        (questions.are_answered (rules_of bench.now.position.now) moves.now.stage.side moves.now.stage.ply
+        (level_in bench.now.position.now work.old.sets moves.now.from.now)
+        (level_in bench.now.position.now work.old.sets moves.now.into.now) moves.now.stage.mask)
+        work.old.memo.budget (λ (b : Bool). b) result }
+    ensures sets { work.new.sets ≡ work.old.sets }
+    ensures budget { work.new.memo.budget ≡ work.old.memo.budget }
 {
-    let name = name_in(alloc, p, moves.from, moves.stage.mask)?;
-    let asked = Moves {
-        set: StageSet {
-            stage: moves.stage,
-            name,
-        },
+    let stage = moves.stage;
+    let name = name_in(bench, moves.from, stage.mask);
+    let answers = PartMoves {
+        part: Part::Answer,
+        set: StageSet { stage, name },
         into: moves.into,
-        found: Part::Answer,
-        missing: Part::Left,
     };
-    have_moves(alloc, memo, sets, p, &asked)
+    have_moves(bench, &mut work.memo, &work.sets, &answers, Part::Left)
 }
 
 /// Whether the side that is to move is in check, or has a reply into the other level, in each position of the stage's set. The set that
 /// is made on the way is kept for as long only as it is needed.
 pub fn have_replies(
-    alloc: Global,
-    memo: &mut Memo,
-    sets: &mut Sets,
-    p: &Position,
+    bench: &Bench,
+    work: &mut Work,
     moves: &MovesInto,
 ) -> Result<bool, PlanError<PartName>>
-    requires sound { Sound p.now }
-    requires men { length p.now.men ≤ 8 }
-    requires mask { IsGameMask p.now moves.now.stage.mask }
-    requires from { AreNamesIn p.now sets.old moves.now.from.now }
-    requires into { AreNamesIn p.now sets.old moves.now.into.now }
+    requires mask { IsGameMask bench.now.position.now moves.now.stage.mask }
+    requires from { AreNamesIn bench.now.position.now work.old.sets moves.now.from.now }
+    requires into { AreNamesIn bench.now.position.now work.old.sets moves.now.into.now }
     ensures answers { Answers
-        (questions.have_replies (rules_of p.now) moves.now.stage.side moves.now.stage.ply
-        (level_in p.now sets.old moves.now.from.now) (level_in p.now sets.old moves.now.into.now) moves.now.stage.mask)
-        memo.old.budget (λ (b : Bool). b) result }
-    ensures grows { Grows sets.old sets.new }
-    ensures budget { memo.new.budget ≡ memo.old.budget }
+        (questions.have_replies (rules_of bench.now.position.now) moves.now.stage.side moves.now.stage.ply
+        (level_in bench.now.position.now work.old.sets moves.now.from.now)
+        (level_in bench.now.position.now work.old.sets moves.now.into.now) moves.now.stage.mask)
+        work.old.memo.budget (λ (b : Bool). b) result }
+    ensures grows { Grows work.old.sets work.new.sets }
+    ensures budget { work.new.memo.budget ≡ work.old.memo.budget }
 {
-    let name = name_in(alloc, p, moves.from, moves.stage.mask)?;
-    if is_lacking(sets, name) {
+    let stage = moves.stage;
+    let name = name_in(bench, moves.from, stage.mask);
+    if is_lacking(&work.sets, name) {
         return Ok(true);
     }
-    let count = sets.count();
-    let set = StageSet {
-        stage: moves.stage,
-        name,
-    };
-    let quiet = quiet_name(alloc, memo, sets, p, set)?;
-    let asked = Moves {
-        set: StageSet {
-            stage: moves.stage,
-            name: quiet,
-        },
+    let count = work.sets.count();
+    let quiet = quiet_name(bench, work, StageSet { stage, name })?;
+    let replies = PartMoves {
+        part: Part::Reply,
+        set: StageSet { stage, name: quiet },
         into: moves.into,
-        found: Part::Reply,
-        missing: Part::Stale,
     };
-    let answered = have_moves(alloc, memo, sets, p, &asked)?;
-    sets.truncate(count);
+    let answered = have_moves(bench, &mut work.memo, &work.sets, &replies, Part::Stale)?;
+    work.sets.truncate(count);
     Ok(answered)
 }

@@ -1,8 +1,7 @@
 //! Whether a set has only positions whose men stand on distinct squares, and only positions in which a king is safe.
-ghost use Rattle.std.specs.Prelude.{◌≡◌, ◌≤◌, All, Bool, IfOk, length, map};
+ghost use Rattle.std.specs.Prelude.{◌≡◌, All, Bool, IfOk, map};
 ghost use Rattle.lin_formula.specs.TreeOf.{tree_of};
 ghost use Rattle.rule_formula.specs.Fits.{IsGameMask};
-ghost use Rattle.rule_formula.specs.Mean.{IsGame};
 ghost use Rattle.rule_formula.specs.Pairs.{IsPairOf};
 ghost use Rattle.rule_formula.specs.Trees.{twins_tree};
 ghost use Rattle.set_plan.specs.Outcome.{Answers};
@@ -11,106 +10,91 @@ ghost use Rattle.mate_plan.specs.PlanOf.{rules_of};
 ghost use Rattle.mate_plan.specs.Questions as questions;
 ghost use Rattle.mate_plan.specs.Twins.{twin_trees};
 
+use crate::bench::{Bench, Work};
 use crate::formulas::bear_formulas;
 use crate::level::name_in;
 use crate::names::{Part, PartName};
-use crate::stage::StageLevel;
-use chess_game::Position;
-use formula_auto::Memo;
+use crate::stage::{MaskSet, StageLevel};
 use lin_formula::{Formula, SetId};
 use rule_formula::{Pair, pairs, twins_formula};
-use set_plan::{PlanError, Sets, are_empty};
-use std::alloc::{AllocError, Global};
+use set_plan::{PlanError, are_empty};
+use std::alloc::AllocError;
 
 /// Where the two men of one of the pairs stand on one square, in the set of a mask.
-fn twins(
-    alloc: Global,
-    p: &Position,
-    mask: u8,
-    source: SetId,
-    pairs: &[Pair],
-) -> Result<Vec<Formula>, AllocError>
-    requires few { length p.now.men ≤ 8 }
-    requires pairs { All (IsPairOf p.now.men mask) pairs.now }
-    ensures { IfOk result (λ formulas.
-        map tree_of formulas.items ≡ map (λ w. twins_tree 8 mask w.first w.second source.0) pairs.now) }
+fn twins(bench: &Bench, source: MaskSet, pairs: &[Pair]) -> Result<Vec<Formula>, AllocError>
+    requires pairs { All (IsPairOf bench.now.position.now.men source.mask) pairs.now }
+    ensures { IfOk result (λ formulas. map tree_of formulas.items
+        ≡ map (λ w. twins_tree 8 source.mask w.first w.second source.set.0) pairs.now) }
 {
-    let mut formulas = Vec::new(alloc);
+    let mut formulas = Vec::new(bench.alloc);
     for pair in pairs {
-        formulas.push(twins_formula(alloc, pair.first, pair.second, mask, source)?)?;
+        let MaskSet { mask, set } = source;
+        formulas.push(twins_formula(bench.alloc, pair.first, pair.second, mask, set)?)?;
     }
     Ok(formulas)
 }
 
 /// Where two live men stand on one square in the set of a mask, pair by pair.
-fn twin_formulas(
-    alloc: Global,
-    p: &Position,
-    mask: u8,
-    source: Option<SetId>,
-) -> Result<Vec<Formula>, AllocError>
-    requires few { length p.now.men ≤ 8 }
-    ensures { IfOk result (λ formulas. map tree_of formulas.items ≡ twin_trees p.now mask source) }
+fn twin_formulas(bench: &Bench, mask: u8, source: Option<SetId>) -> Result<Vec<Formula>, AllocError>
+    ensures { IfOk result (λ formulas. map tree_of formulas.items ≡ twin_trees bench.now.position.now mask source) }
 {
-    let Some(source) = source else {
-        return Ok(Vec::new(alloc));
+    let Some(set) = source else {
+        return Ok(Vec::new(bench.alloc));
     };
-    let all = pairs(alloc, p, mask)?;
-    twins(alloc, p, mask, source, all.as_slice())
+    let all = pairs(bench.alloc, bench.position, mask)?;
+    twins(bench, MaskSet { mask, set }, all.as_slice())
 }
 
 /// Whether live men stand on distinct squares in each position of the stage's set.
 pub fn are_apart(
-    alloc: Global,
-    memo: &mut Memo,
-    sets: &Sets,
-    p: &Position,
+    bench: &Bench,
+    work: &mut Work,
     at: &StageLevel,
 ) -> Result<bool, PlanError<PartName>>
-    requires game { IsGame p.now }
-    requires mask { IsGameMask p.now at.now.stage.mask }
-    requires level { AreNamesIn p.now sets.now at.now.level.now }
+    requires mask { IsGameMask bench.now.position.now at.now.stage.mask }
+    requires level { AreNamesIn bench.now.position.now work.old.sets at.now.level.now }
     ensures answers { Answers
-        (questions.are_apart p.now at.now.stage.ply at.now.stage.mask
-        (level_in p.now sets.now at.now.level.now at.now.stage.mask))
-        memo.old.budget (λ (b : Bool). b) result }
-    ensures budget { memo.new.budget ≡ memo.old.budget }
+        (questions.are_apart bench.now.position.now at.now.stage.ply at.now.stage.mask
+        (level_in bench.now.position.now work.old.sets at.now.level.now at.now.stage.mask))
+        work.old.memo.budget (λ (b : Bool). b) result }
+    ensures sets { work.new.sets ≡ work.old.sets }
+    ensures budget { work.new.memo.budget ≡ work.old.memo.budget }
 {
-    let source = name_in(alloc, p, at.level, at.stage.mask)?;
-    let formulas = twin_formulas(alloc, p, at.stage.mask, source)?;
+    let source = name_in(bench, at.level, at.stage.mask);
+    let formulas = twin_formulas(bench, at.stage.mask, source)?;
+    let part = at.stage.part(Part::Same);
     are_empty(
-        alloc,
-        memo,
-        at.stage.part(Part::Same),
+        bench.alloc,
+        &mut work.memo,
+        part,
         &formulas,
-        sets.table(),
+        work.sets.table(),
     )
 }
 
 /// Whether no man of the side that is to move bears on the other king in a position of the stage's set.
 pub fn are_safe(
-    alloc: Global,
-    memo: &mut Memo,
-    sets: &Sets,
-    p: &Position,
+    bench: &Bench,
+    work: &mut Work,
     at: &StageLevel,
 ) -> Result<bool, PlanError<PartName>>
-    requires game { IsGame p.now }
-    requires mask { IsGameMask p.now at.now.stage.mask }
-    requires level { AreNamesIn p.now sets.now at.now.level.now }
+    requires mask { IsGameMask bench.now.position.now at.now.stage.mask }
+    requires level { AreNamesIn bench.now.position.now work.old.sets at.now.level.now }
     ensures answers { Answers
-        (questions.are_safe (rules_of p.now) at.now.stage.side at.now.stage.ply at.now.stage.mask
-        (level_in p.now sets.now at.now.level.now at.now.stage.mask))
-        memo.old.budget (λ (b : Bool). b) result }
-    ensures budget { memo.new.budget ≡ memo.old.budget }
+        (questions.are_safe (rules_of bench.now.position.now) at.now.stage.side at.now.stage.ply at.now.stage.mask
+        (level_in bench.now.position.now work.old.sets at.now.level.now at.now.stage.mask))
+        work.old.memo.budget (λ (b : Bool). b) result }
+    ensures sets { work.new.sets ≡ work.old.sets }
+    ensures budget { work.new.memo.budget ≡ work.old.memo.budget }
 {
-    let source = name_in(alloc, p, at.level, at.stage.mask)?;
-    let formulas = bear_formulas(alloc, p, at.stage.side, at.stage.mask, source)?;
+    let source = name_in(bench, at.level, at.stage.mask);
+    let formulas = bear_formulas(bench, at.stage.side, at.stage.mask, source)?;
+    let part = at.stage.part(Part::Guard);
     are_empty(
-        alloc,
-        memo,
-        at.stage.part(Part::Guard),
+        bench.alloc,
+        &mut work.memo,
+        part,
         &formulas,
-        sets.table(),
+        work.sets.table(),
     )
 }

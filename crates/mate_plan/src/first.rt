@@ -1,5 +1,5 @@
 //! Whether the side that is to move in the starting position has a move into a level.
-ghost use Rattle.std.specs.Prelude.{◌≡◌, ◌↔◌, ◌≤◌, Bool, IfOk, IfSome, IsTrue, length};
+ghost use Rattle.std.specs.Prelude.{◌≡◌, ◌↔◌, Bool, IfOk, IfSome, IsTrue};
 ghost use Rattle.game_rules.specs.Game.{Sound};
 ghost use Rattle.lin_formula.specs.SetOf.{Member, as_set};
 ghost use Rattle.rule_formula.specs.Fits.{mask_of};
@@ -12,18 +12,17 @@ ghost use Rattle.mate_plan.specs.Plan.{pre_items, union};
 ghost use Rattle.mate_plan.specs.PlanOf.{rules_of};
 ghost use Rattle.mate_plan.specs.Questions as questions;
 
+use crate::bench::{Bench, Work};
 use crate::level::{LevelNames, name_in};
 use crate::names::{Part, PartName};
-use crate::stage::Stage;
+use crate::stage::{PartMoves, Stage, StageSet};
 use crate::starting::point_level;
 use crate::unions::pre_set;
 use auto_core::Auto;
 use chess_game::Position;
 use formula_auto::Memo;
 use mask_sets::coordinates;
-use rule_formula::masks;
 use set_plan::{PlanError, Sets};
-use std::alloc::Global;
 
 /// Whether the set, if there is one, has the coordinates of the position.
 fn has_coordinates(set: &Option<Auto>, p: &Position) -> bool
@@ -40,66 +39,56 @@ fn has_coordinates(set: &Option<Auto>, p: &Position) -> bool
 /// Where the side that is to move has a move from the one level into the other, among the positions with the live men of the starting
 /// position.
 fn first_set(
-    alloc: Global,
+    bench: &Bench,
     memo: &mut Memo,
     sets: &Sets,
-    p: &Position,
     start: &LevelNames,
     into: &LevelNames,
 ) -> Result<Option<Auto>, PlanError<PartName>>
-    requires sound { Sound p.now }
-    requires men { length p.now.men ≤ 8 }
-    requires start { AreNamesIn p.now sets.now start.now }
-    requires into { AreNamesIn p.now sets.now into.now }
+    requires start { AreNamesIn bench.now.position.now sets.now start.now }
+    requires into { AreNamesIn bench.now.position.now sets.now into.now }
     ensures answers { Answers
-        (union (rules_of p.now) 0 (mask_of p.now) Part.First
-        (pre_items (rules_of p.now) p.now.turn (mask_of p.now) (level_in p.now sets.now start.now (mask_of p.now))
-        (level_in p.now sets.now into.now)))
+        (union (rules_of bench.now.position.now) 0 (mask_of bench.now.position.now) Part.First
+        (pre_items (rules_of bench.now.position.now) bench.now.position.now.turn (mask_of bench.now.position.now)
+        (level_in bench.now.position.now sets.now start.now (mask_of bench.now.position.now))
+        (level_in bench.now.position.now sets.now into.now)))
         memo.old.budget as_set result }
-    ensures set { IfOk result (λ set. IfSome set (IsSetOn (tracks_at p.now (mask_of p.now)))) }
+    ensures set { IfOk result (λ set.
+        IfSome set (IsSetOn (tracks_at bench.now.position.now (mask_of bench.now.position.now)))) }
     ensures budget { memo.new.budget ≡ memo.old.budget }
 {
     let stage = Stage {
-        side: p.turn(),
+        side: bench.position.turn(),
         ply: 0,
-        mask: p.mask(),
+        mask: bench.position.mask(),
     };
-    let source = name_in(alloc, p, start, stage.mask)?;
-    let all = masks(alloc, p)?;
-    pre_set(
-        alloc,
-        memo,
-        sets,
-        p,
-        all.as_slice(),
-        stage,
-        Part::First,
-        source,
+    let name = name_in(bench, start, stage.mask);
+    let moves = PartMoves {
+        part: Part::First,
+        set: StageSet { stage, name },
         into,
-    )
+    };
+    pre_set(bench, memo, sets, &moves)
 }
 
 /// Whether the side that is to move has a move from the position itself into the level. The sets that are made on the way are let go.
 pub fn has_first_move(
-    alloc: Global,
-    memo: &mut Memo,
-    sets: &mut Sets,
-    p: &Position,
+    bench: &Bench,
+    work: &mut Work,
     into: &LevelNames,
 ) -> Result<bool, PlanError<PartName>>
-    requires sound { Sound p.now }
-    requires men { length p.now.men ≤ 8 }
-    requires into { AreNamesIn p.now sets.old into.now }
+    requires into { AreNamesIn bench.now.position.now work.old.sets into.now }
     ensures answers { Answers
-        (questions.has_first_move (rules_of p.now) p.now.turn (mask_of p.now) (tuple_of p.now)
-        (level_in p.now sets.old into.now))
-        memo.old.budget (λ (b : Bool). b) result }
-    ensures grows { Grows sets.old sets.new }
-    ensures budget { memo.new.budget ≡ memo.old.budget }
+        (questions.has_first_move (rules_of bench.now.position.now) bench.now.position.now.turn
+        (mask_of bench.now.position.now) (tuple_of bench.now.position.now)
+        (level_in bench.now.position.now work.old.sets into.now))
+        work.old.memo.budget (λ (b : Bool). b) result }
+    ensures grows { Grows work.old.sets work.new.sets }
+    ensures budget { work.new.memo.budget ≡ work.old.memo.budget }
 {
-    let count = sets.count();
-    let start = point_level(alloc, memo, sets, p)?;
-    let first = first_set(alloc, memo, sets, p, &start, into)?;
-    sets.truncate(count);
-    Ok(has_coordinates(&first, p))
+    let count = work.sets.count();
+    let start = point_level(bench, work)?;
+    let first = first_set(bench, &mut work.memo, &work.sets, &start, into)?;
+    work.sets.truncate(count);
+    Ok(has_coordinates(&first, bench.position))
 }

@@ -1,20 +1,21 @@
 //! Sets that are lent by name.
-ghost use Rattle.std.specs.Prelude.{◌≡◌, ◌<◌, ◌≤◌, IfOk, IfSome, List, length};
+ghost use Rattle.std.specs.Prelude.{◌≡◌, ◌≤◌, IfOk, IfSome, List};
 ghost use Rattle.std.specs.Bool.{OnTrue, OnFalse};
 ghost use Rattle.track_word.specs.declared.tracks.Var.{Var};
-ghost use Rattle.lin_formula.specs.SetOf.{IsEmpty, as_set};
+ghost use Rattle.lin_formula.specs.SetOf.{IsEmpty};
 ghost use Rattle.set_plan.specs.Outcome.{Answers};
 ghost use Rattle.rule_formula.specs.Mean.{mask_tracks as tracks_at};
 ghost use Rattle.set_plan.specs.Sets.{Grows, IsLeftOn, IsNameOn, IsSetOn, left_of, lent as lent_set, set_at};
 ghost use Rattle.set_plan.specs.Unite.{remainder as remainder_of};
 
+use crate::bench::Bench;
 use crate::names::PartName;
+use crate::stage::PartSet;
 use crate::tracks::mask_tracks;
 use auto_core::Auto;
-use chess_game::Position;
 use lin_formula::SetId;
 use set_plan::{Left, PlanError, Sets, is_empty_set, remainder};
-use std::alloc::{AllocError, Global};
+use std::alloc::AllocError;
 
 /// The set of a name, if there is one.
 pub(crate) fn lent(sets: &Sets, name: Option<SetId>) -> Option<&Auto>
@@ -40,24 +41,25 @@ pub(crate) fn is_lacking(sets: &Sets, name: Option<SetId>) -> bool
     }
 }
 
-/// What is left of the set of a name without another set, over the men of the part's mask.
+/// What is left of a set without another, over the men of the part's mask.
 pub(crate) fn left_without(
-    alloc: Global,
+    bench: &Bench,
     sets: &Sets,
-    p: &Position,
-    part: PartName,
-    one: Option<SetId>,
+    whole: PartSet,
     other: Option<&Auto>,
     budget: u32,
 ) -> Result<Left, PlanError<PartName>>
-    requires one { IsNameOn (tracks_at p.now part.mask) sets.now one }
-    requires other { IfSome other (λ a. IsSetOn (tracks_at p.now part.mask) a.now) }
+    requires one { IsNameOn (tracks_at bench.now.position.now whole.part.mask) sets.now whole.name }
+    requires other { IfSome other (λ a. IsSetOn (tracks_at bench.now.position.now whole.part.mask) a.now) }
     requires budget { (1 ≤ budget) × (budget ≤ 200000) }
-    ensures answers { Answers (remainder_of (tracks_at p.now part.mask) part (set_at sets.now one) (lent_set other.entry)) budget (left_of (set_at sets.now one)) result }
-    ensures set { IfOk result (IsLeftOn (tracks_at p.now part.mask)) }
+    ensures answers { Answers
+        (remainder_of (tracks_at bench.now.position.now whole.part.mask) whole.part (set_at sets.now whole.name) (lent_set other.entry))
+        budget (left_of (set_at sets.now whole.name)) result }
+    ensures set { IfOk result (IsLeftOn (tracks_at bench.now.position.now whole.part.mask)) }
 {
-    let tracks = mask_tracks(alloc, p, part.mask)?;
-    remainder(alloc, &tracks, part, lent(sets, one), other, budget)
+    let PartSet { part, name } = whole;
+    let tracks = mask_tracks(bench.alloc, bench.position, part.mask)?;
+    remainder(bench.alloc, &tracks, part, lent(sets, name), other, budget)
 }
 
 /// The name of what is left: that of the whole set, or of a set that is now kept.

@@ -3,9 +3,8 @@ ghost use Rattle.std.specs.Prelude.{◌≡◌, [], ◌∷◌, ◌++◌, IfOk, On
 ghost use Rattle.rule_formula.specs.Fits.{masks_of};
 ghost use Rattle.mate_plan.specs.Formulas.{name_of};
 
-use chess_game::Position;
+use crate::bench::Bench;
 use lin_formula::SetId;
-use rule_formula::masks;
 use std::alloc::{AllocError, Global};
 use std::marker::Model;
 
@@ -52,27 +51,14 @@ impl LevelNames {
 }
 
 /// The name for a mask in a level.
-pub(crate) fn name_at(masks: &[u8], level: &LevelNames, mask: u8) -> Option<SetId>
-    ensures { result ≡ name_of masks.now level.now mask }
+pub(crate) fn name_in(bench: &Bench, level: &LevelNames, mask: u8) -> Option<SetId>
+    ensures { result ≡ name_of (masks_of bench.now.position.now) level.now mask }
 {
     let mut found = None;
-    for (at, name) in masks.iter().zip(level.as_slice()) {
+    for (at, name) in bench.masks.iter().zip(level.as_slice()) {
         if *at == mask {
             found = *name;
         }
     }
     found
-}
-
-/// The name for a mask in a level of the position.
-pub(crate) fn name_in(
-    alloc: Global,
-    p: &Position,
-    level: &LevelNames,
-    mask: u8,
-) -> Result<Option<SetId>, AllocError>
-    ensures { IfOk result (λ name. name ≡ name_of (masks_of p.now) level.now mask) }
-{
-    let all = masks(alloc, p)?;
-    Ok(name_at(all.as_slice(), level, mask))
 }

@@ -6,6 +6,8 @@
 
 mod answering;
 mod apart;
+mod bench;
+mod by_mask;
 mod first;
 mod formulas;
 pub mod laws;
@@ -23,12 +25,13 @@ mod winning;
 
 pub use answering::{are_answered, have_replies};
 pub use apart::{are_apart, are_safe};
+pub use bench::{Bench, Work};
 pub use first::has_first_move;
 pub use level::LevelNames;
-pub use losing::lost_level;
+pub use losing::{Losing, lost_level};
 pub use names::{Part, PartName};
-pub use reaching::reach_level;
+pub use reaching::{Reaching, reach_level};
 pub use stage::{MovesInto, Stage, StageLevel};
 pub use starting::{no_level, one_level, point_level};
 pub use tracks::mask_tracks;
-pub use winning::win_level;
+pub use winning::{Winning, win_level};

@@ -1,337 +1,311 @@
 //! What is kept at a ply of the loser.
-ghost use Rattle.std.specs.Prelude.{ℕ, ◌≡◌, ◌<◌, ◌≤◌, ◌+◌, List, Some, None, IfOk, IfSome, Contains, length};
-ghost use Rattle.game_rules.specs.Game.{Sound};
+ghost use Rattle.std.specs.Prelude.{◌≡◌, ◌<◌, IfOk, IfSome};
 ghost use Rattle.lin_formula.specs.SetOf.{as_set};
-ghost use Rattle.rule_formula.specs.Fits.{IsGameMask, mask_of, masks_of};
+ghost use Rattle.rule_formula.specs.Fits.{IsGameMask};
 ghost use Rattle.rule_formula.specs.Mean.{mask_tracks as tracks_at};
 ghost use Rattle.set_plan.specs.Outcome.{Answers};
 ghost use Rattle.set_plan.specs.Program.{bind};
 ghost use Rattle.set_plan.specs.Sets.{Grows, IsNameOn, IsSetOn, lent as lent_set, set_at};
-ghost use Rattle.mate_plan.specs.Levels.{AreNames, level_of};
+ghost use Rattle.mate_plan.specs.Levels.{AreNamesIn, level_in};
 ghost use Rattle.mate_plan.specs.Plan as plan;
 ghost use Rattle.mate_plan.specs.PlanOf.{rules_of};
 
+use crate::bench::{Bench, Work};
+use crate::by_mask::{MaskSets, level_by};
 use crate::lending::{is_lacking, keep_left, left_without, lent};
-use crate::level::{LevelNames, name_at};
+use crate::level::{LevelNames, name_in};
 use crate::names::{Part, PartName};
-use crate::stage::Stage;
+use crate::stage::{PartMoves, PartSet, Stage, StageSet};
 use crate::tracks::mask_tracks;
 use crate::unions::{check_set, pre_set};
 use auto_core::Auto;
-use chess_game::Position;
-use formula_auto::Memo;
 use game_rules::Side;
 use lin_formula::SetId;
-use rule_formula::masks;
-use set_plan::{PlanError, Sets, together};
-use std::alloc::Global;
+use set_plan::{PlanError, together};
+
+/// What is reached at a ply and not kept there.
+#[derive(Clone, Copy)]
+struct Resting<'a> {
+    ply: u8,
+    reach: &'a LevelNames,
+    kept: &'a LevelNames,
+}
 
 /// The name of what is reached and not kept with the mask.
 fn rest_name(
-    alloc: Global,
-    sets: &mut Sets,
-    p: &Position,
-    masks: &[u8],
-    part: PartName,
-    reach: &LevelNames,
-    kept: &LevelNames,
-    budget: u32,
+    bench: &Bench,
+    work: &mut Work,
+    from: &Resting,
+    mask: u8,
 ) -> Result<Option<SetId>, PlanError<PartName>>
-    requires reach { AreNames p.now.men sets.old (masks_of p.now) reach.now }
-    requires kept { AreNames p.now.men sets.old (masks_of p.now) kept.now }
-    requires masks { masks.now ≡ masks_of p.now }
-    requires part { part.part ≡ Part.Rest }
-    requires budget { (1 ≤ budget) × (budget ≤ 200000) }
-    ensures answers { Answers (plan.rest_set (rules_of p.now) part.ply (level_of sets.old (masks_of p.now) reach.now) (level_of sets.old (masks_of p.now) kept.now) part.mask) budget (λ name. set_at sets.new name) result }
-    ensures name { IfOk result (IsNameOn (tracks_at p.now part.mask) sets.new) }
-    ensures grows { Grows sets.old sets.new }
+    requires reach { AreNamesIn bench.now.position.now work.old.sets from.now.reach.now }
+    requires kept { AreNamesIn bench.now.position.now work.old.sets from.now.kept.now }
+    ensures answers { Answers
+        (plan.rest_set (rules_of bench.now.position.now) from.now.ply
+        (level_in bench.now.position.now work.old.sets from.now.reach.now)
+        (level_in bench.now.position.now work.old.sets from.now.kept.now) mask)
+        work.old.memo.budget (λ name. set_at work.new.sets name) result }
+    ensures name { IfOk result (IsNameOn (tracks_at bench.now.position.now mask) work.new.sets) }
+    ensures grows { Grows work.old.sets work.new.sets }
+    ensures budget { work.new.memo.budget ≡ work.old.memo.budget }
 {
-    let whole = name_at(masks, reach, part.mask);
-    let other = lent(sets, name_at(masks, kept, part.mask));
-    let left = left_without(alloc, sets, p, part, whole, other, budget)?;
-    Ok(keep_left(sets, whole, left)?)
+    let part = PartName {
+        ply: from.ply,
+        mask,
+        part: Part::Rest,
+    };
+    let name = name_in(bench, from.reach, mask);
+    let other = lent(&work.sets, name_in(bench, from.kept, mask));
+    let budget = work.memo.budget();
+    let left = left_without(bench, &work.sets, PartSet { part, name }, other, budget)?;
+    Ok(keep_left(&mut work.sets, name, left)?)
 }
 
-/// The names of what is reached and not kept at a ply.
-fn rest_level(
-    alloc: Global,
-    sets: &mut Sets,
-    p: &Position,
-    masks: &[u8],
-    ply: u8,
-    reach: &LevelNames,
-    kept: &LevelNames,
-    budget: u32,
-) -> Result<LevelNames, PlanError<PartName>>
-    requires reach { AreNames p.now.men sets.old (masks_of p.now) reach.now }
-    requires kept { AreNames p.now.men sets.old (masks_of p.now) kept.now }
-    requires masks { masks.now ≡ masks_of p.now }
-    requires budget { (1 ≤ budget) × (budget ≤ 200000) }
-    ensures answers { Answers (plan.for_masks (masks_of p.now) (plan.rest_set (rules_of p.now) ply (level_of sets.old (masks_of p.now) reach.now) (level_of sets.old (masks_of p.now) kept.now)) plan.no_sets) budget (λ names. level_of sets.new (masks_of p.now) names) result }
-    ensures names { IfOk result (AreNames p.now.men sets.new (masks_of p.now)) }
-    ensures grows { Grows sets.old sets.new }
-{
-    let mut names = LevelNames::new(alloc);
-    for mask in masks {
-        let part = PartName {
-            ply,
-            mask: *mask,
-            part: Part::Rest,
-        };
-        names.push(rest_name(alloc, sets, p, masks, part, reach, kept, budget)?)?;
+impl MaskSets for Resting<'_> {
+    ghost use Rattle.mate_plan.specs.Levels.{AreNamesIn, level_in};
+    ghost use Rattle.mate_plan.specs.Plan as plan;
+    ghost use Rattle.mate_plan.specs.PlanOf.{rules_of};
+
+    ghost program = { λ it p sets. plan.rest_set (rules_of p) it.ply
+        (level_in p sets it.reach.now) (level_in p sets it.kept.now) };
+
+    ghost fits = { λ it p sets. AreNamesIn p sets it.reach.now × AreNamesIn p sets it.kept.now };
+
+    fn name(
+        &self,
+        bench: &Bench,
+        work: &mut Work,
+        mask: u8,
+    ) -> Result<Option<SetId>, PlanError<PartName>> {
+        rest_name(bench, work, self, mask)
     }
-    Ok(names)
 }
 
 /// The name of what is reached without a move into the rests.
 fn calm_name(
-    alloc: Global,
-    memo: &mut Memo,
-    sets: &mut Sets,
-    p: &Position,
-    masks: &[u8],
-    stage: Stage,
-    reach: Option<SetId>,
+    bench: &Bench,
+    work: &mut Work,
+    reach: StageSet,
     rests: &LevelNames,
 ) -> Result<Option<SetId>, PlanError<PartName>>
-    requires sound { Sound p.now }
-    requires men { length p.now.men ≤ 8 }
-    requires masks { masks.now ≡ masks_of p.now }
-    requires mask { IsGameMask p.now stage.mask }
-    requires reach { IsNameOn (tracks_at p.now stage.mask) sets.old reach }
-    requires rests { AreNames p.now.men sets.old (masks_of p.now) rests.now }
-    ensures answers { Answers (bind (plan.union (rules_of p.now) stage.ply stage.mask Part.Escape (plan.pre_items (rules_of p.now) stage.side stage.mask (set_at sets.old reach) (level_of sets.old (masks_of p.now) rests.now))) (plan.difference (rules_of p.now) stage.ply stage.mask Part.Calm (set_at sets.old reach))) memo.old.budget (λ name. set_at sets.new name) result }
-    ensures name { IfOk result (IsNameOn (tracks_at p.now stage.mask) sets.new) }
-    ensures grows { Grows sets.old sets.new }
-    ensures budget { memo.new.budget ≡ memo.old.budget }
+    requires mask { IsGameMask bench.now.position.now reach.stage.mask }
+    requires reach { IsNameOn (tracks_at bench.now.position.now reach.stage.mask) work.old.sets reach.name }
+    requires rests { AreNamesIn bench.now.position.now work.old.sets rests.now }
+    ensures answers { Answers
+        (bind
+        (plan.union (rules_of bench.now.position.now) reach.stage.ply reach.stage.mask Part.Escape
+        (plan.pre_items (rules_of bench.now.position.now) reach.stage.side reach.stage.mask
+        (set_at work.old.sets reach.name) (level_in bench.now.position.now work.old.sets rests.now)))
+        (plan.difference (rules_of bench.now.position.now) reach.stage.ply reach.stage.mask Part.Calm
+        (set_at work.old.sets reach.name)))
+        work.old.memo.budget (λ name. set_at work.new.sets name) result }
+    ensures name { IfOk result (IsNameOn (tracks_at bench.now.position.now reach.stage.mask) work.new.sets) }
+    ensures grows { Grows work.old.sets work.new.sets }
+    ensures budget { work.new.memo.budget ≡ work.old.memo.budget }
 {
-    let escape = pre_set(
-        alloc,
-        memo,
-        sets,
-        p,
-        masks,
-        stage,
-        Part::Escape,
-        reach,
-        rests,
-    )?;
-    let left = left_without(
-        alloc,
-        sets,
-        p,
-        stage.part(Part::Calm),
-        reach,
-        escape.as_ref(),
-        memo.budget(),
-    )?;
-    Ok(keep_left(sets, reach, left)?)
+    let moves = PartMoves {
+        part: Part::Escape,
+        set: reach,
+        into: rests,
+    };
+    let escape = pre_set(bench, &mut work.memo, &work.sets, &moves)?;
+    let whole = PartSet {
+        part: reach.stage.part(Part::Calm),
+        name: reach.name,
+    };
+    let budget = work.memo.budget();
+    let left = left_without(bench, &work.sets, whole, escape.as_ref(), budget)?;
+    Ok(keep_left(&mut work.sets, reach.name, left)?)
 }
 
 /// What is calm and not in check, and has a move.
 fn reply_set(
-    alloc: Global,
-    memo: &mut Memo,
-    sets: &mut Sets,
-    p: &Position,
-    masks: &[u8],
-    stage: Stage,
-    calm: Option<SetId>,
+    bench: &Bench,
+    work: &mut Work,
+    calm: StageSet,
     check: Option<&Auto>,
     next_reach: &LevelNames,
 ) -> Result<Option<Auto>, PlanError<PartName>>
-    requires sound { Sound p.now }
-    requires men { length p.now.men ≤ 8 }
-    requires masks { masks.now ≡ masks_of p.now }
-    requires mask { IsGameMask p.now stage.mask }
-    requires calm { IsNameOn (tracks_at p.now stage.mask) sets.old calm }
-    requires check { IfSome check (λ a. IsSetOn (tracks_at p.now stage.mask) a.now) }
-    requires next_reach { AreNames p.now.men sets.old (masks_of p.now) next_reach.now }
-    ensures answers { Answers (bind (plan.difference (rules_of p.now) stage.ply stage.mask Part.Quiet (set_at sets.old calm) (lent_set check.entry)) (λ quiet. plan.union (rules_of p.now) stage.ply stage.mask Part.Reply (plan.pre_items (rules_of p.now) stage.side stage.mask quiet (level_of sets.old (masks_of p.now) next_reach.now)))) memo.old.budget as_set result }
-    ensures set { IfOk result (λ set. IfSome set (IsSetOn (tracks_at p.now stage.mask))) }
-    ensures grows { Grows sets.old sets.new }
-    ensures budget { memo.new.budget ≡ memo.old.budget }
+    requires mask { IsGameMask bench.now.position.now calm.stage.mask }
+    requires calm { IsNameOn (tracks_at bench.now.position.now calm.stage.mask) work.old.sets calm.name }
+    requires check { IfSome check (λ a. IsSetOn (tracks_at bench.now.position.now calm.stage.mask) a.now) }
+    requires next_reach { AreNamesIn bench.now.position.now work.old.sets next_reach.now }
+    ensures answers { Answers
+        (bind
+        (plan.difference (rules_of bench.now.position.now) calm.stage.ply calm.stage.mask Part.Quiet
+        (set_at work.old.sets calm.name) (lent_set check.entry))
+        (λ quiet. plan.union (rules_of bench.now.position.now) calm.stage.ply calm.stage.mask Part.Reply
+        (plan.pre_items (rules_of bench.now.position.now) calm.stage.side calm.stage.mask quiet
+        (level_in bench.now.position.now work.old.sets next_reach.now))))
+        work.old.memo.budget as_set result }
+    ensures set { IfOk result (λ set. IfSome set (IsSetOn (tracks_at bench.now.position.now calm.stage.mask))) }
+    ensures grows { Grows work.old.sets work.new.sets }
+    ensures budget { work.new.memo.budget ≡ work.old.memo.budget }
 {
-    let left = left_without(
-        alloc,
-        sets,
-        p,
-        stage.part(Part::Quiet),
-        calm,
-        check,
-        memo.budget(),
-    )?;
-    let quiet = keep_left(sets, calm, left)?;
-    pre_set(
-        alloc,
-        memo,
-        sets,
-        p,
-        masks,
-        stage,
-        Part::Reply,
-        quiet,
-        next_reach,
-    )
+    let StageSet { stage, name } = calm;
+    let whole = PartSet {
+        part: stage.part(Part::Quiet),
+        name,
+    };
+    let budget = work.memo.budget();
+    let left = left_without(bench, &work.sets, whole, check, budget)?;
+    let quiet = keep_left(&mut work.sets, name, left)?;
+    let moves = PartMoves {
+        part: Part::Reply,
+        set: StageSet { stage, name: quiet },
+        into: next_reach,
+    };
+    pre_set(bench, &mut work.memo, &work.sets, &moves)
 }
 
 /// What is kept with the mask, where some position is reached.
 fn lost_set(
-    alloc: Global,
-    memo: &mut Memo,
-    sets: &mut Sets,
-    p: &Position,
-    masks: &[u8],
-    stage: Stage,
-    reach: Option<SetId>,
+    bench: &Bench,
+    work: &mut Work,
+    reach: StageSet,
     next_reach: &LevelNames,
     rests: &LevelNames,
 ) -> Result<Option<Auto>, PlanError<PartName>>
-    requires sound { Sound p.now }
-    requires men { length p.now.men ≤ 8 }
-    requires masks { masks.now ≡ masks_of p.now }
-    requires mask { IsGameMask p.now stage.mask }
-    requires reach { IsNameOn (tracks_at p.now stage.mask) sets.old reach }
-    requires next_reach { AreNames p.now.men sets.old (masks_of p.now) next_reach.now }
-    requires rests { AreNames p.now.men sets.old (masks_of p.now) rests.now }
-    ensures answers { Answers (plan.lost_set (rules_of p.now) stage.side stage.ply stage.mask (set_at sets.old reach) (level_of sets.old (masks_of p.now) next_reach.now) (level_of sets.old (masks_of p.now) rests.now)) memo.old.budget as_set result }
-    ensures set { IfOk result (λ set. IfSome set (IsSetOn (tracks_at p.now stage.mask))) }
-    ensures grows { Grows sets.old sets.new }
-    ensures budget { memo.new.budget ≡ memo.old.budget }
+    requires mask { IsGameMask bench.now.position.now reach.stage.mask }
+    requires reach { IsNameOn (tracks_at bench.now.position.now reach.stage.mask) work.old.sets reach.name }
+    requires next_reach { AreNamesIn bench.now.position.now work.old.sets next_reach.now }
+    requires rests { AreNamesIn bench.now.position.now work.old.sets rests.now }
+    ensures answers { Answers
+        (plan.lost_set (rules_of bench.now.position.now) reach.stage.side reach.stage.ply reach.stage.mask
+        (set_at work.old.sets reach.name) (level_in bench.now.position.now work.old.sets next_reach.now)
+        (level_in bench.now.position.now work.old.sets rests.now))
+        work.old.memo.budget as_set result }
+    ensures set { IfOk result (λ set. IfSome set (IsSetOn (tracks_at bench.now.position.now reach.stage.mask))) }
+    ensures grows { Grows work.old.sets work.new.sets }
+    ensures budget { work.new.memo.budget ≡ work.old.memo.budget }
 {
-    let calm = calm_name(alloc, memo, sets, p, masks, stage, reach, rests)?;
-    let check = check_set(alloc, memo, sets, p, stage, calm)?;
-    let reply = reply_set(
-        alloc,
-        memo,
-        sets,
-        p,
-        masks,
-        stage,
-        calm,
-        check.as_ref(),
-        next_reach,
-    )?;
-    let tracks = mask_tracks(alloc, p, stage.mask)?;
+    let stage = reach.stage;
+    let name = calm_name(bench, work, reach, rests)?;
+    let calm = StageSet { stage, name };
+    let check = check_set(bench, &mut work.memo, &work.sets, calm)?;
+    let reply = reply_set(bench, work, calm, check.as_ref(), next_reach)?;
+    let tracks = mask_tracks(bench.alloc, bench.position, stage.mask)?;
     together(
-        alloc,
+        bench.alloc,
         &tracks,
         stage.part(Part::Lost),
         check,
         reply,
-        memo.budget(),
+        work.memo.budget(),
     )
+}
+
+/// What is kept at a ply of the loser, where it is known what is reached at the next ply and not kept there.
+#[derive(Clone, Copy)]
+struct Lost<'a> {
+    side: Side,
+    ply: u8,
+    reach: &'a LevelNames,
+    next_reach: &'a LevelNames,
+    rests: &'a LevelNames,
 }
 
 /// The name of what is kept with the mask. The sets that are made on the way are kept for as long only as they are needed.
 fn lost_name(
-    alloc: Global,
-    memo: &mut Memo,
-    sets: &mut Sets,
-    p: &Position,
-    masks: &[u8],
-    stage: Stage,
-    reach: &LevelNames,
-    next_reach: &LevelNames,
-    rests: &LevelNames,
+    bench: &Bench,
+    work: &mut Work,
+    from: &Lost,
+    mask: u8,
 ) -> Result<Option<SetId>, PlanError<PartName>>
-    requires sound { Sound p.now }
-    requires men { length p.now.men ≤ 8 }
-    requires masks { masks.now ≡ masks_of p.now }
-    requires mask { IsGameMask p.now stage.mask }
-    requires reach { AreNames p.now.men sets.old (masks_of p.now) reach.now }
-    requires next_reach { AreNames p.now.men sets.old (masks_of p.now) next_reach.now }
-    requires rests { AreNames p.now.men sets.old (masks_of p.now) rests.now }
-    ensures answers { Answers (plan.lost_set_if (rules_of p.now) stage.side stage.ply (level_of sets.old (masks_of p.now) reach.now) (level_of sets.old (masks_of p.now) next_reach.now) (level_of sets.old (masks_of p.now) rests.now) stage.mask) memo.old.budget (λ name. set_at sets.new name) result }
-    ensures name { IfOk result (IsNameOn (tracks_at p.now stage.mask) sets.new) }
-    ensures grows { Grows sets.old sets.new }
-    ensures budget { memo.new.budget ≡ memo.old.budget }
+    requires mask { IsGameMask bench.now.position.now mask }
+    requires reach { AreNamesIn bench.now.position.now work.old.sets from.now.reach.now }
+    requires next_reach { AreNamesIn bench.now.position.now work.old.sets from.now.next_reach.now }
+    requires rests { AreNamesIn bench.now.position.now work.old.sets from.now.rests.now }
+    ensures answers { Answers
+        (plan.lost_set_if (rules_of bench.now.position.now) from.now.side from.now.ply
+        (level_in bench.now.position.now work.old.sets from.now.reach.now)
+        (level_in bench.now.position.now work.old.sets from.now.next_reach.now)
+        (level_in bench.now.position.now work.old.sets from.now.rests.now) mask)
+        work.old.memo.budget (λ name. set_at work.new.sets name) result }
+    ensures name { IfOk result (IsNameOn (tracks_at bench.now.position.now mask) work.new.sets) }
+    ensures grows { Grows work.old.sets work.new.sets }
+    ensures budget { work.new.memo.budget ≡ work.old.memo.budget }
 {
-    let source = name_at(masks, reach, stage.mask);
-    if is_lacking(sets, source) {
+    let stage = Stage {
+        side: from.side,
+        ply: from.ply,
+        mask,
+    };
+    let name = name_in(bench, from.reach, mask);
+    if is_lacking(&work.sets, name) {
         return Ok(None);
     }
-    let count = sets.count();
-    let set = lost_set(
-        alloc, memo, sets, p, masks, stage, source, next_reach, rests,
-    )?;
-    sets.truncate(count);
-    Ok(sets.keep(set)?)
+    let count = work.sets.count();
+    let reach = StageSet { stage, name };
+    let set = lost_set(bench, work, reach, from.next_reach, from.rests)?;
+    work.sets.truncate(count);
+    Ok(work.sets.keep(set)?)
 }
 
-/// The names of what is kept, where it is known what is reached at the next ply and not kept there.
-fn lost_masks(
-    alloc: Global,
-    memo: &mut Memo,
-    sets: &mut Sets,
-    p: &Position,
-    masks: &[u8],
-    side: Side,
-    ply: u8,
-    reach: &LevelNames,
-    next_reach: &LevelNames,
-    rests: &LevelNames,
-) -> Result<LevelNames, PlanError<PartName>>
-    requires sound { Sound p.now }
-    requires men { length p.now.men ≤ 8 }
-    requires masks { masks.now ≡ masks_of p.now }
-    requires reach { AreNames p.now.men sets.old (masks_of p.now) reach.now }
-    requires next_reach { AreNames p.now.men sets.old (masks_of p.now) next_reach.now }
-    requires rests { AreNames p.now.men sets.old (masks_of p.now) rests.now }
-    ensures answers { Answers (plan.for_masks (masks_of p.now) (plan.lost_set_if (rules_of p.now) side ply (level_of sets.old (masks_of p.now) reach.now) (level_of sets.old (masks_of p.now) next_reach.now) (level_of sets.old (masks_of p.now) rests.now)) plan.no_sets) memo.old.budget (λ names. level_of sets.new (masks_of p.now) names) result }
-    ensures names { IfOk result (AreNames p.now.men sets.new (masks_of p.now)) }
-    ensures grows { Grows sets.old sets.new }
-    ensures budget { memo.new.budget ≡ memo.old.budget }
-{
-    let mut names = LevelNames::new(alloc);
-    for mask in masks {
-        let stage = Stage {
-            side,
-            ply,
-            mask: *mask,
-        };
-        names.push(lost_name(alloc, memo, sets, p, masks, stage, reach, next_reach, rests)?)?;
+impl MaskSets for Lost<'_> {
+    ghost use Rattle.mate_plan.specs.Levels.{AreNamesIn, level_in};
+    ghost use Rattle.mate_plan.specs.Plan as plan;
+    ghost use Rattle.mate_plan.specs.PlanOf.{rules_of};
+
+    ghost program = { λ it p sets. plan.lost_set_if (rules_of p) it.side it.ply (level_in p sets it.reach.now)
+        (level_in p sets it.next_reach.now) (level_in p sets it.rests.now) };
+
+    ghost fits = { λ it p sets. AreNamesIn p sets it.reach.now × AreNamesIn p sets it.next_reach.now
+        × AreNamesIn p sets it.rests.now };
+
+    fn name(
+        &self,
+        bench: &Bench,
+        work: &mut Work,
+        mask: u8,
+    ) -> Result<Option<SetId>, PlanError<PartName>> {
+        lost_name(bench, work, self, mask)
     }
-    Ok(names)
 }
 
-/// What is kept at a ply at which the loser, the side, is to move, from what is reached at the ply and at the next one, and what is kept at the
-/// next one.
+/// What is kept at a ply at which the loser, the side, is to move, from what is reached at the ply and at the next one, and what is kept at
+/// the next one.
+#[derive(Clone, Copy)]
+pub struct Losing<'a> {
+    pub side: Side,
+    pub ply: u8,
+    pub reach: &'a LevelNames,
+    pub next_reach: &'a LevelNames,
+    pub next_kept: &'a LevelNames,
+}
+
+/// What is kept at a ply of the loser.
 pub fn lost_level(
-    alloc: Global,
-    memo: &mut Memo,
-    sets: &mut Sets,
-    p: &Position,
-    side: Side,
-    ply: u8,
-    reach: &LevelNames,
-    next_reach: &LevelNames,
-    next_kept: &LevelNames,
+    bench: &Bench,
+    work: &mut Work,
+    from: &Losing,
 ) -> Result<LevelNames, PlanError<PartName>>
-    requires sound { Sound p.now }
-    requires men { length p.now.men ≤ 8 }
-    requires ply { ply < 255 }
-    requires reach { AreNames p.now.men sets.old (masks_of p.now) reach.now }
-    requires next_reach { AreNames p.now.men sets.old (masks_of p.now) next_reach.now }
-    requires next_kept { AreNames p.now.men sets.old (masks_of p.now) next_kept.now }
-    ensures answers { Answers (plan.lost_level (rules_of p.now) side ply (level_of sets.old (masks_of p.now) reach.now) (level_of sets.old (masks_of p.now) next_reach.now) (level_of sets.old (masks_of p.now) next_kept.now)) memo.old.budget (λ names. level_of sets.new (masks_of p.now) names) result }
-    ensures names { IfOk result (AreNames p.now.men sets.new (masks_of p.now)) }
-    ensures grows { Grows sets.old sets.new }
-    ensures budget { memo.new.budget ≡ memo.old.budget }
+    requires ply { from.now.ply < 255 }
+    requires reach { AreNamesIn bench.now.position.now work.old.sets from.now.reach.now }
+    requires next_reach { AreNamesIn bench.now.position.now work.old.sets from.now.next_reach.now }
+    requires next_kept { AreNamesIn bench.now.position.now work.old.sets from.now.next_kept.now }
+    ensures answers { Answers
+        (plan.lost_level (rules_of bench.now.position.now) from.now.side from.now.ply
+        (level_in bench.now.position.now work.old.sets from.now.reach.now)
+        (level_in bench.now.position.now work.old.sets from.now.next_reach.now)
+        (level_in bench.now.position.now work.old.sets from.now.next_kept.now))
+        work.old.memo.budget (level_in bench.now.position.now work.new.sets) result }
+    ensures names { IfOk result (AreNamesIn bench.now.position.now work.new.sets) }
+    ensures grows { Grows work.old.sets work.new.sets }
+    ensures budget { work.new.memo.budget ≡ work.old.memo.budget }
 {
-    let all = masks(alloc, p)?;
-    let masks = all.as_slice();
-    let rests = rest_level(
-        alloc,
-        sets,
-        p,
-        masks,
-        ply + 1,
-        next_reach,
-        next_kept,
-        memo.budget(),
-    )?;
-    lost_masks(
-        alloc, memo, sets, p, masks, side, ply, reach, next_reach, &rests,
-    )
+    let resting = Resting {
+        ply: from.ply + 1,
+        reach: from.next_reach,
+        kept: from.next_kept,
+    };
+    let rests = level_by(bench, work, &resting)?;
+    let lost = Lost {
+        side: from.side,
+        ply: from.ply,
+        reach: from.reach,
+        next_reach: from.next_reach,
+        rests: &rests,
+    };
+    level_by(bench, work, &lost)
 }

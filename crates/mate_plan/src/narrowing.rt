@@ -4,92 +4,106 @@ ghost use Rattle.lin_formula.specs.SetOf.{as_set};
 ghost use Rattle.rule_formula.specs.Mean.{mask_tracks as tracks_at};
 ghost use Rattle.rule_formula.specs.Meaning.{IsBearer};
 ghost use Rattle.set_plan.specs.Outcome.{Answers};
-ghost use Rattle.set_plan.specs.Sets.{Grows, IsSetOn, made_of};
-ghost use Rattle.set_plan.specs.Unite.{make as make_item};
-ghost use Rattle.game_rules.specs.Game.{Sound};
+ghost use Rattle.set_plan.specs.Sets.{Grows, IsSetOn};
 ghost use Rattle.mate_plan.specs.Plan as plan;
 ghost use Rattle.mate_plan.specs.PlanOf.{rules_of};
 
+use crate::bench::{Bench, Work};
 use crate::names::{Part, PartName};
 use crate::stage::Stage;
 use auto_core::Auto;
-use chess_game::Position;
-use formula_auto::Memo;
 use rule_formula::{Bearing, safe_formula};
-use set_plan::{Made, PlanError, Sets, make};
-use std::alloc::Global;
+use set_plan::{Made, PlanError, Steps, each, make};
 
-/// The set made narrower by one bearing. It is kept for as long only as it is needed.
-fn narrow_by(
-    alloc: Global,
-    memo: &mut Memo,
-    sets: &mut Sets,
-    p: &Position,
+/// The set of a stage made narrower by one bearing after the other.
+#[derive(Drop)]
+struct Narrowing<'a> {
+    bench: &'a Bench<'a>,
     stage: Stage,
-    bearing: Bearing,
-    so_far: Made,
-) -> Result<Made, PlanError<PartName>>
-    requires sound { Sound p.now }
-    requires men { length p.now.men ≤ 8 }
-    requires bearing { IsBearer p.now.men stage.mask bearing.man bearing.ray bearing.king }
-    requires set { IfSome so_far.set (IsSetOn (tracks_at p.now stage.mask)) }
-    requires room { so_far.at < 2 ^ 31 }
-    ensures answers { Answers (make_item (plan.name stage.ply stage.mask Part.Safe) so_far.at (plan.safe_item (rules_of p.now) stage.mask (as_set so_far.set) bearing)) memo.old.budget made_of result }
-    ensures set { IfOk result (λ made. IfSome made.set (IsSetOn (tracks_at p.now stage.mask))) }
-    ensures room { IfOk result (λ made. made.at < so_far.at + 1000) }
-    ensures grows { Grows sets.old sets.new }
-    ensures budget { memo.new.budget ≡ memo.old.budget }
-{
-    let Made { set, at } = so_far;
-    let Some(source) = set else {
-        return Ok(Made { set: None, at });
-    };
-    let count = sets.count();
-    let id = sets.put(source)?;
-    let formula = safe_formula(
-        alloc,
-        p,
-        stage.mask,
-        bearing.man,
-        bearing.ray,
-        bearing.king,
-        id,
-    )?;
-    let made = make(
-        alloc,
-        memo,
-        stage.part(Part::Safe),
-        at,
-        &formula,
-        sets.table(),
-    )?;
-    sets.truncate(count);
-    Ok(made)
+}
+
+impl Steps for Narrowing<'_> {
+    ghost use Rattle.std.specs.Prelude.{◌<◌, ◌+◌, ◌*◌, ◌^◌, All, IfSome, length};
+    ghost use Rattle.rule_formula.specs.Mean.{mask_tracks as tracks_at};
+    ghost use Rattle.rule_formula.specs.Meaning.{IsBearer};
+    ghost use Rattle.set_plan.specs.Sets.{Grows, IsSetOn, made_of};
+    ghost use Rattle.set_plan.specs.Unite as made;
+    ghost use Rattle.mate_plan.specs.Plan as plan;
+    ghost use Rattle.mate_plan.specs.PlanOf.{rules_of};
+
+    type Work = Work;
+
+    type Item = Bearing;
+
+    type Value = Made;
+
+    type Part = PartName;
+
+    ghost Seen = { made.Made };
+
+    ghost view = { λ _ _ so_far. made_of so_far };
+
+    ghost program = { λ it _ b. plan.narrow_by (rules_of it.bench.now.position.now) it.stage.ply it.stage.mask b };
+
+    ghost budget = { λ _ work. work.memo.budget };
+
+    ghost fits = { λ it _ so_far bearings.
+        All (λ b. IsBearer it.bench.now.position.now.men it.stage.mask b.man b.ray b.king) bearings
+        × IfSome so_far.set (IsSetOn (tracks_at it.bench.now.position.now it.stage.mask))
+        × (so_far.at + length bearings * 1000 < 2 ^ 31) };
+
+    ghost keeps = { λ _ u v. Grows u.sets v.sets };
+
+    ghost keeps_self = { λ _ _ _ _ e. e };
+
+    ghost keeps_on = { λ _ _ _ _ first second k a e. second k a (first k a e) };
+
+    /// The set is kept for as long only as it is needed.
+    fn step(
+        &self,
+        work: &mut Work,
+        bearing: &Bearing,
+        so_far: Made,
+    ) -> Result<Made, PlanError<PartName>> {
+        let Made { set, at } = so_far;
+        let Some(source) = set else {
+            return Ok(Made { set: None, at });
+        };
+        let Bench {
+            alloc,
+            position,
+            ..
+        } = *self.bench;
+        let Bearing { man, ray, king } = *bearing;
+        let count = work.sets.count();
+        let id = work.sets.put(source)?;
+        let formula = safe_formula(alloc, position, self.stage.mask, man, ray, king, id)?;
+        let part = self.stage.part(Part::Safe);
+        let made = make(alloc, &mut work.memo, part, at, &formula, work.sets.table())?;
+        work.sets.truncate(count);
+        Ok(made)
+    }
 }
 
 /// The set made narrower by each of the bearings in turn.
 pub(crate) fn narrow(
-    alloc: Global,
-    memo: &mut Memo,
-    sets: &mut Sets,
-    p: &Position,
+    bench: &Bench,
+    work: &mut Work,
     stage: Stage,
     bearings: &[Bearing],
     moved: Option<Auto>,
 ) -> Result<Option<Auto>, PlanError<PartName>>
-    requires sound { Sound p.now }
-    requires men { length p.now.men ≤ 8 }
-    requires bearings { All (λ b. IsBearer p.now.men stage.mask b.man b.ray b.king) bearings.now }
+    requires bearings { All (λ b. IsBearer bench.now.position.now.men stage.mask b.man b.ray b.king) bearings.now }
     requires few { length bearings.now ≤ 1000 }
-    requires set { IfSome moved (IsSetOn (tracks_at p.now stage.mask)) }
-    ensures answers { Answers (plan.narrow (rules_of p.now) stage.ply stage.mask bearings.now (as_set moved, 1)) memo.old.budget as_set result }
-    ensures set { IfOk result (λ set. IfSome set (IsSetOn (tracks_at p.now stage.mask))) }
-    ensures grows { Grows sets.old sets.new }
-    ensures budget { memo.new.budget ≡ memo.old.budget }
+    requires set { IfSome moved (IsSetOn (tracks_at bench.now.position.now stage.mask)) }
+    ensures answers { Answers
+        (plan.narrow (rules_of bench.now.position.now) stage.ply stage.mask bearings.now (as_set moved))
+        work.old.memo.budget as_set result }
+    ensures set { IfOk result (λ set. IfSome set (IsSetOn (tracks_at bench.now.position.now stage.mask))) }
+    ensures grows { Grows work.old.sets work.new.sets }
+    ensures budget { work.new.memo.budget ≡ work.old.memo.budget }
 {
-    let mut made = Made { set: moved, at: 1 };
-    for bearing in bearings {
-        made = narrow_by(alloc, memo, sets, p, stage, *bearing, made)?;
-    }
+    let narrowing = Narrowing { bench, stage };
+    let made = each(&narrowing, work, bearings, Made { set: moved, at: 1 })?;
     Ok(made.set)
 }

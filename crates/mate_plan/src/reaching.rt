@@ -1,128 +1,113 @@
 //! What is reached at a ply.
-ghost use Rattle.std.specs.Prelude.{ℕ, ◌≡◌, ◌<◌, ◌≤◌, ◌+◌, List, Some, None, IfOk, IfSome, Contains, length};
-ghost use Rattle.game_rules.specs.Game.{Sound};
+ghost use Rattle.std.specs.Prelude.{◌≡◌, IfOk, IfSome};
 ghost use Rattle.lin_formula.specs.SetOf.{as_set};
-ghost use Rattle.rule_formula.specs.Fits.{IsGameMask, mask_of, masks_of};
+ghost use Rattle.rule_formula.specs.Fits.{IsGameMask};
 ghost use Rattle.rule_formula.specs.Mean.{mask_tracks as tracks_at};
 ghost use Rattle.set_plan.specs.Outcome.{Answers};
 ghost use Rattle.set_plan.specs.Sets.{Grows, IsNameOn, IsSetOn, set_at};
-ghost use Rattle.mate_plan.specs.Levels.{AreNames, level_of};
+ghost use Rattle.mate_plan.specs.Levels.{AreNamesIn, level_in};
 ghost use Rattle.mate_plan.specs.Plan as plan;
 ghost use Rattle.mate_plan.specs.PlanOf.{rules_of};
 
+use crate::bench::{Bench, Work};
+use crate::by_mask::{MaskSets, level_by};
 use crate::level::LevelNames;
 use crate::names::PartName;
 use crate::narrowing::narrow;
 use crate::stage::Stage;
 use crate::unions::image_set;
 use auto_core::Auto;
-use chess_game::Position;
-use formula_auto::Memo;
 use game_rules::Side;
 use lin_formula::SetId;
-use rule_formula::{bearings, masks};
-use set_plan::{PlanError, Sets};
-use std::alloc::Global;
+use rule_formula::bearings;
+use set_plan::PlanError;
 
 /// What is reached with the mask, from what is reached at the ply before, where the side moves.
 fn reach_set(
-    alloc: Global,
-    memo: &mut Memo,
-    sets: &mut Sets,
-    p: &Position,
-    masks: &[u8],
+    bench: &Bench,
+    work: &mut Work,
     stage: Stage,
     level: &LevelNames,
 ) -> Result<Option<Auto>, PlanError<PartName>>
-    requires sound { Sound p.now }
-    requires men { length p.now.men ≤ 8 }
-    requires masks { masks.now ≡ masks_of p.now }
-    requires mask { IsGameMask p.now stage.mask }
-    requires level { AreNames p.now.men sets.old (masks_of p.now) level.now }
-    ensures answers { Answers (plan.reach_set (rules_of p.now) stage.side stage.ply (level_of sets.old (masks_of p.now) level.now) stage.mask) memo.old.budget as_set result }
-    ensures set { IfOk result (λ set. IfSome set (IsSetOn (tracks_at p.now stage.mask))) }
-    ensures grows { Grows sets.old sets.new }
-    ensures budget { memo.new.budget ≡ memo.old.budget }
+    requires mask { IsGameMask bench.now.position.now stage.mask }
+    requires level { AreNamesIn bench.now.position.now work.old.sets level.now }
+    ensures answers { Answers
+        (plan.reach_set (rules_of bench.now.position.now) stage.side stage.ply
+        (level_in bench.now.position.now work.old.sets level.now) stage.mask)
+        work.old.memo.budget as_set result }
+    ensures set { IfOk result (λ set. IfSome set (IsSetOn (tracks_at bench.now.position.now stage.mask))) }
+    ensures grows { Grows work.old.sets work.new.sets }
+    ensures budget { work.new.memo.budget ≡ work.old.memo.budget }
 {
-    let moved = image_set(alloc, memo, sets, p, masks, stage, level)?;
-    let attacks = bearings(alloc, p, stage.mask, stage.side.other())?;
-    narrow(alloc, memo, sets, p, stage, attacks.as_slice(), moved)
+    let moved = image_set(bench, &mut work.memo, &work.sets, stage, level)?;
+    let attacks = bearings(bench.alloc, bench.position, stage.mask, stage.side.other())?;
+    narrow(bench, work, stage, attacks.as_slice(), moved)
+}
+
+/// What is reached at a ply, from what is reached at the ply before it, where the side moves.
+#[derive(Clone, Copy)]
+pub struct Reaching<'a> {
+    pub side: Side,
+    /// Step names have this ply.
+    pub ply: u8,
+    pub level: &'a LevelNames,
 }
 
 /// The name of what is reached with the mask.
 fn reach_name(
-    alloc: Global,
-    memo: &mut Memo,
-    sets: &mut Sets,
-    p: &Position,
-    masks: &[u8],
-    stage: Stage,
-    level: &LevelNames,
+    bench: &Bench,
+    work: &mut Work,
+    from: &Reaching,
+    mask: u8,
 ) -> Result<Option<SetId>, PlanError<PartName>>
-    requires sound { Sound p.now }
-    requires men { length p.now.men ≤ 8 }
-    requires masks { masks.now ≡ masks_of p.now }
-    requires mask { IsGameMask p.now stage.mask }
-    requires level { AreNames p.now.men sets.old (masks_of p.now) level.now }
-    ensures answers { Answers (plan.reach_set (rules_of p.now) stage.side stage.ply (level_of sets.old (masks_of p.now) level.now) stage.mask) memo.old.budget (λ name. set_at sets.new name) result }
-    ensures name { IfOk result (IsNameOn (tracks_at p.now stage.mask) sets.new) }
-    ensures grows { Grows sets.old sets.new }
-    ensures budget { memo.new.budget ≡ memo.old.budget }
+    requires mask { IsGameMask bench.now.position.now mask }
+    requires level { AreNamesIn bench.now.position.now work.old.sets from.now.level.now }
+    ensures answers { Answers
+        (plan.reach_set (rules_of bench.now.position.now) from.now.side from.now.ply
+        (level_in bench.now.position.now work.old.sets from.now.level.now) mask)
+        work.old.memo.budget (λ name. set_at work.new.sets name) result }
+    ensures name { IfOk result (IsNameOn (tracks_at bench.now.position.now mask) work.new.sets) }
+    ensures grows { Grows work.old.sets work.new.sets }
+    ensures budget { work.new.memo.budget ≡ work.old.memo.budget }
 {
-    let set = reach_set(alloc, memo, sets, p, masks, stage, level)?;
-    Ok(sets.keep(set)?)
+    let Reaching { side, ply, level } = *from;
+    let set = reach_set(bench, work, Stage { side, ply, mask }, level)?;
+    Ok(work.sets.keep(set)?)
 }
 
-/// What is reached at a ply, mask by mask.
-fn reach_masks(
-    alloc: Global,
-    memo: &mut Memo,
-    sets: &mut Sets,
-    p: &Position,
-    masks: &[u8],
-    side: Side,
-    ply: u8,
-    level: &LevelNames,
-) -> Result<LevelNames, PlanError<PartName>>
-    requires sound { Sound p.now }
-    requires men { length p.now.men ≤ 8 }
-    requires masks { masks.now ≡ masks_of p.now }
-    requires level { AreNames p.now.men sets.old (masks_of p.now) level.now }
-    ensures answers { Answers (plan.reach_level (rules_of p.now) side ply (level_of sets.old (masks_of p.now) level.now)) memo.old.budget (λ names. level_of sets.new (masks_of p.now) names) result }
-    ensures names { IfOk result (AreNames p.now.men sets.new (masks_of p.now)) }
-    ensures grows { Grows sets.old sets.new }
-    ensures budget { memo.new.budget ≡ memo.old.budget }
-{
-    let mut names = LevelNames::new(alloc);
-    for mask in masks {
-        let stage = Stage {
-            side,
-            ply,
-            mask: *mask,
-        };
-        names.push(reach_name(alloc, memo, sets, p, masks, stage, level)?)?;
+impl MaskSets for Reaching<'_> {
+    ghost use Rattle.mate_plan.specs.Levels.{AreNamesIn, level_in};
+    ghost use Rattle.mate_plan.specs.Plan as plan;
+    ghost use Rattle.mate_plan.specs.PlanOf.{rules_of};
+
+    ghost program = { λ it p sets. plan.reach_set (rules_of p) it.side it.ply (level_in p sets it.level.now) };
+
+    ghost fits = { λ it p sets. AreNamesIn p sets it.level.now };
+
+    fn name(
+        &self,
+        bench: &Bench,
+        work: &mut Work,
+        mask: u8,
+    ) -> Result<Option<SetId>, PlanError<PartName>> {
+        reach_name(bench, work, self, mask)
     }
-    Ok(names)
 }
 
-/// What is reached at a ply, from what is reached at the ply before it, where the side moves. Step names have this ply.
+/// What is reached at a ply.
 pub fn reach_level(
-    alloc: Global,
-    memo: &mut Memo,
-    sets: &mut Sets,
-    p: &Position,
-    side: Side,
-    ply: u8,
-    level: &LevelNames,
+    bench: &Bench,
+    work: &mut Work,
+    from: &Reaching,
 ) -> Result<LevelNames, PlanError<PartName>>
-    requires sound { Sound p.now }
-    requires men { length p.now.men ≤ 8 }
-    requires level { AreNames p.now.men sets.old (masks_of p.now) level.now }
-    ensures answers { Answers (plan.reach_level (rules_of p.now) side ply (level_of sets.old (masks_of p.now) level.now)) memo.old.budget (λ names. level_of sets.new (masks_of p.now) names) result }
-    ensures names { IfOk result (AreNames p.now.men sets.new (masks_of p.now)) }
-    ensures grows { Grows sets.old sets.new }
-    ensures budget { memo.new.budget ≡ memo.old.budget }
+    requires level { AreNamesIn bench.now.position.now work.old.sets from.now.level.now }
+    ensures answers { Answers
+        (plan.reach_level (rules_of bench.now.position.now) from.now.side from.now.ply
+        (level_in bench.now.position.now work.old.sets from.now.level.now))
+        work.old.memo.budget (level_in bench.now.position.now work.new.sets) result }
+    ensures names { IfOk result (AreNamesIn bench.now.position.now work.new.sets) }
+    ensures grows { Grows work.old.sets work.new.sets }
+    ensures budget { work.new.memo.budget ≡ work.old.memo.budget }
 {
-    let all = masks(alloc, p)?;
-    reach_masks(alloc, memo, sets, p, all.as_slice(), side, ply, level)
+    level_by(bench, work, from)
 }

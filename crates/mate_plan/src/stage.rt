@@ -30,6 +30,21 @@ impl Stage {
     }
 }
 
+/// The set of a mask.
+#[derive(Clone, Copy)]
+pub(crate) struct MaskSet {
+    pub(crate) mask: u8,
+    pub(crate) set: SetId,
+}
+
+/// The set of a part.
+#[derive(Clone, Copy)]
+pub(crate) struct PartSet {
+    pub(crate) part: PartName,
+    /// No name, where the set has no tuple.
+    pub(crate) name: Option<SetId>,
+}
+
 /// The set of a stage.
 #[derive(Clone, Copy)]
 pub(crate) struct StageSet {
@@ -43,6 +58,14 @@ pub(crate) struct StageSet {
 pub struct StageLevel<'a> {
     pub stage: Stage,
     pub level: &'a LevelNames,
+}
+
+/// The moves from a set into a level, as a part.
+#[derive(Clone, Copy)]
+pub(crate) struct PartMoves<'a> {
+    pub(crate) part: Part,
+    pub(crate) set: StageSet,
+    pub(crate) into: &'a LevelNames,
 }
 
 /// A stage, the level that has its set, and the level into which the moves from there are to lead.

@@ -1,129 +1,99 @@
 //! What is kept at a ply of the winner.
-ghost use Rattle.std.specs.Prelude.{ℕ, ◌≡◌, ◌<◌, ◌≤◌, ◌+◌, List, Some, None, IfOk, IfSome, Contains, length};
-ghost use Rattle.game_rules.specs.Game.{Sound};
-ghost use Rattle.lin_formula.specs.SetOf.{as_set};
-ghost use Rattle.rule_formula.specs.Fits.{IsGameMask, mask_of, masks_of};
-ghost use Rattle.rule_formula.specs.Mean.{mask_tracks as tracks_at};
+ghost use Rattle.std.specs.Prelude.{◌≡◌, IfOk};
 ghost use Rattle.set_plan.specs.Outcome.{Answers};
-ghost use Rattle.set_plan.specs.Program.{bind};
-ghost use Rattle.set_plan.specs.Sets.{Grows, IsNameOn, IsSetOn, set_at};
-ghost use Rattle.mate_plan.specs.Levels.{AreNames, level_of};
+ghost use Rattle.rule_formula.specs.Fits.{IsGameMask};
+ghost use Rattle.rule_formula.specs.Mean.{mask_tracks as tracks_at};
+ghost use Rattle.set_plan.specs.Sets.{Grows, IsNameOn, set_at};
+ghost use Rattle.mate_plan.specs.Levels.{AreNamesIn, level_in};
 ghost use Rattle.mate_plan.specs.Plan as plan;
 ghost use Rattle.mate_plan.specs.PlanOf.{rules_of};
 
-use crate::level::{LevelNames, name_at};
+use crate::bench::{Bench, Work};
+use crate::by_mask::{MaskSets, level_by};
+use crate::level::{LevelNames, name_in};
 use crate::names::{Part, PartName};
-use crate::stage::Stage;
+use crate::stage::{PartMoves, Stage, StageSet};
 use crate::unions::pre_set;
-use chess_game::Position;
-use formula_auto::Memo;
 use game_rules::Side;
 use lin_formula::SetId;
-use rule_formula::masks;
-use set_plan::{PlanError, Sets};
-use std::alloc::Global;
+use set_plan::PlanError;
+
+/// What is kept at a ply at which the winner, the side, is to move, from what is reached at the ply and what is kept at the next one.
+#[derive(Clone, Copy)]
+pub struct Winning<'a> {
+    pub side: Side,
+    pub ply: u8,
+    pub reach: &'a LevelNames,
+    pub next_kept: &'a LevelNames,
+}
 
 /// The name of what is kept with the mask.
 fn win_name(
-    alloc: Global,
-    memo: &mut Memo,
-    sets: &mut Sets,
-    p: &Position,
-    masks: &[u8],
-    stage: Stage,
-    reach: &LevelNames,
-    next_kept: &LevelNames,
+    bench: &Bench,
+    work: &mut Work,
+    from: &Winning,
+    mask: u8,
 ) -> Result<Option<SetId>, PlanError<PartName>>
-    requires sound { Sound p.now }
-    requires men { length p.now.men ≤ 8 }
-    requires masks { masks.now ≡ masks_of p.now }
-    requires mask { IsGameMask p.now stage.mask }
-    requires reach { AreNames p.now.men sets.old (masks_of p.now) reach.now }
-    requires next_kept { AreNames p.now.men sets.old (masks_of p.now) next_kept.now }
-    ensures answers { Answers (plan.win_set (rules_of p.now) stage.side stage.ply (level_of sets.old (masks_of p.now) reach.now) (level_of sets.old (masks_of p.now) next_kept.now) stage.mask) memo.old.budget (λ name. set_at sets.new name) result }
-    ensures name { IfOk result (IsNameOn (tracks_at p.now stage.mask) sets.new) }
-    ensures grows { Grows sets.old sets.new }
-    ensures budget { memo.new.budget ≡ memo.old.budget }
+    requires mask { IsGameMask bench.now.position.now mask }
+    requires reach { AreNamesIn bench.now.position.now work.old.sets from.now.reach.now }
+    requires next_kept { AreNamesIn bench.now.position.now work.old.sets from.now.next_kept.now }
+    ensures answers { Answers
+        (plan.win_set (rules_of bench.now.position.now) from.now.side from.now.ply
+        (level_in bench.now.position.now work.old.sets from.now.reach.now)
+        (level_in bench.now.position.now work.old.sets from.now.next_kept.now) mask)
+        work.old.memo.budget (λ name. set_at work.new.sets name) result }
+    ensures name { IfOk result (IsNameOn (tracks_at bench.now.position.now mask) work.new.sets) }
+    ensures grows { Grows work.old.sets work.new.sets }
+    ensures budget { work.new.memo.budget ≡ work.old.memo.budget }
 {
-    let source = name_at(masks, reach, stage.mask);
-    let set = pre_set(
-        alloc,
-        memo,
-        sets,
-        p,
-        masks,
-        stage,
-        Part::Win,
-        source,
-        next_kept,
-    )?;
-    Ok(sets.keep(set)?)
+    let Winning { side, ply, reach, next_kept } = *from;
+    let stage = Stage { side, ply, mask };
+    let name = name_in(bench, reach, mask);
+    let moves = PartMoves {
+        part: Part::Win,
+        set: StageSet { stage, name },
+        into: next_kept,
+    };
+    let set = pre_set(bench, &mut work.memo, &work.sets, &moves)?;
+    Ok(work.sets.keep(set)?)
 }
 
-/// What is kept at a ply of the winner, mask by mask.
-fn win_masks(
-    alloc: Global,
-    memo: &mut Memo,
-    sets: &mut Sets,
-    p: &Position,
-    masks: &[u8],
-    side: Side,
-    ply: u8,
-    reach: &LevelNames,
-    next_kept: &LevelNames,
-) -> Result<LevelNames, PlanError<PartName>>
-    requires sound { Sound p.now }
-    requires men { length p.now.men ≤ 8 }
-    requires masks { masks.now ≡ masks_of p.now }
-    requires reach { AreNames p.now.men sets.old (masks_of p.now) reach.now }
-    requires next_kept { AreNames p.now.men sets.old (masks_of p.now) next_kept.now }
-    ensures answers { Answers (plan.win_level (rules_of p.now) side ply (level_of sets.old (masks_of p.now) reach.now) (level_of sets.old (masks_of p.now) next_kept.now)) memo.old.budget (λ names. level_of sets.new (masks_of p.now) names) result }
-    ensures names { IfOk result (AreNames p.now.men sets.new (masks_of p.now)) }
-    ensures grows { Grows sets.old sets.new }
-    ensures budget { memo.new.budget ≡ memo.old.budget }
-{
-    let mut names = LevelNames::new(alloc);
-    for mask in masks {
-        let stage = Stage {
-            side,
-            ply,
-            mask: *mask,
-        };
-        names.push(win_name(alloc, memo, sets, p, masks, stage, reach, next_kept)?)?;
+impl MaskSets for Winning<'_> {
+    ghost use Rattle.mate_plan.specs.Levels.{AreNamesIn, level_in};
+    ghost use Rattle.mate_plan.specs.Plan as plan;
+    ghost use Rattle.mate_plan.specs.PlanOf.{rules_of};
+
+    ghost program = { λ it p sets. plan.win_set (rules_of p) it.side it.ply
+        (level_in p sets it.reach.now) (level_in p sets it.next_kept.now) };
+
+    ghost fits = { λ it p sets. AreNamesIn p sets it.reach.now × AreNamesIn p sets it.next_kept.now };
+
+    fn name(
+        &self,
+        bench: &Bench,
+        work: &mut Work,
+        mask: u8,
+    ) -> Result<Option<SetId>, PlanError<PartName>> {
+        win_name(bench, work, self, mask)
     }
-    Ok(names)
 }
 
-/// What is kept at a ply at which the winner, the side, is to move, from what is reached at the ply and what is kept at the next one.
+/// What is kept at a ply of the winner.
 pub fn win_level(
-    alloc: Global,
-    memo: &mut Memo,
-    sets: &mut Sets,
-    p: &Position,
-    side: Side,
-    ply: u8,
-    reach: &LevelNames,
-    next_kept: &LevelNames,
+    bench: &Bench,
+    work: &mut Work,
+    from: &Winning,
 ) -> Result<LevelNames, PlanError<PartName>>
-    requires sound { Sound p.now }
-    requires men { length p.now.men ≤ 8 }
-    requires reach { AreNames p.now.men sets.old (masks_of p.now) reach.now }
-    requires next_kept { AreNames p.now.men sets.old (masks_of p.now) next_kept.now }
-    ensures answers { Answers (plan.win_level (rules_of p.now) side ply (level_of sets.old (masks_of p.now) reach.now) (level_of sets.old (masks_of p.now) next_kept.now)) memo.old.budget (λ names. level_of sets.new (masks_of p.now) names) result }
-    ensures names { IfOk result (AreNames p.now.men sets.new (masks_of p.now)) }
-    ensures grows { Grows sets.old sets.new }
-    ensures budget { memo.new.budget ≡ memo.old.budget }
+    requires reach { AreNamesIn bench.now.position.now work.old.sets from.now.reach.now }
+    requires next_kept { AreNamesIn bench.now.position.now work.old.sets from.now.next_kept.now }
+    ensures answers { Answers
+        (plan.win_level (rules_of bench.now.position.now) from.now.side from.now.ply
+        (level_in bench.now.position.now work.old.sets from.now.reach.now)
+        (level_in bench.now.position.now work.old.sets from.now.next_kept.now))
+        work.old.memo.budget (level_in bench.now.position.now work.new.sets) result }
+    ensures names { IfOk result (AreNamesIn bench.now.position.now work.new.sets) }
+    ensures grows { Grows work.old.sets work.new.sets }
+    ensures budget { work.new.memo.budget ≡ work.old.memo.budget }
 {
-    let all = masks(alloc, p)?;
-    win_masks(
-        alloc,
-        memo,
-        sets,
-        p,
-        all.as_slice(),
-        side,
-        ply,
-        reach,
-        next_kept,
-    )
+    level_by(bench, work, from)
 }

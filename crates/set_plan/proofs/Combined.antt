@@ -3,8 +3,8 @@ use Rattle.std.proofs.Common.{◌≡◌, ℕ, ◌+◌, suc, zero, List, [], ◌�
 use Rattle.track_word.specs.declared.tracks.Var.{Var}
 use Rattle.lin_formula.specs.Tree.{Tree, Among, Not, And, Or, steps}
 use Rattle.lin_formula.specs.SetOf.{SetOf, Nothing}
-use Rattle.set_plan.specs.Program.{Item, Program, Give, Compute, Ask, Empty, bind}
-use Rattle.set_plan.specs.Unite.{Made, compute, make, join, unite, without, either, difference, two}
+use Rattle.set_plan.specs.Program.{Item, Program, Give, Compute, Ask, Empty, bind, each}
+use Rattle.set_plan.specs.Unite.{Made, compute, make, join, unite, with_item, without, either, difference, two}
 use Rattle.set_plan.specs.Same.{SameSets, SameItem, SameSteps}
 use Rattle.set_plan.proofs.Alike.{Alike, SameSets-self, SameQuestion}
 use Rattle.set_plan.proofs.SameSets.{SameItem-sets}
@@ -76,16 +76,20 @@ SameItems [] (j ∷ js) = ⊥
 SameItems (i ∷ is) [] = ⊥
 SameItems (i ∷ is) (j ∷ js) = SameItem i j × SameItems is js
 
+with_item-alike : {P : Type 0} (tracks : List Var) (part : P) (m n : Made) (i j : Item) → SameMade m n → SameItem i j → Alike SameMade (with_item tracks part i m) (with_item tracks part j n)
+with_item-alike tracks part m n i j same item =
+    let At : ℕ → Type 0 = λ k. Alike SameMade (with_item tracks part i m) (with_item tracks part j (n.0, k)) in
+    subst At same.at
+    (bind-alike SameMade SameMade (make part m.1 i) (make part m.1 j) (join tracks part m.0) (join tracks part n.0)
+    (make-alike part m.1 i j item) (λ a b next. join-alike tracks part m.0 n.0 a b same.sets next))
+
 pub unite-alike : {P : Type 0} (tracks : List Var) (part : P) (m n : Made) (is js : List Item) → SameMade m n → SameItems is js → Alike SameMade (unite tracks part m is) (unite tracks part n js)
 unite-alike tracks part m n [] [] same items = same
 unite-alike tracks part m n [] (j ∷ js) same items = absurd items
 unite-alike tracks part m n (i ∷ is) [] same items = absurd items
-unite-alike {P} tracks part m n (i ∷ is) (j ∷ js) same (item, items) =
-    let At : ℕ → Type 0 = λ k. Alike SameMade (unite tracks part (m.0, m.1) (i ∷ is)) (unite tracks part (n.0, k) (j ∷ js)) in
-    subst At same.at
-    (bind-alike SameMade SameMade (make part m.1 i) (make part m.1 j) (λ next. bind (join tracks part m.0 next) (λ more. unite tracks part more is)) (λ next. bind (join tracks part n.0 next) (λ more. unite tracks part more js)) (make-alike part m.1 i j item)
-    (λ a b next. bind-alike SameMade SameMade (join tracks part m.0 a) (join tracks part n.0 b) (λ more. unite tracks part more is) (λ more. unite tracks part more js) (join-alike tracks part m.0 n.0 a b same.sets next)
-    (λ c d more. unite-alike tracks part c d is js more items)))
+unite-alike tracks part m n (i ∷ is) (j ∷ js) same (item, items) =
+    bind-alike SameMade SameMade (with_item tracks part i m) (with_item tracks part j n) (each is (with_item tracks part)) (each js (with_item tracks part))
+    (with_item-alike tracks part m n i j same item) (λ c d more. unite-alike tracks part c d is js more items)
 
 pub without-alike : {P : Type 0} (tracks : List Var) (part : P) (s t u v : SetOf) → SameSets s t → SameSets u v → Alike SameMade (without tracks part s u) (without tracks part t v)
 without-alike tracks part s t u v first second = (

@@ -12,6 +12,8 @@ pub mod FewStates
 pub mod BothSets
 pub mod Kept
 pub mod Items
+pub mod Folds
+pub mod Unions
 pub mod Askings
 pub mod Takings
 pub mod Tables

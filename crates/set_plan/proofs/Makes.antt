@@ -73,14 +73,9 @@ module _ {P : Type 0} (tracks : List Var) (part : P) (budget : ℕ) where
       Ends-ask_no (Empty (next.0 ∷ [])) (Give (s, next.1)) (Ask (Empty (s ∷ [])) (Give next) (plan.compute part next.1 (plan.either tracks s next.0))) budget _ (some, tt)
       (Ends-ask_yes (Empty (s ∷ [])) (Give next) (plan.compute part next.1 (plan.either tracks s next.0)) budget _ (inl empty) (Ends-give budget _))
 
-  -- what is left of a union after one item
-  abbrev pub after_item : plan.Made → List Item → plan.Made → Program P plan.Made
-  after_item so_far items next = bind (plan.join tracks part so_far.0 next) (λ more. plan.unite tracks part more items)
-
-  pub LeadsTo-item : (so_far : plan.Made) (item : Item) (items : List Item) (whole : Program P plan.Made) (next more : plan.Made) → LeadsTo (plan.unite tracks part so_far (item ∷ items)) whole budget → Ends (plan.make part so_far.1 item) budget next → Ends (plan.join tracks part so_far.0 next) budget more → LeadsTo (plan.unite tracks part more items) whole budget
-  LeadsTo-item so_far item items whole next more leads made joined =
-      LeadsTo-later (plan.join tracks part so_far.0 next) (λ more. plan.unite tracks part more items) whole budget more joined
-      (LeadsTo-later (plan.make part so_far.1 item) (after_item so_far items) whole budget next made leads)
+  -- one more item
+  pub Ends-with_item : (so_far : plan.Made) (item : Item) (next more : plan.Made) → Ends (plan.make part so_far.1 item) budget next → Ends (plan.join tracks part so_far.0 next) budget more → Ends (plan.with_item tracks part item so_far) budget more
+  Ends-with_item so_far item next more made joined = Ends-bind (plan.make part so_far.1 item) (plan.join tracks part so_far.0) budget next more made joined
 
   -- one set without another
   pub Ends-without : (s t c : SetOf) → (IsEmpty t → ⊥) → (IsEmpty s → ⊥) → IsSetOf (plan.difference tracks s t) c → (Exceeds (And (Among 0 tracks) (Not (Among 1 tracks))) (members (plan.two s t)) budget → ⊥) → Ends (plan.remainder tracks part s t) budget c

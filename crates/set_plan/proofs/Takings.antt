@@ -8,9 +8,9 @@ use Rattle.track_word.specs.Tracks.{Values, values_at}
 use Rattle.lin_formula.specs.Tree.{Tree, Lin, Value, Among, Not, And, Or, Ex, free_vars, steps}
 use Rattle.lin_formula.specs.Holds.{Holds, with_value}
 use Rattle.lin_formula.specs.SetOf.{SetOf, Nothing, Where, Member, members, SomeEmpty, HoldsAt}
-use Rattle.set_plan.specs.Program.{Item, Entry, IsSetOf, Give, bind, Takes}
+use Rattle.set_plan.specs.Program.{Item, Entry, IsSetOf, Give, each, Takes}
 use Rattle.set_plan.proofs.Composition.{Takes-split, none_some}
-use Rattle.set_plan.specs.Unite.{positives, Made, make, either, join, unite, two, difference, without, union, remainder, together}
+use Rattle.set_plan.specs.Unite.{positives, Made, make, either, join, unite, with_item, two, difference, without, union, remainder, together}
 
 pub same_some : {A : Type 0} {a b : A} → Some a ≡ Some b → a ≡ b
 same_some e = cc
@@ -112,13 +112,12 @@ module _ {P : Type 0} (tracks : List Var) (part : P) (free : free_vars (Or (Amon
       let same : made.0 ≡ so_far.0 = ap (λ (m : Made). m.0) (Takes-give so_far made xs t) in
       rw same (λ h. inl h, λ h. elim h [ inl a ↦ a | inr b ↦ absurd b ])
   unite-members (item ∷ items) so_far xs made over (have, haves) t tuple =
-      let after = λ (next : Made). bind (join tracks part so_far.0 next) (λ more. unite tracks part more items) in
-      let (us, vs, next, order, first, rest) = Takes-split (make part so_far.1 item) after xs made t in
-      let (ws, zs, more, order, second, last) = Takes-split (join tracks part so_far.0 next) (λ more. unite tracks part more items) vs made rest in
-      let is = make-members part so_far.1 item us next first in
+      let (us, vs, more, order, one, last) = Takes-split (with_item tracks part item so_far) (each items (with_item tracks part)) xs made t in
+      let (ws, zs, next, order, first, second) = Takes-split (make part so_far.1 item) (join tracks part so_far.0) us more one in
+      let is = make-members part so_far.1 item ws next first in
       let over_n = is_over item next.0 have is in
-      let joined = join-members so_far.0 next ws more over over_n second in
-      let whole = unite-members items more zs made (join_over so_far.0 next more over over_n joined) haves last tuple in (
+      let joined = join-members so_far.0 next zs more over over_n second in
+      let whole = unite-members items more vs made (join_over so_far.0 next more over over_n joined) haves last tuple in (
         λ h. elim (whole.0 h) [
           | inl a ↦ elim ((joined tuple).0 a) [ inl b ↦ inl b | inr b ↦ inr (inl ((is.same tuple).0 b)) ]
           | inr b ↦ inr (inr b)

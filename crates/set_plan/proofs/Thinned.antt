@@ -3,10 +3,10 @@ use Rattle.std.proofs.Common.{ℕ, ◌+◌, List, [], ◌∷◌, ◌++◌, map, 
 use Rattle.track_word.specs.declared.tracks.Var.{Var}
 use Rattle.lin_formula.specs.Tree.{steps}
 use Rattle.lin_formula.specs.SetOf.{Nothing}
-use Rattle.set_plan.specs.Program.{Item, Program, Give, Empty, bind, Takes, Entry}
+use Rattle.set_plan.specs.Program.{Item, Program, Give, Empty, each, Takes, Entry}
 use Rattle.set_plan.specs.Past.{numbered, all_steps, PastStep, Past}
 use Rattle.set_plan.specs.Outcome.{Ends, Stops}
-use Rattle.set_plan.specs.Unite.{Made, compute, make, join, unite, positives}
+use Rattle.set_plan.specs.Unite.{Made, compute, make, join, unite, with_item, positives}
 use Rattle.set_plan.specs.declared.stop.StepName.{StepName}
 use Rattle.set_plan.proofs.Composition.{none_some, Ends-ask_yes, Ends-ask_no, Ends-give, Ends-bind, Stops-bind, Stops-bind_later, Ends-split, Stops-split, PastStep-split, PastStep-append}
 use Rattle.set_plan.specs.Same.{IsLacking, SameItem, Thinned}
@@ -52,45 +52,46 @@ module _ {P : Type 0} (part : P) (budget : ℕ) where
   Stops-make_same at i j name same h = Stops-alike SameMade (make part at i) (make part at j) budget name (make-alike part at i j same) h
 
   module _ (tracks : List Var) where
-    abbrev after_item : Made → List Item → Made → Program P Made
-    after_item so_far items next = bind (join tracks part so_far.0 next) (λ more. unite tracks part more items)
-
     -- an item that lacks a set adds nothing
-    Ends-lacking : (so_far v : Made) (j : Item) (js : List Item) → IsLacking j → Ends (unite tracks part so_far js) budget v → Ends (unite tracks part so_far (j ∷ js)) budget v
-    Ends-lacking so_far v j js lacks h =
-        Ends-bind (make part so_far.1 j) (after_item so_far js) budget (Nothing, so_far.1) v
+    item_lacking : (so_far : Made) (j : Item) → IsLacking j → Ends (with_item tracks part j so_far) budget so_far
+    item_lacking so_far j lacks =
+        Ends-bind (make part so_far.1 j) (join tracks part so_far.0) budget (Nothing, so_far.1) so_far
         (Ends-ask_yes (Empty (map j.sets (positives j.formula))) (Give (Nothing, so_far.1)) (compute part so_far.1 j) budget _ lacks (Ends-give budget _))
-        (Ends-bind (join tracks part so_far.0 (Nothing, so_far.1)) (λ more. unite tracks part more js) budget so_far v (Ends-join_left tracks part budget so_far.0 (Nothing, so_far.1) (λ tuple never. never)) h)
+        (Ends-join_left tracks part budget so_far.0 (Nothing, so_far.1) (λ tuple never. never))
 
-    Stops-lacking : (so_far : Made) (name : StepName P) (j : Item) (js : List Item) → IsLacking j → Stops (unite tracks part so_far js) budget name → Stops (unite tracks part so_far (j ∷ js)) budget name
-    Stops-lacking so_far name j js lacks h =
-        Stops-bind_later (make part so_far.1 j) (after_item so_far js) budget (Nothing, so_far.1) name
-        (Ends-ask_yes (Empty (map j.sets (positives j.formula))) (Give (Nothing, so_far.1)) (compute part so_far.1 j) budget _ lacks (Ends-give budget _))
-        (Stops-bind_later (join tracks part so_far.0 (Nothing, so_far.1)) (λ more. unite tracks part more js) budget so_far name (Ends-join_left tracks part budget so_far.0 (Nothing, so_far.1) (λ tuple never. never)) h)
+    item_same : (so_far more : Made) (i j : Item) → SameItem i j → Ends (with_item tracks part i so_far) budget more → Ends (with_item tracks part j so_far) budget more
+    item_same so_far more i j same h =
+        let (next, made, joined) = Ends-split (make part so_far.1 i) (join tracks part so_far.0) budget more h in
+        Ends-bind (make part so_far.1 j) (join tracks part so_far.0) budget next more (Ends-make_same so_far.1 i j next same made) joined
+
+    item_stops : (so_far : Made) (name : StepName P) (i j : Item) → SameItem i j → Stops (with_item tracks part i so_far) budget name → Stops (with_item tracks part j so_far) budget name
+    item_stops so_far name i j same h =
+        elim (Stops-split (make part so_far.1 i) (join tracks part so_far.0) budget name h) [
+          | inl here ↦ Stops-bind (make part so_far.1 j) (join tracks part so_far.0) budget name (Stops-make_same so_far.1 i j name same here)
+          | inr (next, made, joined) ↦
+              Stops-bind_later (make part so_far.1 j) (join tracks part so_far.0) budget next name (Ends-make_same so_far.1 i j next same made) joined
+        ]
+
+    abbrev left : List Item → Made → Program P Made
+    left items = each items (with_item tracks part)
 
     pub Ends-thinned : (is js : List Item) (so_far v : Made) → Thinned is js → Ends (unite tracks part so_far is) budget v → Ends (unite tracks part so_far js) budget v
     Ends-thinned is [] so_far v e h = subst (λ (l : List Item). Ends (unite tracks part so_far l) budget v) e h
-    Ends-thinned is (j ∷ js) so_far v (inl (lacks, rest)) h = Ends-lacking so_far v j js lacks (Ends-thinned is js so_far v rest h)
+    Ends-thinned is (j ∷ js) so_far v (inl (lacks, rest)) h =
+        Ends-bind (with_item tracks part j so_far) (left js) budget so_far v (item_lacking so_far j lacks) (Ends-thinned is js so_far v rest h)
     Ends-thinned is (j ∷ js) so_far v (inr (i, rest, e, same, thin)) h =
         let all : Ends (unite tracks part so_far (i ∷ rest)) budget v = subst (λ (l : List Item). Ends (unite tracks part so_far l) budget v) e h in
-        let (next, made, left) = Ends-split (make part so_far.1 i) (after_item so_far rest) budget v all in
-        let (more, joined, last) = Ends-split (join tracks part so_far.0 next) (λ more. unite tracks part more rest) budget v left in
-        Ends-bind (make part so_far.1 j) (after_item so_far js) budget next v (Ends-make_same so_far.1 i j next same made)
-        (Ends-bind (join tracks part so_far.0 next) (λ more. unite tracks part more js) budget more v joined (Ends-thinned rest js more v thin last))
+        let (more, one, last) = Ends-split (with_item tracks part i so_far) (left rest) budget v all in
+        Ends-bind (with_item tracks part j so_far) (left js) budget more v (item_same so_far more i j same one) (Ends-thinned rest js more v thin last)
 
     pub Stops-thinned : (is js : List Item) (so_far : Made) (name : StepName P) → Thinned is js → Stops (unite tracks part so_far is) budget name → Stops (unite tracks part so_far js) budget name
     Stops-thinned is [] so_far name e h = subst (λ (l : List Item). Stops (unite tracks part so_far l) budget name) e h
-    Stops-thinned is (j ∷ js) so_far name (inl (lacks, rest)) h = Stops-lacking so_far name j js lacks (Stops-thinned is js so_far name rest h)
+    Stops-thinned is (j ∷ js) so_far name (inl (lacks, rest)) h =
+        Stops-bind_later (with_item tracks part j so_far) (left js) budget so_far name (item_lacking so_far j lacks) (Stops-thinned is js so_far name rest h)
     Stops-thinned is (j ∷ js) so_far name (inr (i, rest, e, same, thin)) h =
         let all : Stops (unite tracks part so_far (i ∷ rest)) budget name = subst (λ (l : List Item). Stops (unite tracks part so_far l) budget name) e h in
-        elim (Stops-split (make part so_far.1 i) (after_item so_far rest) budget name all) [
-          | inl here ↦ Stops-bind (make part so_far.1 j) (after_item so_far js) budget name (Stops-make_same so_far.1 i j name same here)
-          | inr (next, made, left) ↦ elim (Stops-split (join tracks part so_far.0 next) (λ more. unite tracks part more rest) budget name left) [
-            | inl here ↦
-                Stops-bind_later (make part so_far.1 j) (after_item so_far js) budget next name (Ends-make_same so_far.1 i j next same made)
-                (Stops-bind (join tracks part so_far.0 next) (λ more. unite tracks part more js) budget name here)
-            | inr (more, joined, last) ↦
-                Stops-bind_later (make part so_far.1 j) (after_item so_far js) budget next name (Ends-make_same so_far.1 i j next same made)
-                (Stops-bind_later (join tracks part so_far.0 next) (λ more. unite tracks part more js) budget more name joined (Stops-thinned rest js more name thin last))
-          ]
+        elim (Stops-split (with_item tracks part i so_far) (left rest) budget name all) [
+          | inl here ↦ Stops-bind (with_item tracks part j so_far) (left js) budget name (item_stops so_far name i j same here)
+          | inr (more, one, last) ↦
+              Stops-bind_later (with_item tracks part j so_far) (left js) budget more name (item_same so_far more i j same one) (Stops-thinned rest js more name thin last)
         ]

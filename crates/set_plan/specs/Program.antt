@@ -55,6 +55,11 @@ bind (Ask question if_yes if_no) f = Ask question (bind if_yes f) (bind if_no f)
 abbrev pub ◌>>=◌ : {P A B : Type 0} → Program P A → (A → Program P B) → Program P B
 ◌>>=◌ m f = bind m f
 
+-- a program for each element of a list in turn, which goes on from the value that there is so far
+abbrev pub each : {P A X : Type 0} → List X → (X → A → Program P A) → A → Program P A
+each [] f a = Give a
+each (x ∷ xs) f a = bind (f x a) (each xs f)
+
 -- the program takes these entries first, and then it has come to its end with the value, or it may go on
 abbrev pub Takes : {P A : Type 0} → Program P A → List (Entry P) → Option A → Type 0
 Takes (Give a) entries end = (entries ≡ []) × ((end ≡ Some a) ⊎ (end ≡ None))

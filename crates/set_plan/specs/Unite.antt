@@ -3,7 +3,7 @@ use Rattle.std.specs.Prelude.{ℕ, zero, suc, ◌+◌, List, [], ◌∷◌, ◌+
 use Rattle.track_word.specs.declared.tracks.Var.{Var}
 use Rattle.lin_formula.specs.Tree.{Tree, Lin, Value, Among, Not, And, Or, Ex, steps}
 use Rattle.lin_formula.specs.SetOf.{SetOf, Nothing}
-use Rattle.set_plan.specs.Program.{Item, Program, Give, Compute, Ask, Empty, Within, bind}
+use Rattle.set_plan.specs.Program.{Item, Program, Give, Compute, Ask, Empty, Within, bind, each}
 
 -- two symbols
 abbrev pub two : SetOf → SetOf → ℕ → SetOf
@@ -40,11 +40,13 @@ abbrev pub join : {P : Type 0} → List Var → P → SetOf → Made → Program
 join tracks part so_far (next, at) =
     Ask (Empty (next ∷ [])) (Give (so_far, at)) (Ask (Empty (so_far ∷ [])) (Give (next, at)) (compute part at (either tracks so_far next)))
 
--- the union of the items' sets and of what is there so far: each is joined directly after its own steps
+-- what is there so far with the set of one more item, which is joined directly after its own steps
+abbrev pub with_item : {P : Type 0} → List Var → P → Item → Made → Program P Made
+with_item tracks part item so_far = bind (make part so_far.1 item) (join tracks part so_far.0)
+
+-- the union of the items' sets and of what is there so far
 abbrev pub unite : {P : Type 0} → List Var → P → Made → List Item → Program P Made
-unite tracks part so_far [] = Give so_far
-unite tracks part (so_far, at) (item ∷ items) =
-    bind (make part at item) (λ next. bind (join tracks part so_far next) (λ more. unite tracks part more items))
+unite tracks part so_far items = each items (with_item tracks part) so_far
 
 -- one set without the other, over these tracks
 abbrev pub difference : List Var → SetOf → SetOf → Item

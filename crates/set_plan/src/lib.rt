@@ -5,6 +5,7 @@
 
 mod asking;
 mod empty;
+mod fold;
 mod left;
 mod made;
 mod pairs;
@@ -15,6 +16,7 @@ mod stop;
 
 pub use asking::{are_empty, is_within};
 pub use empty::is_empty_set;
+pub use fold::{Steps, each};
 pub use left::{Left, remainder};
 pub use made::Made;
 pub use parts::{make, together, unite};

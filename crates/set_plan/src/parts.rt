@@ -10,6 +10,7 @@ ghost use Rattle.set_plan.specs.Sets.{IsSetBy, IsSetOn, IsItemOn, item_of, made_
 ghost use Rattle.set_plan.specs.Unite as plan;
 
 use crate::empty::{is_none_or_empty, lacks_a_set};
+use crate::fold::{Steps, each};
 use crate::made::Made;
 use crate::pairs::either;
 use crate::steps::step_count;
@@ -93,47 +94,83 @@ fn join<P: Copy>(
     }
 }
 
-/// The union of the sets of the formulas and the number of the step after it.
-fn unite_all<P: Copy>(
+/// A union over these tracks, as a part.
+#[derive(Drop)]
+struct Uniting<'a, P> {
+    alloc: Global,
+    tracks: &'a [Var],
+    part: P,
+    sets: &'a SetTable,
+}
+
+impl<P: Copy> Steps for Uniting<'_, P> {
+    ghost use Rattle.std.specs.Prelude.{◌≡◌, ◌<◌, ◌+◌, ◌*◌, ◌^◌, All, IfSome, length, map};
+    ghost use Rattle.lin_formula.specs.TreeOf.{tree_of};
+    ghost use Rattle.set_plan.specs.Sets.{IsItemOn, IsSetOn, item_of, made_of};
+    ghost use Rattle.set_plan.specs.Unite as plan;
+
+    type Work = Memo;
+    type Item = Formula;
+    type Value = Made;
+    type Part = P;
+
+    ghost Seen = { plan.Made };
+
+    ghost view = { λ _ _ made. made_of made };
+
+    ghost program = { λ it _ f. plan.with_item it.tracks.now it.part (item_of it.sets.now (tree_of f)) };
+
+    ghost budget = { λ _ memo. memo.budget };
+
+    ghost fits = { λ it _ made fs. All (IsItemOn it.tracks.now it.sets.now) (map tree_of fs)
+        × IfSome made.set (IsSetOn it.tracks.now) × (made.at + length fs * 1001 < 2 ^ 31) };
+
+    ghost keeps = { λ _ _ _. Unit {0} };
+
+    ghost keeps_self = { λ _ _. tt };
+
+    ghost keeps_on = { λ _ _ _ _ _ _. tt };
+
+    fn step(
+        &self,
+        memo: &mut Memo,
+        f: &Formula,
+        so_far: Made,
+    ) -> Result<Made, PlanError<P>> {
+        let next = make(self.alloc, memo, self.part, so_far.at, f, self.sets)?;
+        let budget = memo.budget();
+        let made = join(self.alloc, self.tracks, self.part, so_far.set, next, budget)?;
+        Ok(made)
+    }
+}
+
+/// The union of the sets of the formulas, which are over these tracks, by steps from this one on: an item is left out where a set that it
+/// needs is empty, the first set that is not empty is taken, and each further one is joined directly after its own steps.
+pub fn unite<P: Copy>(
     alloc: Global,
     memo: &mut Memo,
     tracks: &[Var],
-    part: P,
+    from: StepName<P>,
     formulas: &[Formula],
     sets: &SetTable,
 ) -> Result<Made, PlanError<P>>
     requires items { All (IsItemOn tracks.now sets.now) (map tree_of formulas.now) }
     requires few { length formulas.now < 2 ^ 20 }
-    ensures answers { Answers (plan.unite tracks.now part (Nothing, 1) (map (item_of sets.now) (map tree_of formulas.now))) memo.old.budget made_of result }
+    requires room { from.at < 2 ^ 30 }
+    ensures answers { Answers
+        (plan.unite tracks.now from.part (Nothing, from.at) (map (item_of sets.now) (map tree_of formulas.now)))
+        memo.old.budget made_of result }
     ensures set { IfOk result (λ made. IfSome made.set (IsSetOn tracks.now)) }
     ensures budget { memo.new.budget ≡ memo.old.budget }
 {
-    let mut made = Made { set: None, at: 1 };
-    for f in formulas {
-        let next = make(alloc, memo, part, made.at, f, sets)?;
-        made = join(alloc, tracks, part, made.set, next, memo.budget())?;
-    }
-    Ok(made)
-}
-
-/// The union of the sets of the formulas, which are over these tracks: an item is left out where a set that it needs is empty, the
-/// first set that is not empty is taken, and each further one is joined directly after its own steps.
-pub fn unite<P: Copy>(
-    alloc: Global,
-    memo: &mut Memo,
-    tracks: &[Var],
-    part: P,
-    formulas: &[Formula],
-    sets: &SetTable,
-) -> Result<Option<Auto>, PlanError<P>>
-    requires items { All (IsItemOn tracks.now sets.now) (map tree_of formulas.now) }
-    requires few { length formulas.now < 2 ^ 20 }
-    ensures answers { Answers (plan.union tracks.now part (map (item_of sets.now) (map tree_of formulas.now))) memo.old.budget as_set result }
-    ensures set { IfOk result (λ set. IfSome set (IsSetOn tracks.now)) }
-    ensures budget { memo.new.budget ≡ memo.old.budget }
-{
-    let made = unite_all(alloc, memo, tracks, part, formulas, sets)?;
-    Ok(made.set)
+    let StepName { part, at } = from;
+    let uniting = Uniting {
+        alloc,
+        tracks,
+        part,
+        sets,
+    };
+    each(&uniting, memo, formulas, Made { set: None, at })
 }
 
 /// Two sets over these tracks together, in a part of their own.

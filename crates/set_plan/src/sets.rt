@@ -1,5 +1,5 @@
 //! Sets that are kept.
-ghost use Rattle.std.specs.Prelude.{◌≡◌, ◌<◌, ◌≤◌, length, IfOk, IfSome, OnErr, [], slice_get, Some, take};
+ghost use Rattle.std.specs.Prelude.{◌≡◌, ◌<◌, ◌≤◌, ◌++◌, ◌∷◌, length, IfOk, IfSome, OnErr, OnOk, [], slice_get, Some, take};
 ghost use Rattle.lin_formula.specs.SetOf.{as_set};
 ghost use Rattle.set_plan.specs.Sets.{Grows, set_at};
 
@@ -83,10 +83,12 @@ impl Sets {
         self.count = count;
     }
 
-    /// Keeps a set, and gives its name.
+    /// Keeps a set behind the others, and gives its name. Err is want of memory, or that there are no more names.
     pub fn put(&mut self, a: Auto) -> Result<SetId, AllocError>
         ensures ok { IfOk result (λ id. slice_get self.new id.0 ≡ Some a) }
         ensures within { IfOk result (λ id. id.0 < length self.new) }
+        ensures entered { OnOk result (self.new ≡ self.old ++ a ∷ []) }
+        ensures err { OnErr result (self.new ≡ self.old) }
         ensures grows { Grows self.old self.new }
     {
         if self.count == u32::MAX {

@@ -16,76 +16,76 @@ use Rattle.mate_plan.proofs.answering.have_replies.Goals as goal
 
 pub is_lacking-requires : goal.is_lacking-requires
 is_lacking-requires c =
-    let masks = masks_of c.args.p.now in
-    (mask_tracks c.args.p.now c.args.moves.now.stage.mask, name_is_found c.args.p.now.men c.args.sets.now masks masks c.args.moves.now.from.now c.args.moves.now.stage.mask c.in_ok-name.name refl c.in_ok-name.ensures c.requires.from)
+    let masks = masks_of c.args.bench.now.position.now in
+    (mask_tracks c.args.bench.now.position.now c.args.moves.now.stage.mask, name_is_found c.args.bench.now.position.now.men c.args.work.now.sets masks masks c.args.moves.now.from.now c.args.moves.now.stage.mask c.name_in-name.result refl c.name_in-name.ensures c.requires.from)
 
 pub quiet_name-requires-clause-source : goal.quiet_name-requires-clause-source
 quiet_name-requires-clause-source c =
-    let masks = masks_of c.args.p.now in
-    name_is_found c.args.p.now.men c.args.sets.now masks masks c.args.moves.now.from.now c.args.moves.now.stage.mask c.in_ok-name.name refl c.in_ok-name.ensures c.requires.from
+    let masks = masks_of c.args.bench.now.position.now in
+    name_is_found c.args.bench.now.position.now.men c.args.work.now.sets masks masks c.args.moves.now.from.now c.args.moves.now.stage.mask c.name_in-name.result refl c.name_in-name.ensures c.requires.from
 
 pub have_moves-requires-clause-into : goal.have_moves-requires-clause-into
 have_moves-requires-clause-into c =
-    names-grow c.args.p.now.men c.args.sets.now c.quiet_name.new.sets (masks_of c.args.p.now) c.args.moves.now.into.now c.in_ok-quiet.ensures.grows c.requires.into
+    names-grow c.args.bench.now.position.now.men c.args.work.now.sets c.quiet_name.new.work.sets (masks_of c.args.bench.now.position.now) c.args.moves.now.into.now c.in_ok-quiet.ensures.grows c.requires.into
 
 pub truncate-requires : goal.truncate-requires
 truncate-requires c =
-    let more = length-grows c.args.sets.now c.quiet_name.new.sets c.in_ok-quiet.ensures.grows in
+    let more = length-grows c.args.work.now.sets c.quiet_name.new.work.sets c.in_ok-quiet.ensures.grows in
     omega (arith, more, c.count-count.ensures)
 
 pub returns-then-is_lacking-clause-answers : goal.returns-then-is_lacking-clause-answers
 returns-then-is_lacking-clause-answers c =
-    let masks = masks_of c.args.p.now in
+    let masks = masks_of c.args.bench.now.position.now in
     let stage = c.args.moves.now.stage in
-    let is = set_is_found c.args.sets.now masks masks c.args.moves.now.from.now stage.mask c.in_ok-name.name refl c.in_ok-name.ensures in
-    let empty : IsEmpty (set_at c.args.sets.now c.in_ok-name.name) = rw c.if-is_lacking.true at c.is_lacking.ensures.yes in
-    none_asked (rules_of c.args.p.now) stage.side stage.ply stage.mask c.args.memo.now.budget (level_of c.args.sets.now masks c.args.moves.now.from.now) (level_of c.args.sets.now masks c.args.moves.now.into.now)
+    let is = set_is_found c.args.work.now.sets masks masks c.args.moves.now.from.now stage.mask c.name_in-name.result refl c.name_in-name.ensures in
+    let empty : IsEmpty (set_at c.args.work.now.sets c.name_in-name.result) = rw c.if-is_lacking.true at c.is_lacking.ensures.yes in
+    none_asked (rules_of c.args.bench.now.position.now) stage.side stage.ply stage.mask c.args.work.now.memo.budget (level_of c.args.work.now.sets masks c.args.moves.now.from.now) (level_of c.args.work.now.sets masks c.args.moves.now.into.now)
     (subst IsEmpty is empty)
 
 pub returns-in_err-quiet-clause-answers : goal.returns-in_err-quiet-clause-answers
 returns-in_err-quiet-clause-answers c =
     let p = err_from_is_err_and c.from_residual-in_err-quiet.result c.from_residual-in_err-quiet.ensures.1 in
-    let masks = masks_of c.args.p.now in
+    let masks = masks_of c.args.bench.now.position.now in
     let stage = c.args.moves.now.stage in
-    let is = set_is_found c.args.sets.now masks masks c.args.moves.now.from.now stage.mask c.in_ok-name.name refl c.in_ok-name.ensures in
-    let some : ¬ IsEmpty (set_at c.args.sets.now c.in_ok-name.name) = rw c.if-is_lacking.false at c.is_lacking.ensures.none in
+    let is = set_is_found c.args.work.now.sets masks masks c.args.moves.now.from.now stage.mask c.name_in-name.result refl c.name_in-name.ensures in
+    let some : ¬ IsEmpty (set_at c.args.work.now.sets c.name_in-name.result) = rw c.if-is_lacking.false at c.is_lacking.ensures.none in
     rw (p.1, p.2)
-    (quiet_error (rules_of c.args.p.now) stage.side stage.ply stage.mask c.args.memo.now.budget (level_of c.args.sets.now masks c.args.moves.now.from.now) (level_of c.args.sets.now masks c.args.moves.now.into.now)
-    (set_at c.args.sets.now c.in_ok-name.name) is some c.in_err-quiet.field-0.0 c.in_err-quiet.ensures.answers)
+    (quiet_error (rules_of c.args.bench.now.position.now) stage.side stage.ply stage.mask c.args.work.now.memo.budget (level_of c.args.work.now.sets masks c.args.moves.now.from.now) (level_of c.args.work.now.sets masks c.args.moves.now.into.now)
+    (set_at c.args.work.now.sets c.name_in-name.result) is some c.in_err-quiet.field-0.0 c.in_err-quiet.ensures.answers)
 
 pub returns-in_err-answered-clause-answers : goal.returns-in_err-answered-clause-answers
 returns-in_err-answered-clause-answers c =
     let p = err_from_is_err_and c.from_residual-in_err-answered.result c.from_residual-in_err-answered.ensures.1 in
-    let masks = masks_of c.args.p.now in
+    let masks = masks_of c.args.bench.now.position.now in
     let stage = c.args.moves.now.stage in
-    let rules = rules_of c.args.p.now in
-    let from : Level = level_of c.args.sets.now masks c.args.moves.now.from.now in
-    let into : Level = level_of c.args.sets.now masks c.args.moves.now.into.now in
-    let quiet : SetOf = set_at c.quiet_name.new.sets c.in_ok-quiet.quiet in
-    let is = set_is_found c.args.sets.now masks masks c.args.moves.now.from.now stage.mask c.in_ok-name.name refl c.in_ok-name.ensures in
-    let some : ¬ IsEmpty (set_at c.args.sets.now c.in_ok-name.name) = rw c.if-is_lacking.false at c.is_lacking.ensures.none in
-    let grown = level-grows c.args.p.now.men c.args.sets.now c.quiet_name.new.sets masks c.args.moves.now.into.now c.in_ok-quiet.ensures.grows c.requires.into in
-    let Over : Level → Type 0 = λ level. Answers (have_moves rules stage.side stage.ply stage.mask kind.Reply kind.Stale quiet level) c.quiet_name.new.memo.budget (λ (b : Bool). b) (Err c.in_err-answered.field-0.0) in
+    let rules = rules_of c.args.bench.now.position.now in
+    let from : Level = level_of c.args.work.now.sets masks c.args.moves.now.from.now in
+    let into : Level = level_of c.args.work.now.sets masks c.args.moves.now.into.now in
+    let quiet : SetOf = set_at c.quiet_name.new.work.sets c.in_ok-quiet.quiet in
+    let is = set_is_found c.args.work.now.sets masks masks c.args.moves.now.from.now stage.mask c.name_in-name.result refl c.name_in-name.ensures in
+    let some : ¬ IsEmpty (set_at c.args.work.now.sets c.name_in-name.result) = rw c.if-is_lacking.false at c.is_lacking.ensures.none in
+    let grown = level-grows c.args.bench.now.position.now.men c.args.work.now.sets c.quiet_name.new.work.sets masks c.args.moves.now.into.now c.in_ok-quiet.ensures.grows c.requires.into in
+    let Over : Level → Type 0 = λ level. Answers (have_moves rules stage.side stage.ply stage.mask kind.Reply kind.Stale quiet level) c.quiet_name.new.work.memo.budget (λ (b : Bool). b) (Err c.in_err-answered.field-0.0) in
     let Within : ℕ → Type 0 = λ n. Answers (have_moves rules stage.side stage.ply stage.mask kind.Reply kind.Stale quiet into) n (λ (b : Bool). b) (Err c.in_err-answered.field-0.0) in
     rw (p.1, p.2)
-    (reply_answers rules stage.side stage.ply stage.mask c.args.memo.now.budget from into (set_at c.args.sets.now c.in_ok-name.name) is some quiet (Err c.in_err-answered.field-0.0) c.in_ok-quiet.ensures.answers
+    (reply_answers rules stage.side stage.ply stage.mask c.args.work.now.memo.budget from into (set_at c.args.work.now.sets c.name_in-name.result) is some quiet (Err c.in_err-answered.field-0.0) c.in_ok-quiet.ensures.answers
     (subst Within c.in_ok-quiet.ensures.budget (subst Over grown c.in_err-answered.ensures.answers)))
 
 pub returns-clause-answers : goal.returns-clause-answers
 returns-clause-answers c =
-    let masks = masks_of c.args.p.now in
+    let masks = masks_of c.args.bench.now.position.now in
     let stage = c.args.moves.now.stage in
-    let rules = rules_of c.args.p.now in
-    let from : Level = level_of c.args.sets.now masks c.args.moves.now.from.now in
-    let into : Level = level_of c.args.sets.now masks c.args.moves.now.into.now in
-    let quiet : SetOf = set_at c.quiet_name.new.sets c.in_ok-quiet.quiet in
-    let is = set_is_found c.args.sets.now masks masks c.args.moves.now.from.now stage.mask c.in_ok-name.name refl c.in_ok-name.ensures in
-    let some : ¬ IsEmpty (set_at c.args.sets.now c.in_ok-name.name) = rw c.if-is_lacking.false at c.is_lacking.ensures.none in
-    let grown = level-grows c.args.p.now.men c.args.sets.now c.quiet_name.new.sets masks c.args.moves.now.into.now c.in_ok-quiet.ensures.grows c.requires.into in
-    let Over : Level → Type 0 = λ level. Answers (have_moves rules stage.side stage.ply stage.mask kind.Reply kind.Stale quiet level) c.quiet_name.new.memo.budget (λ (b : Bool). b) (Ok c.in_ok-answered.answered) in
+    let rules = rules_of c.args.bench.now.position.now in
+    let from : Level = level_of c.args.work.now.sets masks c.args.moves.now.from.now in
+    let into : Level = level_of c.args.work.now.sets masks c.args.moves.now.into.now in
+    let quiet : SetOf = set_at c.quiet_name.new.work.sets c.in_ok-quiet.quiet in
+    let is = set_is_found c.args.work.now.sets masks masks c.args.moves.now.from.now stage.mask c.name_in-name.result refl c.name_in-name.ensures in
+    let some : ¬ IsEmpty (set_at c.args.work.now.sets c.name_in-name.result) = rw c.if-is_lacking.false at c.is_lacking.ensures.none in
+    let grown = level-grows c.args.bench.now.position.now.men c.args.work.now.sets c.quiet_name.new.work.sets masks c.args.moves.now.into.now c.in_ok-quiet.ensures.grows c.requires.into in
+    let Over : Level → Type 0 = λ level. Answers (have_moves rules stage.side stage.ply stage.mask kind.Reply kind.Stale quiet level) c.quiet_name.new.work.memo.budget (λ (b : Bool). b) (Ok c.in_ok-answered.answered) in
     let Within : ℕ → Type 0 = λ n. Answers (have_moves rules stage.side stage.ply stage.mask kind.Reply kind.Stale quiet into) n (λ (b : Bool). b) (Ok c.in_ok-answered.answered) in
-    reply_answers rules stage.side stage.ply stage.mask c.args.memo.now.budget from into (set_at c.args.sets.now c.in_ok-name.name) is some quiet (Ok c.in_ok-answered.answered) c.in_ok-quiet.ensures.answers
+    reply_answers rules stage.side stage.ply stage.mask c.args.work.now.memo.budget from into (set_at c.args.work.now.sets c.name_in-name.result) is some quiet (Ok c.in_ok-answered.answered) c.in_ok-quiet.ensures.answers
     (subst Within c.in_ok-quiet.ensures.budget (subst Over grown c.in_ok-answered.ensures.answers))
 
 pub returns-clause-grows : goal.returns-clause-grows
-returns-clause-grows c = rw c.truncate.ensures (grows_cut c.args.sets.now c.quiet_name.new.sets c.count-count.result c.count-count.ensures c.in_ok-quiet.ensures.grows)
+returns-clause-grows c = rw c.truncate.ensures (grows_cut c.args.work.now.sets c.quiet_name.new.work.sets c.count-count.result c.count-count.ensures c.in_ok-quiet.ensures.grows)

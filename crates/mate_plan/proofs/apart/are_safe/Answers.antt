@@ -11,37 +11,37 @@ use Rattle.mate_plan.proofs.Counts.{bears_few}
 use Rattle.mate_plan.proofs.EmptyAnswers.{empty_answers, empty_items}
 use Rattle.mate_plan.proofs.LevelLemmas.{name_is_found, set_is_found}
 use Rattle.mate_plan.proofs.PartItems.{bears_on, bears_thin}
-use Rattle.mate_plan.proofs.UnionAnswers.{few_formulas}
+use Rattle.mate_plan.proofs.UnionAnswers.{few_formulas, game_of}
 use Rattle.mate_plan.proofs.apart.are_safe.Goals as goal
 
 pub are_empty-requires-clause-items : goal.are_empty-requires-clause-items
 are_empty-requires-clause-items c =
-    let masks = masks_of c.args.p.now in
+    let masks = masks_of c.args.bench.now.position.now in
     let side = c.args.at.now.stage.side in
     let mask = c.args.at.now.stage.mask in
-    let source = c.in_ok-source.source in
-    let trees : map tree_of c.deref.result.now ≡ bear_trees c.args.p.now side mask source = ap (λ l. map tree_of l) c.deref.ensures.value ∙ c.in_ok-formulas.ensures in
-    let on = name_is_found c.args.p.now.men c.args.sets.now masks masks c.args.at.now.level.now mask source refl c.in_ok-source.ensures c.requires.level in
-    empty_items c.table.result.now c.args.sets.now c.table.ensures c.deref.result.now (bear_trees c.args.p.now side mask source) trees (mask_tracks c.args.p.now mask)
-    (bears_on c.args.p.now c.requires.game c.args.sets.now side mask source c.requires.mask on)
+    let source = c.name_in-source.result in
+    let trees : map tree_of c.deref.result.now ≡ bear_trees c.args.bench.now.position.now side mask source = ap (λ l. map tree_of l) c.deref.ensures.value ∙ c.in_ok-formulas.ensures in
+    let on = name_is_found c.args.bench.now.position.now.men c.args.work.now.sets masks masks c.args.at.now.level.now mask source refl c.name_in-source.ensures c.requires.level in
+    empty_items c.table.result.now c.args.work.now.sets c.table.ensures c.deref.result.now (bear_trees c.args.bench.now.position.now side mask source) trees (mask_tracks c.args.bench.now.position.now mask)
+    (bears_on c.args.bench.now.position.now (game_of c.args.bench.now.position.now c.args.bench.now.sound c.args.bench.now.few) c.args.work.now.sets side mask source c.requires.mask on)
 
 pub are_empty-requires-clause-few : goal.are_empty-requires-clause-few
 are_empty-requires-clause-few c =
     let side = c.args.at.now.stage.side in
     let mask = c.args.at.now.stage.mask in
-    let source = c.in_ok-source.source in
-    let trees : map tree_of c.deref.result.now ≡ bear_trees c.args.p.now side mask source = ap (λ l. map tree_of l) c.deref.ensures.value ∙ c.in_ok-formulas.ensures in
-    few_formulas c.deref.result.now (bear_trees c.args.p.now side mask source) trees (bears_few c.args.p.now side mask source c.requires.game.few)
+    let source = c.name_in-source.result in
+    let trees : map tree_of c.deref.result.now ≡ bear_trees c.args.bench.now.position.now side mask source = ap (λ l. map tree_of l) c.deref.ensures.value ∙ c.in_ok-formulas.ensures in
+    few_formulas c.deref.result.now (bear_trees c.args.bench.now.position.now side mask source) trees (bears_few c.args.bench.now.position.now side mask source c.args.bench.now.few)
 
 pub returns-clause-answers : goal.returns-clause-answers
 returns-clause-answers c =
-    let masks = masks_of c.args.p.now in
+    let masks = masks_of c.args.bench.now.position.now in
     let side = c.args.at.now.stage.side in
     let mask = c.args.at.now.stage.mask in
-    let source = c.in_ok-source.source in
-    let s = level_of c.args.sets.now masks c.args.at.now.level.now mask in
-    let trees : map tree_of c.deref.result.now ≡ bear_trees c.args.p.now side mask source = ap (λ l. map tree_of l) c.deref.ensures.value ∙ c.in_ok-formulas.ensures in
-    let is = set_is_found c.args.sets.now masks masks c.args.at.now.level.now mask source refl c.in_ok-source.ensures in
-    empty_answers c.table.result.now c.args.sets.now c.table.ensures c.deref.result.now (bear_trees c.args.p.now side mask source) trees c.part.result (name c.args.at.now.stage.ply mask kind.Guard)
-    (bear_items (rules_of c.args.p.now) side mask s) c.args.memo.now.budget c.are_empty.result c.part.ensures
-    (bears_thin c.args.p.now c.requires.game c.args.sets.now side mask source s (sym is)) c.are_empty.ensures.answers
+    let source = c.name_in-source.result in
+    let s = level_of c.args.work.now.sets masks c.args.at.now.level.now mask in
+    let trees : map tree_of c.deref.result.now ≡ bear_trees c.args.bench.now.position.now side mask source = ap (λ l. map tree_of l) c.deref.ensures.value ∙ c.in_ok-formulas.ensures in
+    let is = set_is_found c.args.work.now.sets masks masks c.args.at.now.level.now mask source refl c.name_in-source.ensures in
+    empty_answers c.table.result.now c.args.work.now.sets c.table.ensures c.deref.result.now (bear_trees c.args.bench.now.position.now side mask source) trees c.part.result (name c.args.at.now.stage.ply mask kind.Guard)
+    (bear_items (rules_of c.args.bench.now.position.now) side mask s) c.args.work.now.memo.budget c.are_empty.result c.part.ensures
+    (bears_thin c.args.bench.now.position.now (game_of c.args.bench.now.position.now c.args.bench.now.sound c.args.bench.now.few) c.args.work.now.sets side mask source s (sym is)) c.are_empty.ensures.answers

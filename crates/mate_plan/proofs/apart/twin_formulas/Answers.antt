@@ -3,4 +3,4 @@ use Rattle.mate_plan.proofs.TwinItems.{pairs_all}
 use Rattle.mate_plan.proofs.apart.twin_formulas.Goals as goal
 
 pub twins-requires-clause-pairs : goal.twins-requires-clause-pairs
-twins-requires-clause-pairs c = pairs_all c.args.p.now c.args.mask c.as_slice.result.now (c.as_slice.ensures ∙ c.in_ok-all.ensures.list)
+twins-requires-clause-pairs c = pairs_all c.args.bench.now.position.now c.args.mask c.as_slice.result.now (c.as_slice.ensures ∙ c.in_ok-all.ensures.list)

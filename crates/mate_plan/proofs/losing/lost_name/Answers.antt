@@ -1,4 +1,4 @@
-use Rattle.std.proofs.Common.{Ok, Err, subst, arith}
+use Rattle.std.proofs.Common.{Ok, Err, refl, subst, arith}
 use Rattle.std.proofs.lemmas.Result.{err_from_is_err_and}
 use Rattle.lin_formula.specs.SetOf.{IsEmpty, as_set}
 use Rattle.rule_formula.specs.Fits.{masks_of}
@@ -12,40 +12,40 @@ use Rattle.mate_plan.proofs.losing.lost_name.Goals as goal
 
 pub is_lacking-requires : goal.is_lacking-requires
 is_lacking-requires c =
-    (mask_tracks c.args.p.now c.args.stage.mask, name_is_found c.args.p.now.men c.args.sets.now c.args.masks.now (masks_of c.args.p.now) c.args.reach.now c.args.stage.mask c.name_at-source.result c.requires.masks c.name_at-source.ensures c.requires.reach)
+    (mask_tracks c.args.bench.now.position.now c.args.mask, name_is_found c.args.bench.now.position.now.men c.args.work.now.sets (masks_of c.args.bench.now.position.now) (masks_of c.args.bench.now.position.now) c.args.from.now.reach.now c.args.mask c.name_in-name.result refl c.name_in-name.ensures c.requires.reach)
 
 pub lost_set-requires-clause-reach : goal.lost_set-requires-clause-reach
-lost_set-requires-clause-reach c = name_is_found c.args.p.now.men c.args.sets.now c.args.masks.now (masks_of c.args.p.now) c.args.reach.now c.args.stage.mask c.name_at-source.result c.requires.masks c.name_at-source.ensures c.requires.reach
+lost_set-requires-clause-reach c = name_is_found c.args.bench.now.position.now.men c.args.work.now.sets (masks_of c.args.bench.now.position.now) (masks_of c.args.bench.now.position.now) c.args.from.now.reach.now c.args.mask c.name_in-name.result refl c.name_in-name.ensures c.requires.reach
 
 pub truncate-requires : goal.truncate-requires
 truncate-requires c =
-    let more = length-grows c.args.sets.now c.lost_set.new.sets c.in_ok-set.ensures.grows in
+    let more = length-grows c.args.work.now.sets c.lost_set.new.work.sets c.in_ok-set.ensures.grows in
     omega (arith, more, c.count-count.ensures)
 
 pub returns-then-is_lacking-clause-answers : goal.returns-then-is_lacking-clause-answers
 returns-then-is_lacking-clause-answers c =
-    let masks = masks_of c.args.p.now in
-    let is = set_is_found c.args.sets.now c.args.masks.now masks c.args.reach.now c.args.stage.mask c.name_at-source.result c.requires.masks c.name_at-source.ensures in
-    let empty : IsEmpty (set_at c.args.sets.now c.name_at-source.result) = rw c.if-is_lacking.true at c.is_lacking.ensures.yes in
-    lost_none (rules_of c.args.p.now) c.args.stage.side c.args.stage.ply c.args.stage.mask c.args.memo.now.budget (level_of c.args.sets.now masks c.args.reach.now) (level_of c.args.sets.now masks c.args.next_reach.now) (level_of c.args.sets.now masks c.args.rests.now)
+    let masks = masks_of c.args.bench.now.position.now in
+    let is = set_is_found c.args.work.now.sets masks masks c.args.from.now.reach.now c.args.mask c.name_in-name.result refl c.name_in-name.ensures in
+    let empty : IsEmpty (set_at c.args.work.now.sets c.name_in-name.result) = rw c.if-is_lacking.true at c.is_lacking.ensures.yes in
+    lost_none (rules_of c.args.bench.now.position.now) c.args.from.now.side c.args.from.now.ply c.args.mask c.args.work.now.memo.budget (level_of c.args.work.now.sets masks c.args.from.now.reach.now) (level_of c.args.work.now.sets masks c.args.from.now.next_reach.now) (level_of c.args.work.now.sets masks c.args.from.now.rests.now)
     (subst IsEmpty is empty)
 
 pub returns-in_err-set-clause-answers : goal.returns-in_err-set-clause-answers
 returns-in_err-set-clause-answers c =
     let p = err_from_is_err_and c.from_residual.result c.from_residual.ensures.1 in
-    let masks = masks_of c.args.p.now in
-    let is = set_is_found c.args.sets.now c.args.masks.now masks c.args.reach.now c.args.stage.mask c.name_at-source.result c.requires.masks c.name_at-source.ensures in
-    let some : ¬ IsEmpty (set_at c.args.sets.now c.name_at-source.result) = rw c.if-is_lacking.false at c.is_lacking.ensures.none in
+    let masks = masks_of c.args.bench.now.position.now in
+    let is = set_is_found c.args.work.now.sets masks masks c.args.from.now.reach.now c.args.mask c.name_in-name.result refl c.name_in-name.ensures in
+    let some : ¬ IsEmpty (set_at c.args.work.now.sets c.name_in-name.result) = rw c.if-is_lacking.false at c.is_lacking.ensures.none in
     rw (p.1, p.2)
-    (lost_some (rules_of c.args.p.now) c.args.stage.side c.args.stage.ply c.args.stage.mask c.args.memo.now.budget (level_of c.args.sets.now masks c.args.reach.now) (level_of c.args.sets.now masks c.args.next_reach.now) (level_of c.args.sets.now masks c.args.rests.now) (set_at c.args.sets.now c.name_at-source.result) is some as_set (Err c.in_err-set.field-0.0) c.in_err-set.ensures.answers)
+    (lost_some (rules_of c.args.bench.now.position.now) c.args.from.now.side c.args.from.now.ply c.args.mask c.args.work.now.memo.budget (level_of c.args.work.now.sets masks c.args.from.now.reach.now) (level_of c.args.work.now.sets masks c.args.from.now.next_reach.now) (level_of c.args.work.now.sets masks c.args.from.now.rests.now) (set_at c.args.work.now.sets c.name_in-name.result) is some as_set (Err c.in_err-set.field-0.0) c.in_err-set.ensures.answers)
 
 pub returns-clause-answers : goal.returns-clause-answers
 returns-clause-answers c =
-    let masks = masks_of c.args.p.now in
-    let is = set_is_found c.args.sets.now c.args.masks.now masks c.args.reach.now c.args.stage.mask c.name_at-source.result c.requires.masks c.name_at-source.ensures in
-    let some : ¬ IsEmpty (set_at c.args.sets.now c.name_at-source.result) = rw c.if-is_lacking.false at c.is_lacking.ensures.none in
+    let masks = masks_of c.args.bench.now.position.now in
+    let is = set_is_found c.args.work.now.sets masks masks c.args.from.now.reach.now c.args.mask c.name_in-name.result refl c.name_in-name.ensures in
+    let some : ¬ IsEmpty (set_at c.args.work.now.sets c.name_in-name.result) = rw c.if-is_lacking.false at c.is_lacking.ensures.none in
     rw c.in_ok-keep.ensures.ok
-    (lost_some (rules_of c.args.p.now) c.args.stage.side c.args.stage.ply c.args.stage.mask c.args.memo.now.budget (level_of c.args.sets.now masks c.args.reach.now) (level_of c.args.sets.now masks c.args.next_reach.now) (level_of c.args.sets.now masks c.args.rests.now) (set_at c.args.sets.now c.name_at-source.result) is some as_set (Ok c.in_ok-set.set) c.in_ok-set.ensures.answers)
+    (lost_some (rules_of c.args.bench.now.position.now) c.args.from.now.side c.args.from.now.ply c.args.mask c.args.work.now.memo.budget (level_of c.args.work.now.sets masks c.args.from.now.reach.now) (level_of c.args.work.now.sets masks c.args.from.now.next_reach.now) (level_of c.args.work.now.sets masks c.args.from.now.rests.now) (set_at c.args.work.now.sets c.name_in-name.result) is some as_set (Ok c.in_ok-set.set) c.in_ok-set.ensures.answers)
 
 pub returns-clause-name : goal.returns-clause-name
-returns-clause-name c = on_from_kept (mask_tracks c.args.p.now c.args.stage.mask) c.keep.new.self c.in_ok-set.set c.in_ok-keep.field-0 c.in_ok-set.ensures.set c.in_ok-keep.ensures.ok c.in_ok-keep.ensures.within
+returns-clause-name c = on_from_kept (mask_tracks c.args.bench.now.position.now c.args.mask) c.keep.new.self c.in_ok-set.set c.in_ok-keep.field-0 c.in_ok-set.ensures.set c.in_ok-keep.ensures.ok c.in_ok-keep.ensures.within

@@ -1,37 +1,22 @@
-use Rattle.std.proofs.Common.{◌<◌, length, ◌∙◌, arith}
-use Rattle.std.proofs.lemmas.List.{get_or_default}
 use Rattle.std.proofs.lemmas.Result.{err_from_is_err_and}
 use Rattle.lin_formula.specs.SetOf.{as_set}
+use Rattle.rule_formula.specs.declared.opt.Bearing.{Bearing}
+use Rattle.set_plan.specs.Program.{Give, each}
 use Rattle.set_plan.specs.Sets.{made_of}
-use Rattle.mate_plan.specs.Plan.{narrow}
+use Rattle.set_plan.specs.Unite.{Made}
+use Rattle.set_plan.proofs.Composition.{Ends-bind, Ends-give, Error-bind}
+use Rattle.mate_plan.specs.Plan.{Program, narrow_by}
 use Rattle.mate_plan.specs.PlanOf.{rules_of}
-use Rattle.mate_plan.proofs.LevelLemmas.{grows-grows}
-use Rattle.mate_plan.proofs.Narrowings.{narrow_ends, narrow_error, narrow_more}
 use Rattle.mate_plan.proofs.narrowing.narrow.Goals as goal
-
-pub loop-bearing-preserved : goal.loop-bearing-preserved
-loop-bearing-preserved c =
-    let less : c.loop-bearing.bearing-index < length c.args.bearings.now = c.loop-bearing-test.true in
-    let made = rw c.loop-bearing.invariant.budget at c.in_ok-made.ensures.answers in
-    record {
-      room = omega (arith, c.in_ok-made.ensures.room, c.loop-bearing.invariant.room);
-      set = c.in_ok-made.ensures.set;
-      grows = grows-grows c.args.sets.now c.loop-bearing.sets _ c.loop-bearing.invariant.grows c.in_ok-made.ensures.grows;
-      budget = c.in_ok-made.ensures.budget ∙ c.loop-bearing.invariant.budget;
-      left = narrow_more (rules_of c.args.p.now) c.args.stage.ply c.args.stage.mask c.args.memo.now.budget (narrow (rules_of c.args.p.now) c.args.stage.ply c.args.stage.mask c.args.bearings.now (as_set c.args.moved, 1)) c.args.bearings.now c.loop-bearing.bearing-index _ less (get_or_default c.args.bearings.now c.loop-bearing.bearing-index _ _ less) (made_of c.loop-bearing.made) c.loop-bearing.invariant.left (made_of c.in_ok-made.made) made;
-    }
 
 pub returns-in_err-made-clause-answers : goal.returns-in_err-made-clause-answers
 returns-in_err-made-clause-answers c =
-    let less : c.loop-bearing.bearing-index < length c.args.bearings.now = c.loop-bearing-test.true in
-    let error = rw c.loop-bearing.invariant.budget at c.in_err-made.ensures.answers in
+    let by : Bearing → Made → Program Made = narrow_by (rules_of c.args.bench.now.position.now) c.args.stage.ply c.args.stage.mask in
     let p = err_from_is_err_and c.from_residual.result c.from_residual.ensures.1 in
-    rw (p.1, p.2)
-    (narrow_error (rules_of c.args.p.now) c.args.stage.ply c.args.stage.mask c.args.memo.now.budget (narrow (rules_of c.args.p.now) c.args.stage.ply c.args.stage.mask c.args.bearings.now (as_set c.args.moved, 1)) c.args.bearings.now c.loop-bearing.bearing-index _ less (get_or_default c.args.bearings.now c.loop-bearing.bearing-index _ _ less) (made_of c.loop-bearing.made) c.loop-bearing.invariant.left c.in_err-made.field-0.0 error)
+    rw (p.1, p.2) (Error-bind (each c.args.bearings.now by (as_set c.args.moved, 1)) (λ made. Give made.0) c.args.work.now.memo.budget c.in_err-made.field-0.0 c.in_err-made.ensures.answers)
 
 pub returns-clause-answers : goal.returns-clause-answers
 returns-clause-answers c =
-    narrow_ends (rules_of c.args.p.now) c.args.stage.ply c.args.stage.mask c.args.memo.now.budget (narrow (rules_of c.args.p.now) c.args.stage.ply c.args.stage.mask c.args.bearings.now (as_set c.args.moved, 1)) c.args.bearings.now c.loop-bearing.bearing-index (made_of c.loop-bearing.made) c.loop-bearing.invariant.left c.loop-bearing-test.false
-
-pub returns-in_err-made-clause-grows : goal.returns-in_err-made-clause-grows
-returns-in_err-made-clause-grows c = grows-grows c.args.sets.now c.loop-bearing.sets c.narrow_by.new.sets c.loop-bearing.invariant.grows c.in_err-made.ensures.grows
+    let by : Bearing → Made → Program Made = narrow_by (rules_of c.args.bench.now.position.now) c.args.stage.ply c.args.stage.mask in
+    let made = made_of c.in_ok-made.made in
+    Ends-bind (each c.args.bearings.now by (as_set c.args.moved, 1)) (λ made. Give made.0) c.args.work.now.memo.budget made made.0 c.in_ok-made.ensures.answers (Ends-give c.args.work.now.memo.budget made.0)

@@ -11,7 +11,7 @@ use Rattle.mate_plan.proofs.StartAnswers.{plain_compilable, point_answers, some_
 use Rattle.mate_plan.proofs.starting.point_set.Goals as goal
 
 pub point_formula-requires : goal.point_formula-requires
-point_formula-requires c = some_live c.args.p.now c.requires.sound
+point_formula-requires c = some_live c.args.bench.now.position.now c.args.bench.now.sound
 
 pub make-requires-clause-compilable : goal.make-requires-clause-compilable
 make-requires-clause-compilable c = plain_compilable (tree_of c.in_ok-formula.formula) c.table.result.now c.in_ok-formula.ensures.modest c.in_ok-formula.ensures.names
@@ -22,11 +22,11 @@ make-requires-clause-few c =
     omega (arith, few)
 
 pub returns-clause-answers : goal.returns-clause-answers
-returns-clause-answers c = point_answers c.args.p.now c.args.mask c.table.result.now (tree_of c.in_ok-formula.formula) c.args.memo.now.budget c.in_ok-formula.ensures.tree made_of c.make.result c.make.ensures.answers
+returns-clause-answers c = point_answers c.args.bench.now.position.now c.args.mask c.table.result.now (tree_of c.in_ok-formula.formula) c.args.memo.now.budget c.in_ok-formula.ensures.tree made_of c.make.result c.make.ensures.answers
 
 pub returns-clause-set : goal.returns-clause-set
 returns-clause-set c =
     let f = tree_of c.in_ok-formula.formula in
-    let means = point_mean c.args.p.now in
+    let means = point_mean c.args.bench.now.position.now in
     IfOk-weaker c.make.result _ _
-    (λ made is. made_on (mask_tracks c.args.p.now (mask_of c.args.p.now)) f (point_step c.args.p.now.men f c.in_ok-formula.ensures.tree) (means.tracks f c.in_ok-formula.ensures.tree) made.set is) c.make.ensures.set
+    (λ made is. made_on (mask_tracks c.args.bench.now.position.now (mask_of c.args.bench.now.position.now)) f (point_step c.args.bench.now.position.now.men f c.in_ok-formula.ensures.tree) (means.tracks f c.in_ok-formula.ensures.tree) made.set is) c.make.ensures.set

@@ -1,0 +1,42 @@
+//! What the sets of a plan are computed for, and with.
+ghost use Rattle.std.specs.Prelude.{◌≡◌, ◌≤◌, [], length};
+ghost use Rattle.game_rules.specs.Game.{Sound};
+ghost use Rattle.rule_formula.specs.Fits.{masks_of};
+
+use chess_game::Position;
+use formula_auto::Memo;
+use set_plan::Sets;
+use std::alloc::Global;
+
+/// A sound position of at most eight men, with its masks.
+#[derive(Clone, Copy)]
+pub struct Bench<'a> {
+    pub alloc: Global,
+    pub position: &'a Position,
+    pub masks: &'a [u8],
+    ghost sound: { Sound position.now },
+    ghost few: { length position.now.men ≤ 8 },
+    ghost masks_are: { masks.now ≡ masks_of position.now },
+}
+
+/// What is kept from one set to the next: compiled formulas, within a budget, and the sets.
+#[derive(Drop)]
+pub struct Work {
+    pub memo: Memo,
+    /// The sets that the names of levels stand for, and those that are made on the way.
+    pub sets: Sets,
+}
+
+impl Work {
+    /// Without sets.
+    pub fn new(alloc: Global, budget: u32) -> Work
+        requires { (1 ≤ budget) × (budget ≤ 200000) }
+        ensures budget { result.memo.budget ≡ budget }
+        ensures sets { result.sets ≡ [] }
+    {
+        Work {
+            memo: Memo::new(alloc, budget),
+            sets: Sets::new(alloc),
+        }
+    }
+}

@@ -1,0 +1,114 @@
+//! Levels that are made mask by mask.
+ghost use Rattle.std.specs.Prelude.{ℕ, ◌≡◌, List, IfOk};
+ghost use Rattle.auto_core.specs.Automaton.{Automaton};
+ghost use Rattle.game_rules.specs.Game.{Position};
+ghost use Rattle.lin_formula.specs.SetOf.{SetOf};
+ghost use Rattle.rule_formula.specs.Fits.{IsGameMask, masks_of};
+ghost use Rattle.rule_formula.specs.Mean.{mask_tracks as tracks_at};
+ghost use Rattle.set_plan.specs.Outcome.{Answers};
+ghost use Rattle.set_plan.specs.Sets.{Grows, IsNameOn, set_at};
+ghost use Rattle.mate_plan.specs.Levels.{AreNamesIn, level_in};
+ghost use Rattle.mate_plan.specs.Plan as plan;
+
+use crate::bench::{Bench, Work};
+use crate::level::LevelNames;
+use crate::names::PartName;
+use lin_formula::SetId;
+use set_plan::{PlanError, Steps, each};
+
+/// What makes the set of one mask of a level after another, from levels that are named.
+pub(crate) trait MaskSets {
+    /// The program of a mask, over the sets of a table.
+    ghost program: { Self → Position → List Automaton → ℕ → plan.Program SetOf };
+
+    /// The levels' names are those of sets of the table.
+    ghost fits: { Self → Position → List Automaton → Type 0 };
+
+    /// The name of the set of a mask.
+    fn name(
+        &self,
+        bench: &Bench,
+        work: &mut Work,
+        mask: u8,
+    ) -> Result<Option<SetId>, PlanError<PartName>>
+        requires mask { IsGameMask bench.now.position.now mask }
+        requires fits { fits self.now bench.now.position.now work.old.sets }
+        ensures answers { Answers (program self.now bench.now.position.now work.old.sets mask)
+            work.old.memo.budget (λ name. set_at work.new.sets name) result }
+        ensures name { IfOk result (IsNameOn (tracks_at bench.now.position.now mask) work.new.sets) }
+        ensures grows { Grows work.old.sets work.new.sets }
+        ensures budget { work.new.memo.budget ≡ work.old.memo.budget }
+        ensures fits { fits self.now bench.now.position.now work.new.sets }
+        ensures same { program self.now bench.now.position.now work.new.sets
+            ≡ program self.now bench.now.position.now work.old.sets };
+}
+
+/// A level, mask by mask.
+#[derive(Drop)]
+struct ByMask<'a, M> {
+    bench: &'a Bench<'a>,
+    making: &'a M,
+}
+
+impl<M: MaskSets> Steps for ByMask<'_, M> {
+    ghost use Rattle.std.specs.Prelude.{◌≡◌};
+    ghost use Rattle.set_plan.specs.Sets.{Grows};
+    ghost use Rattle.mate_plan.specs.Levels.{AreNamesSoFar, level_in};
+    ghost use Rattle.mate_plan.specs.Plan as plan;
+
+    type Work = Work;
+
+    type Item = u8;
+
+    type Value = LevelNames;
+
+    type Part = PartName;
+
+    ghost Seen = { plan.Level };
+
+    ghost view = { λ it work names. level_in it.bench.now.position.now work.sets names };
+
+    ghost program = { λ it work mask. plan.with_mask (M.program it.making.now it.bench.now.position.now work.sets) mask };
+
+    ghost budget = { λ _ work. work.memo.budget };
+
+    ghost fits = { λ it work names masks. AreNamesSoFar it.bench.now.position.now work.sets names masks
+        × M.fits it.making.now it.bench.now.position.now work.sets };
+
+    ghost keeps = { λ _ u v. Grows u.sets v.sets };
+
+    ghost keeps_self = { λ _ _ _ _ e. e };
+
+    ghost keeps_on = { λ _ _ _ _ first second k a e. second k a (first k a e) };
+
+    fn step(
+        &self,
+        work: &mut Work,
+        mask: &u8,
+        so_far: LevelNames,
+    ) -> Result<LevelNames, PlanError<PartName>> {
+        let name = self.making.name(self.bench, work, *mask)?;
+        let mut names = so_far;
+        names.push(name)?;
+        Ok(names)
+    }
+}
+
+/// A level, mask by mask.
+pub(crate) fn level_by<M: MaskSets>(
+    bench: &Bench,
+    work: &mut Work,
+    making: &M,
+) -> Result<LevelNames, PlanError<PartName>>
+    requires fits { M.fits making.now bench.now.position.now work.old.sets }
+    ensures answers { Answers
+        (plan.for_masks (masks_of bench.now.position.now)
+        (M.program making.now bench.now.position.now work.old.sets) plan.no_sets)
+        work.old.memo.budget (level_in bench.now.position.now work.new.sets) result }
+    ensures names { IfOk result (AreNamesIn bench.now.position.now work.new.sets) }
+    ensures grows { Grows work.old.sets work.new.sets }
+    ensures budget { work.new.memo.budget ≡ work.old.memo.budget }
+{
+    let steps = ByMask { bench, making };
+    each(&steps, work, bench.masks, LevelNames::new(bench.alloc))
+}

@@ -1,0 +1,75 @@
+//! One program after another, for each item of a list.
+ghost use Rattle.std.specs.Prelude.{◌≡◌, [], ◌∷◌, List, ℕ, IfOk};
+ghost use Rattle.set_plan.specs.Outcome.{Answers};
+ghost use Rattle.set_plan.specs.Program.{Program, each as each_of};
+
+use crate::stop::PlanError;
+
+/// What is done for each item of a list in turn, by programs that go on from the value so far.
+pub trait Steps {
+    /// What is changed on the way, as the sets that are kept.
+    type Work;
+    type Item;
+    type Value;
+    /// The names of parts.
+    type Part: Copy;
+
+    /// What programs see of a value.
+    ghost Seen: { Type 0 };
+
+    ghost view: { Self → Self.Work → Self.Value → Seen };
+
+    /// The program of an item.
+    ghost program: { Self → Self.Work → Self.Item → Seen → Program Self.Part Seen };
+
+    ghost budget: { Self → Self.Work → ℕ };
+
+    /// With this value so far, these are the items to come.
+    ghost fits: { Self → Self.Work → Self.Value → List Self.Item → Type 0 };
+
+    /// What stays, from one state of the work to a later one.
+    ghost keeps: { Self → Self.Work → Self.Work → Type 0 };
+
+    /// The value with one more item.
+    fn step(
+        &self,
+        work: &mut Self::Work,
+        item: &Self::Item,
+        so_far: Self::Value,
+    ) -> Result<Self::Value, PlanError<Self::Part>>
+        requires fits { (rest : List Self.Item) × fits self.now work.old so_far (item.now ∷ rest) }
+        ensures answers { Answers
+            (program self.now work.old item.now (view self.now work.old so_far))
+            (budget self.now work.old) (view self.now work.new) result }
+        ensures fits { IfOk result (λ value. (rest : List Self.Item)
+            → fits self.now work.old so_far (item.now ∷ rest) → fits self.now work.new value rest) }
+        ensures program { program self.now work.new ≡ program self.now work.old }
+        ensures budget { budget self.now work.new ≡ budget self.now work.old }
+        ensures keeps { keeps self.now work.old work.new };
+
+    ghost keeps_self: { (s : Self) (w : Self.Work) → keeps s w w };
+
+    ghost keeps_on: { (s : Self) (u v w : Self.Work) → keeps s u v → keeps s v w → keeps s u w };
+}
+
+/// The value after all items, one after the other.
+pub fn each<S: Steps>(
+    steps: &S,
+    work: &mut S::Work,
+    items: &[S::Item],
+    first: S::Value,
+) -> Result<S::Value, PlanError<S::Part>>
+    requires fits { S.fits steps.now work.old first items.now }
+    ensures answers { Answers
+        (each_of items.now (S.program steps.now work.old) (S.view steps.now work.old first))
+        (S.budget steps.now work.old) (S.view steps.now work.new) result }
+    ensures fits { IfOk result (λ value. S.fits steps.now work.new value []) }
+    ensures budget { S.budget steps.now work.new ≡ S.budget steps.now work.old }
+    ensures keeps { S.keeps steps.now work.old work.new }
+{
+    let mut value = first;
+    for item in items {
+        value = steps.step(work, item, value)?;
+    }
+    Ok(value)
+}
