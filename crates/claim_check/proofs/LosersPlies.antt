@@ -1,7 +1,7 @@
 -- The plies of the loser, and what is claimed at them.
 use Rattle.std.proofs.Common.{◌≡◌, ℕ, zero, suc, ◌+◌, ◌*◌, ◌-◌, ◌<◌, ◌≤◌, List, [], ◌∷◌, ◌++◌, Option, Some, None, refl, sym, ap, ◌∙◌, subst, append_assoc, arith}
 use Rattle.std.specs.Prelude.{All, Contains, IsSome}
-use Rattle.std.specs.List.{ByRecursion}
+use Rattle.std.specs.List.{AllByRecursion}
 use Rattle.std.proofs.lemmas.List.{append-nil}
 use Rattle.std.proofs.lemmas.List.Elements.{All-contains_itself, All-from_recursion, All-weaker}
 use Rattle.auto_core.specs.Automaton.{Automaton}
@@ -12,7 +12,7 @@ use Rattle.mate_plan.specs.Claim.{Claim, IsClaim, claimed_at, every_second, lose
 use Rattle.claim_check.specs.Ready.{AreThere}
 use Rattle.strategy_file.proofs.LosersPlies.{losers_plies-are}
 
-low_from : (first count : ℕ) → first + 2 * count ≤ 43 → ByRecursion (λ ply. ply ≤ 41) (every_second first count)
+low_from : (first count : ℕ) → first + 2 * count ≤ 43 → AllByRecursion (λ ply. ply ≤ 41) (every_second first count)
 low_from first zero less = tt
 low_from first (suc count) less = (omega (arith, less), low_from (first + 2) count (omega (arith, less)))
 

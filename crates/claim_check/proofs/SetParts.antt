@@ -1,5 +1,6 @@
 -- The rules of one claimed set, one after another.
 use Rattle.std.proofs.Common.{◌≡◌, ℕ, Bool, true, false, Option, Some, None, Result, Ok, refl, sym, subst}
+use Rattle.std.specs.Option.{is_some}
 use Rattle.std.specs.Prelude.{IsTrue}
 use Rattle.auto_core.specs.Automaton.{Automaton}
 use Rattle.auto_core.specs.Integers.{DecidesIntegers}
@@ -22,6 +23,10 @@ use Rattle.claim_check.proofs.FindLemmas.{asked_ends}
 
 abbrev found : Finding → Result Finding (PlanError PartName)
 found f = Ok f
+
+pub none_told : (f : Finding) → is_some f ≡ false → found f ≡ found None
+none_told None none = refl
+none_told (Some f) none = absurd (cc)
 
 -- what is known where a rule is kept
 pub kept_tells : (f : RuleAt) (b : Bool) (P : Type 0) → (IsTrue b → P) → found (judged f b) ≡ found None → P

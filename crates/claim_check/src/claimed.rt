@@ -3,6 +3,7 @@ ghost use Rattle.std.specs.Prelude.{◌≡◌, IfOk, option_copied};
 ghost use Rattle.lin_formula.specs.SetOf.{Table, as_set};
 ghost use Rattle.rule_formula.specs.Fits.{IsGameMask, masks_of};
 ghost use Rattle.rule_formula.specs.Mean.{mask_tracks as tracks_at};
+ghost use Rattle.set_plan.specs.Program.{Give};
 ghost use Rattle.set_plan.specs.Sets.{Grows, IsNameOn, IsSetOn, set_at};
 ghost use Rattle.mate_plan.specs.Claim.{claimed_at, claimed_level as level_at};
 ghost use Rattle.mate_plan.specs.Levels.{AreNamesIn, level_in};
@@ -10,7 +11,8 @@ ghost use Rattle.claim_check.specs.Ready.{AreSigned, IsReady, claim_in};
 
 use auto_core::Auto;
 use lin_formula::SetId;
-use mate_plan::{Bench, LevelNames, Work, one_level};
+use mate_plan::{Bench, LevelNames, MaskSets, PartName, Work, level_by, one_level};
+use set_plan::PlanError;
 use std::alloc::AllocError;
 use winning_sets::{ClaimedSets, set_at};
 
@@ -26,13 +28,15 @@ pub(crate) fn claimed_set(claimed: &ClaimedSets, ply: u8, mask: u8) -> Option<&A
 pub(crate) fn lone_level(
     bench: &Bench,
     work: &mut Work,
+    claimed: &ClaimedSets,
     mask: u8,
     set: &Auto,
 ) -> Result<LevelNames, AllocError>
-    requires mask { IsGameMask bench.now.position.now mask }
-    requires set { IsSetOn (tracks_at bench.now.position.now mask) set.now }
-    ensures names { IfOk result (AreNamesIn bench.now.position.now work.new.sets) }
-    ensures set { IfOk result (λ level. level_in bench.now.position.now work.new.sets level mask ≡ Table set.now) }
+    requires of { bench.now.position.now ≡ claimed.now.position }
+    requires mask { IsGameMask claimed.now.position mask }
+    requires set { IsSetOn (tracks_at claimed.now.position mask) set.now }
+    ensures names { IfOk result (AreNamesIn claimed.now.position work.new.sets) }
+    ensures set { IfOk result (λ level. level_in claimed.now.position work.new.sets level mask ≡ Table set.now) }
     ensures grows { Grows work.old.sets work.new.sets }
     ensures budget { work.new.memo.budget ≡ work.old.memo.budget }
 {
@@ -61,6 +65,29 @@ fn claimed_name(
     }
 }
 
+/// What is claimed at a ply, mask by mask.
+#[derive(Clone, Copy)]
+struct ClaimedPly<'a> {
+    claimed: &'a ClaimedSets,
+    ply: u8,
+}
+
+impl MaskSets for ClaimedPly<'_> {
+    ghost program = { λ it _ _ mask. Give (level_at (claim_in it.claimed.now) it.ply mask) };
+
+    ghost fits = { λ it p _. IsReady it.claimed.now
+        × AreSigned (claim_in it.claimed.now) × (p ≡ it.claimed.now.position) };
+
+    fn name(
+        &self,
+        _bench: &Bench,
+        work: &mut Work,
+        mask: u8,
+    ) -> Result<Option<SetId>, PlanError<PartName>> {
+        Ok(claimed_name(work, self.claimed, self.ply, mask)?)
+    }
+}
+
 /// What is claimed at a ply, for each mask. Past the last ply nothing is.
 pub(crate) fn claimed_level(
     bench: &Bench,
@@ -68,6 +95,7 @@ pub(crate) fn claimed_level(
     claimed: &ClaimedSets,
     ply: u8,
 ) -> Result<LevelNames, AllocError>
+    requires of { bench.now.position.now ≡ claimed.now.position }
     requires ready { IsReady claimed.now }
     requires signed { AreSigned (claim_in claimed.now) }
     ensures level { IfOk result (λ level.
@@ -76,10 +104,9 @@ pub(crate) fn claimed_level(
     ensures grows { Grows work.old.sets work.new.sets }
     ensures budget { work.new.memo.budget ≡ work.old.memo.budget }
 {
-    let mut level = LevelNames::new(bench.alloc);
-    let masks = claimed.masks.as_slice();
-    for mask in masks {
-        level.push(claimed_name(work, claimed, ply, *mask)?)?;
+    match level_by(bench, work, &ClaimedPly { claimed, ply }) {
+        Ok(level) => Ok(level),
+        Err(PlanError::Over(_)) => unreachable!(),
+        Err(PlanError::Memory) => Err(AllocError),
     }
-    Ok(level)
 }

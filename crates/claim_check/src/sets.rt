@@ -33,13 +33,19 @@ fn check_sign(alloc: Global, ply: u8, mask: u8, set: &Auto) -> Found
 }
 
 /// Whether the live men stand apart in the set of the stage.
-fn check_same(bench: &Bench, work: &mut Work, at: &StageLevel) -> Found
-    requires mask { IsGameMask bench.now.position.now at.now.stage.mask }
-    requires level { AreNamesIn bench.now.position.now work.old.sets at.now.level.now }
+fn check_same(
+    bench: &Bench,
+    work: &mut Work,
+    claimed: &ClaimedSets,
+    at: &StageLevel,
+) -> Found
+    requires of { bench.now.position.now ≡ claimed.now.position }
+    requires mask { IsGameMask claimed.now.position at.now.stage.mask }
+    requires level { AreNamesIn claimed.now.position work.old.sets at.now.level.now }
     ensures finds { Finds
         (plan.holds_by (plan.rule_at at.now.stage.ply at.now.stage.mask Rule.Same)
-        (questions.are_apart bench.now.position.now at.now.stage.ply at.now.stage.mask
-        (level_in bench.now.position.now work.old.sets at.now.level.now at.now.stage.mask)))
+        (questions.are_apart claimed.now.position at.now.stage.ply at.now.stage.mask
+        (level_in claimed.now.position work.old.sets at.now.level.now at.now.stage.mask)))
         work.old.memo.budget result }
     ensures sets { work.new.sets ≡ work.old.sets }
     ensures budget { work.new.memo.budget ≡ work.old.memo.budget }
@@ -49,12 +55,18 @@ fn check_same(bench: &Bench, work: &mut Work, at: &StageLevel) -> Found
 }
 
 /// Whether no man of the side of the stage bears on the other king in its set.
-fn check_guard(bench: &Bench, work: &mut Work, at: &StageLevel) -> Found
-    requires mask { IsGameMask bench.now.position.now at.now.stage.mask }
-    requires level { AreNamesIn bench.now.position.now work.old.sets at.now.level.now }
+fn check_guard(
+    bench: &Bench,
+    work: &mut Work,
+    claimed: &ClaimedSets,
+    at: &StageLevel,
+) -> Found
+    requires of { bench.now.position.now ≡ claimed.now.position }
+    requires mask { IsGameMask claimed.now.position at.now.stage.mask }
+    requires level { AreNamesIn claimed.now.position work.old.sets at.now.level.now }
     ensures finds { Finds
-        (plan.check_guard (rules_of bench.now.position.now) at.now.stage.side at.now.stage.ply at.now.stage.mask
-        (level_in bench.now.position.now work.old.sets at.now.level.now at.now.stage.mask))
+        (plan.check_guard (rules_of claimed.now.position) at.now.stage.side at.now.stage.ply at.now.stage.mask
+        (level_in claimed.now.position work.old.sets at.now.level.now at.now.stage.mask))
         work.old.memo.budget result }
     ensures sets { work.new.sets ≡ work.old.sets }
     ensures budget { work.new.memo.budget ≡ work.old.memo.budget }
@@ -87,7 +99,7 @@ fn check_set(
         return Ok(sign);
     }
     let count = work.sets.count();
-    let level = lone_level(bench, work, mask, set)?;
+    let level = lone_level(bench, work, claimed, mask, set)?;
     let stage = Stage {
         side: claimed.winner.other(),
         ply,
@@ -97,11 +109,11 @@ fn check_set(
         stage,
         level: &level,
     };
-    let same = check_same(bench, work, &at)?;
+    let same = check_same(bench, work, claimed, &at)?;
     if same.is_some() {
         return Ok(same);
     }
-    let guard = check_guard(bench, work, &at)?;
+    let guard = check_guard(bench, work, claimed, &at)?;
     work.sets.truncate(count);
     Ok(guard)
 }

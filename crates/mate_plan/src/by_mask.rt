@@ -17,7 +17,7 @@ use lin_formula::SetId;
 use set_plan::{PlanError, Steps, each};
 
 /// What makes the set of one mask of a level after another, from levels that are named.
-pub(crate) trait MaskSets {
+pub trait MaskSets {
     /// The program of a mask, over the sets of a table.
     ghost program: { Self → Position → List Automaton → ℕ → plan.Program SetOf };
 
@@ -95,7 +95,7 @@ impl<M: MaskSets> Steps for ByMask<'_, M> {
 }
 
 /// A level, mask by mask.
-pub(crate) fn level_by<M: MaskSets>(
+pub fn level_by<M: MaskSets>(
     bench: &Bench,
     work: &mut Work,
     making: &M,

@@ -26,6 +26,7 @@ mod winning;
 pub use answering::{are_answered, have_replies};
 pub use apart::{are_apart, are_safe};
 pub use bench::{Bench, Work};
+pub use by_mask::{MaskSets, level_by};
 pub use first::has_first_move;
 pub use level::LevelNames;
 pub use losing::{Losing, lost_level};

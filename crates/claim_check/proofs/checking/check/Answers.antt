@@ -1,4 +1,4 @@
-use Rattle.std.proofs.Common.{ℕ, None, Some, sym, subst}
+use Rattle.std.proofs.Common.{ℕ, None, Some, sym, ◌∙◌, subst}
 use Rattle.set_plan.specs.Outcome.{Ends, IsPlanError}
 use Rattle.claim_plan.specs.CheckPlan.{check_plan}
 use Rattle.strategy_file.specs.Claims.{claim_of}
@@ -6,6 +6,11 @@ use Rattle.claim_check.specs.Ready.{claim_in}
 use Rattle.claim_check.proofs.CheckEnds.{error_alike, found_alike}
 use Rattle.claim_check.proofs.WonSets.{won_sets}
 use Rattle.claim_check.proofs.checking.check.Goals as goal
+
+pub invariant_of-bench : goal.invariant_of-bench
+invariant_of-bench c =
+    let ready = c.in_ok-claimed.ensures.ready in
+    record { sound = ready.claim.sound; few = ready.claim.few; masks_are = c.as_slice.ensures ∙ ready.masks }
 
 pub from_sets-requires-clause-valid : goal.from_sets-requires-clause-valid
 from_sets-requires-clause-valid c =

@@ -20,6 +20,7 @@ each-requires c =
     let s = c.args.claimed.now in
     let r = c.in_ok-replies.replies in (
       c.requires.ready,
+      c.requires.of,
       at_own_ply s c.args.ply c.replies_at.new.work.sets r c.in_ok-replies.ensures.replies,
       each_mask s.position (IsGameMask s.position) c.as_slice-masks.result.now (c.as_slice-masks.ensures ∙ c.requires.ready.masks) (λ mask game. game),
     )
@@ -29,6 +30,7 @@ each-requires-2 c =
     let s = c.args.claimed.now in
     let r = c.in_ok-replies.replies in (
       c.requires.ready,
+      c.requires.of,
       replies_grow s r.ply c.replies_at.new.work.sets c.each.new.work.sets r c.in_ok-left.ensures.keeps (at_own_ply s c.args.ply c.replies_at.new.work.sets r c.in_ok-replies.ensures.replies),
       each_mask s.position (IsGameMask s.position) c.as_slice-masks.result.now (c.as_slice-masks.ensures ∙ c.requires.ready.masks) (λ mask game. game),
     )
