@@ -1,5 +1,6 @@
 //! Whether each position of a set has a move into a level: replies have answers, and quiet positions have replies.
 ghost use Rattle.std.specs.Prelude.{◌≡◌, Bool, IfOk};
+ghost use Rattle.game_rules.specs.Game.{Sound};
 ghost use Rattle.rule_formula.specs.Fits.{IsGameMask};
 ghost use Rattle.rule_formula.specs.Mean.{mask_tracks as tracks_at};
 ghost use Rattle.set_plan.specs.Outcome.{Answers};
@@ -27,6 +28,7 @@ fn have_moves(
     moves: &PartMoves,
     missing: Part,
 ) -> Result<bool, PlanError<PartName>>
+    requires sound { Sound bench.now.position.now }
     requires source { IsNameOn (tracks_at bench.now.position.now moves.now.set.stage.mask) sets.now moves.now.set.name }
     requires into { AreNamesIn bench.now.position.now sets.now moves.now.into.now }
     ensures answers { Answers
@@ -55,6 +57,7 @@ fn quiet_name(
     work: &mut Work,
     set: StageSet,
 ) -> Result<Option<SetId>, PlanError<PartName>>
+    requires sound { Sound bench.now.position.now }
     requires mask { IsGameMask bench.now.position.now set.stage.mask }
     requires source { IsNameOn (tracks_at bench.now.position.now set.stage.mask) work.old.sets set.name }
     ensures answers { Answers
@@ -81,6 +84,7 @@ pub fn are_answered(
     work: &mut Work,
     moves: &MovesInto,
 ) -> Result<bool, PlanError<PartName>>
+    requires sound { Sound bench.now.position.now }
     requires from { AreNamesIn bench.now.position.now work.old.sets moves.now.from.now }
     requires into { AreNamesIn bench.now.position.now work.old.sets moves.now.into.now }
     ensures answers { Answers
@@ -108,6 +112,7 @@ pub fn have_replies(
     work: &mut Work,
     moves: &MovesInto,
 ) -> Result<bool, PlanError<PartName>>
+    requires sound { Sound bench.now.position.now }
     requires mask { IsGameMask bench.now.position.now moves.now.stage.mask }
     requires from { AreNamesIn bench.now.position.now work.old.sets moves.now.from.now }
     requires into { AreNamesIn bench.now.position.now work.old.sets moves.now.into.now }

@@ -1,5 +1,6 @@
 //! Whether a set has only positions whose men stand on distinct squares, and only positions in which a king is safe.
 ghost use Rattle.std.specs.Prelude.{◌≡◌, All, Bool, IfOk, map};
+ghost use Rattle.game_rules.specs.Game.{Sound};
 ghost use Rattle.lin_formula.specs.TreeOf.{tree_of};
 ghost use Rattle.rule_formula.specs.Fits.{IsGameMask};
 ghost use Rattle.rule_formula.specs.Pairs.{IsPairOf};
@@ -51,6 +52,7 @@ pub fn are_apart(
     work: &mut Work,
     at: &StageLevel,
 ) -> Result<bool, PlanError<PartName>>
+    requires sound { Sound bench.now.position.now }
     requires mask { IsGameMask bench.now.position.now at.now.stage.mask }
     requires level { AreNamesIn bench.now.position.now work.old.sets at.now.level.now }
     ensures answers { Answers
@@ -78,6 +80,7 @@ pub fn are_safe(
     work: &mut Work,
     at: &StageLevel,
 ) -> Result<bool, PlanError<PartName>>
+    requires sound { Sound bench.now.position.now }
     requires mask { IsGameMask bench.now.position.now at.now.stage.mask }
     requires level { AreNamesIn bench.now.position.now work.old.sets at.now.level.now }
     ensures answers { Answers

@@ -1,6 +1,5 @@
 //! What the sets of a plan are computed for, and with.
 ghost use Rattle.std.specs.Prelude.{◌≡◌, ◌≤◌, [], length};
-ghost use Rattle.game_rules.specs.Game.{Sound};
 ghost use Rattle.rule_formula.specs.Fits.{masks_of};
 
 use chess_game::Position;
@@ -8,13 +7,12 @@ use formula_auto::Memo;
 use set_plan::Sets;
 use std::alloc::Global;
 
-/// A sound position of at most eight men, with its masks.
+/// A position of at most eight men, with its masks.
 #[derive(Clone, Copy)]
 pub struct Bench<'a> {
     pub alloc: Global,
     pub position: &'a Position,
     pub masks: &'a [u8],
-    ghost sound: { Sound position.now },
     ghost few: { length position.now.men ≤ 8 },
     ghost masks_are: { masks.now ≡ masks_of position.now },
 }

@@ -1,7 +1,7 @@
 //! Levels that are made mask by mask.
 ghost use Rattle.std.specs.Prelude.{ℕ, ◌≡◌, List, IfOk};
 ghost use Rattle.auto_core.specs.Automaton.{Automaton};
-ghost use Rattle.game_rules.specs.Game.{Position};
+ghost use Rattle.game_rules.specs.Game.{Sound, Position};
 ghost use Rattle.lin_formula.specs.SetOf.{SetOf};
 ghost use Rattle.rule_formula.specs.Fits.{IsGameMask, masks_of};
 ghost use Rattle.rule_formula.specs.Mean.{mask_tracks as tracks_at};
@@ -31,6 +31,7 @@ pub trait MaskSets {
         work: &mut Work,
         mask: u8,
     ) -> Result<Option<SetId>, PlanError<PartName>>
+        requires sound { Sound bench.now.position.now }
         requires mask { IsGameMask bench.now.position.now mask }
         requires fits { fits self.now bench.now.position.now work.old.sets }
         ensures answers { Answers (program self.now bench.now.position.now work.old.sets mask)
@@ -52,6 +53,7 @@ struct ByMask<'a, M> {
 
 impl<M: MaskSets> Steps for ByMask<'_, M> {
     ghost use Rattle.std.specs.Prelude.{◌≡◌};
+    ghost use Rattle.game_rules.specs.Game.{Sound};
     ghost use Rattle.set_plan.specs.Sets.{Grows};
     ghost use Rattle.mate_plan.specs.Levels.{AreNamesSoFar, level_in};
     ghost use Rattle.mate_plan.specs.Plan as plan;
@@ -73,7 +75,7 @@ impl<M: MaskSets> Steps for ByMask<'_, M> {
     ghost budget = { λ _ work. work.memo.budget };
 
     ghost fits = { λ it work names masks. AreNamesSoFar it.bench.now.position.now work.sets names masks
-        × M.fits it.making.now it.bench.now.position.now work.sets };
+        × M.fits it.making.now it.bench.now.position.now work.sets × Sound it.bench.now.position.now };
 
     ghost keeps = { λ _ u v. Grows u.sets v.sets };
 
@@ -100,6 +102,7 @@ pub fn level_by<M: MaskSets>(
     work: &mut Work,
     making: &M,
 ) -> Result<LevelNames, PlanError<PartName>>
+    requires sound { Sound bench.now.position.now }
     requires fits { M.fits making.now bench.now.position.now work.old.sets }
     ensures answers { Answers
         (plan.for_masks (masks_of bench.now.position.now)

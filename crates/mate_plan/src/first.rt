@@ -45,6 +45,7 @@ fn first_set(
     start: &LevelNames,
     into: &LevelNames,
 ) -> Result<Option<Auto>, PlanError<PartName>>
+    requires sound { Sound bench.now.position.now }
     requires start { AreNamesIn bench.now.position.now sets.now start.now }
     requires into { AreNamesIn bench.now.position.now sets.now into.now }
     ensures answers { Answers
@@ -77,6 +78,7 @@ pub fn has_first_move(
     work: &mut Work,
     into: &LevelNames,
 ) -> Result<bool, PlanError<PartName>>
+    requires sound { Sound bench.now.position.now }
     requires into { AreNamesIn bench.now.position.now work.old.sets into.now }
     ensures answers { Answers
         (questions.has_first_move (rules_of bench.now.position.now) bench.now.position.now.turn

@@ -1,5 +1,6 @@
 //! The formulas of the unions of a plan.
 ghost use Rattle.std.specs.Prelude.{◌≡◌, ◌∷◌, ◌++◌, ◌==◌, [], if◌then◌else◌, ℕ, All, IfOk, OnOk, map, Contains, Some, filter, length, ◌≤◌};
+ghost use Rattle.game_rules.specs.Game.{Sound};
 ghost use Rattle.std.specs.List.{flat_map};
 ghost use Rattle.lin_formula.specs.TreeOf.{tree_of};
 ghost use Rattle.rule_formula.specs.Fits.{IsGameMask, masks_of, target_of};
@@ -24,6 +25,7 @@ fn push_image(
     to: u8,
     option: Opt,
 ) -> Result<(), AllocError>
+    requires sound { Sound bench.now.position.now }
     requires option { IsOptionOf bench.now.position.now.men from.mask option }
     ensures { OnOk result (map tree_of formulas.new.items ≡ map tree_of formulas.old.items
         ++ (if target_of from.mask option == to
@@ -44,6 +46,7 @@ fn push_images(
     to: u8,
     options: &[Opt],
 ) -> Result<(), AllocError>
+    requires sound { Sound bench.now.position.now }
     requires options { All (IsOptionOf bench.now.position.now.men from.mask) options.now }
     ensures { OnOk result (map tree_of formulas.new.items ≡ map tree_of formulas.old.items
         ++ map (λ o. image_of bench.now.position.now.men from.mask o from.set.0)
@@ -63,6 +66,7 @@ fn push_mask(
     mask: u8,
     source: Option<SetId>,
 ) -> Result<(), AllocError>
+    requires sound { Sound bench.now.position.now }
     ensures { OnOk result (map tree_of formulas.new.items ≡ map tree_of formulas.old.items
         ++ trees.images_from bench.now.position.now stage.side stage.mask mask source) }
 {
@@ -80,6 +84,7 @@ pub(crate) fn image_formulas(
     stage: Stage,
     level: &LevelNames,
 ) -> Result<Vec<Formula>, AllocError>
+    requires sound { Sound bench.now.position.now }
     ensures { IfOk result (λ formulas. map tree_of formulas.items
         ≡ trees.image_trees bench.now.position.now stage.side stage.mask level.now) }
 {
@@ -124,6 +129,7 @@ fn pre_options(
     targets: &LevelNames,
     options: &[Opt],
 ) -> Result<Vec<Formula>, AllocError>
+    requires sound { Sound bench.now.position.now }
     requires options { All (IsOptionOf bench.now.position.now.men from.mask) options.now }
     ensures { IfOk result (λ formulas. map tree_of formulas.items
         ≡ flat_map (λ o. pre_to bench.now.position.now from.mask from.set o
@@ -143,6 +149,7 @@ pub(crate) fn pre_formulas(
     source: StageSet,
     targets: &LevelNames,
 ) -> Result<Vec<Formula>, AllocError>
+    requires sound { Sound bench.now.position.now }
     ensures { IfOk result (λ formulas. map tree_of formulas.items
         ≡ trees.pre_trees bench.now.position.now source.stage.side source.stage.mask source.name targets.now) }
 {
@@ -176,6 +183,7 @@ pub(crate) fn bear_formulas(
     mask: u8,
     source: Option<SetId>,
 ) -> Result<Vec<Formula>, AllocError>
+    requires sound { Sound bench.now.position.now }
     requires mask { IsGameMask bench.now.position.now mask }
     ensures { IfOk result (λ formulas. map tree_of formulas.items
         ≡ trees.bear_trees bench.now.position.now side mask source) }

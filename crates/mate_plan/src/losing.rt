@@ -1,5 +1,6 @@
 //! What is kept at a ply of the loser.
 ghost use Rattle.std.specs.Prelude.{◌≡◌, ◌<◌, IfOk, IfSome};
+ghost use Rattle.game_rules.specs.Game.{Sound};
 ghost use Rattle.lin_formula.specs.SetOf.{as_set};
 ghost use Rattle.rule_formula.specs.Fits.{IsGameMask};
 ghost use Rattle.rule_formula.specs.Mean.{mask_tracks as tracks_at};
@@ -88,6 +89,7 @@ fn calm_name(
     reach: StageSet,
     rests: &LevelNames,
 ) -> Result<Option<SetId>, PlanError<PartName>>
+    requires sound { Sound bench.now.position.now }
     requires mask { IsGameMask bench.now.position.now reach.stage.mask }
     requires reach { IsNameOn (tracks_at bench.now.position.now reach.stage.mask) work.old.sets reach.name }
     requires rests { AreNamesIn bench.now.position.now work.old.sets rests.now }
@@ -126,6 +128,7 @@ fn reply_set(
     check: Option<&Auto>,
     next_reach: &LevelNames,
 ) -> Result<Option<Auto>, PlanError<PartName>>
+    requires sound { Sound bench.now.position.now }
     requires mask { IsGameMask bench.now.position.now calm.stage.mask }
     requires calm { IsNameOn (tracks_at bench.now.position.now calm.stage.mask) work.old.sets calm.name }
     requires check { IfSome check (λ a. IsSetOn (tracks_at bench.now.position.now calm.stage.mask) a.now) }
@@ -166,6 +169,7 @@ fn lost_set(
     next_reach: &LevelNames,
     rests: &LevelNames,
 ) -> Result<Option<Auto>, PlanError<PartName>>
+    requires sound { Sound bench.now.position.now }
     requires mask { IsGameMask bench.now.position.now reach.stage.mask }
     requires reach { IsNameOn (tracks_at bench.now.position.now reach.stage.mask) work.old.sets reach.name }
     requires next_reach { AreNamesIn bench.now.position.now work.old.sets next_reach.now }
@@ -212,6 +216,7 @@ fn lost_name(
     from: &Lost,
     mask: u8,
 ) -> Result<Option<SetId>, PlanError<PartName>>
+    requires sound { Sound bench.now.position.now }
     requires mask { IsGameMask bench.now.position.now mask }
     requires reach { AreNamesIn bench.now.position.now work.old.sets from.now.reach.now }
     requires next_reach { AreNamesIn bench.now.position.now work.old.sets from.now.next_reach.now }
@@ -280,6 +285,7 @@ pub fn lost_level(
     work: &mut Work,
     from: &Losing,
 ) -> Result<LevelNames, PlanError<PartName>>
+    requires sound { Sound bench.now.position.now }
     requires ply { from.now.ply < 255 }
     requires reach { AreNamesIn bench.now.position.now work.old.sets from.now.reach.now }
     requires next_reach { AreNamesIn bench.now.position.now work.old.sets from.now.next_reach.now }

@@ -1,5 +1,6 @@
 //! A set made narrower to the positions in which a king is not attacked.
 ghost use Rattle.std.specs.Prelude.{◌≡◌, ◌<◌, ◌≤◌, ◌+◌, ◌^◌, All, IfOk, IfSome, length};
+ghost use Rattle.game_rules.specs.Game.{Sound};
 ghost use Rattle.lin_formula.specs.SetOf.{as_set};
 ghost use Rattle.rule_formula.specs.Mean.{mask_tracks as tracks_at};
 ghost use Rattle.rule_formula.specs.Meaning.{IsBearer};
@@ -23,6 +24,7 @@ struct Narrowing<'a> {
 }
 
 impl Steps for Narrowing<'_> {
+    ghost use Rattle.game_rules.specs.Game.{Sound};
     ghost use Rattle.std.specs.Prelude.{◌<◌, ◌+◌, ◌*◌, ◌^◌, All, IfSome, length};
     ghost use Rattle.rule_formula.specs.Mean.{mask_tracks as tracks_at};
     ghost use Rattle.rule_formula.specs.Meaning.{IsBearer};
@@ -47,8 +49,8 @@ impl Steps for Narrowing<'_> {
 
     ghost budget = { λ _ work. work.memo.budget };
 
-    ghost fits = { λ it _ so_far bearings.
-        All (λ b. IsBearer it.bench.now.position.now.men it.stage.mask b.man b.ray b.king) bearings
+    ghost fits = { λ it _ so_far bearings. Sound it.bench.now.position.now
+        × All (λ b. IsBearer it.bench.now.position.now.men it.stage.mask b.man b.ray b.king) bearings
         × IfSome so_far.set (IsSetOn (tracks_at it.bench.now.position.now it.stage.mask))
         × (so_far.at + length bearings * 1000 < 2 ^ 31) };
 
@@ -93,6 +95,7 @@ pub(crate) fn narrow(
     bearings: &[Bearing],
     moved: Option<Auto>,
 ) -> Result<Option<Auto>, PlanError<PartName>>
+    requires sound { Sound bench.now.position.now }
     requires bearings { All (λ b. IsBearer bench.now.position.now.men stage.mask b.man b.ray b.king) bearings.now }
     requires few { length bearings.now ≤ 1000 }
     requires set { IfSome moved (IsSetOn (tracks_at bench.now.position.now stage.mask)) }

@@ -1,5 +1,6 @@
 //! What is reached at a ply.
 ghost use Rattle.std.specs.Prelude.{◌≡◌, IfOk, IfSome};
+ghost use Rattle.game_rules.specs.Game.{Sound};
 ghost use Rattle.lin_formula.specs.SetOf.{as_set};
 ghost use Rattle.rule_formula.specs.Fits.{IsGameMask};
 ghost use Rattle.rule_formula.specs.Mean.{mask_tracks as tracks_at};
@@ -29,6 +30,7 @@ fn reach_set(
     stage: Stage,
     level: &LevelNames,
 ) -> Result<Option<Auto>, PlanError<PartName>>
+    requires sound { Sound bench.now.position.now }
     requires mask { IsGameMask bench.now.position.now stage.mask }
     requires level { AreNamesIn bench.now.position.now work.old.sets level.now }
     ensures answers { Answers
@@ -60,6 +62,7 @@ fn reach_name(
     from: &Reaching,
     mask: u8,
 ) -> Result<Option<SetId>, PlanError<PartName>>
+    requires sound { Sound bench.now.position.now }
     requires mask { IsGameMask bench.now.position.now mask }
     requires level { AreNamesIn bench.now.position.now work.old.sets from.now.level.now }
     ensures answers { Answers
@@ -100,6 +103,7 @@ pub fn reach_level(
     work: &mut Work,
     from: &Reaching,
 ) -> Result<LevelNames, PlanError<PartName>>
+    requires sound { Sound bench.now.position.now }
     requires level { AreNamesIn bench.now.position.now work.old.sets from.now.level.now }
     ensures answers { Answers
         (plan.reach_level (rules_of bench.now.position.now) from.now.side from.now.ply

@@ -1,5 +1,6 @@
 //! Where the plan begins, and where it ends.
 ghost use Rattle.std.specs.Prelude.{◌≡◌, ◌==◌, if◌then◌else◌, List, None, IfOk, IfSome, map};
+ghost use Rattle.game_rules.specs.Game.{Sound};
 ghost use Rattle.auto_core.specs.Automaton.{Automaton};
 ghost use Rattle.lin_formula.specs.SetOf.{Nothing};
 ghost use Rattle.set_plan.specs.Sets.{made_of};
@@ -61,6 +62,7 @@ fn point_set(
     sets: &Sets,
     mask: u8,
 ) -> Result<Made, PlanError<PartName>>
+    requires sound { Sound bench.now.position.now }
     ensures answers { Answers
         (make_item (plan.name 0 mask Part.Point) 1
         (record { formula = (rules_of bench.now.position.now).point; sets = λ _. Nothing }))
@@ -80,6 +82,7 @@ fn point_set(
 
 /// What is reached without a move: the position alone.
 pub fn point_level(bench: &Bench, work: &mut Work) -> Result<LevelNames, PlanError<PartName>>
+    requires sound { Sound bench.now.position.now }
     ensures answers { Answers
         (plan.point_level (rules_of bench.now.position.now) (mask_of bench.now.position.now))
         work.old.memo.budget (level_in bench.now.position.now work.new.sets) result }

@@ -1,6 +1,6 @@
 //! Unions of a plan, each as a part of its own.
 ghost use Rattle.std.specs.Prelude.{◌≡◌, ◌<◌, ◌^◌, All, IfOk, IfSome, length, map};
-ghost use Rattle.game_rules.specs.Game.{other as other_side};
+ghost use Rattle.game_rules.specs.Game.{Sound, other as other_side};
 ghost use Rattle.lin_formula.specs.SetOf.{as_set};
 ghost use Rattle.lin_formula.specs.TreeOf.{tree_of};
 ghost use Rattle.rule_formula.specs.Fits.{IsGameMask};
@@ -53,6 +53,7 @@ pub(crate) fn image_set(
     stage: Stage,
     level: &LevelNames,
 ) -> Result<Option<Auto>, PlanError<PartName>>
+    requires sound { Sound bench.now.position.now }
     requires level { AreNamesIn bench.now.position.now sets.now level.now }
     ensures answers { Answers
         (plan.union (rules_of bench.now.position.now) stage.ply stage.mask Part.Image
@@ -73,6 +74,7 @@ pub(crate) fn pre_set(
     sets: &Sets,
     moves: &PartMoves,
 ) -> Result<Option<Auto>, PlanError<PartName>>
+    requires sound { Sound bench.now.position.now }
     requires source { IsNameOn (tracks_at bench.now.position.now moves.now.set.stage.mask) sets.now moves.now.set.name }
     requires targets { AreNamesIn bench.now.position.now sets.now moves.now.into.now }
     ensures answers { Answers
@@ -100,6 +102,7 @@ pub(crate) fn check_set(
     sets: &Sets,
     source: StageSet,
 ) -> Result<Option<Auto>, PlanError<PartName>>
+    requires sound { Sound bench.now.position.now }
     requires mask { IsGameMask bench.now.position.now source.stage.mask }
     requires source { IsNameOn (tracks_at bench.now.position.now source.stage.mask) sets.now source.name }
     ensures answers { Answers

@@ -1,5 +1,6 @@
 //! What is kept at a ply of the winner.
 ghost use Rattle.std.specs.Prelude.{◌≡◌, IfOk};
+ghost use Rattle.game_rules.specs.Game.{Sound};
 ghost use Rattle.set_plan.specs.Outcome.{Answers};
 ghost use Rattle.rule_formula.specs.Fits.{IsGameMask};
 ghost use Rattle.rule_formula.specs.Mean.{mask_tracks as tracks_at};
@@ -34,6 +35,7 @@ fn win_name(
     from: &Winning,
     mask: u8,
 ) -> Result<Option<SetId>, PlanError<PartName>>
+    requires sound { Sound bench.now.position.now }
     requires mask { IsGameMask bench.now.position.now mask }
     requires reach { AreNamesIn bench.now.position.now work.old.sets from.now.reach.now }
     requires next_kept { AreNamesIn bench.now.position.now work.old.sets from.now.next_kept.now }
@@ -84,6 +86,7 @@ pub fn win_level(
     work: &mut Work,
     from: &Winning,
 ) -> Result<LevelNames, PlanError<PartName>>
+    requires sound { Sound bench.now.position.now }
     requires reach { AreNamesIn bench.now.position.now work.old.sets from.now.reach.now }
     requires next_kept { AreNamesIn bench.now.position.now work.old.sets from.now.next_kept.now }
     ensures answers { Answers

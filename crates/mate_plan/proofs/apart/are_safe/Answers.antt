@@ -23,7 +23,7 @@ are_empty-requires-clause-items c =
     let trees : map tree_of c.deref.result.now ≡ bear_trees c.args.bench.now.position.now side mask source = ap (λ l. map tree_of l) c.deref.ensures.value ∙ c.in_ok-formulas.ensures in
     let on = name_is_found c.args.bench.now.position.now.men c.args.work.now.sets masks masks c.args.at.now.level.now mask source refl c.name_in-source.ensures c.requires.level in
     empty_items c.table.result.now c.args.work.now.sets c.table.ensures c.deref.result.now (bear_trees c.args.bench.now.position.now side mask source) trees (mask_tracks c.args.bench.now.position.now mask)
-    (bears_on c.args.bench.now.position.now (game_of c.args.bench.now.position.now c.args.bench.now.sound c.args.bench.now.few) c.args.work.now.sets side mask source c.requires.mask on)
+    (bears_on c.args.bench.now.position.now (game_of c.args.bench.now.position.now c.requires.sound c.args.bench.now.few) c.args.work.now.sets side mask source c.requires.mask on)
 
 pub are_empty-requires-clause-few : goal.are_empty-requires-clause-few
 are_empty-requires-clause-few c =
@@ -44,4 +44,4 @@ returns-clause-answers c =
     let is = set_is_found c.args.work.now.sets masks masks c.args.at.now.level.now mask source refl c.name_in-source.ensures in
     empty_answers c.table.result.now c.args.work.now.sets c.table.ensures c.deref.result.now (bear_trees c.args.bench.now.position.now side mask source) trees c.part.result (name c.args.at.now.stage.ply mask kind.Guard)
     (bear_items (rules_of c.args.bench.now.position.now) side mask s) c.args.work.now.memo.budget c.are_empty.result c.part.ensures
-    (bears_thin c.args.bench.now.position.now (game_of c.args.bench.now.position.now c.args.bench.now.sound c.args.bench.now.few) c.args.work.now.sets side mask source s (sym is)) c.are_empty.ensures.answers
+    (bears_thin c.args.bench.now.position.now (game_of c.args.bench.now.position.now c.requires.sound c.args.bench.now.few) c.args.work.now.sets side mask source s (sym is)) c.are_empty.ensures.answers

@@ -20,7 +20,7 @@ pub narrow-requires-clause-bearings : goal.narrow-requires-clause-bearings
 narrow-requires-clause-bearings c =
     let are : c.as_slice.result.now ≡ bearings_of c.args.bench.now.position.now.men c.args.stage.mask (other c.args.stage.side) =
     c.as_slice.ensures ∙ c.in_ok-attacks.ensures.list ∙ ap (λ s. bearings_of c.args.bench.now.position.now.men c.args.stage.mask s) c.other.ensures in
-    bearings_all c.args.bench.now.position.now c.args.stage.mask (other c.args.stage.side) c.as_slice.result.now (game_of c.args.bench.now.position.now c.args.bench.now.sound c.args.bench.now.few) c.requires.mask are
+    bearings_all c.args.bench.now.position.now c.args.stage.mask (other c.args.stage.side) c.as_slice.result.now (game_of c.args.bench.now.position.now c.requires.sound c.args.bench.now.few) c.requires.mask are
 
 pub narrow-requires-clause-few : goal.narrow-requires-clause-few
 narrow-requires-clause-few c =
