@@ -230,7 +230,12 @@ impl Steps for StalematesByMask<'_> {
 }
 
 /// The rules of the replies at a ply. Its sets are let go after it.
-fn check_ply(bench: &Bench, work: &mut Work, claimed: &ClaimedSets, ply: u8) -> Found
+fn check_ply<'a>(
+    bench: &'a Bench<'a>,
+    work: &mut Work,
+    claimed: &'a ClaimedSets,
+    ply: u8,
+) -> Found
     requires of { bench.now.position.now ≡ claimed.now.position }
     requires ready { IsReady claimed.now }
     requires signed { AreSigned (claim_in claimed.now) }

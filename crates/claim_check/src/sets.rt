@@ -40,6 +40,7 @@ fn check_same(
     at: &StageLevel,
 ) -> Found
     requires of { bench.now.position.now ≡ claimed.now.position }
+    requires ready { IsReady claimed.now }
     requires mask { IsGameMask claimed.now.position at.now.stage.mask }
     requires level { AreNamesIn claimed.now.position work.old.sets at.now.level.now }
     ensures finds { Finds
@@ -62,6 +63,7 @@ fn check_guard(
     at: &StageLevel,
 ) -> Found
     requires of { bench.now.position.now ≡ claimed.now.position }
+    requires ready { IsReady claimed.now }
     requires mask { IsGameMask claimed.now.position at.now.stage.mask }
     requires level { AreNamesIn claimed.now.position work.old.sets at.now.level.now }
     ensures finds { Finds

@@ -1,5 +1,6 @@
 //! What is kept at each ply, from the last ply back to the first.
 ghost use Rattle.std.specs.Prelude.{◌≡◌, ◌≤◌, ◌++◌, ◌∷◌, [], All, IfOk, OnErr, OnOk, length, map, reverse};
+ghost use Rattle.game_rules.specs.Game.{Sound};
 ghost use Rattle.set_plan.specs.Outcome.{Answers};
 ghost use Rattle.set_plan.specs.Sets.{Grows};
 ghost use Rattle.mate_plan.specs.Plan.{backward_from, kept_level};
@@ -39,6 +40,7 @@ fn kept_at(
     work: &mut Work,
     from: &Keeping,
 ) -> Result<LevelNames, PlanError<PartName>>
+    requires sound { Sound bench.now.position.now }
     requires ply { from.now.ply ≤ 41 }
     requires reach { AreNamesIn bench.now.position.now work.old.sets from.now.reach.now }
     requires next_reach { AreNamesIn bench.now.position.now work.old.sets from.now.next_reach.now }
@@ -80,6 +82,7 @@ pub(crate) fn kept_levels(
     work: &mut Work,
     reach: &[LevelNames],
 ) -> Result<Vec<LevelNames>, PlanError<PartName>>
+    requires sound { Sound bench.now.position.now }
     requires some { 1 ≤ length reach.now }
     requires few { length reach.now ≤ 42 }
     requires names { All (AreNamesIn bench.now.position.now work.old.sets) reach.now }

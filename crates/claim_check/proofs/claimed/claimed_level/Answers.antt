@@ -1,5 +1,5 @@
-use Rattle.std.proofs.Common.{◌≡◌, subst}
-use Rattle.game_rules.specs.Game.{Position}
+use Rattle.std.proofs.Common.{◌≡◌, sym, subst}
+use Rattle.game_rules.specs.Game.{Position, Sound}
 use Rattle.rule_formula.specs.Fits.{masks_of}
 use Rattle.set_plan.specs.Outcome.{Ends, Stops}
 use Rattle.mate_plan.specs.Levels.{AreNamesIn, level_in}
@@ -8,8 +8,11 @@ use Rattle.claim_check.specs.Ready.{claim_in}
 use Rattle.claim_check.proofs.ClaimedLevels.{given, given_goes_on, given_level}
 use Rattle.claim_check.proofs.claimed.claimed_level.Goals as goal
 
-pub level_by-requires : goal.level_by-requires
-level_by-requires c = (c.requires.ready, c.requires.signed, c.requires.of)
+pub level_by-requires-clause-sound : goal.level_by-requires-clause-sound
+level_by-requires-clause-sound c = subst Sound (sym c.requires.of) c.requires.ready.claim.sound
+
+pub level_by-requires-clause-fits : goal.level_by-requires-clause-fits
+level_by-requires-clause-fits c = (c.requires.ready, c.requires.signed, c.requires.of)
 
 pub returns-in-Ok-clause-level : goal.returns-in-Ok-clause-level
 returns-in-Ok-clause-level c =

@@ -1,6 +1,6 @@
 use Rattle.std.proofs.Common.{ℕ, Bool, sym, subst}
 use Rattle.std.proofs.lemmas.Result.{err_from_is_err_and}
-use Rattle.game_rules.specs.Game.{Position}
+use Rattle.game_rules.specs.Game.{Position, Sound}
 use Rattle.rule_formula.specs.Fits.{mask_of}
 use Rattle.rule_formula.specs.Placed.{tuple_of}
 use Rattle.mate_plan.specs.Levels.{AreNamesIn, level_in}
@@ -19,8 +19,11 @@ returns-in_err-level-clause-finds c =
     let e = err_from_is_err_and c.from_residual.result c.from_residual.ensures.1 in
     rw (e.1, e.2) tt
 
-pub has_first_move-requires : goal.has_first_move-requires
-has_first_move-requires c =
+pub has_first_move-requires-clause-sound : goal.has_first_move-requires-clause-sound
+has_first_move-requires-clause-sound c = subst Sound (sym c.requires.of) c.requires.ready.claim.sound
+
+pub has_first_move-requires-clause-into : goal.has_first_move-requires-clause-into
+has_first_move-requires-clause-into c =
     let At : Position → Type 0 = λ p. AreNamesIn p c.claimed_level.new.work.sets c.in_ok-level.level in
     subst At (sym c.requires.of) c.in_ok-level.ensures.names
 

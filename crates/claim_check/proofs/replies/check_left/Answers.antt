@@ -1,6 +1,6 @@
 use Rattle.std.proofs.Common.{◌≡◌, ℕ, Bool, suc, ◌+◌, List, sym, subst, arith}
 use Rattle.auto_core.specs.Automaton.{Automaton}
-use Rattle.game_rules.specs.Game.{Position}
+use Rattle.game_rules.specs.Game.{Position, Sound}
 use Rattle.set_plan.specs.Sets.{Grows}
 use Rattle.mate_plan.specs.Claim.{claimed_level}
 use Rattle.mate_plan.specs.Levels.{AreNamesIn, level_in}
@@ -14,6 +14,9 @@ use Rattle.claim_check.specs.Finds.{Finds}
 use Rattle.claim_check.specs.Grown.{grows_self}
 use Rattle.claim_check.specs.Ready.{claim_in}
 use Rattle.claim_check.proofs.replies.check_left.Goals as goal
+
+pub are_answered-requires-clause-sound : goal.are_answered-requires-clause-sound
+are_answered-requires-clause-sound c = subst Sound (sym c.requires.of) c.requires.ready.claim.sound
 
 pub are_answered-requires-clause-from : goal.are_answered-requires-clause-from
 are_answered-requires-clause-from c =

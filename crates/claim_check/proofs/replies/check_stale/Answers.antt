@@ -1,5 +1,5 @@
 use Rattle.std.proofs.Common.{Bool, sym, subst}
-use Rattle.game_rules.specs.Game.{Position, other}
+use Rattle.game_rules.specs.Game.{Position, Sound, other}
 use Rattle.game_rules.specs.declared.men.Side.{Side}
 use Rattle.rule_formula.specs.Fits.{IsGameMask}
 use Rattle.mate_plan.specs.Levels.{AreNamesIn, level_in}
@@ -11,6 +11,9 @@ use Rattle.claim_plan.specs.declared.names.Rule.TheVariants as rule
 use Rattle.claim_plan.specs.declared.names.RuleAt.{RuleAt}
 use Rattle.claim_check.specs.Finds.{Finds}
 use Rattle.claim_check.proofs.replies.check_stale.Goals as goal
+
+pub have_replies-requires-clause-sound : goal.have_replies-requires-clause-sound
+have_replies-requires-clause-sound c = subst Sound (sym c.requires.of) c.requires.ready.claim.sound
 
 pub have_replies-requires-clause-mask : goal.have_replies-requires-clause-mask
 have_replies-requires-clause-mask c =

@@ -1,6 +1,6 @@
 use Rattle.std.proofs.Common.{◌≡◌, ℕ, suc, ◌+◌, refl, sym, ◌∙◌, subst, arith}
 use Rattle.std.proofs.lemmas.Result.{err_from_is_err_and}
-use Rattle.game_rules.specs.Game.{Position, other}
+use Rattle.game_rules.specs.Game.{Position, Sound, other}
 use Rattle.game_rules.specs.declared.men.Side.{Side}
 use Rattle.rule_formula.specs.Fits.{masks_of}
 use Rattle.set_plan.specs.Outcome.{Ends, IsPlanError}
@@ -12,8 +12,11 @@ use Rattle.mate_plan.proofs.LevelLemmas.{grows-grows, level-grows, names-grow}
 use Rattle.claim_check.specs.Ready.{claim_in}
 use Rattle.claim_check.proofs.replies.replies_at.Goals as goal
 
-pub reach_level-requires : goal.reach_level-requires
-reach_level-requires c =
+pub reach_level-requires-clause-sound : goal.reach_level-requires-clause-sound
+reach_level-requires-clause-sound c = subst Sound (sym c.requires.of) c.requires.ready.claim.sound
+
+pub reach_level-requires-clause-level : goal.reach_level-requires-clause-level
+reach_level-requires-clause-level c =
     let At : Position → Type 0 = λ p. AreNamesIn p c.claimed_level.new.work.sets c.in_ok-here.here in
     subst At (sym c.requires.of) c.in_ok-here.ensures.names
 

@@ -1,5 +1,5 @@
 use Rattle.std.proofs.Common.{sym, subst}
-use Rattle.game_rules.specs.Game.{Position}
+use Rattle.game_rules.specs.Game.{Position, Sound}
 use Rattle.rule_formula.specs.Fits.{IsGameMask}
 use Rattle.mate_plan.specs.Levels.{AreNamesIn, level_in}
 use Rattle.mate_plan.specs.Plan.{Program}
@@ -10,6 +10,9 @@ use Rattle.claim_plan.specs.CheckPlan.{holds_by}
 use Rattle.claim_plan.specs.declared.names.RuleAt.{RuleAt}
 use Rattle.claim_check.specs.Finds.{Finds}
 use Rattle.claim_check.proofs.sets.check_guard.Goals as goal
+
+pub are_safe-requires-clause-sound : goal.are_safe-requires-clause-sound
+are_safe-requires-clause-sound c = subst Sound (sym c.requires.of) c.requires.ready.claim.sound
 
 pub are_safe-requires-clause-mask : goal.are_safe-requires-clause-mask
 are_safe-requires-clause-mask c =
