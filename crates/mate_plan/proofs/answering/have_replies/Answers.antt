@@ -44,7 +44,7 @@ returns-then-is_lacking-clause-answers c =
 
 pub returns-in_err-quiet-clause-answers : goal.returns-in_err-quiet-clause-answers
 returns-in_err-quiet-clause-answers c =
-    let p = err_from_is_err_and c.from_residual-in_err-quiet.result c.from_residual-in_err-quiet.ensures.1 in
+    let p = err_from_is_err_and c.from_residual.result c.from_residual.ensures.1 in
     let masks = masks_of c.args.bench.now.position.now in
     let stage = c.args.moves.now.stage in
     let is = set_is_found c.args.work.now.sets masks masks c.args.moves.now.from.now stage.mask c.name_in-name.result refl c.name_in-name.ensures in

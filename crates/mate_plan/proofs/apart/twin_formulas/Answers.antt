@@ -2,5 +2,5 @@ use Rattle.std.proofs.Common.{◌∙◌}
 use Rattle.mate_plan.proofs.TwinItems.{pairs_all}
 use Rattle.mate_plan.proofs.apart.twin_formulas.Goals as goal
 
-pub twins-requires-clause-pairs : goal.twins-requires-clause-pairs
-twins-requires-clause-pairs c = pairs_all c.args.bench.now.position.now c.args.mask c.as_slice.result.now (c.as_slice.ensures ∙ c.in_ok-all.ensures.list)
+pub twins-requires : goal.twins-requires
+twins-requires c = pairs_all c.args.bench.now.position.now c.args.mask c.as_slice.result.now (c.as_slice.ensures ∙ c.in_ok-all.ensures.list)

@@ -12,19 +12,19 @@ use Rattle.set_plan.proofs.parts.UnitingSteps.step.Goals as goal
 pub make-requires-clause-compilable : goal.make-requires-clause-compilable
 make-requires-clause-compilable g c =
     let it = c.args.self.now in
-    let (rest, all, set, room) = c.requires.fits in
+    let (rest, (all, set, room)) = c.requires.fits in
     (All-head (IsItemOn it.tracks.now it.sets.now) (tree_of c.args.f.now) (map tree_of rest) all).compilable
 
 pub make-requires-clause-few : goal.make-requires-clause-few
 make-requires-clause-few g c =
     let it = c.args.self.now in
-    let (rest, all, set, room) = c.requires.fits in
+    let (rest, (all, set, room)) = c.requires.fits in
     (All-head (IsItemOn it.tracks.now it.sets.now) (tree_of c.args.f.now) (map tree_of rest) all).few
 
 pub join-requires-clause-next : goal.join-requires-clause-next
 join-requires-clause-next g c =
     let it = c.args.self.now in
-    let (rest, all, set, room) = c.requires.fits in
+    let (rest, (all, set, room)) = c.requires.fits in
     let item = All-head (IsItemOn it.tracks.now it.sets.now) (tree_of c.args.f.now) (map tree_of rest) all in
     made_on it.tracks.now (tree_of c.args.f.now) item.some item.over c.in_ok-next.next.set c.in_ok-next.ensures.set
 
