@@ -229,13 +229,52 @@ impl Steps for StalematesByMask<'_> {
     ghost keeps_on = { λ _ u v w. grows_on u.sets v.sets w.sets };
 }
 
+/// Whether each position that is reached has an answer, mask by mask.
+fn check_all_left(bench: &Bench, work: &mut Work, claimed: &ClaimedSets, replies: &Replies) -> Found
+    requires of { bench.now.position.now ≡ claimed.now.position }
+    requires ready { IsReady claimed.now }
+    requires replies { AreReplies claimed.now replies.now.ply work.old.sets replies.now }
+    ensures finds { Finds
+        (plan.for_each (rules_of claimed.now.position).masks
+        (plan.check_left (rules_of claimed.now.position) claimed.now.winner (suc replies.now.ply)
+        (level_in claimed.now.position work.old.sets replies.now.reached)
+        (level_at (claim_in claimed.now) (replies.now.ply + 2))))
+        work.old.memo.budget result }
+    ensures grows { Grows work.old.sets work.new.sets }
+    ensures budget { work.new.memo.budget ≡ work.old.memo.budget }
+{
+    let steps = AnswersByMask {
+        bench,
+        claimed,
+        replies,
+    };
+    each(&steps, work, claimed.masks.as_slice(), None)
+}
+
+/// Whether the loser is in check or has a reply in each claimed position, mask by mask.
+fn check_all_stale(bench: &Bench, work: &mut Work, claimed: &ClaimedSets, replies: &Replies) -> Found
+    requires of { bench.now.position.now ≡ claimed.now.position }
+    requires ready { IsReady claimed.now }
+    requires replies { AreReplies claimed.now replies.now.ply work.old.sets replies.now }
+    ensures finds { Finds
+        (plan.for_each (rules_of claimed.now.position).masks
+        (plan.check_stale (rules_of claimed.now.position) (other claimed.now.winner) replies.now.ply
+        (level_at (claim_in claimed.now) replies.now.ply)
+        (level_in claimed.now.position work.old.sets replies.now.reached)))
+        work.old.memo.budget result }
+    ensures grows { Grows work.old.sets work.new.sets }
+    ensures budget { work.new.memo.budget ≡ work.old.memo.budget }
+{
+    let steps = StalematesByMask {
+        bench,
+        claimed,
+        replies,
+    };
+    each(&steps, work, claimed.masks.as_slice(), None)
+}
+
 /// The rules of the replies at a ply. Its sets are let go after it.
-fn check_ply<'a>(
-    bench: &'a Bench<'a>,
-    work: &mut Work,
-    claimed: &'a ClaimedSets,
-    ply: u8,
-) -> Found
+fn check_ply(bench: &Bench, work: &mut Work, claimed: &ClaimedSets, ply: u8) -> Found
     requires of { bench.now.position.now ≡ claimed.now.position }
     requires ready { IsReady claimed.now }
     requires signed { AreSigned (claim_in claimed.now) }
@@ -246,22 +285,11 @@ fn check_ply<'a>(
 {
     let count = work.sets.count();
     let replies = replies_at(bench, work, claimed, ply)?;
-    let masks = claimed.masks.as_slice();
-    let answers = AnswersByMask {
-        bench,
-        claimed,
-        replies: &replies,
-    };
-    let left = each(&answers, work, masks, None)?;
+    let left = check_all_left(bench, work, claimed, &replies)?;
     if left.is_some() {
         return Ok(left);
     }
-    let stalemates = StalematesByMask {
-        bench,
-        claimed,
-        replies: &replies,
-    };
-    let stale = each(&stalemates, work, masks, None)?;
+    let stale = check_all_stale(bench, work, claimed, &replies)?;
     work.sets.truncate(count);
     Ok(stale)
 }

@@ -27,8 +27,8 @@ returns-in-Ok-clause-names c =
     let At : Position → Type 0 = λ p. AreNamesIn p c.level_by.new.work.sets c.in-Ok.level in
     subst At c.requires.of (rw c.in-Ok.is at c.level_by.ensures.names)
 
-pub prove-unreachable-requires : goal.prove-unreachable-requires
-prove-unreachable-requires c =
+pub unreachable-requires : goal.unreachable-requires
+unreachable-requires c =
     let d = claim_in c.args.claimed.now in
-    given_goes_on d c.args.ply (masks_of c.args.bench.now.position.now) no_sets c.args.work.now.memo.budget c.in-Err-Over.field-0.field-0
+    given_goes_on d c.args.ply (masks_of c.args.bench.now.position.now) no_sets c.args.work.now.memo.budget _
     (rw (c.in-Err-Over.is, c.in-Err-Over.field-0-is) at c.level_by.ensures.answers)

@@ -13,7 +13,7 @@ use Rattle.claim_check.proofs.claimed.lone_level.Goals as goal
 pub one_level-requires : goal.one_level-requires
 one_level-requires c =
     let At : Position → Type 0 = λ p. IsGameMask p c.args.mask in
-    subst At (sym c.requires.of) c.requires.mask
+    record { mask = subst At (sym c.requires.of) c.requires.mask }
 
 pub returns-clause-names : goal.returns-clause-names
 returns-clause-names c =

@@ -11,7 +11,7 @@ use Rattle.claim_check.proofs.sets.check_sets_at.Goals as goal
 pub each-requires : goal.each-requires
 each-requires c =
     let d = claim_in c.args.claimed.now in
-    (c.requires.ready, c.requires.of, each_mask d.position (λ mask. IsSome (claimed_at d c.args.ply mask)) c.as_slice.result.now (c.as_slice.ensures ∙ c.requires.ready.masks) c.requires.there)
+    record { fits = (c.requires.ready, c.requires.of, each_mask d.position (λ mask. IsSome (claimed_at d c.args.ply mask)) c.as_slice.result.now (c.as_slice.ensures ∙ c.requires.ready.masks) c.requires.there) }
 
 pub returns-clause-finds : goal.returns-clause-finds
 returns-clause-finds c =

@@ -1,5 +1,5 @@
 use Rattle.std.proofs.Common.{ℕ, suc, ◌+◌, sym, ap, ◌∙◌}
-use Rattle.std.proofs.lemmas.List.Elements.{All-head, All-tail}
+use Rattle.std.proofs.lemmas.List.Elements.{All-tail}
 use Rattle.game_rules.specs.Game.{other}
 use Rattle.rule_formula.specs.Fits.{IsGameMask, masks_of}
 use Rattle.mate_plan.specs.Claim.{claimed_level}
@@ -21,9 +21,6 @@ check_left-requires-clause-of c = c.requires.fits.1.1
 
 pub check_left-requires-clause-replies : goal.check_left-requires-clause-replies
 check_left-requires-clause-replies c = c.requires.fits.1.2
-
-pub check_left-requires-clause-mask : goal.check_left-requires-clause-mask
-check_left-requires-clause-mask c = All-head (IsGameMask c.args.self.now.claimed.now.position) c.args.mask.now c.requires.fits.0 c.requires.fits.1.3
 
 pub returns-then-is_some-clause-answers : goal.returns-then-is_some-clause-answers
 returns-then-is_some-clause-answers c =

@@ -1,0 +1,32 @@
+use Rattle.std.proofs.Common.{ℕ, suc, ◌+◌, List, ◌∙◌, subst}
+use Rattle.game_rules.specs.Game.{other}
+use Rattle.rule_formula.specs.Fits.{IsGameMask}
+use Rattle.mate_plan.specs.Claim.{claimed_level}
+use Rattle.mate_plan.specs.Levels.{level_in}
+use Rattle.mate_plan.specs.PlanOf.{rules_of}
+use Rattle.claim_plan.specs.CheckPlan.{check_stale, for_each}
+use Rattle.claim_check.specs.Finds.{Finds}
+use Rattle.claim_check.specs.Ready.{claim_in}
+use Rattle.claim_check.proofs.LosersPlies.{each_mask}
+use Rattle.claim_check.proofs.replies.check_all_stale.Goals as goal
+
+pub each-requires : goal.each-requires
+each-requires c =
+    let p = c.args.claimed.now.position in
+    record {
+      fits = (
+        c.requires.ready,
+        c.requires.of,
+        c.requires.replies,
+        each_mask p (IsGameMask p) c.as_slice.result.now (c.as_slice.ensures ∙ c.requires.ready.masks) (λ mask game. game),
+      );
+    }
+
+pub returns-clause-finds : goal.returns-clause-finds
+returns-clause-finds c =
+    let s = c.args.claimed.now in
+    let r = c.args.replies.now in
+    let Over : List ℕ → Type 0 = λ l. Finds
+    (for_each l (check_stale (rules_of s.position) (other s.winner) r.ply (claimed_level (claim_in s) r.ply) (level_in s.position c.args.work.now.sets r.reached)))
+    c.args.work.now.memo.budget c.each.result in
+    subst Over (c.as_slice.ensures ∙ c.requires.ready.masks) c.each.ensures.answers
