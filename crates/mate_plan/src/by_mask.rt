@@ -70,7 +70,8 @@ impl<M: MaskSets> Steps for ByMask<'_, M> {
 
     ghost view = { λ it work names. level_in it.bench.now.position.now work.sets names };
 
-    ghost program = { λ it work mask. plan.with_mask (M.program it.making.now it.bench.now.position.now work.sets) mask };
+    ghost program = { λ it work mask.
+        plan.with_mask (M.program it.making.now it.bench.now.position.now work.sets) mask };
 
     ghost budget = { λ _ work. work.memo.budget };
 

@@ -69,7 +69,8 @@ pub(crate) fn keep_left(
     left: Left,
 ) -> Result<Option<SetId>, AllocError>
     ensures set { IfOk result (λ name. set_at sets.new name ≡ left_of (set_at sets.old whole) left) }
-    ensures name { IfOk result (λ name. (tracks : List Var) → IsNameOn tracks sets.old whole → IsLeftOn tracks left → IsNameOn tracks sets.new name) }
+    ensures name { IfOk result (λ name. (tracks : List Var)
+        → IsNameOn tracks sets.old whole → IsLeftOn tracks left → IsNameOn tracks sets.new name) }
     ensures grows { Grows sets.old sets.new }
 {
     match left {

@@ -209,7 +209,8 @@ struct Lost<'a> {
     rests: &'a LevelNames,
 }
 
-/// The name of what is kept with the mask. The sets that are made on the way are kept for as long only as they are needed.
+/// The name of what is kept with the mask. The sets that are made on the way are kept for as long only as they are
+/// needed.
 fn lost_name(
     bench: &Bench,
     work: &mut Work,

@@ -41,7 +41,8 @@ pub fn one_level(bench: &Bench, mask: u8, name: Option<SetId>) -> Result<LevelNa
     ensures level { IfOk result (λ names. (sets : List Automaton)
         → level_in bench.now.position.now sets names ≡ plan.level_with plan.no_sets mask (set_at sets name)) }
     ensures names { IfOk result (λ names. (sets : List Automaton)
-        → IsNameOn (tracks_at bench.now.position.now mask) sets name → AreNamesIn bench.now.position.now sets names) }
+        → IsNameOn (tracks_at bench.now.position.now mask) sets name
+        → AreNamesIn bench.now.position.now sets names) }
 {
     level_at(bench, mask, name)
 }

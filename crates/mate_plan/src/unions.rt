@@ -82,7 +82,8 @@ pub(crate) fn pre_set(
         (plan.pre_items (rules_of bench.now.position.now) moves.now.set.stage.side moves.now.set.stage.mask
         (set_at sets.now moves.now.set.name) (level_in bench.now.position.now sets.now moves.now.into.now)))
         memo.old.budget as_set result }
-    ensures set { IfOk result (λ set. IfSome set (IsSetOn (tracks_at bench.now.position.now moves.now.set.stage.mask))) }
+    ensures set { IfOk result (λ set.
+        IfSome set (IsSetOn (tracks_at bench.now.position.now moves.now.set.stage.mask))) }
     ensures budget { memo.new.budget ≡ memo.old.budget }
 {
     let formulas = pre_formulas(bench, moves.set, moves.into)?;

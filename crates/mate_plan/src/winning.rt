@@ -48,7 +48,12 @@ fn win_name(
     ensures grows { Grows work.old.sets work.new.sets }
     ensures budget { work.new.memo.budget ≡ work.old.memo.budget }
 {
-    let Winning { side, ply, reach, next_kept } = *from;
+    let Winning {
+        side,
+        ply,
+        reach,
+        next_kept,
+    } = *from;
     let stage = Stage { side, ply, mask };
     let name = name_in(bench, reach, mask);
     let moves = PartMoves {

@@ -4,10 +4,10 @@ use Rattle.track_word.specs.declared.tracks.Var.{Var}
 use Rattle.lin_formula.specs.Tree.{Tree, Among, And, Not, Or, steps}
 use Rattle.lin_formula.specs.SetOf.{SetOf, Nothing, members, IsEmpty, NoneEmpty}
 use Rattle.formula_auto.specs.Step.{Exceeds, FirstOver}
-use Rattle.set_plan.specs.Program.{Item, IsSetOf, Program, Give, Ask, Empty, bind}
+use Rattle.set_plan.specs.Program.{Item, IsSetOf, Give, Ask, Empty}
 use Rattle.set_plan.specs.Outcome.{Ends, Stops}
 use Rattle.set_plan.specs.Unite as plan
-use Rattle.set_plan.proofs.Composition.{none_some, Ends-compute, Ends-give, Ends-ask_no, Ends-ask_yes, Stops-compute_here, Stops-ask_no, Ends-bind, Stops-bind, LeadsTo, LeadsTo-later}
+use Rattle.set_plan.proofs.Composition.{none_some, Ends-compute, Ends-give, Ends-ask_no, Ends-ask_yes, Stops-compute_here, Stops-ask_no, Ends-bind, Stops-bind}
 
 -- the first step past the budget is one of the steps
 pub FirstOver-within : (fs : List Tree) (e : ℕ → SetOf) (budget from k : ℕ) → FirstOver fs (members e) budget from (Some k) → (from ≤ k) × (k < from + length fs)

@@ -26,7 +26,9 @@ pub fn are_empty<P: Copy>(
 ) -> Result<bool, PlanError<P>>
     requires items { (tracks : List Var) × All (IsItemOn tracks sets.now) (map tree_of formulas.now) }
     requires few { length formulas.now < 2 ^ 20 }
-    ensures answers { Answers (plan.are_empty part 1 (map (item_of sets.now) (map tree_of formulas.now))) memo.old.budget (λ (b : Bool). b) result }
+    ensures answers { Answers
+        (plan.are_empty part 1 (map (item_of sets.now) (map tree_of formulas.now)))
+        memo.old.budget (λ (b : Bool). b) result }
     ensures budget { memo.new.budget ≡ memo.old.budget }
 {
     let mut at = 1;
@@ -52,7 +54,9 @@ pub fn is_within<P: Copy>(
     requires one { IfSome one (λ a. IsSetOn tracks.now a.now) }
     requires other { IfSome other (λ a. IsSetOn tracks.now a.now) }
     requires budget { (1 ≤ budget) × (budget ≤ 200000) }
-    ensures answers { Answers (plan.is_within tracks.now part (lent one.entry) (lent other.entry)) budget (λ (b : Bool). b) result }
+    ensures answers { Answers
+        (plan.is_within tracks.now part (lent one.entry) (lent other.entry))
+        budget (λ (b : Bool). b) result }
 {
     let left = remainder(alloc, tracks, part, one, other, budget)?;
     let Some(a) = one else {

@@ -9,7 +9,9 @@ use crate::stop::PlanError;
 pub trait Steps {
     /// What is changed on the way, as the sets that are kept.
     type Work;
+
     type Item;
+
     type Value;
     /// The names of parts.
     type Part: Copy;

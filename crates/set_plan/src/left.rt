@@ -33,7 +33,9 @@ pub fn remainder<P: Copy>(
     requires one { IfSome one (λ a. IsSetOn tracks.now a.now) }
     requires other { IfSome other (λ a. IsSetOn tracks.now a.now) }
     requires budget { (1 ≤ budget) × (budget ≤ 200000) }
-    ensures answers { Answers (remainder_of tracks.now part (lent one.entry) (lent other.entry)) budget (left_of (lent one.entry)) result }
+    ensures answers { Answers
+        (remainder_of tracks.now part (lent one.entry) (lent other.entry))
+        budget (left_of (lent one.entry)) result }
     ensures set { IfOk result (IsLeftOn tracks.now) }
 {
     let Some(b) = other else {

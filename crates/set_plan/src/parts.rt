@@ -110,8 +110,11 @@ impl<P: Copy> Steps for Uniting<'_, P> {
     ghost use Rattle.set_plan.specs.Unite as plan;
 
     type Work = Memo;
+
     type Item = Formula;
+
     type Value = Made;
+
     type Part = P;
 
     ghost Seen = { plan.Made };
@@ -131,12 +134,7 @@ impl<P: Copy> Steps for Uniting<'_, P> {
 
     ghost keeps_on = { λ _ _ _ _ _ _. tt };
 
-    fn step(
-        &self,
-        memo: &mut Memo,
-        f: &Formula,
-        so_far: Made,
-    ) -> Result<Made, PlanError<P>> {
+    fn step(&self, memo: &mut Memo, f: &Formula, so_far: Made) -> Result<Made, PlanError<P>> {
         let next = make(self.alloc, memo, self.part, so_far.at, f, self.sets)?;
         let budget = memo.budget();
         let made = join(self.alloc, self.tracks, self.part, so_far.set, next, budget)?;
@@ -144,8 +142,9 @@ impl<P: Copy> Steps for Uniting<'_, P> {
     }
 }
 
-/// The union of the sets of the formulas, which are over these tracks, by steps from this one on: an item is left out where a set that it
-/// needs is empty, the first set that is not empty is taken, and each further one is joined directly after its own steps.
+/// The union of the sets of the formulas, which are over these tracks, by steps from this one on: an item is left out
+/// where a set that it needs is empty, the first set that is not empty is taken, and each further one is joined
+/// directly after its own steps.
 pub fn unite<P: Copy>(
     alloc: Global,
     memo: &mut Memo,

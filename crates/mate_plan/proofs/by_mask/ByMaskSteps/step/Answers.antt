@@ -32,7 +32,7 @@ returns-clause-fits g c = λ rest (so_far, fits, sound).
     let position = c.args.self.now.bench.now.position.now in
     let made = c.in_ok-name.ensures in (
       rw c.in_ok-push.ensures.ok
-      (so_far_more position c.args.work.now.sets c.name.new.work.sets c.args.so_far c.args.mask.now rest so_far made.grows c.in_ok-name.name made.name),
+          (so_far_more position c.args.work.now.sets c.name.new.work.sets c.args.so_far c.args.mask.now rest so_far made.grows c.in_ok-name.name made.name),
       made.fits,
       sound,
     )

@@ -1,4 +1,4 @@
-use Rattle.std.proofs.Common.{ℕ, suc, ◌<◌, ◌∷◌, List, length, map, All, ◌∙◌, arith}
+use Rattle.std.proofs.Common.{suc, map, ◌∙◌, arith}
 use Rattle.std.proofs.lemmas.List.Elements.{All-head}
 use Rattle.std.proofs.lemmas.Result.{err_from_is_err_and}
 use Rattle.lin_formula.specs.TreeOf.{tree_of}
