@@ -17,7 +17,7 @@ use Rattle.winning_sets.proofs.Forwards.{finished_plan, finished_plan_error, gro
 use Rattle.winning_sets.proofs.Growing.{all_names-grow, grows-take}
 use Rattle.winning_sets.proofs.LentLemmas.{Names, all_within}
 use Rattle.winning_sets.proofs.States.{state-grows}
-use Rattle.winning_sets.proofs.solver.Solver.kept_sets.Goals.{After-as_slice, After-as_slice-3}
+use Rattle.winning_sets.proofs.solver.Solver.kept_sets.Goals.{After-as_slice, After-as_slice-4}
 use Rattle.winning_sets.proofs.solver.Solver.kept_sets.Goals as goal
 
 -- the last ply is finished
@@ -31,9 +31,9 @@ last_is : (c : After-as_slice) → c.args.last ≡ last_ply c.self.inside.winner
 last_is c = c.requires.last ∙ sym (ap (λ s. last_ply s.winner s.position.turn c.args.moves) c.self.view_is)
 
 -- the whole plan, by what is kept
-ends : (c : After-as_slice-3) → Ends (plan_of c.self.inside.winner c.self.inside.position c.args.moves) c.self.inside.work.memo.budget (map (level_of c.kept_levels.new.work.sets (masks_of c.self.inside.position)) c.in_ok-kept.kept.items)
+ends : (c : After-as_slice-4) → Ends (plan_of c.self.inside.winner c.self.inside.position c.args.moves) c.self.inside.work.memo.budget (map (level_of c.kept_levels.new.work.sets (masks_of c.self.inside.position)) c.in_ok-kept.kept.items)
 ends c =
-    let start = (goal.at.After-as_slice-3 c).After-as_slice in
+    let start = (goal.at.After-as_slice-4 c).After-as_slice in
     let i = c.self.inside in
     let p = i.position in
     let last = c.args.last in
@@ -84,8 +84,8 @@ copied-requires c =
     let start = (goal.at.copied-requires c).After-as_slice in
     let table = c.kept_levels.new.work.sets in
     let all = all_within p.men table (masks_of p) i.empties.items c.in_ok-kept.kept.items (c.self.invariant.1.empties_are (omega (arith, within start))) c.in_ok-kept.ensures.names in
-    subst (λ (others : List Automaton). All (AreWithin (length table) (length others)) c.as_slice-3.result.now) (sym c.as_slice-2.ensures.value)
-    (subst (λ (levels : List Names). All (AreWithin (length table) (length i.empties.items)) levels) (sym c.as_slice-3.ensures.value) all)
+    subst (λ (others : List Automaton). All (AreWithin (length table) (length others)) c.as_slice-4.result.now) (sym c.as_slice-3.ensures.value)
+    (subst (λ (levels : List Names). All (AreWithin (length table) (length i.empties.items)) levels) (sym c.as_slice-4.ensures.value) all)
 
 pub invariant_of-self-in_err-copied : goal.invariant_of-self-in_err-copied
 invariant_of-self-in_err-copied c =
@@ -109,21 +109,21 @@ pub returns-clause-kept : goal.returns-clause-kept
 returns-clause-kept c =
     let i = c.self.inside in
     let p = i.position in
-    let end = (goal.at.returns-clause-kept c).After-as_slice-3 in
+    let end = (goal.at.returns-clause-kept c).After-as_slice-4 in
     let start = (goal.at.returns-clause-kept c).After-as_slice in
     let table = c.kept_levels.new.work.sets in
     let some : 0 < last_ply i.winner p.turn c.args.moves = omega (arith, last_is start, c.requires.some) in
     let names = c.in_ok-kept.kept.items in
     let are = kept_are p i.work.memo.budget i.masks.items i.empties.items (take i.count i.work.sets) i.levels.items c.self.invariant.1 i.winner c.args.moves table names (omega (arith, within start)) some c.in_ok-kept.ensures.names (ends end) in
     let made =
-    c.in_ok-copied.ensures ∙ ap (λ (others : List Automaton). map (sets_or table others) c.as_slice-3.result.now) c.as_slice-2.ensures.value
-    ∙ ap (λ (levels : List Names). map (sets_or table i.empties.items) levels) c.as_slice-3.ensures.value in
+    c.in_ok-copied.ensures ∙ ap (λ (others : List Automaton). map (sets_or table others) c.as_slice-4.result.now) c.as_slice-3.ensures.value
+    ∙ ap (λ (levels : List Names). map (sets_or table i.empties.items) levels) c.as_slice-4.ensures.value in
     let here = subst (λ (kept : List (List Automaton)). AreKept i.winner p c.args.moves (sets_at (masks_of p) kept)) (sym made) are in
     subst (λ (s : SolverState). AreKept s.winner s.position c.args.moves (sets_at (masks_of s.position) c.in_ok-copied.field-0.items)) c.self.view_is here
 
 pub returns-clause-within : goal.returns-clause-within
 returns-clause-within c =
-    let end = (goal.at.returns-clause-within c).After-as_slice-3 in
+    let end = (goal.at.returns-clause-within c).After-as_slice-4 in
     let here : IsWithin (plan_of c.self.inside.winner c.self.inside.position c.args.moves) c.self.inside.work.memo.budget =
     record { value = map (level_of c.kept_levels.new.work.sets (masks_of c.self.inside.position)) c.in_ok-kept.kept.items; ends = ends end } in
     subst (λ (s : SolverState). IsWithin (plan_of s.winner s.position c.args.moves) s.budget) c.self.view_is here
