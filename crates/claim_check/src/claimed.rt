@@ -21,7 +21,12 @@ pub(crate) fn claimed_set(claimed: &ClaimedSets, ply: u8, mask: u8) -> Option<&A
     requires { claimed.now.masks.items ≡ masks_of claimed.now.position }
     ensures { option_copied result ≡ claimed_at (claim_in claimed.now) ply mask }
 {
-    set_at(claimed.masks.as_slice(), claimed.plies.as_slice(), ply, mask)
+    set_at(
+        claimed.masks.as_slice(),
+        claimed.plies.as_slice(),
+        ply,
+        mask,
+    )
 }
 
 /// The level that has a copy of this set for a mask, and no set for the others.

@@ -19,7 +19,8 @@ use crate::claimed::claimed_level;
 use crate::rules::{Found, judged_by, rule_at};
 use claim_plan::{Rule, RuleAt};
 use mate_plan::{
-    Bench, LevelNames, MovesInto, PartName, Reaching, Stage, Work, are_answered, have_replies, reach_level,
+    Bench, LevelNames, MovesInto, PartName, Reaching, Stage, Work, are_answered, have_replies,
+    reach_level,
 };
 use set_plan::{PlanError, Steps, each};
 use winning_sets::ClaimedSets;
@@ -151,8 +152,11 @@ struct AnswersByMask<'a> {
 
 impl Steps for AnswersByMask<'_> {
     type Work = Work;
+
     type Item = u8;
+
     type Value = Option<RuleAt>;
+
     type Part = PartName;
 
     ghost Seen = { plan.Finding };
@@ -195,8 +199,11 @@ struct StalematesByMask<'a> {
 
 impl Steps for StalematesByMask<'_> {
     type Work = Work;
+
     type Item = u8;
+
     type Value = Option<RuleAt>;
+
     type Part = PartName;
 
     ghost Seen = { plan.Finding };
@@ -252,7 +259,12 @@ fn check_all_left(bench: &Bench, work: &mut Work, claimed: &ClaimedSets, replies
 }
 
 /// Whether the loser is in check or has a reply in each claimed position, mask by mask.
-fn check_all_stale(bench: &Bench, work: &mut Work, claimed: &ClaimedSets, replies: &Replies) -> Found
+fn check_all_stale(
+    bench: &Bench,
+    work: &mut Work,
+    claimed: &ClaimedSets,
+    replies: &Replies,
+) -> Found
     requires of { bench.now.position.now ≡ claimed.now.position }
     requires ready { IsReady claimed.now }
     requires replies { AreReplies claimed.now replies.now.ply work.old.sets replies.now }
@@ -303,8 +315,11 @@ struct RepliesByPly<'a> {
 
 impl Steps for RepliesByPly<'_> {
     type Work = Work;
+
     type Item = u8;
+
     type Value = Option<RuleAt>;
+
     type Part = PartName;
 
     ghost Seen = { plan.Finding };
@@ -334,7 +349,12 @@ impl Steps for RepliesByPly<'_> {
 }
 
 /// The rules of the replies at all plies of the loser.
-pub(crate) fn check_replies(bench: &Bench, work: &mut Work, claimed: &ClaimedSets, plies: &[u8]) -> Found
+pub(crate) fn check_replies(
+    bench: &Bench,
+    work: &mut Work,
+    claimed: &ClaimedSets,
+    plies: &[u8],
+) -> Found
     requires of { bench.now.position.now ≡ claimed.now.position }
     requires ready { IsReady claimed.now }
     requires signed { AreSigned (claim_in claimed.now) }

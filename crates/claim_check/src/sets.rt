@@ -33,12 +33,7 @@ fn check_sign(alloc: Global, ply: u8, mask: u8, set: &Auto) -> Found
 }
 
 /// Whether the live men stand apart in the set of the stage.
-fn check_same(
-    bench: &Bench,
-    work: &mut Work,
-    claimed: &ClaimedSets,
-    at: &StageLevel,
-) -> Found
+fn check_same(bench: &Bench, work: &mut Work, claimed: &ClaimedSets, at: &StageLevel) -> Found
     requires of { bench.now.position.now ≡ claimed.now.position }
     requires ready { IsReady claimed.now }
     requires mask { IsGameMask claimed.now.position at.now.stage.mask }
@@ -56,12 +51,7 @@ fn check_same(
 }
 
 /// Whether no man of the side of the stage bears on the other king in its set.
-fn check_guard(
-    bench: &Bench,
-    work: &mut Work,
-    claimed: &ClaimedSets,
-    at: &StageLevel,
-) -> Found
+fn check_guard(bench: &Bench, work: &mut Work, claimed: &ClaimedSets, at: &StageLevel) -> Found
     requires of { bench.now.position.now ≡ claimed.now.position }
     requires ready { IsReady claimed.now }
     requires mask { IsGameMask claimed.now.position at.now.stage.mask }
@@ -79,13 +69,7 @@ fn check_guard(
 
 /// The rules of the set that is claimed at a ply for a mask. It is named only after its rule of signs is kept, since a
 /// named set is one of tuples of integers.
-fn check_set(
-    bench: &Bench,
-    work: &mut Work,
-    claimed: &ClaimedSets,
-    ply: u8,
-    mask: u8,
-) -> Found
+fn check_set(bench: &Bench, work: &mut Work, claimed: &ClaimedSets, ply: u8, mask: u8) -> Found
     requires of { bench.now.position.now ≡ claimed.now.position }
     requires ready { IsReady claimed.now }
     requires there { IsSome (claimed_at (claim_in claimed.now) ply mask) }
@@ -130,8 +114,11 @@ struct SetsByMask<'a> {
 
 impl Steps for SetsByMask<'_> {
     type Work = Work;
+
     type Item = u8;
+
     type Value = Option<RuleAt>;
+
     type Part = PartName;
 
     ghost Seen = { plan.Finding };
@@ -186,8 +173,11 @@ struct SetsByPly<'a> {
 
 impl Steps for SetsByPly<'_> {
     type Work = Work;
+
     type Item = u8;
+
     type Value = Option<RuleAt>;
+
     type Part = PartName;
 
     ghost Seen = { plan.Finding };
@@ -216,7 +206,12 @@ impl Steps for SetsByPly<'_> {
 }
 
 /// The rules of the sets of all plies of the loser.
-pub(crate) fn check_sets(bench: &Bench, work: &mut Work, claimed: &ClaimedSets, plies: &[u8]) -> Found
+pub(crate) fn check_sets(
+    bench: &Bench,
+    work: &mut Work,
+    claimed: &ClaimedSets,
+    plies: &[u8],
+) -> Found
     requires of { bench.now.position.now ≡ claimed.now.position }
     requires ready { IsReady claimed.now }
     requires plies { plies.now ≡ losers_plies claimed.now.winner claimed.now.position.turn claimed.now.moves }
