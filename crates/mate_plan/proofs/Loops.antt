@@ -9,14 +9,14 @@ use Rattle.lin_formula.specs.declared.formula.SetId.{SetId}
 use Rattle.rule_formula.specs.Fits.{IsGameMask, masks_of}
 use Rattle.rule_formula.specs.Mean.{mask_tracks}
 use Rattle.rule_formula.proofs.MasksTheorem.{masks_are}
-use Rattle.set_plan.specs.Outcome.{Answers, Ends, IsPlanError}
+use Rattle.set_plan.specs.Outcome.{Ends, IsPlanError}
 use Rattle.set_plan.specs.Program.{Give}
 use Rattle.set_plan.specs.Sets.{Grows, IsNameOn, set_at}
 use Rattle.set_plan.specs.declared.stop.PlanError.{PlanError}
 use Rattle.set_plan.proofs.Composition.{Ends-bind, Ends-give, Error-bind}
 use Rattle.set_plan.proofs.Takings.{contains_head, contains_rest}
-use Rattle.mate_plan.specs.Levels.{AreNames, AreNamesIn, AreNamesSoFar, HaveNames, level_in, level_of}
-use Rattle.mate_plan.specs.Plan.{Level, Program, for_masks, level_with, no_sets, with_mask}
+use Rattle.mate_plan.specs.Levels.{AreNames, AreNamesIn, AreNamesSoFar, HaveNames, level_in}
+use Rattle.mate_plan.specs.Plan.{Level, Program, level_with, no_sets, with_mask}
 use Rattle.mate_plan.specs.declared.names.PartName.{PartName}
 use Rattle.mate_plan.proofs.LevelLemmas.{from_none, have-grows, have_level-grows, have_push, level_push}
 

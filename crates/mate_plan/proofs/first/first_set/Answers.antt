@@ -1,4 +1,4 @@
-use Rattle.std.proofs.Common.{ℕ, refl, ◌∙◌, subst}
+use Rattle.std.proofs.Common.{ℕ, refl, subst}
 use Rattle.std.specs.Prelude.{IfOk, IfSome}
 use Rattle.lin_formula.specs.SetOf.{SetOf, as_set}
 use Rattle.rule_formula.specs.Fits.{masks_of}

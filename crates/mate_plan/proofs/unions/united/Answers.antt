@@ -1,10 +1,8 @@
-use Rattle.std.proofs.Common.{◌≡◌, List, map, ◌∙◌, Ok, Err, subst}
+use Rattle.std.proofs.Common.{map, ◌∙◌}
 use Rattle.std.proofs.lemmas.Result.{err_from_is_err_and}
-use Rattle.track_word.specs.declared.tracks.Var.{Var}
-use Rattle.lin_formula.specs.SetOf.{Nothing, as_set}
+use Rattle.lin_formula.specs.SetOf.{Nothing}
 use Rattle.lin_formula.specs.TreeOf.{tree_of}
 use Rattle.rule_formula.specs.Mean.{mask_tracks}
-use Rattle.set_plan.specs.Outcome.{Ends, IsPlanError}
 use Rattle.set_plan.specs.Program.{Give}
 use Rattle.set_plan.specs.Sets.{item_of, made_of}
 use Rattle.set_plan.specs.Unite.{unite}
