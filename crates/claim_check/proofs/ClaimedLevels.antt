@@ -8,13 +8,16 @@ use Rattle.lin_formula.specs.SetOf.{Nothing, SetOf, Table, as_set}
 use Rattle.lin_formula.specs.declared.formula.SetId.{SetId}
 use Rattle.rule_formula.specs.Fits.{masks_of}
 use Rattle.rule_formula.proofs.MasksTheorem.{masks_are}
-use Rattle.set_plan.specs.Outcome.{Ends}
-use Rattle.set_plan.specs.Program.{Give}
+use Rattle.set_plan.specs.Outcome.{Ends, Stops}
+use Rattle.set_plan.specs.Past.{Past}
+use Rattle.set_plan.specs.Program.{Entry, Give}
 use Rattle.set_plan.specs.Sets.{set_at}
-use Rattle.set_plan.proofs.Composition.{Ends-give, Ends-give_is}
+use Rattle.set_plan.specs.declared.stop.StepName.{StepName}
+use Rattle.set_plan.proofs.Composition.{Ends-give, Ends-give_is, none_some}
 use Rattle.set_plan.proofs.Takings.{contains_cases, contains_none}
 use Rattle.mate_plan.specs.Claim.{Claim, IsClaim, claimed_at, claimed_level}
 use Rattle.mate_plan.specs.Levels.{level_in}
+use Rattle.mate_plan.specs.declared.names.PartName.{PartName}
 use Rattle.mate_plan.specs.Plan.{Level, Program, for_masks, level_with, no_sets}
 
 module _ (c : Claim) (ply : ℕ) where
@@ -26,6 +29,13 @@ module _ (c : Claim) (ply : ℕ) where
   given_ends budget mask s is =
       let Is : SetOf → Type 0 = λ t. Ends (given mask) budget t in
       subst Is (sym is) (Ends-give budget (claimed_level c ply mask))
+
+  -- no step passes a budget
+  pub given_goes_on : (masks : List ℕ) (level : Level) (budget : ℕ) (name : StepName PartName) → Stops (for_masks masks given level) budget name → ⊥
+  given_goes_on [] level budget name h =
+      let Of : List (Entry PartName) → Type 0 = λ entries. Past entries budget (Some name) in
+      none_some (subst Of h.takes.0 h.past)
+  given_goes_on (m ∷ masks) level budget name h = given_goes_on masks (level_with level m (claimed_level c ply m)) budget name h
 
   abbrev after : Level → List ℕ → Level
   after level [] = level

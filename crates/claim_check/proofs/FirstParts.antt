@@ -1,19 +1,20 @@
 -- The rule of the start, by the side that moves first.
-use Rattle.std.proofs.Common.{◌≡◌, ◌≢◌, ℕ, zero, suc, Some, Result, Err, refl, subst}
+use Rattle.std.proofs.Common.{◌≡◌, ◌≢◌, ℕ, zero, suc, Some, Result, refl, subst}
 use Rattle.game_rules.specs.declared.men.Side.{Side}
 use Rattle.game_rules.specs.declared.men.Side.TheVariants.{White, Black}
 use Rattle.rule_formula.specs.Fits.{mask_of}
 use Rattle.rule_formula.specs.Placed.{tuple_of}
+use Rattle.set_plan.specs.Outcome.{Ends}
+use Rattle.set_plan.specs.declared.stop.PlanError.{PlanError}
 use Rattle.set_plan.proofs.Composition.{Ends-give}
 use Rattle.mate_plan.specs.Claim.{Claim, claimed_level}
 use Rattle.mate_plan.specs.Plan.{Level}
 use Rattle.mate_plan.specs.PlanOf.{rules_of}
 use Rattle.mate_plan.specs.Questions.{has_first_move}
-use Rattle.claim_plan.specs.CheckPlan.{check_first, check_moving, check_waiting, holds_by, rule_at}
+use Rattle.mate_plan.specs.declared.names.PartName.{PartName}
+use Rattle.claim_plan.specs.CheckPlan.{Finding, check_first, check_moving, check_waiting, holds_by, rule_at}
 use Rattle.claim_plan.specs.declared.names.Rule.TheVariants as rule
-use Rattle.claim_check.specs.Runs.{Runs}
-use Rattle.claim_check.specs.declared.error.Fault.{Fault}
-use Rattle.claim_check.specs.declared.error.Fault.TheVariants as fault
+use Rattle.claim_check.specs.Finds.{Finds}
 
 module _ (c : Claim) where
   pub first_moving : (winner first : Side) → first ≡ winner → check_first c winner first ≡ check_moving c c.moves
@@ -29,16 +30,16 @@ module _ (c : Claim) where
   first_waiting Black White e = refl
 
   module _ (budget : ℕ) where
-    pub nothing_runs : (moves : ℕ) → moves ≡ 0 → Runs (check_moving c moves) budget (Err (fault.NotKept (rule_at 0 (mask_of c.position) rule.First)))
-    nothing_runs zero e = Ends-give budget (Some (rule_at 0 (mask_of c.position) rule.First))
-    nothing_runs (suc moves) e = absurd (cc)
+    pub nothing_ends : (moves : ℕ) → moves ≡ 0 → Ends (check_moving c moves) budget (Some (rule_at 0 (mask_of c.position) rule.First))
+    nothing_ends zero e = Ends-give budget (Some (rule_at 0 (mask_of c.position) rule.First))
+    nothing_ends (suc moves) e = absurd (cc)
 
-    pub moving_runs : (moves : ℕ) (r : Result (Unit {0}) Fault) → moves ≢ 0 → c.position.turn ≡ c.winner → (level : Level) → level ≡ claimed_level c 1
-        → Runs (holds_by (rule_at 0 (mask_of c.position) rule.First) (has_first_move (rules_of c.position) c.position.turn (mask_of c.position) (tuple_of c.position) level)) budget r
-        → Runs (check_moving c moves) budget r
-    moving_runs zero r some turn level is h = absurd (some refl)
-    moving_runs (suc moves) r some turn level is h =
-        let By : Side → Type 0 = λ s. Runs (holds_by (rule_at 0 (mask_of c.position) rule.First) (has_first_move (rules_of c.position) s (mask_of c.position) (tuple_of c.position) level)) budget r in
-        let Into : Level → Type 0 = λ l. Runs
+    pub moving_finds : (moves : ℕ) (r : Result Finding (PlanError PartName)) → moves ≢ 0 → c.position.turn ≡ c.winner → (level : Level) → level ≡ claimed_level c 1
+        → Finds (holds_by (rule_at 0 (mask_of c.position) rule.First) (has_first_move (rules_of c.position) c.position.turn (mask_of c.position) (tuple_of c.position) level)) budget r
+        → Finds (check_moving c moves) budget r
+    moving_finds zero r some turn level is h = absurd (some refl)
+    moving_finds (suc moves) r some turn level is h =
+        let By : Side → Type 0 = λ s. Finds (holds_by (rule_at 0 (mask_of c.position) rule.First) (has_first_move (rules_of c.position) s (mask_of c.position) (tuple_of c.position) level)) budget r in
+        let Into : Level → Type 0 = λ l. Finds
         (holds_by (rule_at 0 (mask_of c.position) rule.First) (has_first_move (rules_of c.position) c.winner (mask_of c.position) (tuple_of c.position) l)) budget r in
         subst Into is (subst By turn h)

@@ -1,4 +1,4 @@
-pub mod RunLemmas
+pub mod FindLemmas
 pub mod ReadySets
 pub mod LosersPlies
 pub mod ClaimedLevels

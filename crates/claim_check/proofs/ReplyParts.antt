@@ -1,57 +1,47 @@
 -- The rules of the replies at a ply, one after another.
-use Rattle.std.proofs.Common.{◌≡◌, ℕ, suc, ◌+◌, List, Option, None, Result, Err, sym, ◌∙◌, subst}
-use Rattle.game_laws.proofs.SoundLemmas.{other_other}
-use Rattle.game_rules.specs.declared.men.Side.{Side}
-use Rattle.lin_formula.specs.declared.formula.SetId.{SetId}
-use Rattle.mate_plan.specs.Levels.{level_in}
+use Rattle.std.proofs.Common.{◌≡◌, ℕ, suc, ◌+◌, List, sym, ◌∙◌, subst}
 use Rattle.auto_core.specs.Automaton.{Automaton}
+use Rattle.game_laws.proofs.SoundLemmas.{other_other}
 use Rattle.game_rules.specs.Game.{other}
+use Rattle.game_rules.specs.declared.men.Side.{Side}
+use Rattle.rule_formula.specs.Fits.{masks_of}
 use Rattle.set_plan.specs.Outcome.{Ends, IsPlanError}
 use Rattle.set_plan.specs.Sets.{Grows}
 use Rattle.set_plan.specs.declared.stop.PlanError.{PlanError}
-use Rattle.rule_formula.specs.Fits.{masks_of}
-use Rattle.winning_sets.specs.declared.claimed.ClaimedSets.{ClaimedSets}
+use Rattle.set_plan.proofs.Composition.{Error-bind, LeadsTo, LeadsTo-later, LeadsTo-self}
 use Rattle.mate_plan.specs.Claim.{Claim, claimed_level}
-use Rattle.mate_plan.specs.Plan.{Level, Program, reach_level}
+use Rattle.mate_plan.specs.Plan.{Level, reach_level}
 use Rattle.mate_plan.specs.PlanOf.{rules_of}
 use Rattle.mate_plan.specs.declared.names.PartName.{PartName}
-use Rattle.claim_plan.specs.CheckPlan.{Finding, and_then, check_left, check_ply, check_stale, for_each}
-use Rattle.claim_check.specs.Replies.{AreReplies}
-use Rattle.claim_check.specs.Runs.{Runs}
-use Rattle.claim_check.specs.declared.replies.Replies.{Replies}
 use Rattle.mate_plan.proofs.LevelLemmas.{level-grows, names-grow}
-use Rattle.claim_check.specs.declared.error.Fault.{Fault}
-use Rattle.claim_check.specs.declared.error.Fault.TheVariants as fault
-use Rattle.claim_check.proofs.RunLemmas.{bind_fails, bind_runs, cut_runs, then_runs}
+use Rattle.winning_sets.specs.declared.claimed.ClaimedSets.{ClaimedSets}
+use Rattle.claim_plan.specs.CheckPlan.{and_then, check_left, check_ply, check_stale, for_each}
+use Rattle.claim_check.specs.Replies.{AreReplies}
+use Rattle.claim_check.specs.declared.replies.Replies.{Replies}
 
-module _ (c : Claim) (ply budget : ℕ) where
-  abbrev reach : Program Level
-  reach = reach_level (rules_of c.position) (other c.winner) (suc ply) (claimed_level c ply)
+-- what is reached is not known
+pub reach_stopped : (c : Claim) (ply budget : ℕ) (e : PlanError PartName)
+    → IsPlanError (reach_level (rules_of c.position) (other c.winner) (suc ply) (claimed_level c ply)) budget e → IsPlanError (check_ply c ply) budget e
+reach_stopped c ply budget e h =
+    let rules = rules_of c.position in
+    let lefts = λ (reached : Level). for_each (masks_of c.position) (check_left rules (other (other c.winner)) (suc ply) reached (claimed_level c (ply + 2))) in
+    let stales = λ (reached : Level). for_each (masks_of c.position) (check_stale rules (other c.winner) ply (claimed_level c ply) reached) in
+    Error-bind (reach_level rules (other c.winner) (suc ply) (claimed_level c ply)) (λ reached. and_then (lefts reached) (stales reached)) budget e h
 
-  abbrev lefts : Level → Program Finding
-  lefts reached = for_each (rules_of c.position).masks (check_left (rules_of c.position) (other (other c.winner)) (suc ply) reached (claimed_level c (ply + 2)))
-
-  abbrev stales : Level → Program Finding
-  stales reached = for_each (rules_of c.position).masks (check_stale (rules_of c.position) (other c.winner) ply (claimed_level c ply) reached)
-
-  abbrev after : Level → Program Finding
-  after reached = and_then (lefts reached) (stales reached)
-
-  pub reach_cut : (e : PlanError PartName) → IsPlanError (reach_level (rules_of c.position) (other c.winner) (suc ply) (claimed_level c ply)) budget e
-      → Runs (check_ply c ply) budget (Err (fault.Plan e))
-  reach_cut e h = bind_fails budget reach after e h
-
-  module _ (reached : Level) (ends : Ends (reach_level (rules_of c.position) (other c.winner) (suc ply) (claimed_level c ply)) budget reached) where
-    pub left_cut : (e : Fault)
-        → Runs (for_each (rules_of c.position).masks (check_left (rules_of c.position) (other (other c.winner)) (suc ply) reached (claimed_level c (ply + 2)))) budget (Err e)
-        → Runs (check_ply c ply) budget (Err e)
-    left_cut e h = bind_runs budget reach after reached (Err e) ends (cut_runs budget (lefts reached) (stales reached) e h)
-
-    pub stale_runs : (r : Result (Unit {0}) Fault)
-        → Ends (for_each (rules_of c.position).masks (check_left (rules_of c.position) (other (other c.winner)) (suc ply) reached (claimed_level c (ply + 2)))) budget None
-        → Runs (for_each (rules_of c.position).masks (check_stale (rules_of c.position) (other c.winner) ply (claimed_level c ply) reached)) budget r
-        → Runs (check_ply c ply) budget r
-    stale_runs r first h = bind_runs budget reach after reached r ends (then_runs budget (lefts reached) (stales reached) r first h)
+-- what is reached is known, and the rules of the replies are left, mask by mask
+pub ply_leads : (c : Claim) (ply budget k : ℕ) (masks : List ℕ) (reached : Level) → k ≡ ply → masks ≡ masks_of c.position
+    → Ends (reach_level (rules_of c.position) (other c.winner) (suc ply) (claimed_level c ply)) budget reached
+    → LeadsTo (and_then (for_each masks (check_left (rules_of c.position) c.winner (suc k) reached (claimed_level c (k + 2))))
+    (for_each masks (check_stale (rules_of c.position) (other c.winner) k (claimed_level c k) reached))) (check_ply c ply) budget
+ply_leads c ply budget k masks reached at_ply masks_are ends =
+    let rules = rules_of c.position in
+    let after = λ (s : Side) (n : ℕ) (ms : List ℕ) (l : Level). and_then (for_each ms (check_left rules s (suc n) l (claimed_level c (n + 2)))) (for_each ms (check_stale rules (other c.winner) n (claimed_level c n) l)) in
+    let By : Side → Type 0 = λ s. LeadsTo (after s ply (masks_of c.position) reached) (check_ply c ply) budget in
+    let At : ℕ → Type 0 = λ n. LeadsTo (after c.winner n (masks_of c.position) reached) (check_ply c ply) budget in
+    let Over : List ℕ → Type 0 = λ ms. LeadsTo (after c.winner k ms reached) (check_ply c ply) budget in
+    let all = LeadsTo-later (reach_level rules (other c.winner) (suc ply) (claimed_level c ply)) (after (other (other c.winner)) ply (masks_of c.position)) (check_ply c ply) budget reached ends
+    (LeadsTo-self (check_ply c ply) budget) in
+    subst Over (sym masks_are) (subst At (sym at_ply) (subst By (other_other c.winner) all))
 
 -- the levels stay what they are while the table grows
 pub replies_grow : (s : ClaimedSets) (ply : ℕ) (old new : List Automaton) (r : Replies) → Grows old new → AreReplies s ply old r → AreReplies s ply new r
@@ -68,22 +58,7 @@ replies_grow s ply old new r grows are =
       later_is = level-grows men old new masks r.later grows are.later ∙ are.later_is;
     }
 
--- all rules of the replies of a ply, with the names that hold the levels
-module _ (c : Claim) (ply budget : ℕ) (r : Result (Unit {0}) Fault) (k : ℕ) (same : k ≡ ply)
-    (sets after_left : List Automaton) (kept : after_left ≡ sets) (reached : List (Option SetId)) (now later : ℕ) (first_budget : now ≡ budget) (next_budget : later ≡ now) where
-  pub replies_run : Ends (reach_level (rules_of c.position) (other c.winner) (suc ply) (claimed_level c ply)) budget (level_in c.position sets reached)
-      → Ends (for_each (rules_of c.position).masks (check_left (rules_of c.position) c.winner (suc k) (level_in c.position sets reached) (claimed_level c (k + 2)))) now None
-      → Runs (for_each (rules_of c.position).masks (check_stale (rules_of c.position) (other c.winner) k (claimed_level c k) (level_in c.position after_left reached))) later r
-      → Runs (check_ply c ply) budget r
-  replies_run ends lefts_kept stales_run =
-      let level = level_in c.position sets reached in
-      let By : Side → Type 0 = λ s. Ends (for_each (rules_of c.position).masks (check_left (rules_of c.position) s (suc ply) level (claimed_level c (ply + 2)))) budget None in
-      let Left_at : ℕ → Type 0 = λ n. Ends (for_each (rules_of c.position).masks (check_left (rules_of c.position) c.winner (suc n) level (claimed_level c (n + 2)))) budget None in
-      let Left_within : ℕ → Type 0 = λ b. Ends (for_each (rules_of c.position).masks (check_left (rules_of c.position) c.winner (suc k) level (claimed_level c (k + 2)))) b None in
-      let Stale_at : ℕ → Type 0 = λ n. Runs (for_each (rules_of c.position).masks (check_stale (rules_of c.position) (other c.winner) n (claimed_level c n) level)) budget r in
-      let Stale_within : ℕ → Type 0 = λ b. Runs (for_each (rules_of c.position).masks (check_stale (rules_of c.position) (other c.winner) k (claimed_level c k) level)) b r in
-      let Stale_in : List Automaton → Type 0 = λ t. Runs
-      (for_each (rules_of c.position).masks (check_stale (rules_of c.position) (other c.winner) k (claimed_level c k) (level_in c.position t reached))) later r in
-      stale_runs c ply budget level ends r
-      (subst By (sym (other_other c.winner)) (subst Left_at same (subst Left_within first_budget lefts_kept)))
-      (subst Stale_at same (subst Stale_within (next_budget ∙ first_budget) (subst Stale_in kept stales_run)))
+pub at_own_ply : (s : ClaimedSets) (ply : ℕ) (table : List Automaton) (r : Replies) → AreReplies s ply table r → AreReplies s r.ply table r
+at_own_ply s ply table r are =
+    let At : ℕ → Type 0 = λ k. AreReplies s k table r in
+    subst At (sym are.ply_is) are

@@ -1,7 +1,6 @@
 -- What the check of a claim answers.
 use Rattle.std.specs.Prelude.{◌≡◌, ℕ, Some}
 use Rattle.set_plan.specs.Outcome.{Ends}
-use Rattle.set_plan.specs.declared.stop.PlanError.TheVariants as plan_error
 use Rattle.mate_plan.specs.Claim.{Claim}
 use Rattle.winning_sets.specs.Claimed.{claim_of}
 use Rattle.winning_sets.specs.Solve.{IsSolveError, Solution}
@@ -11,8 +10,6 @@ use Rattle.claim_plan.specs.CheckPlan.{check_plan}
 use Rattle.claim_plan.specs.SameClaims.{IsSameClaim}
 use Rattle.claim_check.specs.declared.error.CheckError.{CheckError}
 use Rattle.claim_check.specs.declared.error.CheckError.TheVariants as check_error
-use Rattle.claim_check.specs.declared.error.Fault.{Fault}
-use Rattle.claim_check.specs.declared.error.Fault.TheVariants as fault
 
 -- the solution comes of the claim: its sets are those that are claimed, though their tables may be others
 pub record IsChecked (c : Claim) (s : Solution) : Type 0 where
@@ -24,10 +21,3 @@ abbrev pub IsCheckError : Claim → ℕ → CheckError → Type 0
 IsCheckError c budget (check_error.NotKept failed) = Ends (check_plan c) budget (Some failed)
 IsCheckError c budget (check_error.Over step) = IsSolveError (check_plan c) c.moves budget (solve_error.Over step)
 IsCheckError c budget check_error.Memory = Unit {0}
-
--- why a claim of so many moves is not accepted, from why its plan is not gone through
-abbrev pub check_error_of : ℕ → Fault → CheckError
-check_error_of moves (fault.NotKept failed) = check_error.NotKept failed
-check_error_of moves (fault.Plan (plan_error.Over name)) =
-    check_error.Over (record { moves = moves; ply = name.part.ply; mask = name.part.mask; part = name.part.part; at = name.at })
-check_error_of moves (fault.Plan plan_error.Memory) = check_error.Memory

@@ -1,5 +1,6 @@
 pub use Rattle.claim_plan.specs.CheckPlan
-pub mod Runs
+pub mod Finds
+pub mod Grown
 pub mod Plies
 pub mod Ready
 pub mod Replies

@@ -1,9 +1,9 @@
 -- Claimed sets with which the plan of their claim can be gone through.
-use Rattle.std.specs.Prelude.{◌≡◌, ℕ, ◌≤◌, length, Some}
+use Rattle.std.specs.Prelude.{◌≡◌, ℕ, ◌≤◌, length, IsSome, Some}
 use Rattle.auto_core.specs.Automaton.{Automaton}
 use Rattle.auto_core.specs.Integers.{DecidesIntegers}
 use Rattle.auto_core.specs.Reduced.{IsReduced}
-use Rattle.rule_formula.specs.Fits.{masks_of}
+use Rattle.rule_formula.specs.Fits.{IsGameMask, masks_of}
 use Rattle.mate_plan.specs.Claim.{Claim, IsClaim, claimed_at}
 use Rattle.winning_sets.specs.Claimed.{claim_of, solution_of}
 use Rattle.winning_sets.specs.declared.claimed.ClaimedSets.{ClaimedSets}
@@ -19,6 +19,10 @@ pub record IsReady (s : ClaimedSets) : Type 0 where
   pub claim : IsClaim (claim_in s)
   pub reduced : (ply mask : ℕ) (a : Automaton) → claimed_at (claim_in s) ply mask ≡ Some a → IsReduced a
   pub few : (ply mask : ℕ) (a : Automaton) → claimed_at (claim_in s) ply mask ≡ Some a → length a.accept ≤ 200000
+
+-- a set is claimed at the ply for each mask of the game
+abbrev pub AreThere : Claim → ℕ → Type 0
+AreThere c ply = (mask : ℕ) → IsGameMask c.position mask → IsSome (claimed_at c ply mask)
 
 -- each claimed set decides a set of integers
 abbrev pub AreSigned : Claim → Type 0

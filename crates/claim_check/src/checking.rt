@@ -5,31 +5,39 @@ ghost use Rattle.claim_plan.specs.CheckPlan.{check_plan as plan_of};
 ghost use Rattle.strategy_file.specs.Claims.{claim_of};
 ghost use Rattle.strategy_file.specs.Fitting.{HasFile};
 ghost use Rattle.claim_check.specs.Check.{IsCheckError, IsChecked};
+ghost use Rattle.claim_check.specs.Finds.{Finds};
 ghost use Rattle.claim_check.specs.Ready.{IsReady, claim_in};
-ghost use Rattle.claim_check.specs.Runs.{Runs};
 
-use crate::bench::Bench;
-use crate::error::{CheckError, Fault, check_error};
+use crate::error::{CheckError, check_error};
 use crate::first::check_first;
 use crate::plies::losers_plies;
 use crate::reduced::reduced_claim;
 use crate::replies::check_replies;
+use crate::rules::Found;
 use crate::sets::check_sets;
-use formula_auto::Memo;
-use set_plan::Sets;
+use mate_plan::{Bench, Work};
 use std::alloc::Global;
 use strategy_file::Claim;
 use winning_sets::{ClaimedSets, Solved};
 
 /// Goes through the plan of a claim: the claimed sets by themselves, the start, and the replies.
-fn check_plan(bench: &mut Bench, claimed: &ClaimedSets) -> Result<(), Fault>
+fn check_plan(bench: &Bench, work: &mut Work, claimed: &ClaimedSets) -> Found
+    requires of { bench.now.position.now ≡ claimed.now.position }
     requires ready { IsReady claimed.now }
-    ensures { Runs (plan_of (claim_in claimed.now)) bench.old.memo.budget result }
+    ensures { Finds (plan_of (claim_in claimed.now)) work.old.memo.budget result }
 {
-    let plies = losers_plies(claimed.winner, claimed.position.turn(), claimed.moves);
-    check_sets(bench, claimed, plies)?;
-    check_first(bench, claimed)?;
-    check_replies(bench, claimed, plies)
+    let losers = losers_plies(claimed.winner, claimed.position.turn(), claimed.moves);
+    let list = losers.list(bench.alloc)?;
+    let plies = list.as_slice();
+    let sets = check_sets(bench, work, claimed, plies)?;
+    if sets.is_some() {
+        return Ok(sets);
+    }
+    let first = check_first(bench, work, claimed)?;
+    if first.is_some() {
+        return Ok(first);
+    }
+    check_replies(bench, work, claimed, plies)
 }
 
 /// Checks a claim, whoever made it. The answer is the solved position of its sets, or the first rule that the claim does
@@ -43,13 +51,14 @@ pub fn check(alloc: Global, claim: Claim, budget: u32) -> Result<Solved, CheckEr
 {
     let moves = claim.moves;
     let claimed = reduced_claim(alloc, claim)?;
-    let mut bench = Bench {
+    let bench = Bench {
         alloc,
-        memo: Memo::new(alloc, budget),
-        sets: Sets::new(alloc),
+        position: &claimed.position,
+        masks: claimed.masks.as_slice(),
     };
-    match check_plan(&mut bench, &claimed) {
-        Ok(()) => Ok(Solved::from_sets(alloc, claimed)),
-        Err(fault) => Err(check_error(moves, fault)),
+    match check_plan(&bench, &mut Work::new(alloc, budget), &claimed) {
+        Ok(None) => Ok(Solved::from_sets(alloc, claimed)),
+        Ok(Some(rule)) => Err(CheckError::NotKept(rule)),
+        Err(error) => Err(check_error(moves, error)),
     }
 }

@@ -1,62 +1,57 @@
 //! The sets that are claimed, one by one, and as levels of a plan.
-ghost use Rattle.std.specs.Prelude.{◌≡◌, [], IfOk, option_copied, slice_index_or};
+ghost use Rattle.std.specs.Prelude.{◌≡◌, IfOk, option_copied};
 ghost use Rattle.lin_formula.specs.SetOf.{Table, as_set};
 ghost use Rattle.rule_formula.specs.Fits.{IsGameMask, masks_of};
 ghost use Rattle.rule_formula.specs.Mean.{mask_tracks as tracks_at};
+ghost use Rattle.set_plan.specs.Program.{Give};
 ghost use Rattle.set_plan.specs.Sets.{Grows, IsNameOn, IsSetOn, set_at};
 ghost use Rattle.mate_plan.specs.Claim.{claimed_at, claimed_level as level_at};
 ghost use Rattle.mate_plan.specs.Levels.{AreNamesIn, level_in};
 ghost use Rattle.claim_check.specs.Ready.{AreSigned, IsReady, claim_in};
 
-use crate::bench::Bench;
 use auto_core::Auto;
-use chess_game::Position;
 use lin_formula::SetId;
-use mask_sets::MaskSets;
-use mate_plan::{LevelNames, one_level};
+use mate_plan::{Bench, LevelNames, MaskSets, PartName, Work, level_by, one_level};
+use set_plan::PlanError;
 use std::alloc::AllocError;
-use winning_sets::{ClaimedSets, PlySets};
-
-/// The sets of a ply, and none past the last ply.
-fn sets_of_ply(plies: &[PlySets], ply: u8) -> &[Auto]
-    ensures { result.now ≡ slice_index_or plies.now ply [] }
-{
-    if (ply as usize) < plies.len() {
-        plies[ply as usize].as_slice()
-    } else {
-        &[]
-    }
-}
+use winning_sets::{ClaimedSets, set_at};
 
 /// The set that is claimed at a ply for a mask.
 pub(crate) fn claimed_set(claimed: &ClaimedSets, ply: u8, mask: u8) -> Option<&Auto>
     requires { claimed.now.masks.items ≡ masks_of claimed.now.position }
     ensures { option_copied result ≡ claimed_at (claim_in claimed.now) ply mask }
 {
-    let sets = sets_of_ply(claimed.plies.as_slice(), ply);
-    MaskSets::new(claimed.masks.as_slice(), sets).get(mask)
+    set_at(
+        claimed.masks.as_slice(),
+        claimed.plies.as_slice(),
+        ply,
+        mask,
+    )
 }
 
 /// The level that has a copy of this set for a mask, and no set for the others.
 pub(crate) fn lone_level(
-    bench: &mut Bench,
-    p: &Position,
+    bench: &Bench,
+    work: &mut Work,
+    claimed: &ClaimedSets,
     mask: u8,
     set: &Auto,
 ) -> Result<LevelNames, AllocError>
-    requires mask { IsGameMask p.now mask }
-    requires set { IsSetOn (tracks_at p.now mask) set.now }
-    ensures names { IfOk result (AreNamesIn p.now bench.new.sets) }
-    ensures set { IfOk result (λ level. level_in p.now bench.new.sets level mask ≡ Table set.now) }
-    ensures budget { bench.new.memo.budget ≡ bench.old.memo.budget }
+    requires of { bench.now.position.now ≡ claimed.now.position }
+    requires mask { IsGameMask claimed.now.position mask }
+    requires set { IsSetOn (tracks_at claimed.now.position mask) set.now }
+    ensures names { IfOk result (AreNamesIn claimed.now.position work.new.sets) }
+    ensures set { IfOk result (λ level. level_in claimed.now.position work.new.sets level mask ≡ Table set.now) }
+    ensures grows { Grows work.old.sets work.new.sets }
+    ensures budget { work.new.memo.budget ≡ work.old.memo.budget }
 {
-    let name = bench.sets.put(set.copy()?)?;
-    one_level(bench.alloc, p, mask, Some(name))
+    let name = work.sets.put(set.copy()?)?;
+    one_level(bench, mask, Some(name))
 }
 
 /// The name of a copy of the set that is claimed at a ply for a mask.
 fn claimed_name(
-    bench: &mut Bench,
+    work: &mut Work,
     claimed: &ClaimedSets,
     ply: u8,
     mask: u8,
@@ -64,35 +59,59 @@ fn claimed_name(
     requires ready { IsReady claimed.now }
     requires signed { AreSigned (claim_in claimed.now) }
     ensures set { IfOk result (λ name.
-        set_at bench.new.sets name ≡ as_set (claimed_at (claim_in claimed.now) ply mask)) }
-    ensures name { IfOk result (IsNameOn (tracks_at claimed.now.position mask) bench.new.sets) }
-    ensures grows { Grows bench.old.sets bench.new.sets }
-    ensures budget { bench.new.memo.budget ≡ bench.old.memo.budget }
+        set_at work.new.sets name ≡ as_set (claimed_at (claim_in claimed.now) ply mask)) }
+    ensures name { IfOk result (IsNameOn (tracks_at claimed.now.position mask) work.new.sets) }
+    ensures grows { Grows work.old.sets work.new.sets }
+    ensures budget { work.new.memo.budget ≡ work.old.memo.budget }
 {
     match claimed_set(claimed, ply, mask) {
         None => Ok(None),
-        Some(set) => Ok(Some(bench.sets.put(set.copy()?)?)),
+        Some(set) => Ok(Some(work.sets.put(set.copy()?)?)),
+    }
+}
+
+/// What is claimed at a ply, mask by mask.
+#[derive(Clone, Copy)]
+struct ClaimedPly<'a> {
+    claimed: &'a ClaimedSets,
+    ply: u8,
+}
+
+impl MaskSets for ClaimedPly<'_> {
+    ghost program = { λ it _ _ mask. Give (level_at (claim_in it.claimed.now) it.ply mask) };
+
+    ghost fits = { λ it p _. IsReady it.claimed.now
+        × AreSigned (claim_in it.claimed.now) × (p ≡ it.claimed.now.position) };
+
+    fn name(
+        &self,
+        _bench: &Bench,
+        work: &mut Work,
+        mask: u8,
+    ) -> Result<Option<SetId>, PlanError<PartName>> {
+        Ok(claimed_name(work, self.claimed, self.ply, mask)?)
     }
 }
 
 /// What is claimed at a ply, for each mask. Past the last ply nothing is.
 pub(crate) fn claimed_level(
-    bench: &mut Bench,
+    bench: &Bench,
+    work: &mut Work,
     claimed: &ClaimedSets,
     ply: u8,
 ) -> Result<LevelNames, AllocError>
+    requires of { bench.now.position.now ≡ claimed.now.position }
     requires ready { IsReady claimed.now }
     requires signed { AreSigned (claim_in claimed.now) }
     ensures level { IfOk result (λ level.
-        level_in claimed.now.position bench.new.sets level ≡ level_at (claim_in claimed.now) ply) }
-    ensures names { IfOk result (AreNamesIn claimed.now.position bench.new.sets) }
-    ensures grows { Grows bench.old.sets bench.new.sets }
-    ensures budget { bench.new.memo.budget ≡ bench.old.memo.budget }
+        level_in claimed.now.position work.new.sets level ≡ level_at (claim_in claimed.now) ply) }
+    ensures names { IfOk result (AreNamesIn claimed.now.position work.new.sets) }
+    ensures grows { Grows work.old.sets work.new.sets }
+    ensures budget { work.new.memo.budget ≡ work.old.memo.budget }
 {
-    let mut level = LevelNames::new(bench.alloc);
-    let masks = claimed.masks.as_slice();
-    for mask in masks {
-        level.push(claimed_name(bench, claimed, ply, *mask)?)?;
+    match level_by(bench, work, &ClaimedPly { claimed, ply }) {
+        Ok(level) => Ok(level),
+        Err(PlanError::Over(_)) => unreachable!(),
+        Err(PlanError::Memory) => Err(AllocError),
     }
-    Ok(level)
 }

@@ -4,18 +4,17 @@ ghost use Rattle.std.specs.Prelude.{◌≡◌, ◌↔◌, ℕ, IsTrue};
 ghost use Rattle.lin_formula.specs.SetOf.{Member};
 ghost use Rattle.rule_formula.specs.Fits.{mask_of};
 ghost use Rattle.rule_formula.specs.Placed.{tuple_of};
+ghost use Rattle.set_plan.specs.Outcome.{Ends};
 ghost use Rattle.mate_plan.specs.Claim.{claimed_level as level_at};
 ghost use Rattle.claim_plan.specs.CheckPlan as plan;
+ghost use Rattle.claim_check.specs.Finds.{Finds};
 ghost use Rattle.claim_check.specs.Ready.{AreSigned, IsReady, claim_in};
-ghost use Rattle.claim_check.specs.Runs.{Runs};
 
-use crate::bench::Bench;
 use crate::claimed::{claimed_level, claimed_set};
-use crate::error::Fault;
-use crate::rules::{kept_by, kept_or, rule_at};
+use crate::rules::{Found, judged, judged_by, rule_at};
 use claim_plan::{Rule, RuleAt};
 use mask_sets::coordinates;
-use mate_plan::has_first_move;
+use mate_plan::{Bench, Work, has_first_move};
 use winning_sets::ClaimedSets;
 
 /// The rule of the start.
@@ -39,51 +38,44 @@ fn is_claimed(claimed: &ClaimedSets) -> bool
 }
 
 /// The rule of the start where the winner is to move. Without a move he leads nowhere.
-fn check_moving(bench: &mut Bench, claimed: &ClaimedSets) -> Result<(), Fault>
+fn check_moving(bench: &Bench, work: &mut Work, claimed: &ClaimedSets) -> Found
+    requires of { bench.now.position.now ≡ claimed.now.position }
     requires ready { IsReady claimed.now }
     requires signed { AreSigned (claim_in claimed.now) }
     requires turn { claimed.now.position.turn ≡ claimed.now.winner }
-    ensures runs { Runs (plan.check_moving (claim_in claimed.now) claimed.now.moves) bench.old.memo.budget result }
-    ensures budget { bench.new.memo.budget ≡ bench.old.memo.budget }
+    ensures finds { Finds (plan.check_moving (claim_in claimed.now) claimed.now.moves) work.old.memo.budget result }
+    ensures budget { work.new.memo.budget ≡ work.old.memo.budget }
 {
     let rule = first_rule(claimed);
     if claimed.moves == 0 {
-        return Err(Fault::NotKept(rule));
+        return Ok(Some(rule));
     }
-    let level = claimed_level(bench, claimed, 1)?;
-    kept_by(
-        rule,
-        has_first_move(
-            bench.alloc,
-            &mut bench.memo,
-            &mut bench.sets,
-            &claimed.position,
-            &level,
-        ),
-    )
+    let level = claimed_level(bench, work, claimed, 1)?;
+    judged_by(rule, has_first_move(bench, work, &level))
 }
 
 /// The rule of the start where the loser is to move.
-fn check_waiting(claimed: &ClaimedSets) -> Result<(), Fault>
+fn check_waiting(claimed: &ClaimedSets) -> Option<RuleAt>
     requires ready { IsReady claimed.now }
     requires signed { AreSigned (claim_in claimed.now) }
-    ensures { (budget : ℕ) → Runs (plan.check_waiting (claim_in claimed.now)) budget result }
+    ensures { (budget : ℕ) → Ends (plan.check_waiting (claim_in claimed.now)) budget result }
 {
-    kept_or(first_rule(claimed), is_claimed(claimed))
+    judged(first_rule(claimed), is_claimed(claimed))
 }
 
 /// The rule of the start.
-pub(crate) fn check_first(bench: &mut Bench, claimed: &ClaimedSets) -> Result<(), Fault>
+pub(crate) fn check_first(bench: &Bench, work: &mut Work, claimed: &ClaimedSets) -> Found
+    requires of { bench.now.position.now ≡ claimed.now.position }
     requires ready { IsReady claimed.now }
     requires signed { AreSigned (claim_in claimed.now) }
-    ensures runs { Runs
+    ensures finds { Finds
         (plan.check_first (claim_in claimed.now) claimed.now.winner claimed.now.position.turn)
-        bench.old.memo.budget result }
-    ensures budget { bench.new.memo.budget ≡ bench.old.memo.budget }
+        work.old.memo.budget result }
+    ensures budget { work.new.memo.budget ≡ work.old.memo.budget }
 {
     if claimed.position.turn() == claimed.winner {
-        check_moving(bench, claimed)
+        check_moving(bench, work, claimed)
     } else {
-        check_waiting(claimed)
+        Ok(check_waiting(claimed))
     }
 }

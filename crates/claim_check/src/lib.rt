@@ -4,7 +4,6 @@
 //! solved position.
 #![tactic(auto)]
 
-mod bench;
 mod checking;
 mod claimed;
 mod error;

@@ -1,9 +1,10 @@
 //! The plies of the loser.
-ghost use Rattle.std.specs.Prelude.{◌≡◌, ◌≤◌};
+ghost use Rattle.std.specs.Prelude.{◌≡◌, ◌≤◌, All, IfOk};
 ghost use Rattle.claim_check.specs.Plies.{AreFew};
 ghost use Rattle.mate_plan.specs.Claim.{every_second, losers_plies as plies_of};
 
 use chess_game::Side;
+use std::alloc::{AllocError, Global};
 
 /// Every second ply from a first one on, so many of them.
 #[derive(Clone, Copy)]
@@ -23,6 +24,19 @@ impl Plies {
         ensures low { result ≤ 41 }
     {
         self.first + 2 * before
+    }
+
+    /// The plies, one after another.
+    pub(crate) fn list(self, alloc: Global) -> Result<Vec<u8>, AllocError>
+        requires few { AreFew self }
+        ensures list { IfOk result (λ plies. plies.items ≡ every_second self.first self.count) }
+        ensures low { IfOk result (λ plies. All (λ ply. ply ≤ 41) plies.items) }
+    {
+        let mut plies = Vec::new(alloc);
+        for before in 0..self.count {
+            plies.push(self.ply(before))?;
+        }
+        Ok(plies)
     }
 }
 

@@ -1,28 +1,28 @@
 //! The rules of the replies: each has an answer into what is claimed two plies later, and where the loser is not in check
 //! he has one.
-ghost use Rattle.std.specs.Prelude.{◌≡◌, suc, ◌+◌, ◌≤◌, IfOk};
+ghost use Rattle.std.specs.Prelude.{◌≡◌, suc, ◌+◌, ◌≤◌, All, IfOk};
 ghost use Rattle.game_rules.specs.Game.{other};
 ghost use Rattle.rule_formula.specs.Fits.{IsGameMask};
 ghost use Rattle.set_plan.specs.Outcome.{Answers};
 ghost use Rattle.set_plan.specs.Sets.{Grows};
-ghost use Rattle.mate_plan.specs.Claim.{claimed_level as level_at, every_second};
+ghost use Rattle.mate_plan.specs.Claim.{claimed_level as level_at};
 ghost use Rattle.mate_plan.specs.Levels.{level_in};
 ghost use Rattle.mate_plan.specs.Plan.{reach_level as reached_level};
 ghost use Rattle.mate_plan.specs.PlanOf.{rules_of};
 ghost use Rattle.claim_plan.specs.CheckPlan as plan;
-ghost use Rattle.claim_check.specs.Plies.{AreFew};
+ghost use Rattle.claim_check.specs.Finds.{Finds};
+ghost use Rattle.claim_check.specs.Grown.{grows_on, grows_self};
 ghost use Rattle.claim_check.specs.Ready.{AreSigned, IsReady, claim_in};
 ghost use Rattle.claim_check.specs.Replies.{AreReplies};
-ghost use Rattle.claim_check.specs.Runs.{Runs};
 
-use crate::bench::Bench;
 use crate::claimed::claimed_level;
-use crate::error::Fault;
-use crate::plies::Plies;
-use crate::rules::{kept_by, rule_at};
-use claim_plan::Rule;
-use mate_plan::{LevelNames, MovesInto, PartName, Stage, are_answered, have_replies, reach_level};
-use set_plan::PlanError;
+use crate::rules::{Found, judged_by, rule_at};
+use claim_plan::{Rule, RuleAt};
+use mate_plan::{
+    Bench, LevelNames, MovesInto, PartName, Reaching, Stage, Work, are_answered, have_replies,
+    reach_level,
+};
+use set_plan::{PlanError, Steps, each};
 use winning_sets::ClaimedSets;
 
 /// The replies at a ply of the loser.
@@ -39,31 +39,31 @@ struct Replies {
 
 /// The replies at a ply, which has a next one.
 fn replies_at(
-    bench: &mut Bench,
+    bench: &Bench,
+    work: &mut Work,
     claimed: &ClaimedSets,
     ply: u8,
 ) -> Result<Replies, PlanError<PartName>>
+    requires of { bench.now.position.now ≡ claimed.now.position }
     requires ready { IsReady claimed.now }
     requires signed { AreSigned (claim_in claimed.now) }
     requires ply { ply ≤ 41 }
     ensures reached { Answers
         (reached_level (rules_of claimed.now.position) (other claimed.now.winner) (suc ply)
         (level_at (claim_in claimed.now) ply))
-        bench.old.memo.budget (λ r. level_in claimed.now.position bench.new.sets r.reached) result }
-    ensures replies { IfOk result (λ r. AreReplies claimed.now ply bench.new.sets r) }
-    ensures budget { bench.new.memo.budget ≡ bench.old.memo.budget }
+        work.old.memo.budget (λ r. level_in claimed.now.position work.new.sets r.reached) result }
+    ensures replies { IfOk result (λ r. AreReplies claimed.now ply work.new.sets r) }
+    ensures grows { Grows work.old.sets work.new.sets }
+    ensures budget { work.new.memo.budget ≡ work.old.memo.budget }
 {
-    let here = claimed_level(bench, claimed, ply)?;
-    let reached = reach_level(
-        bench.alloc,
-        &mut bench.memo,
-        &mut bench.sets,
-        &claimed.position,
-        claimed.winner.other(),
-        ply + 1,
-        &here,
-    )?;
-    let later = claimed_level(bench, claimed, ply + 2)?;
+    let here = claimed_level(bench, work, claimed, ply)?;
+    let from = Reaching {
+        side: claimed.winner.other(),
+        ply: ply + 1,
+        level: &here,
+    };
+    let reached = reach_level(bench, work, &from)?;
+    let later = claimed_level(bench, work, claimed, ply + 2)?;
     Ok(Replies {
         ply,
         claimed: here,
@@ -74,20 +74,22 @@ fn replies_at(
 
 /// Whether each position with the mask that is reached has an answer.
 fn check_left(
-    bench: &mut Bench,
+    bench: &Bench,
+    work: &mut Work,
     claimed: &ClaimedSets,
     replies: &Replies,
     mask: u8,
-) -> Result<(), Fault>
+) -> Found
+    requires of { bench.now.position.now ≡ claimed.now.position }
     requires ready { IsReady claimed.now }
-    requires replies { AreReplies claimed.now replies.now.ply bench.old.sets replies.now }
-    ensures runs { Runs
+    requires replies { AreReplies claimed.now replies.now.ply work.old.sets replies.now }
+    ensures finds { Finds
         (plan.check_left (rules_of claimed.now.position) claimed.now.winner (suc replies.now.ply)
-        (level_in claimed.now.position bench.old.sets replies.now.reached)
+        (level_in claimed.now.position work.old.sets replies.now.reached)
         (level_at (claim_in claimed.now) (replies.now.ply + 2)) mask)
-        bench.old.memo.budget result }
-    ensures sets { bench.new.sets ≡ bench.old.sets }
-    ensures budget { bench.new.memo.budget ≡ bench.old.memo.budget }
+        work.old.memo.budget result }
+    ensures grows { Grows work.old.sets work.new.sets }
+    ensures budget { work.new.memo.budget ≡ work.old.memo.budget }
 {
     let ply = replies.ply + 1;
     let moves = MovesInto {
@@ -99,35 +101,31 @@ fn check_left(
         from: &replies.reached,
         into: &replies.later,
     };
-    kept_by(
+    judged_by(
         rule_at(ply, mask, Rule::Left),
-        are_answered(
-            bench.alloc,
-            &mut bench.memo,
-            &bench.sets,
-            &claimed.position,
-            &moves,
-        ),
+        are_answered(bench, work, &moves),
     )
 }
 
 /// Whether the loser is in check or has a reply in each claimed position with the mask.
 fn check_stale(
-    bench: &mut Bench,
+    bench: &Bench,
+    work: &mut Work,
     claimed: &ClaimedSets,
     replies: &Replies,
     mask: u8,
-) -> Result<(), Fault>
+) -> Found
+    requires of { bench.now.position.now ≡ claimed.now.position }
     requires ready { IsReady claimed.now }
     requires mask { IsGameMask claimed.now.position mask }
-    requires replies { AreReplies claimed.now replies.now.ply bench.old.sets replies.now }
-    ensures runs { Runs
+    requires replies { AreReplies claimed.now replies.now.ply work.old.sets replies.now }
+    ensures finds { Finds
         (plan.check_stale (rules_of claimed.now.position) (other claimed.now.winner) replies.now.ply
         (level_at (claim_in claimed.now) replies.now.ply)
-        (level_in claimed.now.position bench.old.sets replies.now.reached) mask)
-        bench.old.memo.budget result }
-    ensures grows { Grows bench.old.sets bench.new.sets }
-    ensures budget { bench.new.memo.budget ≡ bench.old.memo.budget }
+        (level_in claimed.now.position work.old.sets replies.now.reached) mask)
+        work.old.memo.budget result }
+    ensures grows { Grows work.old.sets work.new.sets }
+    ensures budget { work.new.memo.budget ≡ work.old.memo.budget }
 {
     let moves = MovesInto {
         stage: Stage {
@@ -138,88 +136,231 @@ fn check_stale(
         from: &replies.claimed,
         into: &replies.reached,
     };
-    kept_by(
+    judged_by(
         rule_at(replies.ply, mask, Rule::Stale),
-        have_replies(
-            bench.alloc,
-            &mut bench.memo,
-            &mut bench.sets,
-            &claimed.position,
-            &moves,
-        ),
+        have_replies(bench, work, &moves),
     )
 }
 
+/// Whether what is reached has answers, mask by mask.
+#[derive(Clone, Copy)]
+struct AnswersByMask<'a> {
+    bench: &'a Bench<'a>,
+    claimed: &'a ClaimedSets,
+    replies: &'a Replies,
+}
+
+impl Steps for AnswersByMask<'_> {
+    type Work = Work;
+
+    type Item = u8;
+
+    type Value = Option<RuleAt>;
+
+    type Part = PartName;
+
+    ghost Seen = { plan.Finding };
+
+    ghost view = { λ _ _ found. found };
+
+    ghost program = { λ s work mask. plan.go_on
+        (plan.check_left (rules_of s.claimed.now.position) s.claimed.now.winner (suc s.replies.now.ply)
+        (level_in s.claimed.now.position work.sets s.replies.now.reached)
+        (level_at (claim_in s.claimed.now) (s.replies.now.ply + 2)) mask) };
+
+    ghost budget = { λ _ work. work.memo.budget };
+
+    ghost fits = { λ s work _ masks. IsReady s.claimed.now
+        × (s.bench.now.position.now ≡ s.claimed.now.position)
+        × AreReplies s.claimed.now s.replies.now.ply work.sets s.replies.now
+        × All (IsGameMask s.claimed.now.position) masks };
+
+    ghost keeps = { λ _ old new. Grows old.sets new.sets };
+
+    fn step(&self, work: &mut Work, mask: &u8, found: Option<RuleAt>) -> Found {
+        if found.is_some() {
+            return Ok(found);
+        }
+        check_left(self.bench, work, self.claimed, self.replies, *mask)
+    }
+
+    ghost keeps_self = { λ _ work. grows_self work.sets };
+
+    ghost keeps_on = { λ _ u v w. grows_on u.sets v.sets w.sets };
+}
+
+/// Whether the loser is in check or has a reply, mask by mask.
+#[derive(Clone, Copy)]
+struct StalematesByMask<'a> {
+    bench: &'a Bench<'a>,
+    claimed: &'a ClaimedSets,
+    replies: &'a Replies,
+}
+
+impl Steps for StalematesByMask<'_> {
+    type Work = Work;
+
+    type Item = u8;
+
+    type Value = Option<RuleAt>;
+
+    type Part = PartName;
+
+    ghost Seen = { plan.Finding };
+
+    ghost view = { λ _ _ found. found };
+
+    ghost program = { λ s work mask. plan.go_on
+        (plan.check_stale (rules_of s.claimed.now.position) (other s.claimed.now.winner) s.replies.now.ply
+        (level_at (claim_in s.claimed.now) s.replies.now.ply)
+        (level_in s.claimed.now.position work.sets s.replies.now.reached) mask) };
+
+    ghost budget = { λ _ work. work.memo.budget };
+
+    ghost fits = { λ s work _ masks. IsReady s.claimed.now
+        × (s.bench.now.position.now ≡ s.claimed.now.position)
+        × AreReplies s.claimed.now s.replies.now.ply work.sets s.replies.now
+        × All (IsGameMask s.claimed.now.position) masks };
+
+    ghost keeps = { λ _ old new. Grows old.sets new.sets };
+
+    fn step(&self, work: &mut Work, mask: &u8, found: Option<RuleAt>) -> Found {
+        if found.is_some() {
+            return Ok(found);
+        }
+        check_stale(self.bench, work, self.claimed, self.replies, *mask)
+    }
+
+    ghost keeps_self = { λ _ work. grows_self work.sets };
+
+    ghost keeps_on = { λ _ u v w. grows_on u.sets v.sets w.sets };
+}
+
 /// Whether each position that is reached has an answer, mask by mask.
-fn check_all_left(bench: &mut Bench, claimed: &ClaimedSets, replies: &Replies) -> Result<(), Fault>
+fn check_all_left(bench: &Bench, work: &mut Work, claimed: &ClaimedSets, replies: &Replies) -> Found
+    requires of { bench.now.position.now ≡ claimed.now.position }
     requires ready { IsReady claimed.now }
-    requires replies { AreReplies claimed.now replies.now.ply bench.old.sets replies.now }
-    ensures runs { Runs
+    requires replies { AreReplies claimed.now replies.now.ply work.old.sets replies.now }
+    ensures finds { Finds
         (plan.for_each (rules_of claimed.now.position).masks
         (plan.check_left (rules_of claimed.now.position) claimed.now.winner (suc replies.now.ply)
-        (level_in claimed.now.position bench.old.sets replies.now.reached)
+        (level_in claimed.now.position work.old.sets replies.now.reached)
         (level_at (claim_in claimed.now) (replies.now.ply + 2))))
-        bench.old.memo.budget result }
-    ensures sets { bench.new.sets ≡ bench.old.sets }
-    ensures budget { bench.new.memo.budget ≡ bench.old.memo.budget }
+        work.old.memo.budget result }
+    ensures grows { Grows work.old.sets work.new.sets }
+    ensures budget { work.new.memo.budget ≡ work.old.memo.budget }
 {
-    let masks = claimed.masks.as_slice();
-    for mask in masks {
-        check_left(bench, claimed, replies, *mask)?;
-    }
-    Ok(())
+    let steps = AnswersByMask {
+        bench,
+        claimed,
+        replies,
+    };
+    each(&steps, work, claimed.masks.as_slice(), None)
 }
 
 /// Whether the loser is in check or has a reply in each claimed position, mask by mask.
-fn check_all_stale(bench: &mut Bench, claimed: &ClaimedSets, replies: &Replies) -> Result<(), Fault>
+fn check_all_stale(
+    bench: &Bench,
+    work: &mut Work,
+    claimed: &ClaimedSets,
+    replies: &Replies,
+) -> Found
+    requires of { bench.now.position.now ≡ claimed.now.position }
     requires ready { IsReady claimed.now }
-    requires replies { AreReplies claimed.now replies.now.ply bench.old.sets replies.now }
-    ensures runs { Runs
+    requires replies { AreReplies claimed.now replies.now.ply work.old.sets replies.now }
+    ensures finds { Finds
         (plan.for_each (rules_of claimed.now.position).masks
         (plan.check_stale (rules_of claimed.now.position) (other claimed.now.winner) replies.now.ply
         (level_at (claim_in claimed.now) replies.now.ply)
-        (level_in claimed.now.position bench.old.sets replies.now.reached)))
-        bench.old.memo.budget result }
-    ensures budget { bench.new.memo.budget ≡ bench.old.memo.budget }
+        (level_in claimed.now.position work.old.sets replies.now.reached)))
+        work.old.memo.budget result }
+    ensures grows { Grows work.old.sets work.new.sets }
+    ensures budget { work.new.memo.budget ≡ work.old.memo.budget }
 {
-    let masks = claimed.masks.as_slice();
-    for mask in masks {
-        check_stale(bench, claimed, replies, *mask)?;
-    }
-    Ok(())
+    let steps = StalematesByMask {
+        bench,
+        claimed,
+        replies,
+    };
+    each(&steps, work, claimed.masks.as_slice(), None)
 }
 
 /// The rules of the replies at a ply. Its sets are let go after it.
-fn check_ply(bench: &mut Bench, claimed: &ClaimedSets, ply: u8) -> Result<(), Fault>
+fn check_ply(bench: &Bench, work: &mut Work, claimed: &ClaimedSets, ply: u8) -> Found
+    requires of { bench.now.position.now ≡ claimed.now.position }
     requires ready { IsReady claimed.now }
     requires signed { AreSigned (claim_in claimed.now) }
     requires ply { ply ≤ 41 }
-    ensures runs { Runs (plan.check_ply (claim_in claimed.now) ply) bench.old.memo.budget result }
-    ensures budget { bench.new.memo.budget ≡ bench.old.memo.budget }
+    ensures finds { Finds (plan.check_ply (claim_in claimed.now) ply) work.old.memo.budget result }
+    ensures grows { Grows work.old.sets work.new.sets }
+    ensures budget { work.new.memo.budget ≡ work.old.memo.budget }
 {
-    let replies = replies_at(bench, claimed, ply)?;
-    check_all_left(bench, claimed, &replies)?;
-    check_all_stale(bench, claimed, &replies)?;
-    bench.sets.truncate(0);
-    Ok(())
+    let count = work.sets.count();
+    let replies = replies_at(bench, work, claimed, ply)?;
+    let left = check_all_left(bench, work, claimed, &replies)?;
+    if left.is_some() {
+        return Ok(left);
+    }
+    let stale = check_all_stale(bench, work, claimed, &replies)?;
+    work.sets.truncate(count);
+    Ok(stale)
+}
+
+/// The rules of the replies, ply by ply.
+#[derive(Clone, Copy)]
+struct RepliesByPly<'a> {
+    bench: &'a Bench<'a>,
+    claimed: &'a ClaimedSets,
+}
+
+impl Steps for RepliesByPly<'_> {
+    type Work = Work;
+
+    type Item = u8;
+
+    type Value = Option<RuleAt>;
+
+    type Part = PartName;
+
+    ghost Seen = { plan.Finding };
+
+    ghost view = { λ _ _ found. found };
+
+    ghost program = { λ s _ ply. plan.go_on (plan.check_ply (claim_in s.claimed.now) ply) };
+
+    ghost budget = { λ _ work. work.memo.budget };
+
+    ghost fits = { λ s _ _ plies. IsReady s.claimed.now
+        × (s.bench.now.position.now ≡ s.claimed.now.position)
+        × AreSigned (claim_in s.claimed.now) × All (λ ply. ply ≤ 41) plies };
+
+    ghost keeps = { λ _ old new. Grows old.sets new.sets };
+
+    fn step(&self, work: &mut Work, ply: &u8, found: Option<RuleAt>) -> Found {
+        if found.is_some() {
+            return Ok(found);
+        }
+        check_ply(self.bench, work, self.claimed, *ply)
+    }
+
+    ghost keeps_self = { λ _ work. grows_self work.sets };
+
+    ghost keeps_on = { λ _ u v w. grows_on u.sets v.sets w.sets };
 }
 
 /// The rules of the replies at all plies of the loser.
 pub(crate) fn check_replies(
-    bench: &mut Bench,
+    bench: &Bench,
+    work: &mut Work,
     claimed: &ClaimedSets,
-    losers: Plies,
-) -> Result<(), Fault>
+    plies: &[u8],
+) -> Found
+    requires of { bench.now.position.now ≡ claimed.now.position }
     requires ready { IsReady claimed.now }
     requires signed { AreSigned (claim_in claimed.now) }
-    requires few { AreFew losers }
-    ensures runs { Runs
-        (plan.for_each (every_second losers.first losers.count) (plan.check_ply (claim_in claimed.now)))
-        bench.old.memo.budget result }
-    ensures budget { bench.new.memo.budget ≡ bench.old.memo.budget }
+    requires low { All (λ ply. ply ≤ 41) plies.now }
+    ensures finds { Finds (plan.for_each plies.now (plan.check_ply (claim_in claimed.now))) work.old.memo.budget result }
+    ensures budget { work.new.memo.budget ≡ work.old.memo.budget }
 {
-    for i in 0..losers.count {
-        check_ply(bench, claimed, losers.ply(i))?;
-    }
-    Ok(())
+    each(&RepliesByPly { bench, claimed }, work, plies, None)
 }

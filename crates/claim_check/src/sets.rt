@@ -1,94 +1,91 @@
 //! The rules of the claimed sets: each by itself is a set of tuples of integers, its men stand apart, and the winner is
 //! not in check.
-ghost use Rattle.std.specs.Prelude.{◌≡◌, ℕ, IsSome, OnOk, Some};
+ghost use Rattle.std.specs.Prelude.{◌≡◌, ℕ, All, IsSome, None, Ok, Some};
 ghost use Rattle.auto_core.specs.Integers.{DecidesIntegers};
 ghost use Rattle.rule_formula.specs.Fits.{IsGameMask};
-ghost use Rattle.rule_formula.specs.Mean.{IsGame};
-ghost use Rattle.mate_plan.specs.Claim.{claimed_at, every_second, losers_plies};
+ghost use Rattle.set_plan.specs.Sets.{Grows};
+ghost use Rattle.mate_plan.specs.Claim.{claimed_at, losers_plies};
 ghost use Rattle.mate_plan.specs.Levels.{AreNamesIn, level_in};
 ghost use Rattle.mate_plan.specs.PlanOf.{rules_of};
 ghost use Rattle.mate_plan.specs.Questions as questions;
 ghost use Rattle.claim_plan.specs.CheckPlan as plan;
-ghost use Rattle.claim_check.specs.Plies.{AreFew};
-ghost use Rattle.claim_check.specs.Ready.{IsReady, claim_in};
-ghost use Rattle.claim_check.specs.Runs.{Runs};
+ghost use Rattle.claim_check.specs.Finds.{Finds};
+ghost use Rattle.claim_check.specs.Grown.{grows_on, grows_self};
+ghost use Rattle.claim_check.specs.Ready.{AreThere, IsReady, claim_in};
 
-use crate::bench::Bench;
 use crate::claimed::{claimed_set, lone_level};
-use crate::error::Fault;
-use crate::plies::Plies;
-use crate::rules::{kept_by, kept_or, rule_at};
+use crate::rules::{Found, judged, judged_by, rule_at};
 use auto_core::Auto;
 use auto_reduce::sign_stable;
-use chess_game::Position;
-use claim_plan::Rule;
-use mate_plan::{Stage, StageLevel, are_apart, are_safe};
+use claim_plan::{Rule, RuleAt};
+use mate_plan::{Bench, PartName, Stage, StageLevel, Work, are_apart, are_safe};
+use set_plan::{Steps, each};
 use std::alloc::Global;
 use winning_sets::ClaimedSets;
 
 /// Whether a claimed set is one of tuples of integers.
-fn check_sign(alloc: Global, ply: u8, mask: u8, set: &Auto) -> Result<(), Fault>
-    ensures runs { (budget : ℕ) → Runs (plan.check_sign ply mask (Some set.now)) budget result }
-    ensures signed { OnOk result (DecidesIntegers set.now) }
+fn check_sign(alloc: Global, ply: u8, mask: u8, set: &Auto) -> Found
+    ensures finds { (budget : ℕ) → Finds (plan.check_sign ply mask (Some set.now)) budget result }
+    ensures signed { result ≡ Ok None → DecidesIntegers set.now }
 {
     let stable = sign_stable(alloc, set)?;
-    kept_or(rule_at(ply, mask, Rule::Sign), stable)
+    Ok(judged(rule_at(ply, mask, Rule::Sign), stable))
 }
 
 /// Whether the live men stand apart in the set of the stage.
-fn check_same(bench: &mut Bench, p: &Position, at: &StageLevel) -> Result<(), Fault>
-    requires game { IsGame p.now }
-    requires mask { IsGameMask p.now at.now.stage.mask }
-    requires level { AreNamesIn p.now bench.old.sets at.now.level.now }
-    ensures runs { Runs
+fn check_same(bench: &Bench, work: &mut Work, claimed: &ClaimedSets, at: &StageLevel) -> Found
+    requires of { bench.now.position.now ≡ claimed.now.position }
+    requires ready { IsReady claimed.now }
+    requires mask { IsGameMask claimed.now.position at.now.stage.mask }
+    requires level { AreNamesIn claimed.now.position work.old.sets at.now.level.now }
+    ensures finds { Finds
         (plan.holds_by (plan.rule_at at.now.stage.ply at.now.stage.mask Rule.Same)
-        (questions.are_apart p.now at.now.stage.ply at.now.stage.mask
-        (level_in p.now bench.old.sets at.now.level.now at.now.stage.mask)))
-        bench.old.memo.budget result }
-    ensures sets { bench.new.sets ≡ bench.old.sets }
-    ensures budget { bench.new.memo.budget ≡ bench.old.memo.budget }
+        (questions.are_apart claimed.now.position at.now.stage.ply at.now.stage.mask
+        (level_in claimed.now.position work.old.sets at.now.level.now at.now.stage.mask)))
+        work.old.memo.budget result }
+    ensures sets { work.new.sets ≡ work.old.sets }
+    ensures budget { work.new.memo.budget ≡ work.old.memo.budget }
 {
     let rule = rule_at(at.stage.ply, at.stage.mask, Rule::Same);
-    kept_by(
-        rule,
-        are_apart(bench.alloc, &mut bench.memo, &bench.sets, p, at),
-    )
+    judged_by(rule, are_apart(bench, work, at))
 }
 
 /// Whether no man of the side of the stage bears on the other king in its set.
-fn check_guard(bench: &mut Bench, p: &Position, at: &StageLevel) -> Result<(), Fault>
-    requires game { IsGame p.now }
-    requires mask { IsGameMask p.now at.now.stage.mask }
-    requires level { AreNamesIn p.now bench.old.sets at.now.level.now }
-    ensures runs { Runs
-        (plan.check_guard (rules_of p.now) at.now.stage.side at.now.stage.ply at.now.stage.mask
-        (level_in p.now bench.old.sets at.now.level.now at.now.stage.mask))
-        bench.old.memo.budget result }
-    ensures budget { bench.new.memo.budget ≡ bench.old.memo.budget }
+fn check_guard(bench: &Bench, work: &mut Work, claimed: &ClaimedSets, at: &StageLevel) -> Found
+    requires of { bench.now.position.now ≡ claimed.now.position }
+    requires ready { IsReady claimed.now }
+    requires mask { IsGameMask claimed.now.position at.now.stage.mask }
+    requires level { AreNamesIn claimed.now.position work.old.sets at.now.level.now }
+    ensures finds { Finds
+        (plan.check_guard (rules_of claimed.now.position) at.now.stage.side at.now.stage.ply at.now.stage.mask
+        (level_in claimed.now.position work.old.sets at.now.level.now at.now.stage.mask))
+        work.old.memo.budget result }
+    ensures sets { work.new.sets ≡ work.old.sets }
+    ensures budget { work.new.memo.budget ≡ work.old.memo.budget }
 {
     let rule = rule_at(at.stage.ply, at.stage.mask, Rule::Guard);
-    kept_by(
-        rule,
-        are_safe(bench.alloc, &mut bench.memo, &bench.sets, p, at),
-    )
+    judged_by(rule, are_safe(bench, work, at))
 }
 
-/// The rules of a claimed set. It is named only after its rule of signs is kept, since a named set is one of tuples of
-/// integers.
-fn check_one(
-    bench: &mut Bench,
-    claimed: &ClaimedSets,
-    ply: u8,
-    mask: u8,
-    set: &Auto,
-) -> Result<(), Fault>
+/// The rules of the set that is claimed at a ply for a mask. It is named only after its rule of signs is kept, since a
+/// named set is one of tuples of integers.
+fn check_set(bench: &Bench, work: &mut Work, claimed: &ClaimedSets, ply: u8, mask: u8) -> Found
+    requires of { bench.now.position.now ≡ claimed.now.position }
     requires ready { IsReady claimed.now }
-    requires set { claimed_at (claim_in claimed.now) ply mask ≡ Some set.now }
-    ensures runs { Runs (plan.check_set (claim_in claimed.now) ply mask) bench.old.memo.budget result }
-    ensures budget { bench.new.memo.budget ≡ bench.old.memo.budget }
+    requires there { IsSome (claimed_at (claim_in claimed.now) ply mask) }
+    ensures finds { Finds (plan.check_set (claim_in claimed.now) ply mask) work.old.memo.budget result }
+    ensures grows { Grows work.old.sets work.new.sets }
+    ensures budget { work.new.memo.budget ≡ work.old.memo.budget }
 {
-    check_sign(bench.alloc, ply, mask, set)?;
-    let level = lone_level(bench, &claimed.position, mask, set)?;
+    let Some(set) = claimed_set(claimed, ply, mask) else {
+        unreachable!();
+    };
+    let sign = check_sign(bench.alloc, ply, mask, set)?;
+    if sign.is_some() {
+        return Ok(sign);
+    }
+    let count = work.sets.count();
+    let level = lone_level(bench, work, claimed, mask, set)?;
     let stage = Stage {
         side: claimed.winner.other(),
         ply,
@@ -98,57 +95,128 @@ fn check_one(
         stage,
         level: &level,
     };
-    check_same(bench, &claimed.position, &at)?;
-    check_guard(bench, &claimed.position, &at)?;
-    bench.sets.truncate(0);
-    Ok(())
-}
-
-/// The rules of the set that is claimed at a ply for a mask.
-fn check_set(bench: &mut Bench, claimed: &ClaimedSets, ply: u8, mask: u8) -> Result<(), Fault>
-    requires ready { IsReady claimed.now }
-    requires there { IsSome (claimed_at (claim_in claimed.now) ply mask) }
-    ensures runs { Runs (plan.check_set (claim_in claimed.now) ply mask) bench.old.memo.budget result }
-    ensures budget { bench.new.memo.budget ≡ bench.old.memo.budget }
-{
-    match claimed_set(claimed, ply, mask) {
-        Some(set) => check_one(bench, claimed, ply, mask, set),
-        None => unreachable!(),
+    let same = check_same(bench, work, claimed, &at)?;
+    if same.is_some() {
+        return Ok(same);
     }
+    let guard = check_guard(bench, work, claimed, &at)?;
+    work.sets.truncate(count);
+    Ok(guard)
 }
 
 /// The rules of the sets of a ply, mask by mask.
-fn check_sets_at(bench: &mut Bench, claimed: &ClaimedSets, ply: u8) -> Result<(), Fault>
-    requires ready { IsReady claimed.now }
-    requires there { (mask : ℕ) → IsGameMask claimed.now.position mask
-        → IsSome (claimed_at (claim_in claimed.now) ply mask) }
-    ensures runs { Runs (plan.check_sets (claim_in claimed.now) ply) bench.old.memo.budget result }
-    ensures budget { bench.new.memo.budget ≡ bench.old.memo.budget }
-{
-    let masks = claimed.masks.as_slice();
-    for mask in masks {
-        check_set(bench, claimed, ply, *mask)?;
+#[derive(Clone, Copy)]
+struct SetsByMask<'a> {
+    bench: &'a Bench<'a>,
+    claimed: &'a ClaimedSets,
+    ply: u8,
+}
+
+impl Steps for SetsByMask<'_> {
+    type Work = Work;
+
+    type Item = u8;
+
+    type Value = Option<RuleAt>;
+
+    type Part = PartName;
+
+    ghost Seen = { plan.Finding };
+
+    ghost view = { λ _ _ found. found };
+
+    ghost program = { λ s _ mask. plan.go_on (plan.check_set (claim_in s.claimed.now) s.ply mask) };
+
+    ghost budget = { λ _ work. work.memo.budget };
+
+    ghost fits = { λ s _ _ masks. IsReady s.claimed.now
+        × (s.bench.now.position.now ≡ s.claimed.now.position)
+        × All (λ mask. IsSome (claimed_at (claim_in s.claimed.now) s.ply mask)) masks };
+
+    ghost keeps = { λ _ old new. Grows old.sets new.sets };
+
+    fn step(&self, work: &mut Work, mask: &u8, found: Option<RuleAt>) -> Found {
+        if found.is_some() {
+            return Ok(found);
+        }
+        check_set(self.bench, work, self.claimed, self.ply, *mask)
     }
-    Ok(())
+
+    ghost keeps_self = { λ _ work. grows_self work.sets };
+
+    ghost keeps_on = { λ _ u v w. grows_on u.sets v.sets w.sets };
+}
+
+/// The rules of the sets of a ply.
+fn check_sets_at(bench: &Bench, work: &mut Work, claimed: &ClaimedSets, ply: u8) -> Found
+    requires of { bench.now.position.now ≡ claimed.now.position }
+    requires ready { IsReady claimed.now }
+    requires there { AreThere (claim_in claimed.now) ply }
+    ensures finds { Finds (plan.check_sets (claim_in claimed.now) ply) work.old.memo.budget result }
+    ensures grows { Grows work.old.sets work.new.sets }
+    ensures budget { work.new.memo.budget ≡ work.old.memo.budget }
+{
+    let steps = SetsByMask {
+        bench,
+        claimed,
+        ply,
+    };
+    each(&steps, work, claimed.masks.as_slice(), None)
+}
+
+/// The rules of the sets, ply by ply.
+#[derive(Clone, Copy)]
+struct SetsByPly<'a> {
+    bench: &'a Bench<'a>,
+    claimed: &'a ClaimedSets,
+}
+
+impl Steps for SetsByPly<'_> {
+    type Work = Work;
+
+    type Item = u8;
+
+    type Value = Option<RuleAt>;
+
+    type Part = PartName;
+
+    ghost Seen = { plan.Finding };
+
+    ghost view = { λ _ _ found. found };
+
+    ghost program = { λ s _ ply. plan.go_on (plan.check_sets (claim_in s.claimed.now) ply) };
+
+    ghost budget = { λ _ work. work.memo.budget };
+
+    ghost fits = { λ s _ _ plies. IsReady s.claimed.now
+        × (s.bench.now.position.now ≡ s.claimed.now.position) × All (AreThere (claim_in s.claimed.now)) plies };
+
+    ghost keeps = { λ _ old new. Grows old.sets new.sets };
+
+    fn step(&self, work: &mut Work, ply: &u8, found: Option<RuleAt>) -> Found {
+        if found.is_some() {
+            return Ok(found);
+        }
+        check_sets_at(self.bench, work, self.claimed, *ply)
+    }
+
+    ghost keeps_self = { λ _ work. grows_self work.sets };
+
+    ghost keeps_on = { λ _ u v w. grows_on u.sets v.sets w.sets };
 }
 
 /// The rules of the sets of all plies of the loser.
 pub(crate) fn check_sets(
-    bench: &mut Bench,
+    bench: &Bench,
+    work: &mut Work,
     claimed: &ClaimedSets,
-    losers: Plies,
-) -> Result<(), Fault>
+    plies: &[u8],
+) -> Found
+    requires of { bench.now.position.now ≡ claimed.now.position }
     requires ready { IsReady claimed.now }
-    requires few { AreFew losers }
-    requires plies { every_second losers.first losers.count
-        ≡ losers_plies claimed.now.winner claimed.now.position.turn claimed.now.moves }
-    ensures runs { Runs
-        (plan.for_each (every_second losers.first losers.count) (plan.check_sets (claim_in claimed.now)))
-        bench.old.memo.budget result }
-    ensures budget { bench.new.memo.budget ≡ bench.old.memo.budget }
+    requires plies { plies.now ≡ losers_plies claimed.now.winner claimed.now.position.turn claimed.now.moves }
+    ensures finds { Finds (plan.for_each plies.now (plan.check_sets (claim_in claimed.now))) work.old.memo.budget result }
+    ensures budget { work.new.memo.budget ≡ work.old.memo.budget }
 {
-    for i in 0..losers.count {
-        check_sets_at(bench, claimed, losers.ply(i))?;
-    }
-    Ok(())
+    each(&SetsByPly { bench, claimed }, work, plies, None)
 }

@@ -13,6 +13,7 @@ use Rattle.set_plan.specs.Same.{SameSets}
 use Rattle.set_plan.specs.Unite.{are_empty, is_within, make, remainder, without}
 use Rattle.set_plan.proofs.Alike.{Alike, SameQuestion}
 use Rattle.set_plan.proofs.Combined.{Empty-alike, SameItems, SameMade, bind-alike, make-alike, without-alike}
+use Rattle.set_plan.proofs.Folds.{each-alike}
 use Rattle.set_plan.proofs.SameSets.{SameItem-sets}
 use Rattle.mate_plan.specs.Plan.{Level, Program, Rules, bear_items, difference, name, point_level, pre_items, reach_level, union}
 use Rattle.mate_plan.specs.PlanOf.{rules_of}
@@ -84,8 +85,7 @@ and_then-alike : (m n k l : Program Finding) → Alike Same m n → Alike Same k
 and_then-alike m n k l first next = bind-alike Same Same m n (go_on k) (go_on l) first (λ a b e. go_on-alike k l a b e next)
 
 for_each-alike : {X : Type 0} (f g : X → Program Finding) (xs : List X) → ((x : X) → Alike Same (f x) (g x)) → Alike Same (for_each xs f) (for_each xs g)
-for_each-alike f g [] same = refl
-for_each-alike f g (x ∷ xs) same = and_then-alike (f x) (g x) (for_each xs f) (for_each xs g) (same x) (for_each-alike f g xs same)
+for_each-alike f g xs same = each-alike Same (λ x. go_on (f x)) (λ x. go_on (g x)) (λ x a b e. go_on-alike (f x) (g x) a b e (same x)) xs None None refl
 
 sign-alike : (ply mask : ℕ) (o u : Option Automaton) → AreSameSets o u → Alike Same (check_sign ply mask o) (check_sign ply mask u)
 sign-alike ply mask None None same = refl

@@ -7,7 +7,7 @@ use Rattle.game_rules.specs.declared.men.Side.TheVariants.{White, Black}
 use Rattle.lin_formula.specs.SetOf.{SetOf}
 use Rattle.rule_formula.specs.Fits.{mask_of}
 use Rattle.rule_formula.specs.Placed.{tuple_of}
-use Rattle.set_plan.specs.Program.{Question, Give, Ask, Stable, Has, bind, ◌>>=◌}
+use Rattle.set_plan.specs.Program.{Question, Give, Ask, Stable, Has, bind, each, ◌>>=◌}
 use Rattle.mate_plan.specs.Plan.{Level, Program, Rules, reach_level}
 use Rattle.mate_plan.specs.PlanOf.{rules_of}
 use Rattle.mate_plan.specs.Questions.{are_answered, are_apart, are_safe, has_first_move, have_replies}
@@ -31,9 +31,9 @@ go_on next (Some failed) = Give (Some failed)
 abbrev pub and_then : Program Finding → Program Finding → Program Finding
 and_then first next = bind first (go_on next)
 
+-- one after another, up to the first at which something is found
 abbrev pub for_each : {X : Type 0} → List X → (X → Program Finding) → Program Finding
-for_each [] f = Give None
-for_each (x ∷ xs) f = and_then (f x) (for_each xs f)
+for_each xs f = each xs (λ x. go_on (f x)) None
 
 -- nothing is found where the rule holds
 abbrev pub judged : RuleAt → Bool → Finding

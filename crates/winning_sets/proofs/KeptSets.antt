@@ -15,9 +15,9 @@ use Rattle.rule_formula.specs.Mean.{BearsOnKing, BearingsMean, HoldsFitting, IsI
 use Rattle.rule_formula.specs.Meaning.{TakesOption}
 use Rattle.rule_formula.specs.Options.{options_of}
 use Rattle.rule_formula.specs.Placed.{tuple_of}
-use Rattle.set_plan.specs.Program.{Item, Entry, Takes}
+use Rattle.set_plan.specs.Program.{Item, Entry, Give, Takes, each}
 use Rattle.set_plan.specs.Unite.{Made, make, two}
-use Rattle.mate_plan.specs.Plan.{Level, Program, Rules, bear_item, bear_items, choices_into, difference, for_masks, image_item, image_items, level_with, lost_level, lost_set, lost_set_if, name, narrow, no_sets, pre_item, pre_items, reach_set, rest_set, safe_item, union, win_level, win_set}
+use Rattle.mate_plan.specs.Plan.{Level, Program, Rules, bear_item, bear_items, choices_into, difference, for_masks, image_item, image_items, level_with, lost_level, lost_set, lost_set_if, name, narrow, narrow_by, no_sets, pre_item, pre_items, reach_set, rest_set, safe_item, union, win_level, win_set, with_mask}
 use Rattle.mate_plan.specs.PlanOf.{rules_of}
 use Rattle.mate_plan.specs.declared.names.Part.{Part}
 use Rattle.mate_plan.specs.declared.names.Part.TheVariants as kind
@@ -36,9 +36,12 @@ for_masks-level f P [] each so_far level xs t m h =
     let At : Level → Type 0 = λ l. P m (l m) in
     elim h [ inl before ↦ subst At (sym is) before | inr none ↦ absurd (contains_none m none) ]
 for_masks-level f P (k ∷ masks) each so_far level xs t m h =
-    let (us, vs, s, order, first, rest) = Takes-split (f k) (λ s. for_masks masks f (level_with so_far k s)) xs level t in
-    for_masks-level f P masks (λ n i. each n (contains_rest k masks n i)) (level_with so_far k s) level vs rest m
-    (at (m == k) refl s (each k (contains_head k masks) s us first) h)
+    let (us, vs, next, order, one, rest) = Takes-split (with_mask f k so_far) (for_masks masks f) xs level t in
+    let (ws, zs, s, order, first, given) = Takes-split (f k) (λ s. Give (level_with so_far k s)) us next one in
+    let is : next ≡ level_with so_far k s = Takes-give (level_with so_far k s) next zs given in
+    let At : Level → Type 0 = λ l. P m (l m) ⊎ Contains masks m in
+    for_masks-level f P masks (λ n i. each n (contains_rest k masks n i)) next level vs rest m
+    (subst At (sym is) (at (m == k) refl s (each k (contains_head k masks) s ws first) h))
   where
     at : (b : Bool) → m == k ≡ b → (s : SetOf) → P k s → P m (so_far m) ⊎ Contains (k ∷ masks) m → P m (if b then s else so_far m) ⊎ Contains masks m
     at true e s here h =
@@ -284,16 +287,15 @@ module _ (p : Position) (mean : RulesMean p) where
       )
 
   -- the set made narrower by bearings
-  narrow-stands : (side s : Side) (ply : ℕ) (r : Position) (u : SetOf) → Fits p side r → (bearings : List Bearing) → ((b : Bearing) → Contains bearings b → BearingsMean p (mask_of r) b) → (made : Made) (xs : Entries) → Takes (narrow rules ply (mask_of r) bearings made) xs (Some u) → Member u (tuple_of r) ↔ (Member made.0 (tuple_of r) × ((b : Bearing) → Contains bearings b → BearsOnKing b r → ⊥))
-  narrow-stands side s ply r u fits [] means made xs t =
-      let is : u ≡ made.0 = Takes-give made.0 u xs t in
+  narrow-each : (side : Side) (ply : ℕ) (r : Position) (last : Made) → Fits p side r → (bearings : List Bearing) → ((b : Bearing) → Contains bearings b → BearingsMean p (mask_of r) b) → (made : Made) (xs : Entries) → Takes (each bearings (narrow_by rules ply (mask_of r)) made) xs (Some last) → Member last.0 (tuple_of r) ↔ (Member made.0 (tuple_of r) × ((b : Bearing) → Contains bearings b → BearsOnKing b r → ⊥))
+  narrow-each side ply r last fits [] means made xs t =
+      let is : last ≡ made = Takes-give made last xs t in
       rw is (λ h. (h, λ b i bears. contains_none b i), λ h. h.0)
-  narrow-stands side s ply r u fits (b ∷ bearings) means made xs t =
-      let item : Item = safe_item rules (mask_of r) made.0 b in
-      let (us, vs, next, order, first, rest) = Takes-split (make (name ply (mask_of r) kind.Safe) made.1 item) (λ more. narrow rules ply (mask_of r) bearings more) xs u t in
-      let is = make-members (name ply (mask_of r) kind.Safe) made.1 item us next first in
+  narrow-each side ply r last fits (b ∷ bearings) means made xs t =
+      let (us, vs, next, order, first, rest) = Takes-split (narrow_by rules ply (mask_of r) b made) (each bearings (narrow_by rules ply (mask_of r))) xs last t in
+      let is = make-members (name ply (mask_of r) kind.Safe) made.1 (safe_item rules (mask_of r) made.0 b) us next first in
       let safe = (means b (contains_head b bearings)).safe 0 (λ _. made.0) side r fits refl in
-      let more = narrow-stands side s ply r u fits bearings (λ c i. means c (contains_rest b bearings c i)) next vs rest in (
+      let more = narrow-each side ply r last fits bearings (λ c i. means c (contains_rest b bearings c i)) next vs rest in (
         λ h.
             let (x, y) = more.0 h in
             let (c, d) = safe.0 ((is.same (tuple_of r)).0 x) in
@@ -301,16 +303,29 @@ module _ (p : Position) (mean : RulesMean p) where
         λ (c, none). more.1 ((is.same (tuple_of r)).1 (safe.1 (c, λ bears. none b (contains_head b bearings) bears)), λ k j bears. none k (contains_rest b bearings k j) bears),
       )
 
-  narrow_within : (ply m : ℕ) (u : SetOf) (tuple : List ℤ) (bearings : List Bearing) → ((b : Bearing) → Contains bearings b → BearingsMean p m b) → (made : Made) (xs : Entries) → Takes (narrow rules ply m bearings made) xs (Some u) → Member u tuple → Member made.0 tuple
-  narrow_within ply m u tuple [] means made xs t h =
-      let is : u ≡ made.0 = Takes-give made.0 u xs t in
-      let P : SetOf → Type 0 = λ s. Member s tuple in
+  narrow-stands : (side : Side) (ply : ℕ) (r : Position) (s u : SetOf) → Fits p side r → (bearings : List Bearing) → ((b : Bearing) → Contains bearings b → BearingsMean p (mask_of r) b) → (xs : Entries) → Takes (narrow rules ply (mask_of r) bearings s) xs (Some u) → Member u (tuple_of r) ↔ (Member s (tuple_of r) × ((b : Bearing) → Contains bearings b → BearsOnKing b r → ⊥))
+  narrow-stands side ply r s u fits bearings means xs t =
+      let (us, vs, last, order, first, given) = Takes-split (each bearings (narrow_by rules ply (mask_of r)) (s, 1)) (λ made. Give made.0) xs u t in
+      let is : u ≡ last.0 = Takes-give last.0 u vs given in
+      rw is (narrow-each side ply r last fits bearings means (s, 1) us first)
+
+  each_within : (ply m : ℕ) (last : Made) (tuple : List ℤ) (bearings : List Bearing) → ((b : Bearing) → Contains bearings b → BearingsMean p m b) → (made : Made) (xs : Entries) → Takes (each bearings (narrow_by rules ply m) made) xs (Some last) → Member last.0 tuple → Member made.0 tuple
+  each_within ply m last tuple [] means made xs t h =
+      let is : last ≡ made = Takes-give made last xs t in
+      let P : Made → Type 0 = λ n. Member n.0 tuple in
       subst P is h
-  narrow_within ply m u tuple (b ∷ bearings) means made xs t h =
-      let item : Item = safe_item rules m made.0 b in
-      let (us, vs, next, order, first, rest) = Takes-split (make (name ply m kind.Safe) made.1 item) (λ more. narrow rules ply m bearings more) xs u t in
-      let is = make-members (name ply m kind.Safe) made.1 item us next first in
-      (means b (contains_head b bearings)).safe_within 0 (λ _. made.0) tuple ((is.same tuple).0 (narrow_within ply m u tuple bearings (λ c i. means c (contains_rest b bearings c i)) next vs rest h))
+  each_within ply m last tuple (b ∷ bearings) means made xs t h =
+      let (us, vs, next, order, first, rest) = Takes-split (narrow_by rules ply m b made) (each bearings (narrow_by rules ply m)) xs last t in
+      let is = make-members (name ply m kind.Safe) made.1 (safe_item rules m made.0 b) us next first in
+      let later = each_within ply m last tuple bearings (λ c i. means c (contains_rest b bearings c i)) next vs rest h in
+      (means b (contains_head b bearings)).safe_within 0 (λ _. made.0) tuple ((is.same tuple).0 later)
+
+  narrow_within : (ply m : ℕ) (s u : SetOf) (tuple : List ℤ) (bearings : List Bearing) → ((b : Bearing) → Contains bearings b → BearingsMean p m b) → (xs : Entries) → Takes (narrow rules ply m bearings s) xs (Some u) → Member u tuple → Member s tuple
+  narrow_within ply m s u tuple bearings means xs t h =
+      let (us, vs, last, order, first, given) = Takes-split (each bearings (narrow_by rules ply m) (s, 1)) (λ made. Give made.0) xs u t in
+      let is : u ≡ last.0 = Takes-give last.0 u vs given in
+      let P : SetOf → Type 0 = λ n. Member n tuple in
+      each_within ply m last tuple bearings means (s, 1) us first (subst P is h)
 
   -- what is reached at the next ply with one mask
   pub reach_set-stands : (side : Side) (ply : ℕ) (reach : Level) (s : SetOf) (xs : Entries) (AtPly : Positions) (r : Position) → AreFitting side reach → Stands p side reach AtPly → ((q : Position) → AtPly q → Fits p side q × Sound q) → Fits p (other side) r → Takes (reach_set rules side ply reach (mask_of r)) xs (Some s) → Member s (tuple_of r) ↔ Safe (Image AtPly) r
@@ -318,9 +333,9 @@ module _ (p : Position) (mean : RulesMean p) where
       let m = mask_of r in
       let game = mean.game.mask_is (other side) r fits in
       let bearings = bearings_of p.men m (other side) in
-      let (us, vs, moved, order, first, rest) = Takes-split (union rules ply m kind.Image (image_items rules side m reach)) (λ moved. narrow rules ply m bearings (moved, 1)) xs s t in
+      let (us, vs, moved, order, first, rest) = Takes-split (union rules ply m kind.Image (image_items rules side m reach)) (narrow rules ply m bearings) xs s t in
       let images = image-stands side ply r reach moved us AtPly fitting stands inside fits first in
-      let narrows = narrow-stands (other side) (other side) ply r s fits bearings (λ b i. mean.bearings m (other side) b game i) (moved, 1) vs rest in
+      let narrows = narrow-stands (other side) ply r moved s fits bearings (λ b i. mean.bearings m (other side) b game i) vs rest in
       let P : Side → Type 0 = λ s. InCheck r (other s) in
       let checks = mean.game.checks (other side) (other side) r fits in (
         λ h.
@@ -332,12 +347,12 @@ module _ (p : Position) (mean : RulesMean p) where
   pub reach_set_fitting : (side : Side) (ply : ℕ) (reach : Level) (m : ℕ) (s : SetOf) (xs : Entries) → Contains (masks_of p) m → AreFitting side reach → Takes (reach_set rules side ply reach m) xs (Some s) → HoldsFitting p (other side) m s
   reach_set_fitting side ply reach m s xs in_m fitting t tuple h =
       let bearings = bearings_of p.men m (other side) in
-      let (us, vs, moved, order, first, rest) = Takes-split (union rules ply m kind.Image (image_items rules side m reach)) (λ moved. narrow rules ply m bearings (moved, 1)) xs s t in
-      image_fitting side ply m reach moved us fitting first tuple (narrow_within ply m s tuple bearings (λ b i. mean.bearings m (other side) b (game_mask m in_m) i) (moved, 1) vs rest h)
+      let (us, vs, moved, order, first, rest) = Takes-split (union rules ply m kind.Image (image_items rules side m reach)) (narrow rules ply m bearings) xs s t in
+      image_fitting side ply m reach moved us fitting first tuple (narrow_within ply m moved s tuple bearings (λ b i. mean.bearings m (other side) b (game_mask m in_m) i) vs rest h)
 
   pub reach_set_over : (side : Side) (ply : ℕ) (reach : Level) (m : ℕ) (s : SetOf) (xs : Entries) → Contains (masks_of p) m → Takes (reach_set rules side ply reach m) xs (Some s) → IsOver (mask_tracks p m) s
   reach_set_over side ply reach m s xs in_m t tuple h =
       let bearings = bearings_of p.men m (other side) in
-      let (us, vs, moved, order, first, rest) = Takes-split (union rules ply m kind.Image (image_items rules side m reach)) (λ moved. narrow rules ply m bearings (moved, 1)) xs s t in
+      let (us, vs, moved, order, first, rest) = Takes-split (union rules ply m kind.Image (image_items rules side m reach)) (narrow rules ply m bearings) xs s t in
       union_over (mask_tracks p m) (name ply m kind.Image) (free m) (image_items rules side m reach) us moved (image_have side m reach) first tuple
-      (narrow_within ply m s tuple bearings (λ b i. mean.bearings m (other side) b (game_mask m in_m) i) (moved, 1) vs rest h)
+      (narrow_within ply m moved s tuple bearings (λ b i. mean.bearings m (other side) b (game_mask m in_m) i) vs rest h)

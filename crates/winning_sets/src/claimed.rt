@@ -4,8 +4,8 @@ use crate::ply_sets::PlySets;
 use chess_game::{Position, Side};
 use smallvec::SmallVec;
 
-/// A position with the sets of a claim that is won: ply by ply, and in each ply of the loser in the order of the masks. A ply of the winner
-/// has none.
+/// A position with the sets that are claimed of it, whether the claim is won or not: ply by ply, and in each ply of the loser in the order
+/// of the masks. A ply of the winner has none.
 #[derive(Drop)]
 pub struct ClaimedSets {
     pub position: Position,

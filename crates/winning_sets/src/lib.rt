@@ -20,6 +20,7 @@ pub use claimed::ClaimedSets;
 pub use mate_plan::{Part, PartName};
 pub use names::{SolveError, StepName};
 pub use origin::Origin;
+pub use place::set_at;
 pub use ply_sets::PlySets;
 pub use solved::Solved;
 pub use solver::{Solver, solve};

@@ -17,13 +17,8 @@ pub(crate) fn sets_of_ply(plies: &[PlySets], ply: u8) -> &[Auto]
     }
 }
 
-/// The set of a ply and a mask, where each ply has one for each of the masks.
-pub(crate) fn set_at<'a>(
-    masks: &'a [u8],
-    plies: &'a [PlySets],
-    ply: u8,
-    mask: u8,
-) -> Option<&'a Auto>
+/// The set of a ply and a mask, where each ply has one for each of the masks. Past the last ply there is none.
+pub fn set_at<'a>(masks: &'a [u8], plies: &'a [PlySets], ply: u8, mask: u8) -> Option<&'a Auto>
     ensures { option_copied result ≡ sets_at masks.now plies.now ply mask }
 {
     MaskSets::new(masks, sets_of_ply(plies, ply)).get(mask)

@@ -15,11 +15,10 @@ use crate::solved::Solved;
 use crate::turns::{last_ply, side_at};
 use auto_core::Auto;
 use chess_game::{Position, Side};
-use formula_auto::Memo;
 use mask_sets::place_of_mask;
-use mate_plan::{LevelNames, PartName, point_level, reach_level};
+use mate_plan::{Bench, LevelNames, PartName, Reaching, Work, point_level, reach_level};
 use rule_formula::masks;
-use set_plan::{PlanError, Sets};
+use set_plan::PlanError;
 use smallvec::SmallVec;
 use std::alloc::{AllocError, Global};
 use std::marker::Model;
@@ -30,9 +29,8 @@ pub struct Solver {
     alloc: Global,
     position: Position,
     winner: Side,
-    memo: Memo,
-    /// The sets of the levels, and after them what an unfinished answer has left.
-    sets: Sets,
+    /// Its sets are those of the levels, and after them what an unfinished answer has left.
+    work: Work,
     /// The number of sets of the levels.
     count: u32,
     masks: SmallVec<u8, 32>,
@@ -49,9 +47,9 @@ impl Model for Solver {
 
     ghost Value = { SolverState };
 
-    ghost view = { λ s. record { position = s.position; winner = s.winner; budget = s.memo.budget; reach = map (sets_or (take s.count s.sets) s.empties.items) s.levels.items } };
+    ghost view = { λ s. record { position = s.position; winner = s.winner; budget = s.work.memo.budget; reach = map (sets_or (take s.count s.work.sets) s.empties.items) s.levels.items } };
 
-    ghost invariant = { λ s. (s.count ≤ length s.sets) × AreFinished s.position s.memo.budget s.masks.items s.empties.items (take s.count s.sets) s.levels.items };
+    ghost invariant = { λ s. (s.count ≤ length s.work.sets) × AreFinished s.position s.work.memo.budget s.masks.items s.empties.items (take s.count s.work.sets) s.levels.items };
 }
 
 impl Solver {
@@ -66,8 +64,7 @@ impl Solver {
             alloc,
             position: *p,
             winner,
-            memo: Memo::new(alloc, budget),
-            sets: Sets::new(alloc),
+            work: Work::new(alloc, budget),
             count: 0,
             masks: SmallVec::new(alloc),
             empties: Vec::new(alloc),
@@ -102,7 +99,7 @@ impl Solver {
         }
         let k = place_of_mask(self.masks.as_slice(), mask)?;
         let names = self.levels[ply as usize].as_slice();
-        Some(lent(&self.sets, &self.empties[k], names[k]))
+        Some(lent(&self.work.sets, &self.empties[k], names[k]))
     }
 
     /// Solves the position for so many moves of the winner. What is reached at the plies that were finished before is not made again, also
@@ -174,7 +171,7 @@ impl Solver {
     {
         let all = masks(self.alloc, &self.position)?;
         let levels = &self.levels.as_slice()[..last as usize + 1];
-        let reach = copied(self.alloc, &self.sets, self.empties.as_slice(), levels)?;
+        let reach = copied(self.alloc, &self.work.sets, self.empties.as_slice(), levels)?;
         Ok(Solved::new(self.position, self.winner, moves, all, kept, reach))
     }
 
@@ -203,11 +200,16 @@ impl Solver {
     {
         let all = masks(self.alloc, &self.position)?;
         let empties = empty_sets(self.alloc, &self.position, all.as_slice())?;
-        let level = point_level(self.alloc, &mut self.memo, &mut self.sets, &self.position)?;
+        let bench = Bench {
+            alloc: self.alloc,
+            position: &self.position,
+            masks: all.as_slice(),
+        };
+        let level = point_level(&bench, &mut self.work)?;
         push_level(&mut self.levels, level)?;
         self.masks = all;
         self.empties = empties;
-        self.count = self.sets.count();
+        self.count = self.work.sets.count();
         Ok(())
     }
 
@@ -221,17 +223,19 @@ impl Solver {
     {
         let ply = self.levels.len() as u8;
         let side = side_at(self.position.turn(), ply - 1);
-        let level = reach_level(
-            self.alloc,
-            &mut self.memo,
-            &mut self.sets,
-            &self.position,
+        let bench = Bench {
+            alloc: self.alloc,
+            position: &self.position,
+            masks: self.masks.as_slice(),
+        };
+        let from = Reaching {
             side,
             ply,
-            &self.levels[ply as usize - 1],
-        )?;
+            level: &self.levels[ply as usize - 1],
+        };
+        let level = reach_level(&bench, &mut self.work, &from)?;
         push_level(&mut self.levels, level)?;
-        self.count = self.sets.count();
+        self.count = self.work.sets.count();
         Ok(())
     }
 
@@ -246,16 +250,15 @@ impl Solver {
         ensures same { self.new ≡ self.old }
     {
         let levels = &self.levels.as_slice()[..last as usize + 1];
-        let kept = kept_levels(
-            self.alloc,
-            &mut self.memo,
-            &mut self.sets,
-            &self.position,
-            levels,
-        )?;
+        let bench = Bench {
+            alloc: self.alloc,
+            position: &self.position,
+            masks: self.masks.as_slice(),
+        };
+        let kept = kept_levels(&bench, &mut self.work, levels)?;
         Ok(copied(
             self.alloc,
-            &self.sets,
+            &self.work.sets,
             self.empties.as_slice(),
             kept.as_slice(),
         )?)
@@ -265,7 +268,7 @@ impl Solver {
     fn let_go(&mut self)
         ensures { self.new ≡ self.old }
     {
-        self.sets.truncate(self.count);
+        self.work.sets.truncate(self.count);
     }
 }
 

@@ -1,60 +1,116 @@
-use Rattle.std.proofs.Common.{ℕ, List, None, Err, ap, ◌∙◌, subst}
+use Rattle.std.proofs.Common.{ℕ, ◌≤◌, List, None, refl, sym, ap, ◌∙◌, subst}
+use Rattle.std.proofs.lemmas.List.Elements.{All-same}
 use Rattle.std.proofs.lemmas.Result.{err_from_is_err_and}
 use Rattle.game_rules.specs.declared.men.Side.{Side}
 use Rattle.set_plan.specs.Outcome.{Ends}
-use Rattle.mate_plan.specs.Claim.{every_second, losers_plies}
-use Rattle.claim_plan.specs.CheckPlan.{check_first, check_ply, check_sets, for_each}
+use Rattle.mate_plan.specs.Claim.{losers_plies}
+use Rattle.claim_plan.specs.CheckPlan.{and_then, check_first, check_plan, check_ply, check_sets, for_each}
 use Rattle.claim_check.specs.Ready.{claim_in}
-use Rattle.claim_check.specs.Runs.{Runs}
-use Rattle.claim_check.proofs.PlanParts.{first_cut, replies_run, sets_cut}
+use Rattle.claim_check.proofs.FindLemmas.{found_in, left_after, left_finds, none_found, stopped_in}
+use Rattle.claim_check.proofs.PlanParts.{plan_leads}
 use Rattle.claim_check.proofs.SignedSets.{signed_sets}
 use Rattle.claim_check.proofs.checking.check_plan.Goals as goal
+
+pub check_sets-requires-clause-plies : goal.check_sets-requires-clause-plies
+check_sets-requires-clause-plies c =
+    let At_turn : Side → List ℕ = λ s. losers_plies c.args.claimed.now.winner s c.args.claimed.now.moves in
+    c.as_slice-plies.ensures.value ∙ (c.in_ok-list.ensures.list ∙ (c.losers_plies-losers.ensures.plies ∙ ap At_turn c.turn.ensures))
 
 pub check_first-requires-clause-signed : goal.check_first-requires-clause-signed
 check_first-requires-clause-signed c =
     let At_turn : Side → List ℕ = λ s. losers_plies c.args.claimed.now.winner s c.args.claimed.now.moves in
-    let plies = c.losers_plies-plies.ensures.plies ∙ ap At_turn c.turn.ensures in
+    let plies = c.as_slice-plies.result.now in
+    let are = c.as_slice-plies.ensures.value ∙ (c.in_ok-list.ensures.list ∙ (c.losers_plies-losers.ensures.plies ∙ ap At_turn c.turn.ensures)) in
     let d = claim_in c.args.claimed.now in
-    let At : List ℕ → Type 0 = λ l. Ends (for_each l (check_sets d)) c.args.bench.now.memo.budget None in
-    signed_sets d c.requires.ready.claim c.args.bench.now.memo.budget (subst At plies c.in_ok-check_sets.ensures.runs)
+    let budget = c.args.work.now.memo.budget in
+    let sets = for_each plies (check_sets d) in
+    let At : List ℕ → Type 0 = λ l. Ends (for_each l (check_sets d)) budget None in
+    signed_sets d c.requires.ready.claim budget (subst At are (none_found sets budget budget refl c.in_ok-sets.sets (sym c.is_some.ensures ∙ c.if-is_some.false) c.in_ok-sets.ensures.finds))
 
 pub check_replies-requires-clause-signed : goal.check_replies-requires-clause-signed
 check_replies-requires-clause-signed c =
     let At_turn : Side → List ℕ = λ s. losers_plies c.args.claimed.now.winner s c.args.claimed.now.moves in
-    let plies = c.losers_plies-plies.ensures.plies ∙ ap At_turn c.turn.ensures in
+    let plies = c.as_slice-plies.result.now in
+    let are = c.as_slice-plies.ensures.value ∙ (c.in_ok-list.ensures.list ∙ (c.losers_plies-losers.ensures.plies ∙ ap At_turn c.turn.ensures)) in
     let d = claim_in c.args.claimed.now in
-    let At : List ℕ → Type 0 = λ l. Ends (for_each l (check_sets d)) c.args.bench.now.memo.budget None in
-    signed_sets d c.requires.ready.claim c.args.bench.now.memo.budget (subst At plies c.in_ok-check_sets.ensures.runs)
+    let budget = c.args.work.now.memo.budget in
+    let sets = for_each plies (check_sets d) in
+    let At : List ℕ → Type 0 = λ l. Ends (for_each l (check_sets d)) budget None in
+    signed_sets d c.requires.ready.claim budget (subst At are (none_found sets budget budget refl c.in_ok-sets.sets (sym c.is_some.ensures ∙ c.if-is_some.false) c.in_ok-sets.ensures.finds))
 
-pub returns-in_err-check_sets : goal.returns-in_err-check_sets
-returns-in_err-check_sets c =
-    let At_turn : Side → List ℕ = λ s. losers_plies c.args.claimed.now.winner s c.args.claimed.now.moves in
-    let plies = c.losers_plies-plies.ensures.plies ∙ ap At_turn c.turn.ensures in
-    let e = err_from_is_err_and c.from_residual.result c.from_residual.ensures.1 in
-    let p = c.losers_plies-plies.result in
-    rw (e.1, e.2) (sets_cut (claim_in c.args.claimed.now) c.args.bench.now.memo.budget (every_second p.first p.count) plies c.in_err-check_sets.field-0.0 c.in_err-check_sets.ensures.runs)
+pub check_replies-requires-clause-low : goal.check_replies-requires-clause-low
+check_replies-requires-clause-low c = All-same (λ ply. ply ≤ 41) c.as_slice-plies.result.now c.in_ok-list.list.items c.as_slice-plies.ensures.value c.in_ok-list.ensures.low
 
-pub returns-in_err-check_first : goal.returns-in_err-check_first
-returns-in_err-check_first c =
+pub returns-in_err-sets : goal.returns-in_err-sets
+returns-in_err-sets c =
     let At_turn : Side → List ℕ = λ s. losers_plies c.args.claimed.now.winner s c.args.claimed.now.moves in
-    let plies = c.losers_plies-plies.ensures.plies ∙ ap At_turn c.turn.ensures in
-    let e = err_from_is_err_and c.from_residual-in_err-check_first.result c.from_residual-in_err-check_first.ensures.1 in
+    let plies = c.as_slice-plies.result.now in
+    let are = c.as_slice-plies.ensures.value ∙ (c.in_ok-list.ensures.list ∙ (c.losers_plies-losers.ensures.plies ∙ ap At_turn c.turn.ensures)) in
     let d = claim_in c.args.claimed.now in
-    let p = c.losers_plies-plies.result in
-    let Within : ℕ → Type 0 = λ b. Runs (check_first d d.winner d.position.turn) b (Err c.in_err-check_first.field-0.0) in
-    rw (e.1, e.2)
-    (first_cut d c.args.bench.now.memo.budget (every_second p.first p.count) plies c.in_ok-check_sets.ensures.runs c.in_err-check_first.field-0.0
-    (subst Within c.in_ok-check_sets.ensures.budget c.in_err-check_first.ensures.runs))
+    let budget = c.args.work.now.memo.budget in
+    let sets = for_each plies (check_sets d) in
+    let first = check_first d d.winner d.position.turn in
+    let replies = for_each plies (check_ply d) in
+    let leads = plan_leads d budget plies are in
+    let e = err_from_is_err_and c.from_residual-in_err-sets.result c.from_residual-in_err-sets.ensures.1 in
+    rw (e.1, e.2) (stopped_in sets (and_then first replies) (check_plan d) budget budget refl leads c.in_err-sets.field-0.0 c.in_err-sets.ensures.finds)
+
+pub returns-then-is_some : goal.returns-then-is_some
+returns-then-is_some c =
+    let At_turn : Side → List ℕ = λ s. losers_plies c.args.claimed.now.winner s c.args.claimed.now.moves in
+    let plies = c.as_slice-plies.result.now in
+    let are = c.as_slice-plies.ensures.value ∙ (c.in_ok-list.ensures.list ∙ (c.losers_plies-losers.ensures.plies ∙ ap At_turn c.turn.ensures)) in
+    let d = claim_in c.args.claimed.now in
+    let budget = c.args.work.now.memo.budget in
+    let sets = for_each plies (check_sets d) in
+    let first = check_first d d.winner d.position.turn in
+    let replies = for_each plies (check_ply d) in
+    let leads = plan_leads d budget plies are in
+    found_in sets (and_then first replies) (check_plan d) budget budget refl leads c.in_ok-sets.sets (sym c.is_some.ensures ∙ c.if-is_some.true) c.in_ok-sets.ensures.finds
+
+pub returns-in_err-first : goal.returns-in_err-first
+returns-in_err-first c =
+    let At_turn : Side → List ℕ = λ s. losers_plies c.args.claimed.now.winner s c.args.claimed.now.moves in
+    let plies = c.as_slice-plies.result.now in
+    let are = c.as_slice-plies.ensures.value ∙ (c.in_ok-list.ensures.list ∙ (c.losers_plies-losers.ensures.plies ∙ ap At_turn c.turn.ensures)) in
+    let d = claim_in c.args.claimed.now in
+    let budget = c.args.work.now.memo.budget in
+    let sets = for_each plies (check_sets d) in
+    let first = check_first d d.winner d.position.turn in
+    let replies = for_each plies (check_ply d) in
+    let leads = plan_leads d budget plies are in
+    let after_sets = left_after sets (and_then first replies) (check_plan d) budget budget refl leads c.in_ok-sets.sets (sym c.is_some.ensures ∙ c.if-is_some.false) c.in_ok-sets.ensures.finds in
+    let e = err_from_is_err_and c.from_residual-in_err-first.result c.from_residual-in_err-first.ensures.1 in
+    rw (e.1, e.2) (stopped_in first replies (check_plan d) budget c.check_sets.new.work.memo.budget c.in_ok-sets.ensures.budget after_sets c.in_err-first.field-0.0 c.in_err-first.ensures.finds)
+
+pub returns-then-is_some-2 : goal.returns-then-is_some-2
+returns-then-is_some-2 c =
+    let At_turn : Side → List ℕ = λ s. losers_plies c.args.claimed.now.winner s c.args.claimed.now.moves in
+    let plies = c.as_slice-plies.result.now in
+    let are = c.as_slice-plies.ensures.value ∙ (c.in_ok-list.ensures.list ∙ (c.losers_plies-losers.ensures.plies ∙ ap At_turn c.turn.ensures)) in
+    let d = claim_in c.args.claimed.now in
+    let budget = c.args.work.now.memo.budget in
+    let sets = for_each plies (check_sets d) in
+    let first = check_first d d.winner d.position.turn in
+    let replies = for_each plies (check_ply d) in
+    let leads = plan_leads d budget plies are in
+    let after_sets = left_after sets (and_then first replies) (check_plan d) budget budget refl leads c.in_ok-sets.sets (sym c.is_some.ensures ∙ c.if-is_some.false) c.in_ok-sets.ensures.finds in
+    found_in first replies (check_plan d) budget c.check_sets.new.work.memo.budget c.in_ok-sets.ensures.budget after_sets c.in_ok-first.first
+    (sym c.is_some-2.ensures ∙ c.if-is_some-2.true) c.in_ok-first.ensures.finds
 
 pub returns : goal.returns
 returns c =
     let At_turn : Side → List ℕ = λ s. losers_plies c.args.claimed.now.winner s c.args.claimed.now.moves in
-    let plies = c.losers_plies-plies.ensures.plies ∙ ap At_turn c.turn.ensures in
+    let plies = c.as_slice-plies.result.now in
+    let are = c.as_slice-plies.ensures.value ∙ (c.in_ok-list.ensures.list ∙ (c.losers_plies-losers.ensures.plies ∙ ap At_turn c.turn.ensures)) in
     let d = claim_in c.args.claimed.now in
-    let p = c.losers_plies-plies.result in
-    let budget = c.args.bench.now.memo.budget in
-    let First : ℕ → Type 0 = λ b. Ends (check_first d d.winner d.position.turn) b None in
-    let Within : ℕ → Type 0 = λ b. Runs (for_each (every_second p.first p.count) (check_ply d)) b c.check_replies.result in
-    replies_run d budget (every_second p.first p.count) plies c.in_ok-check_sets.ensures.runs c.check_replies.result
-    (subst First c.in_ok-check_sets.ensures.budget c.in_ok-check_first.ensures.runs)
-    (subst Within (c.in_ok-check_first.ensures.budget ∙ c.in_ok-check_sets.ensures.budget) c.check_replies.ensures.runs)
+    let budget = c.args.work.now.memo.budget in
+    let sets = for_each plies (check_sets d) in
+    let first = check_first d d.winner d.position.turn in
+    let replies = for_each plies (check_ply d) in
+    let leads = plan_leads d budget plies are in
+    let after_sets = left_after sets (and_then first replies) (check_plan d) budget budget refl leads c.in_ok-sets.sets (sym c.is_some.ensures ∙ c.if-is_some.false) c.in_ok-sets.ensures.finds in
+    let after_first = left_after first replies (check_plan d) budget c.check_sets.new.work.memo.budget c.in_ok-sets.ensures.budget after_sets c.in_ok-first.first
+    (sym c.is_some-2.ensures ∙ c.if-is_some-2.false) c.in_ok-first.ensures.finds in
+    left_finds replies (check_plan d) budget c.check_first.new.work.memo.budget (c.in_ok-first.ensures.budget ∙ c.in_ok-sets.ensures.budget) after_first
+    c.check_replies.result c.check_replies.ensures.finds

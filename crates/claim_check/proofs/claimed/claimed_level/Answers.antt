@@ -1,38 +1,34 @@
-use Rattle.std.proofs.Common.{arith, ◌<◌, List, length, get_or, refl, ◌∙◌, subst, ℕ}
-use Rattle.std.proofs.lemmas.List.{get_or_default}
-use Rattle.set_plan.specs.Outcome.{Ends}
-use Rattle.mate_plan.specs.Levels.{AreNames, level_of}
+use Rattle.std.proofs.Common.{◌≡◌, sym, subst}
+use Rattle.game_rules.specs.Game.{Position, Sound}
+use Rattle.rule_formula.specs.Fits.{masks_of}
+use Rattle.set_plan.specs.Outcome.{Ends, Stops}
+use Rattle.mate_plan.specs.Levels.{AreNamesIn, level_in}
 use Rattle.mate_plan.specs.Plan.{for_masks, no_sets}
-use Rattle.mate_plan.proofs.Loops.{so_far_ends, so_far_more, so_far_names, so_far_none}
 use Rattle.claim_check.specs.Ready.{claim_in}
-use Rattle.claim_check.proofs.ClaimedLevels.{given, given_ends, given_level}
+use Rattle.claim_check.proofs.ClaimedLevels.{given, given_goes_on, given_level}
 use Rattle.claim_check.proofs.claimed.claimed_level.Goals as goal
 
-pub loop-mask-init : goal.loop-mask-init
-loop-mask-init c = record { so_far = rw c.new-level.ensures (so_far_none _ _ _ _ _); budget = refl }
+pub level_by-requires-clause-sound : goal.level_by-requires-clause-sound
+level_by-requires-clause-sound c = subst Sound (sym c.requires.of) c.requires.ready.claim.sound
 
-pub loop-mask-preserved : goal.loop-mask-preserved
-loop-mask-preserved c =
+pub level_by-requires-clause-fits : goal.level_by-requires-clause-fits
+level_by-requires-clause-fits c = (c.requires.ready, c.requires.signed, c.requires.of)
+
+pub returns-in-Ok-clause-level : goal.returns-in-Ok-clause-level
+returns-in-Ok-clause-level c =
     let d = claim_in c.args.claimed.now in
-    let masks = c.as_slice-masks.result.now in
-    let less : c.loop-mask.mask-index < length masks = c.loop-mask-test.true in
-    let is = get_or_default masks c.loop-mask.mask-index 0 (get_or masks c.loop-mask.mask-index 0) less in
-    let named = given_ends d c.args.ply c.args.bench.now.memo.budget _ _ c.in_ok-claimed_name.ensures.set in
-    record {
-      so_far = rw c.in_ok-push.ensures.ok
-          (so_far_more _ _ _ _ _ _ _ _ _ _ _ _ _ c.loop-mask.invariant.so_far less is refl refl named c.in_ok-claimed_name.ensures.name c.in_ok-claimed_name.ensures.grows);
-      budget = c.in_ok-claimed_name.ensures.budget ∙ c.loop-mask.invariant.budget;
-    }
+    let budget = c.args.work.now.memo.budget in
+    let new = c.level_by.new.work.sets in
+    let At : Position → Type 0 = λ p. Ends (for_masks (masks_of p) (given d c.args.ply) no_sets) budget (level_in p new c.in-Ok.level) in
+    given_level d c.args.ply c.requires.ready.claim budget (level_in d.position new c.in-Ok.level) (subst At c.requires.of (rw c.in-Ok.is at c.level_by.ensures.answers))
 
-pub returns-clause-level : goal.returns-clause-level
-returns-clause-level c =
+pub returns-in-Ok-clause-names : goal.returns-in-Ok-clause-names
+returns-in-Ok-clause-names c =
+    let At : Position → Type 0 = λ p. AreNamesIn p c.level_by.new.work.sets c.in-Ok.level in
+    subst At c.requires.of (rw c.in-Ok.is at c.level_by.ensures.names)
+
+pub unreachable-requires : goal.unreachable-requires
+unreachable-requires c =
     let d = claim_in c.args.claimed.now in
-    let budget = c.args.bench.now.memo.budget in
-    let At : List ℕ → Type 0 = λ ms. Ends (for_masks ms (given d c.args.ply) no_sets) budget (level_of c.loop-mask.bench.sets ms c.loop-mask.level) in
-    given_level d c.args.ply c.requires.ready.claim budget _
-    (subst At (c.as_slice-masks.ensures ∙ c.requires.ready.masks) (so_far_ends _ _ _ _ _ _ _ _ c.loop-mask.invariant.so_far c.loop-mask-test.false))
-
-pub returns-clause-names : goal.returns-clause-names
-returns-clause-names c =
-    let At : List ℕ → Type 0 = λ ms. AreNames c.args.claimed.now.position.men c.loop-mask.bench.sets ms c.loop-mask.level in
-    subst At (c.as_slice-masks.ensures ∙ c.requires.ready.masks) (so_far_names _ _ _ _ _ _ _ _ c.loop-mask.invariant.so_far (omega arith))
+    given_goes_on d c.args.ply (masks_of c.args.bench.now.position.now) no_sets c.args.work.now.memo.budget _
+    (rw (c.in-Err-Over.is, c.in-Err-Over.field-0-is) at c.level_by.ensures.answers)

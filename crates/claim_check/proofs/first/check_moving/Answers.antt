@@ -1,29 +1,41 @@
-use Rattle.std.proofs.Common.{ℕ, subst}
+use Rattle.std.proofs.Common.{ℕ, Bool, sym, subst}
 use Rattle.std.proofs.lemmas.Result.{err_from_is_err_and}
+use Rattle.game_rules.specs.Game.{Position, Sound}
 use Rattle.rule_formula.specs.Fits.{mask_of}
 use Rattle.rule_formula.specs.Placed.{tuple_of}
-use Rattle.mate_plan.specs.Levels.{level_in}
+use Rattle.mate_plan.specs.Levels.{AreNamesIn, level_in}
+use Rattle.mate_plan.specs.Plan.{Program}
 use Rattle.mate_plan.specs.PlanOf.{rules_of}
 use Rattle.mate_plan.specs.Questions.{has_first_move}
 use Rattle.claim_plan.specs.CheckPlan.{holds_by}
 use Rattle.claim_plan.specs.declared.names.RuleAt.{RuleAt}
 use Rattle.claim_check.specs.Ready.{claim_in}
-use Rattle.claim_check.specs.Runs.{Runs}
-use Rattle.claim_check.proofs.FirstParts.{moving_runs}
+use Rattle.claim_check.specs.Finds.{Finds}
+use Rattle.claim_check.proofs.FirstParts.{moving_finds}
 use Rattle.claim_check.proofs.first.check_moving.Goals as goal
 
-pub returns-in_err-level-clause-runs : goal.returns-in_err-level-clause-runs
-returns-in_err-level-clause-runs c =
+pub returns-in_err-level-clause-finds : goal.returns-in_err-level-clause-finds
+returns-in_err-level-clause-finds c =
     let e = err_from_is_err_and c.from_residual.result c.from_residual.ensures.1 in
     rw (e.1, e.2) tt
 
-pub returns-clause-runs : goal.returns-clause-runs
-returns-clause-runs c =
+pub has_first_move-requires-clause-sound : goal.has_first_move-requires-clause-sound
+has_first_move-requires-clause-sound c = subst Sound (sym c.requires.of) c.requires.ready.claim.sound
+
+pub has_first_move-requires-clause-into : goal.has_first_move-requires-clause-into
+has_first_move-requires-clause-into c =
+    let At : Position → Type 0 = λ p. AreNamesIn p c.claimed_level.new.work.sets c.in_ok-level.level in
+    subst At (sym c.requires.of) c.in_ok-level.ensures.names
+
+pub returns-clause-finds : goal.returns-clause-finds
+returns-clause-finds c =
     let d = claim_in c.args.claimed.now in
-    let p = c.args.claimed.now.position in
-    let level = level_in p c.claimed_level.new.bench.sets c.in_ok-level.level in
-    let asked = has_first_move (rules_of p) p.turn (mask_of p) (tuple_of p) level in
-    let By : RuleAt → Type 0 = λ f. Runs (holds_by f asked) c.args.bench.now.memo.budget c.kept_by.result in
-    let Within : ℕ → Type 0 = λ b. Runs (holds_by c.first_rule-rule.result asked) b c.kept_by.result in
-    moving_runs d c.args.bench.now.memo.budget c.args.claimed.now.moves c.kept_by.result c.if-claimed-eq0.false c.requires.turn level c.in_ok-level.ensures.level
-    (subst By c.first_rule-rule.ensures (subst Within c.in_ok-level.ensures.budget (c.kept_by.ensures asked c.claimed_level.new.bench.memo.budget c.has_first_move.ensures.answers)))
+    let r = c.judged_by.result in
+    let level = level_in d.position c.claimed_level.new.work.sets c.in_ok-level.level in
+    let asked : Position → Program Bool = λ p. has_first_move (rules_of p) p.turn (mask_of p) (tuple_of p) (level_in p c.claimed_level.new.work.sets c.in_ok-level.level) in
+    let At : Position → Type 0 = λ p. Finds (holds_by c.first_rule-rule.result (asked p)) c.claimed_level.new.work.memo.budget r in
+    let By : RuleAt → Type 0 = λ f. Finds (holds_by f (asked d.position)) c.args.work.now.memo.budget r in
+    let Within : ℕ → Type 0 = λ b. Finds (holds_by c.first_rule-rule.result (asked d.position)) b r in
+    moving_finds d c.args.work.now.memo.budget c.args.claimed.now.moves r c.if-claimed-eq0.false c.requires.turn level c.in_ok-level.ensures.level
+    (subst By c.first_rule-rule.ensures (subst Within c.in_ok-level.ensures.budget
+    (subst At c.requires.of (c.judged_by.ensures (asked c.args.bench.now.position.now) c.claimed_level.new.work.memo.budget c.has_first_move.ensures.answers))))

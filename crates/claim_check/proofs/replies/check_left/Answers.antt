@@ -1,27 +1,50 @@
-use Rattle.std.proofs.Common.{◌≡◌, ℕ, suc, ◌+◌, subst, arith}
+use Rattle.std.proofs.Common.{◌≡◌, ℕ, Bool, suc, ◌+◌, List, sym, subst, arith}
+use Rattle.auto_core.specs.Automaton.{Automaton}
+use Rattle.game_rules.specs.Game.{Position, Sound}
+use Rattle.set_plan.specs.Sets.{Grows}
 use Rattle.mate_plan.specs.Claim.{claimed_level}
-use Rattle.mate_plan.specs.Levels.{level_in}
-use Rattle.mate_plan.specs.Plan.{Level}
+use Rattle.mate_plan.specs.Levels.{AreNamesIn, level_in}
+use Rattle.mate_plan.specs.Plan.{Level, Program}
 use Rattle.mate_plan.specs.PlanOf.{rules_of}
 use Rattle.mate_plan.specs.Questions.{are_answered}
 use Rattle.claim_plan.specs.CheckPlan.{check_left, holds_by, rule_at}
 use Rattle.claim_plan.specs.declared.names.Rule.TheVariants as rule
 use Rattle.claim_plan.specs.declared.names.RuleAt.{RuleAt}
+use Rattle.claim_check.specs.Finds.{Finds}
+use Rattle.claim_check.specs.Grown.{grows_self}
 use Rattle.claim_check.specs.Ready.{claim_in}
-use Rattle.claim_check.specs.Runs.{Runs}
 use Rattle.claim_check.proofs.replies.check_left.Goals as goal
 
-pub returns-clause-runs : goal.returns-clause-runs
-returns-clause-runs c =
+pub are_answered-requires-clause-sound : goal.are_answered-requires-clause-sound
+are_answered-requires-clause-sound c = subst Sound (sym c.requires.of) c.requires.ready.claim.sound
+
+pub are_answered-requires-clause-from : goal.are_answered-requires-clause-from
+are_answered-requires-clause-from c =
+    let At : Position → Type 0 = λ p. AreNamesIn p c.args.work.now.sets c.args.replies.now.reached in
+    subst At (sym c.requires.of) c.requires.replies.reached
+
+pub are_answered-requires-clause-into : goal.are_answered-requires-clause-into
+are_answered-requires-clause-into c =
+    let At : Position → Type 0 = λ p. AreNamesIn p c.args.work.now.sets c.args.replies.now.later in
+    subst At (sym c.requires.of) c.requires.replies.later
+
+pub returns-clause-finds : goal.returns-clause-finds
+returns-clause-finds c =
     let p = c.args.claimed.now.position in
     let w = c.args.claimed.now.winner in
     let r = c.args.replies.now in
-    let budget = c.args.bench.now.memo.budget in
-    let sets = c.args.bench.now.sets in
-    let reached = level_in p sets r.reached in
-    let asked = λ (k : ℕ) (l : Level). are_answered (rules_of p) w k reached l c.args.mask in
+    let budget = c.args.work.now.memo.budget in
+    let sets = c.args.work.now.sets in
+    let result = c.judged_by.result in
+    let asked : Position → Program Bool = λ q. are_answered (rules_of q) w (r.ply + 1) (level_in q sets r.reached) (level_in q sets r.later) c.args.mask in
+    let At : Position → Type 0 = λ q. Finds (holds_by c.rule_at.result (asked q)) budget result in
+    let By : RuleAt → Type 0 = λ f. Finds (holds_by f (asked p)) budget result in
+    let Into : Level → Type 0 = λ l. Finds (holds_by (rule_at (r.ply + 1) c.args.mask rule.Left) (are_answered (rules_of p) w (r.ply + 1) (level_in p sets r.reached) l c.args.mask)) budget result in
+    let Next : ℕ → Type 0 = λ k. Finds (check_left (rules_of p) w k (level_in p sets r.reached) (claimed_level (claim_in c.args.claimed.now) (r.ply + 2)) c.args.mask) budget result in
     let next : r.ply + 1 ≡ suc r.ply = omega arith in
-    let By : RuleAt → Type 0 = λ f. Runs (holds_by f (asked (r.ply + 1) (level_in p sets r.later))) budget c.kept_by.result in
-    let Into : Level → Type 0 = λ l. Runs (holds_by (rule_at (r.ply + 1) c.args.mask rule.Left) (asked (r.ply + 1) l)) budget c.kept_by.result in
-    let At : ℕ → Type 0 = λ k. Runs (check_left (rules_of p) w k reached (claimed_level (claim_in c.args.claimed.now) (r.ply + 2)) c.args.mask) budget c.kept_by.result in
-    subst At next (subst Into c.requires.replies.later_is (subst By c.rule_at.ensures (c.kept_by.ensures (asked (r.ply + 1) (level_in p sets r.later)) budget c.are_answered.ensures.answers)))
+    subst Next next (subst Into c.requires.replies.later_is (subst By c.rule_at.ensures (subst At c.requires.of (c.judged_by.ensures (asked c.args.bench.now.position.now) budget c.are_answered.ensures.answers))))
+
+pub returns-clause-grows : goal.returns-clause-grows
+returns-clause-grows c =
+    let From : List Automaton → Type 0 = λ t. Grows c.args.work.now.sets t in
+    subst From (sym c.are_answered.ensures.sets) (grows_self c.args.work.now.sets)

@@ -1,53 +1,132 @@
-use Rattle.std.proofs.Common.{ℕ, suc, ◌+◌, Err, Ok, sym, subst}
+use Rattle.std.proofs.Common.{ℕ, suc, ◌+◌, Ok, Err, refl, sym, ◌∙◌, subst, arith}
 use Rattle.std.proofs.lemmas.Result.{err_from_is_err_and}
-use Rattle.game_rules.specs.declared.men.Side.{Side}
-use Rattle.game_laws.proofs.SoundLemmas.{other_other}
+use Rattle.game_rules.specs.Game.{other}
+use Rattle.rule_formula.specs.Fits.{masks_of}
 use Rattle.mate_plan.specs.Claim.{claimed_level}
 use Rattle.mate_plan.specs.Levels.{level_in}
+use Rattle.mate_plan.specs.Plan.{Level}
 use Rattle.mate_plan.specs.PlanOf.{rules_of}
-use Rattle.claim_plan.specs.CheckPlan.{check_left, for_each}
+use Rattle.mate_plan.proofs.LevelLemmas.{grows-grows, grows_cut, length-grows, level-grows}
+use Rattle.claim_plan.specs.CheckPlan.{check_left, check_ply, check_stale, for_each}
+use Rattle.claim_check.specs.Finds.{Finds}
 use Rattle.claim_check.specs.Ready.{claim_in}
-use Rattle.claim_check.specs.Runs.{Runs}
-use Rattle.claim_check.proofs.ReplyParts.{left_cut, reach_cut, replies_run}
+use Rattle.claim_check.proofs.FindLemmas.{found_in, left_after, left_finds, stopped_in}
+use Rattle.claim_check.proofs.ReplyParts.{at_own_ply, ply_leads, reach_stopped, replies_grow}
 use Rattle.claim_check.proofs.replies.check_ply.Goals as goal
 
-pub returns-in_err-replies-clause-runs : goal.returns-in_err-replies-clause-runs
-returns-in_err-replies-clause-runs c =
+pub check_all_left-requires-clause-replies : goal.check_all_left-requires-clause-replies
+check_all_left-requires-clause-replies c = at_own_ply c.args.claimed.now c.args.ply c.replies_at.new.work.sets c.in_ok-replies.replies c.in_ok-replies.ensures.replies
+
+pub check_all_stale-requires-clause-replies : goal.check_all_stale-requires-clause-replies
+check_all_stale-requires-clause-replies c =
+    let s = c.args.claimed.now in
+    let r = c.in_ok-replies.replies in
+    replies_grow s r.ply c.replies_at.new.work.sets c.check_all_left.new.work.sets r c.in_ok-left.ensures.grows (at_own_ply s c.args.ply c.replies_at.new.work.sets r c.in_ok-replies.ensures.replies)
+
+pub returns-in_err-replies-clause-finds : goal.returns-in_err-replies-clause-finds
+returns-in_err-replies-clause-finds c =
     let e = err_from_is_err_and c.from_residual.result c.from_residual.ensures.1 in
-    rw (e.1, e.2) (reach_cut (claim_in c.args.claimed.now) c.args.ply c.args.bench.now.memo.budget c.in_err-replies.field-0.0 c.in_err-replies.ensures.reached)
+    rw (e.1, e.2) (reach_stopped (claim_in c.args.claimed.now) c.args.ply c.args.work.now.memo.budget c.in_err-replies.field-0.0 c.in_err-replies.ensures.reached)
 
-pub returns-in_err-check_all_left-clause-runs : goal.returns-in_err-check_all_left-clause-runs
-returns-in_err-check_all_left-clause-runs c =
-    let d = claim_in c.args.claimed.now in
-    let p = c.args.claimed.now.position in
+pub returns-in_err-left-clause-finds : goal.returns-in_err-left-clause-finds
+returns-in_err-left-clause-finds c =
+    let s = c.args.claimed.now in
+    let d = claim_in s in
+    let p = s.position in
     let r = c.in_ok-replies.replies in
-    let budget = c.args.bench.now.memo.budget in
-    let reached = level_in p c.replies_at.new.bench.sets r.reached in
-    let By : Side → Type 0 = λ s. Runs
-    (for_each (rules_of p).masks (check_left (rules_of p) s (suc c.args.ply) reached (claimed_level d (c.args.ply + 2)))) budget (Err c.in_err-check_all_left.field-0.0) in
-    let At : ℕ → Type 0 = λ k. Runs (for_each (rules_of p).masks (check_left (rules_of p) d.winner (suc k) reached (claimed_level d (k + 2)))) budget (Err c.in_err-check_all_left.field-0.0) in
-    let Within : ℕ → Type 0 = λ b. Runs (for_each (rules_of p).masks (check_left (rules_of p) d.winner (suc r.ply) reached (claimed_level d (r.ply + 2)))) b (Err c.in_err-check_all_left.field-0.0) in
-    let e = err_from_is_err_and c.from_residual-in_err-check_all_left.result c.from_residual-in_err-check_all_left.ensures.1 in
-    rw (e.1, e.2)
-    (left_cut d c.args.ply budget reached c.in_ok-replies.ensures.reached c.in_err-check_all_left.field-0.0
-    (subst By (sym (other_other d.winner)) (subst At c.in_ok-replies.ensures.replies.ply_is (subst Within c.in_ok-replies.ensures.budget c.in_err-check_all_left.ensures.runs))))
+    let budget = c.args.work.now.memo.budget in
+    let masks = masks_of p in
+    let one = c.replies_at.new.work.sets in
+    let reached = level_in p one r.reached in
+    let left_of = for_each masks (check_left (rules_of p) d.winner (suc r.ply) reached (claimed_level d (r.ply + 2))) in
+    let stale_of = for_each masks (check_stale (rules_of p) (other d.winner) r.ply (claimed_level d r.ply) reached) in
+    let leads = ply_leads d c.args.ply budget r.ply masks reached c.in_ok-replies.ensures.replies.ply_is refl c.in_ok-replies.ensures.reached in
+    let e = err_from_is_err_and c.from_residual-in_err-left.result c.from_residual-in_err-left.ensures.1 in
+    rw (e.1, e.2) (stopped_in left_of stale_of (check_ply d c.args.ply) budget c.replies_at.new.work.memo.budget c.in_ok-replies.ensures.budget leads c.in_err-left.field-0.0 c.in_err-left.ensures.finds)
 
-pub returns-in_err-check_all_stale-clause-runs : goal.returns-in_err-check_all_stale-clause-runs
-returns-in_err-check_all_stale-clause-runs c =
-    let d = claim_in c.args.claimed.now in
+pub returns-then-is_some-clause-finds : goal.returns-then-is_some-clause-finds
+returns-then-is_some-clause-finds c =
+    let s = c.args.claimed.now in
+    let d = claim_in s in
+    let p = s.position in
     let r = c.in_ok-replies.replies in
-    let budget = c.args.bench.now.memo.budget in
-    let e = err_from_is_err_and c.from_residual-in_err-check_all_stale.result c.from_residual-in_err-check_all_stale.ensures.1 in
-    rw (e.1, e.2)
-    (replies_run d c.args.ply budget (Err c.in_err-check_all_stale.field-0.0) r.ply c.in_ok-replies.ensures.replies.ply_is c.replies_at.new.bench.sets
-    c.check_all_left.new.bench.sets c.in_ok-check_all_left.ensures.sets r.reached c.replies_at.new.bench.memo.budget c.check_all_left.new.bench.memo.budget
-    c.in_ok-replies.ensures.budget c.in_ok-check_all_left.ensures.budget c.in_ok-replies.ensures.reached c.in_ok-check_all_left.ensures.runs c.in_err-check_all_stale.ensures.runs)
+    let budget = c.args.work.now.memo.budget in
+    let masks = masks_of p in
+    let one = c.replies_at.new.work.sets in
+    let reached = level_in p one r.reached in
+    let left_of = for_each masks (check_left (rules_of p) d.winner (suc r.ply) reached (claimed_level d (r.ply + 2))) in
+    let stale_of = for_each masks (check_stale (rules_of p) (other d.winner) r.ply (claimed_level d r.ply) reached) in
+    let leads = ply_leads d c.args.ply budget r.ply masks reached c.in_ok-replies.ensures.replies.ply_is refl c.in_ok-replies.ensures.reached in
+    found_in left_of stale_of (check_ply d c.args.ply) budget c.replies_at.new.work.memo.budget c.in_ok-replies.ensures.budget leads
+    c.in_ok-left.left (sym c.is_some.ensures ∙ c.if-is_some.true) c.in_ok-left.ensures.finds
 
-pub returns-clause-runs : goal.returns-clause-runs
-returns-clause-runs c =
-    let d = claim_in c.args.claimed.now in
+pub returns-in_err-stale-clause-finds : goal.returns-in_err-stale-clause-finds
+returns-in_err-stale-clause-finds c =
+    let s = c.args.claimed.now in
+    let d = claim_in s in
+    let p = s.position in
     let r = c.in_ok-replies.replies in
-    let budget = c.args.bench.now.memo.budget in
-    replies_run d c.args.ply budget (Ok tt) r.ply c.in_ok-replies.ensures.replies.ply_is c.replies_at.new.bench.sets c.check_all_left.new.bench.sets
-    c.in_ok-check_all_left.ensures.sets r.reached c.replies_at.new.bench.memo.budget c.check_all_left.new.bench.memo.budget
-    c.in_ok-replies.ensures.budget c.in_ok-check_all_left.ensures.budget c.in_ok-replies.ensures.reached c.in_ok-check_all_left.ensures.runs c.in_ok-check_all_stale.ensures.runs
+    let budget = c.args.work.now.memo.budget in
+    let masks = masks_of p in
+    let one = c.replies_at.new.work.sets in
+    let reached = level_in p one r.reached in
+    let left_of = for_each masks (check_left (rules_of p) d.winner (suc r.ply) reached (claimed_level d (r.ply + 2))) in
+    let stale_of = for_each masks (check_stale (rules_of p) (other d.winner) r.ply (claimed_level d r.ply) reached) in
+    let leads = ply_leads d c.args.ply budget r.ply masks reached c.in_ok-replies.ensures.replies.ply_is refl c.in_ok-replies.ensures.reached in
+    let after_left = left_after left_of stale_of (check_ply d c.args.ply) budget c.replies_at.new.work.memo.budget c.in_ok-replies.ensures.budget leads
+    c.in_ok-left.left (sym c.is_some.ensures ∙ c.if-is_some.false) c.in_ok-left.ensures.finds in
+    let within = c.in_ok-left.ensures.budget ∙ c.in_ok-replies.ensures.budget in
+    let grown = level-grows p.men one c.check_all_left.new.work.sets (masks_of p) r.reached c.in_ok-left.ensures.grows c.in_ok-replies.ensures.replies.reached in
+    let From : Level → Type 0 = λ l. Finds (for_each masks (check_stale (rules_of p) (other d.winner) r.ply (claimed_level d r.ply) l)) c.check_all_left.new.work.memo.budget (Err c.in_err-stale.field-0.0) in
+    let e = err_from_is_err_and c.from_residual-in_err-stale.result c.from_residual-in_err-stale.ensures.1 in
+    rw (e.1, e.2) (left_finds stale_of (check_ply d c.args.ply) budget c.check_all_left.new.work.memo.budget within after_left (Err c.in_err-stale.field-0.0) (subst From grown c.in_err-stale.ensures.finds))
+
+pub truncate-requires : goal.truncate-requires
+truncate-requires c =
+    let old = c.args.work.now.sets in
+    let one = c.replies_at.new.work.sets in
+    let two = c.check_all_left.new.work.sets in
+    let three = c.check_all_stale.new.work.sets in
+    let more = length-grows old three (grows-grows old one three c.in_ok-replies.ensures.grows (grows-grows one two three c.in_ok-left.ensures.grows c.in_ok-stale.ensures.grows)) in
+    omega (arith, more, c.count-count.ensures)
+
+pub returns-clause-finds : goal.returns-clause-finds
+returns-clause-finds c =
+    let s = c.args.claimed.now in
+    let d = claim_in s in
+    let p = s.position in
+    let r = c.in_ok-replies.replies in
+    let budget = c.args.work.now.memo.budget in
+    let masks = masks_of p in
+    let one = c.replies_at.new.work.sets in
+    let reached = level_in p one r.reached in
+    let left_of = for_each masks (check_left (rules_of p) d.winner (suc r.ply) reached (claimed_level d (r.ply + 2))) in
+    let stale_of = for_each masks (check_stale (rules_of p) (other d.winner) r.ply (claimed_level d r.ply) reached) in
+    let leads = ply_leads d c.args.ply budget r.ply masks reached c.in_ok-replies.ensures.replies.ply_is refl c.in_ok-replies.ensures.reached in
+    let after_left = left_after left_of stale_of (check_ply d c.args.ply) budget c.replies_at.new.work.memo.budget c.in_ok-replies.ensures.budget leads
+    c.in_ok-left.left (sym c.is_some.ensures ∙ c.if-is_some.false) c.in_ok-left.ensures.finds in
+    let within = c.in_ok-left.ensures.budget ∙ c.in_ok-replies.ensures.budget in
+    let grown = level-grows p.men one c.check_all_left.new.work.sets (masks_of p) r.reached c.in_ok-left.ensures.grows c.in_ok-replies.ensures.replies.reached in
+    let From : Level → Type 0 = λ l. Finds (for_each masks (check_stale (rules_of p) (other d.winner) r.ply (claimed_level d r.ply) l)) c.check_all_left.new.work.memo.budget (Ok c.in_ok-stale.stale) in
+    left_finds stale_of (check_ply d c.args.ply) budget c.check_all_left.new.work.memo.budget within after_left (Ok c.in_ok-stale.stale) (subst From grown c.in_ok-stale.ensures.finds)
+
+pub returns-in_err-left-clause-grows : goal.returns-in_err-left-clause-grows
+returns-in_err-left-clause-grows c = grows-grows c.args.work.now.sets c.replies_at.new.work.sets c.check_all_left.new.work.sets c.in_ok-replies.ensures.grows c.in_err-left.ensures.grows
+
+pub returns-then-is_some-clause-grows : goal.returns-then-is_some-clause-grows
+returns-then-is_some-clause-grows c = grows-grows c.args.work.now.sets c.replies_at.new.work.sets c.check_all_left.new.work.sets c.in_ok-replies.ensures.grows c.in_ok-left.ensures.grows
+
+pub returns-in_err-stale-clause-grows : goal.returns-in_err-stale-clause-grows
+returns-in_err-stale-clause-grows c =
+    grows-grows c.args.work.now.sets c.replies_at.new.work.sets c.check_all_stale.new.work.sets c.in_ok-replies.ensures.grows
+    (grows-grows c.replies_at.new.work.sets c.check_all_left.new.work.sets c.check_all_stale.new.work.sets c.in_ok-left.ensures.grows c.in_err-stale.ensures.grows)
+
+pub returns-clause-grows : goal.returns-clause-grows
+returns-clause-grows c =
+    let old = c.args.work.now.sets in
+    let one = c.replies_at.new.work.sets in
+    let two = c.check_all_left.new.work.sets in
+    let three = c.check_all_stale.new.work.sets in
+    rw c.truncate.ensures
+    (grows_cut old three c.count-count.result c.count-count.ensures
+    (grows-grows old one three c.in_ok-replies.ensures.grows (grows-grows one two three c.in_ok-left.ensures.grows c.in_ok-stale.ensures.grows)))

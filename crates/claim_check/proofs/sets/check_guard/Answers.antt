@@ -1,15 +1,34 @@
-use Rattle.std.proofs.Common.{subst}
-use Rattle.mate_plan.specs.Levels.{level_in}
+use Rattle.std.proofs.Common.{sym, subst}
+use Rattle.game_rules.specs.Game.{Position, Sound}
+use Rattle.rule_formula.specs.Fits.{IsGameMask}
+use Rattle.mate_plan.specs.Levels.{AreNamesIn, level_in}
+use Rattle.mate_plan.specs.Plan.{Program}
 use Rattle.mate_plan.specs.PlanOf.{rules_of}
 use Rattle.mate_plan.specs.Questions.{are_safe}
+use Rattle.std.proofs.Common.{Bool}
 use Rattle.claim_plan.specs.CheckPlan.{holds_by}
 use Rattle.claim_plan.specs.declared.names.RuleAt.{RuleAt}
-use Rattle.claim_check.specs.Runs.{Runs}
+use Rattle.claim_check.specs.Finds.{Finds}
 use Rattle.claim_check.proofs.sets.check_guard.Goals as goal
 
-pub returns-clause-runs : goal.returns-clause-runs
-returns-clause-runs c =
+pub are_safe-requires-clause-sound : goal.are_safe-requires-clause-sound
+are_safe-requires-clause-sound c = subst Sound (sym c.requires.of) c.requires.ready.claim.sound
+
+pub are_safe-requires-clause-mask : goal.are_safe-requires-clause-mask
+are_safe-requires-clause-mask c =
+    let At : Position → Type 0 = λ p. IsGameMask p c.args.at.now.stage.mask in
+    subst At (sym c.requires.of) c.requires.mask
+
+pub are_safe-requires-clause-level : goal.are_safe-requires-clause-level
+are_safe-requires-clause-level c =
+    let At : Position → Type 0 = λ p. AreNamesIn p c.args.work.now.sets c.args.at.now.level.now in
+    subst At (sym c.requires.of) c.requires.level
+
+pub returns-clause-finds : goal.returns-clause-finds
+returns-clause-finds c =
     let stage = c.args.at.now.stage in
-    let asked = are_safe (rules_of c.args.p.now) stage.side stage.ply stage.mask (level_in c.args.p.now c.args.bench.now.sets c.args.at.now.level.now stage.mask) in
-    let By : RuleAt → Type 0 = λ f. Runs (holds_by f asked) c.args.bench.now.memo.budget c.kept_by.result in
-    subst By c.rule_at-rule.ensures (c.kept_by.ensures asked c.args.bench.now.memo.budget c.are_safe.ensures.answers)
+    let budget = c.args.work.now.memo.budget in
+    let asked : Position → Program Bool = λ p. are_safe (rules_of p) stage.side stage.ply stage.mask (level_in p c.args.work.now.sets c.args.at.now.level.now stage.mask) in
+    let By : RuleAt → Type 0 = λ f. Finds (holds_by f (asked c.args.claimed.now.position)) budget c.judged_by.result in
+    let At : Position → Type 0 = λ p. Finds (holds_by c.rule_at-rule.result (asked p)) budget c.judged_by.result in
+    subst By c.rule_at-rule.ensures (subst At c.requires.of (c.judged_by.ensures (asked c.args.bench.now.position.now) budget c.are_safe.ensures.answers))

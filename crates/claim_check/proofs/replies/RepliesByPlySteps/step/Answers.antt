@@ -1,0 +1,39 @@
+use Rattle.std.proofs.Common.{◌≤◌, sym, ◌∙◌}
+use Rattle.std.proofs.lemmas.List.Elements.{All-head, All-tail}
+use Rattle.claim_plan.specs.CheckPlan.{check_ply}
+use Rattle.claim_check.specs.Ready.{claim_in}
+use Rattle.claim_check.proofs.FindLemmas.{goes_into, goes_past, if_ok}
+use Rattle.claim_check.proofs.replies.RepliesByPlySteps.step.Goals as goal
+
+pub check_ply-requires-clause-ready : goal.check_ply-requires-clause-ready
+check_ply-requires-clause-ready c = c.requires.fits.1.0
+
+pub check_ply-requires-clause-of : goal.check_ply-requires-clause-of
+check_ply-requires-clause-of c = c.requires.fits.1.1
+
+pub check_ply-requires-clause-signed : goal.check_ply-requires-clause-signed
+check_ply-requires-clause-signed c = c.requires.fits.1.2
+
+pub check_ply-requires-clause-ply : goal.check_ply-requires-clause-ply
+check_ply-requires-clause-ply c = All-head (λ ply. ply ≤ 41) c.args.ply.now c.requires.fits.0 c.requires.fits.1.3
+
+pub returns-then-is_some-clause-answers : goal.returns-then-is_some-clause-answers
+returns-then-is_some-clause-answers c =
+    let s = c.args.self.now.claimed.now in
+    goes_past (check_ply (claim_in s) c.args.ply.now) c.args.work.now.memo.budget c.args.found (sym c.is_some.ensures ∙ c.if-is_some.true)
+
+pub returns-then-is_some-clause-fits : goal.returns-then-is_some-clause-fits
+returns-then-is_some-clause-fits c =
+    let s = c.args.self.now.claimed.now in
+    λ rest h. (h.0, h.1, h.2, All-tail (λ ply. ply ≤ 41) c.args.ply.now rest h.3)
+
+pub returns-clause-answers : goal.returns-clause-answers
+returns-clause-answers c =
+    let s = c.args.self.now.claimed.now in
+    goes_into (check_ply (claim_in s) c.args.ply.now) c.args.work.now.memo.budget c.args.found c.check_ply.result
+    (sym c.is_some.ensures ∙ c.if-is_some.false) c.check_ply.ensures.finds
+
+pub returns-clause-fits : goal.returns-clause-fits
+returns-clause-fits c =
+    let s = c.args.self.now.claimed.now in
+    if_ok c.check_ply.result _ (λ value rest h. (h.0, h.1, h.2, All-tail (λ ply. ply ≤ 41) c.args.ply.now rest h.3))
