@@ -39,12 +39,6 @@ have_from_are stock sets [] (id ∷ ids) are = are
 have_from_are stock sets (mask ∷ masks) [] are = tt
 have_from_are stock sets (mask ∷ masks) (id ∷ ids) are = (are.0, have_from_are stock sets masks ids are.1)
 
-pub are_from_have : (stock : List Man) (sets : List Automaton) (masks : List ℕ) (names : Names) → length names ≡ length masks → HaveNames stock sets masks names → AreNames stock sets masks names
-are_from_have stock sets [] [] count have = tt
-are_from_have stock sets [] (id ∷ ids) count have = have
-are_from_have stock sets (mask ∷ masks) [] count have = absurd (omega (arith, count))
-are_from_have stock sets (mask ∷ masks) (id ∷ ids) count have = (have.0, are_from_have stock sets masks ids (omega (arith, count)) have.1)
-
 -- the name for a mask is that of a set over its tracks
 name_here : (stock : List Man) (sets : List Automaton) (mask m : ℕ) (b : Bool) (id found : Option SetId) → mask == m ≡ b → IsNameOn (tracks_of stock (is_live m)) sets id → IsNameOn (tracks_of stock (is_live mask)) sets found → IsNameOn (tracks_of stock (is_live mask)) sets (if b then id else found)
 name_here stock sets mask m true id found e here before =
