@@ -17,10 +17,6 @@ pub asked_ends : (budget : ℕ) (q : Question) (P : Type 0) (b : Bool) → IsTru
 asked_ends budget q P true same some none = Ends-ask_yes q (Give true) (Give false) budget true (some (same.0 refl)) (Ends-give budget true)
 asked_ends budget q P false same some none = Ends-ask_no q (Give true) (Give false) budget false (none (λ h. let t = same.1 h in absurd (cc))) (Ends-give budget false)
 
-pub none_is : (found : Finding) → is_some found ≡ false → found ≡ None
-none_is None none = refl
-none_is (Some f) none = absurd (cc)
-
 pub none_found : (m : Program Finding) (budget now : ℕ) → now ≡ budget → (found : Finding) → is_some found ≡ false → Ends m now found → Ends m budget None
 none_found m budget now same None none h = subst (λ (b : ℕ). Ends m b None) same h
 none_found m budget now same (Some f) none h = absurd (cc)

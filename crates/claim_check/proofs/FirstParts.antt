@@ -30,10 +30,6 @@ module _ (c : Claim) where
   first_waiting Black White e = refl
 
   module _ (budget : ℕ) where
-    pub nothing_ends : (moves : ℕ) → moves ≡ 0 → Ends (check_moving c moves) budget (Some (rule_at 0 (mask_of c.position) rule.First))
-    nothing_ends zero e = Ends-give budget (Some (rule_at 0 (mask_of c.position) rule.First))
-    nothing_ends (suc moves) e = absurd (cc)
-
     pub moving_finds : (moves : ℕ) (r : Result Finding (PlanError PartName)) → moves ≢ 0 → c.position.turn ≡ c.winner → (level : Level) → level ≡ claimed_level c 1
         → Finds (holds_by (rule_at 0 (mask_of c.position) rule.First) (has_first_move (rules_of c.position) c.position.turn (mask_of c.position) (tuple_of c.position) level)) budget r
         → Finds (check_moving c moves) budget r

@@ -359,7 +359,9 @@ pub(crate) fn check_replies(
     requires ready { IsReady claimed.now }
     requires signed { AreSigned (claim_in claimed.now) }
     requires low { All (λ ply. ply ≤ 41) plies.now }
-    ensures finds { Finds (plan.for_each plies.now (plan.check_ply (claim_in claimed.now))) work.old.memo.budget result }
+    ensures finds { Finds
+        (plan.for_each plies.now (plan.check_ply (claim_in claimed.now)))
+        work.old.memo.budget result }
     ensures budget { work.new.memo.budget ≡ work.old.memo.budget }
 {
     each(&RepliesByPly { bench, claimed }, work, plies, None)

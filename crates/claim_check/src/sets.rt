@@ -215,7 +215,9 @@ pub(crate) fn check_sets(
     requires of { bench.now.position.now ≡ claimed.now.position }
     requires ready { IsReady claimed.now }
     requires plies { plies.now ≡ losers_plies claimed.now.winner claimed.now.position.turn claimed.now.moves }
-    ensures finds { Finds (plan.for_each plies.now (plan.check_sets (claim_in claimed.now))) work.old.memo.budget result }
+    ensures finds { Finds
+        (plan.for_each plies.now (plan.check_sets (claim_in claimed.now)))
+        work.old.memo.budget result }
     ensures budget { work.new.memo.budget ≡ work.old.memo.budget }
 {
     each(&SetsByPly { bench, claimed }, work, plies, None)

@@ -1,5 +1,5 @@
 -- The plan by which a claim is checked: a program that gives the first rule that fails, or none.
-use Rattle.std.specs.Prelude.{ℕ, zero, suc, ◌+◌, List, [], ◌∷◌, Option, Some, None, ℤ, Bool, true, false}
+use Rattle.std.specs.Prelude.{ℕ, zero, suc, ◌+◌, List, Option, Some, None, ℤ, Bool, true, false}
 use Rattle.auto_core.specs.Automaton.{Automaton}
 use Rattle.game_rules.specs.Game.{other}
 use Rattle.game_rules.specs.declared.men.Side.{Side}

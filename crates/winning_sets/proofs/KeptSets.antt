@@ -15,8 +15,8 @@ use Rattle.rule_formula.specs.Mean.{BearsOnKing, BearingsMean, HoldsFitting, IsI
 use Rattle.rule_formula.specs.Meaning.{TakesOption}
 use Rattle.rule_formula.specs.Options.{options_of}
 use Rattle.rule_formula.specs.Placed.{tuple_of}
-use Rattle.set_plan.specs.Program.{Item, Entry, Give, Takes, each}
-use Rattle.set_plan.specs.Unite.{Made, make, two}
+use Rattle.set_plan.specs.Program.{Entry, Give, Takes, each}
+use Rattle.set_plan.specs.Unite.{Made, two}
 use Rattle.mate_plan.specs.Plan.{Level, Program, Rules, bear_item, bear_items, choices_into, difference, for_masks, image_item, image_items, level_with, lost_level, lost_set, lost_set_if, name, narrow, narrow_by, no_sets, pre_item, pre_items, reach_set, rest_set, safe_item, union, win_level, win_set, with_mask}
 use Rattle.mate_plan.specs.PlanOf.{rules_of}
 use Rattle.mate_plan.specs.declared.names.Part.{Part}

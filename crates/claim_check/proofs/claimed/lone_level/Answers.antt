@@ -1,4 +1,4 @@
-use Rattle.std.proofs.Common.{Some, ap, sym, ◌∙◌, subst}
+use Rattle.std.proofs.Common.{◌≡◌, Some, ap, sym, ◌∙◌, subst}
 use Rattle.std.proofs.lemmas.Result.{IfOk-weaker}
 use Rattle.game_rules.specs.Game.{Position}
 use Rattle.lin_formula.specs.SetOf.{Table}
@@ -7,7 +7,6 @@ use Rattle.rule_formula.specs.Mean.{mask_tracks}
 use Rattle.set_plan.specs.Sets.{IsSetOn}
 use Rattle.mate_plan.specs.Levels.{AreNamesIn, level_in}
 use Rattle.claim_check.proofs.ClaimedLevels.{lone_set}
-use Rattle.std.proofs.Common.{◌≡◌}
 use Rattle.claim_check.proofs.claimed.lone_level.Goals as goal
 
 pub one_level-requires : goal.one_level-requires

@@ -1,11 +1,10 @@
-use Rattle.std.proofs.Common.{ℕ, subst}
+use Rattle.std.proofs.Common.{ℕ, List, ◌∙◌, subst}
 use Rattle.std.specs.Prelude.{IsSome}
 use Rattle.mate_plan.specs.Claim.{claimed_at}
 use Rattle.claim_plan.specs.CheckPlan.{check_set, for_each}
 use Rattle.claim_check.specs.Finds.{Finds}
 use Rattle.claim_check.specs.Ready.{claim_in}
 use Rattle.claim_check.proofs.LosersPlies.{each_mask}
-use Rattle.std.proofs.Common.{List, ◌∙◌}
 use Rattle.claim_check.proofs.sets.check_sets_at.Goals as goal
 
 pub each-requires : goal.each-requires
