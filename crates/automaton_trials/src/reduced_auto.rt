@@ -1,0 +1,144 @@
+//! Automata with no state too many.
+
+ghost use Rattle.std.specs.Prelude.{◌≡◌, ◌≤◌, IsTrue, length};
+ghost use Rattle.track_word.specs.Tracks.{with_vars};
+ghost use Rattle.auto_core.specs.Reduced.{IsReduced};
+
+use auto_bool::{join, meet, not};
+use auto_core::Auto;
+use auto_reduce::reduce;
+use auto_walk::Grown;
+use lin_formula::{LinWhy, lin};
+use std::alloc::Global;
+use std::marker::Model;
+use track_word::{Rel, Var};
+use trial_rows::RowError;
+
+/// An automaton with no state too many.
+#[derive(Drop)]
+pub struct ReducedAuto {
+    auto: Auto,
+}
+
+impl Model for ReducedAuto {
+    ghost use Rattle.auto_core.specs.Automaton.{Automaton};
+    ghost use Rattle.auto_core.specs.Reduced.{IsReduced};
+
+    ghost Value = { Automaton };
+
+    ghost view = { λ r. r.auto };
+
+    ghost invariant = { λ r. IsReduced r.auto };
+}
+
+impl ReducedAuto {
+    fn new(auto: Auto) -> ReducedAuto
+        requires { IsReduced auto }
+        ensures { result ≡ auto }
+    {
+        ReducedAuto { auto }
+    }
+
+    pub fn auto(&self) -> &Auto
+        ensures { IsReduced result.now }
+    {
+        &self.auto
+    }
+
+    pub fn copy(&self) -> Result<ReducedAuto, RowError> {
+        let auto = self.auto.copy()?;
+        Ok(ReducedAuto { auto })
+    }
+}
+
+/// The reduced automaton of the same words.
+pub fn reduced(alloc: Global, a: &Auto) -> Result<ReducedAuto, RowError> {
+    let auto = reduce(alloc, a)?;
+    Ok(ReducedAuto::new(auto))
+}
+
+/// What a larger automaton is, reduced, where the budget and memory sufficed.
+pub fn grown(alloc: Global, answer: Result<Auto, Grown>) -> Result<ReducedAuto, RowError> {
+    match answer {
+        Ok(auto) => reduced(alloc, &auto),
+        Err(Grown::Over) => Err(RowError::Over),
+        Err(Grown::Memory) => Err(RowError::Memory),
+    }
+}
+
+/// The automaton of a comparison, where its parts are such as may be.
+pub fn comparison(
+    alloc: Global,
+    terms: &[(i8, Var)],
+    rel: Rel,
+    bound: i32,
+) -> Result<ReducedAuto, RowError> {
+    match lin(alloc, terms, rel, bound) {
+        Ok(_) => {
+            let auto = Auto::lin(alloc, terms, rel, bound)?;
+            reduced(alloc, &auto)
+        }
+        Err(LinWhy::Memory) => Err(RowError::Memory),
+        Err(_) => Err(RowError::Condition),
+    }
+}
+
+/// How many tracks there are.
+fn track_count(a: &Auto) -> usize
+    ensures count { result ≡ length a.now.tracks }
+    ensures few { result ≤ 20 }
+{
+    a.tracks().len()
+}
+
+/// Whether both have so few tracks that their product may be made.
+fn are_few_together(a: &Auto, b: &Auto) -> bool
+    ensures { IsTrue result → length (with_vars a.now.tracks b.now.tracks) ≤ 20 }
+{
+    let left = track_count(a);
+    let right = track_count(b);
+    if left + right > 20 {
+        return false;
+    }
+    true
+}
+
+/// The words that both accept.
+pub fn both(
+    alloc: Global,
+    a: &ReducedAuto,
+    b: &ReducedAuto,
+    budget: u32,
+) -> Result<ReducedAuto, RowError>
+    requires { (1 ≤ budget) × (budget ≤ 200000) }
+{
+    let a = a.auto();
+    let b = b.auto();
+    if !are_few_together(a, b) {
+        return Err(RowError::Condition);
+    }
+    grown(alloc, meet(alloc, a, b, budget))
+}
+
+/// The words that one of them accepts at least.
+pub fn either(
+    alloc: Global,
+    a: &ReducedAuto,
+    b: &ReducedAuto,
+    budget: u32,
+) -> Result<ReducedAuto, RowError>
+    requires { (1 ≤ budget) × (budget ≤ 200000) }
+{
+    let a = a.auto();
+    let b = b.auto();
+    if !are_few_together(a, b) {
+        return Err(RowError::Condition);
+    }
+    grown(alloc, join(alloc, a, b, budget))
+}
+
+/// The other words.
+pub fn others(alloc: Global, a: &ReducedAuto) -> Result<ReducedAuto, RowError> {
+    let auto = not(alloc, a.auto())?;
+    Ok(ReducedAuto::new(auto))
+}

@@ -1,0 +1,177 @@
+//! The spelling of an automaton: fields in prefix form, as `docs/CALLS.md` has them.
+
+use crate::letters::{MOST_DEPTH, var, vars};
+use crate::reduced_auto::{ReducedAuto, both, comparison, either, grown, others, reduced};
+use crate::tables::{Tables, tabled};
+use auto_core::Auto;
+use auto_walk::residue;
+use std::alloc::Global;
+use track_word::{Rel, Var};
+use trial_rows::{Fields, Named, RowError, number, numbers};
+
+/// What an automaton is read from: the automata that were named, and how deeply what is left may be nested.
+#[derive(Clone, Copy)]
+pub struct Reader<'a> {
+    pub alloc: Global,
+    named: &'a Named<ReducedAuto>,
+    depth: u8,
+}
+
+impl<'a> Reader<'a> {
+    pub fn new(alloc: Global, named: &'a Named<ReducedAuto>) -> Self {
+        Reader {
+            alloc,
+            named,
+            depth: MOST_DEPTH,
+        }
+    }
+}
+
+/// What makes one automaton of others.
+#[derive(Clone, Copy)]
+enum Operator {
+    Not,
+    Meet,
+    Join,
+}
+
+fn operator_of(word: &str) -> Option<Operator> {
+    match word {
+        "not" => Some(Operator::Not),
+        "meet" => Some(Operator::Meet),
+        "join" => Some(Operator::Join),
+        _ => None,
+    }
+}
+
+/// An automaton that is made of no other one.
+#[derive(Clone, Copy)]
+enum Plain {
+    Comparison(Rel),
+    Value,
+    Residue,
+    Rows,
+    The,
+}
+
+fn plain_of(word: &str) -> Result<Plain, RowError> {
+    match word {
+        "le" => Ok(Plain::Comparison(Rel::Le)),
+        "eq" => Ok(Plain::Comparison(Rel::Eq)),
+        "is" => Ok(Plain::Value),
+        "residue" => Ok(Plain::Residue),
+        "rows" => Ok(Plain::Rows),
+        "the" => Ok(Plain::The),
+        _ => Err(RowError::Word),
+    }
+}
+
+/// So many terms of a comparison.
+fn terms(alloc: Global, count: u8, fields: &mut Fields) -> Result<Vec<(i8, Var)>, RowError> {
+    let mut terms = Vec::new(alloc);
+    for _ in 0..count {
+        let coefficient = number::<i8>(fields.word()?)?;
+        terms.push((coefficient, var(fields)?))?;
+    }
+    Ok(terms)
+}
+
+/// `le K A V .. B` and `eq K A V .. B`.
+fn linear(alloc: Global, rel: Rel, fields: &mut Fields) -> Result<ReducedAuto, RowError> {
+    let count = fields.u8()?;
+    let terms = terms(alloc, count, fields)?;
+    let bound = number::<i32>(fields.word()?)?;
+    comparison(alloc, terms.as_slice(), rel, bound)
+}
+
+/// `is V N`.
+fn value(alloc: Global, fields: &mut Fields) -> Result<ReducedAuto, RowError> {
+    let var = var(fields)?;
+    let value = fields.i64()?;
+    let auto = Auto::value(alloc, var, value)?;
+    reduced(alloc, &auto)
+}
+
+/// `residue BUDGET V M R`.
+fn remainder(alloc: Global, fields: &mut Fields) -> Result<ReducedAuto, RowError> {
+    let budget = fields.budget()?;
+    let var = var(fields)?;
+    let modulus = fields.u32()?;
+    let wanted = fields.u32()?;
+    if modulus == 0 {
+        return Err(RowError::Condition);
+    }
+    grown(alloc, residue(alloc, var, modulus, wanted, budget))
+}
+
+/// Flags, each `1` or `0`, with nothing between them.
+fn flags(alloc: Global, field: &str) -> Result<Vec<bool>, RowError> {
+    let mut flags = Vec::new(alloc);
+    for byte in field.as_bytes() {
+        match *byte {
+            b'0' => flags.push(false)?,
+            b'1' => flags.push(true)?,
+            _ => return Err(RowError::Word),
+        }
+    }
+    Ok(flags)
+}
+
+/// `rows VARS FIRST NEXT FLAGS`.
+fn rows(alloc: Global, fields: &mut Fields) -> Result<ReducedAuto, RowError> {
+    let tracks = vars(alloc, fields.word()?)?;
+    let first = numbers::<u32>(alloc, fields.word()?)?;
+    let next = numbers::<u32>(alloc, fields.word()?)?;
+    let accept = flags(alloc, fields.word()?)?;
+    let auto = tabled(
+        alloc,
+        Tables {
+            tracks,
+            first,
+            next,
+            accept,
+        },
+    )?;
+    reduced(alloc, &auto)
+}
+
+fn plain_automaton(
+    reader: Reader,
+    plain: Plain,
+    fields: &mut Fields,
+) -> Result<ReducedAuto, RowError> {
+    match plain {
+        Plain::Comparison(rel) => linear(reader.alloc, rel, fields),
+        Plain::Value => value(reader.alloc, fields),
+        Plain::Residue => remainder(reader.alloc, fields),
+        Plain::Rows => rows(reader.alloc, fields),
+        Plain::The => reader.named.get(fields.word()?)?.copy(),
+    }
+}
+
+/// An automaton, whose text may name earlier ones.
+pub fn automaton(reader: Reader, fields: &mut Fields) -> Result<ReducedAuto, RowError> {
+    if reader.depth == 0 {
+        return Err(RowError::Deep);
+    }
+    let inner = Reader {
+        alloc: reader.alloc,
+        named: reader.named,
+        depth: reader.depth - 1,
+    };
+    let word = fields.word()?;
+    match operator_of(word) {
+        None => plain_automaton(reader, plain_of(word)?, fields),
+        Some(Operator::Not) => others(reader.alloc, &automaton(inner, fields)?),
+        Some(Operator::Meet) => {
+            let budget = fields.budget()?;
+            let left = automaton(inner, fields)?;
+            both(reader.alloc, &left, &automaton(inner, fields)?, budget)
+        }
+        Some(Operator::Join) => {
+            let budget = fields.budget()?;
+            let left = automaton(inner, fields)?;
+            either(reader.alloc, &left, &automaton(inner, fields)?, budget)
+        }
+    }
+}

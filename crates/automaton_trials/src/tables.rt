@@ -1,0 +1,80 @@
+//! Automata of tables.
+
+ghost use Rattle.std.specs.Prelude.{◌≡◌, ◌≤◌, ◌<◌, ◌^◌, All, IsTrue};
+ghost use Rattle.track_word.specs.Tracks.{IsAscending};
+ghost use Rattle.auto_core.specs.Rows.{AreTables};
+
+use auto_core::Auto;
+use std::alloc::Global;
+use track_word::Var;
+use trial_rows::RowError;
+
+/// Whether the tracks ascend.
+fn are_ascending(tracks: &[Var]) -> bool
+    ensures { IsTrue result → IsAscending tracks.now }
+{
+    let Some((track, rest)) = tracks.split_first() else {
+        return true;
+    };
+    let Some(next) = rest.first() else {
+        return true;
+    };
+    if track.0 >= next.0 {
+        return false;
+    }
+    are_ascending(rest)
+}
+
+/// How many letters there are over so many tracks.
+pub fn width_of(tracks: usize) -> usize
+    requires { tracks ≤ 20 }
+    ensures { result ≡ 2 ^ tracks }
+{
+    1 << tracks
+}
+
+/// Whether each number is below a bound.
+pub fn are_below(numbers: &[u32], bound: usize) -> bool
+    ensures { IsTrue result → All (λ number. number < bound) numbers.now }
+{
+    numbers.iter().all(|number| (*number as usize) < bound)
+}
+
+/// The tables of an automaton: its tracks, a state for each sign letter, a row of states for each state, and their flags.
+#[derive(Drop)]
+pub struct Tables {
+    pub tracks: Vec<Var>,
+    pub first: Vec<u32>,
+    pub next: Vec<u32>,
+    pub accept: Vec<bool>,
+}
+
+/// Whether tables are those of an automaton.
+fn are_tables(tables: &Tables) -> bool
+    ensures { IsTrue result → AreTables tables.now.tracks.items tables.now.first.items tables.now.next.items tables.now.accept.items }
+{
+    let states = tables.accept.len();
+    if tables.tracks.len() > 20 || states == 0 || states > 200000 {
+        return false;
+    }
+    let width = width_of(tables.tracks.len());
+    are_ascending(tables.tracks.as_slice())
+        && tables.first.len() == width
+        && tables.next.len() == states * width
+        && are_below(tables.first.as_slice(), states)
+        && are_below(tables.next.as_slice(), states)
+}
+
+/// The automaton of some tables, where they are such as may be.
+pub fn tabled(alloc: Global, tables: Tables) -> Result<Auto, RowError> {
+    if !are_tables(&tables) {
+        return Err(RowError::Condition);
+    }
+    let Tables {
+        tracks,
+        first,
+        next,
+        accept,
+    } = tables;
+    Ok(Auto::from_rows(alloc, tracks, first, next, accept)?)
+}

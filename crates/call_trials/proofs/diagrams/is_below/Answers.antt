@@ -1,6 +1,0 @@
-use Rattle.std.proofs.Common.{◌<◌, subst, All}
-use Rattle.call_trials.proofs.SmallLemmas.{leaves_below}
-use Rattle.call_trials.proofs.diagrams.is_below.Goals as goal
-
-pub returns : goal.returns
-returns c = λ below. leaves_below _ _ _ _ c.in_ok-values.ensures (subst (All (λ v. v < c.args.bound)) c.as_slice.ensures.value (c.are_below-below.ensures below))

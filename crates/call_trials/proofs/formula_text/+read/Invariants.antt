@@ -1,5 +1,0 @@
-use Rattle.call_trials.proofs.formula_text.+read.Given as goal
-
--- the depth that is left
-abbrev pub decreases-read : goal.decreases-read
-decreases-read l = l.depth

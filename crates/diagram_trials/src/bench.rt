@@ -1,0 +1,69 @@
+//! What the steps of a row have made.
+
+ghost use Rattle.std.specs.Prelude.{◌<◌, IfOk, length};
+
+use letter_diagram::{Diagrams, Node, Pairs, Sets};
+use std::alloc::Global;
+use trial_rows::{Fields, RowError};
+
+/// How many tracks there are.
+pub const TRACKS: u8 = 20;
+
+/// The nodes that the steps of a row have made, in their order, and what is numbered.
+#[derive(Drop)]
+pub struct Bench {
+    pub diagrams: Diagrams,
+    pub nodes: Vec<Node>,
+    pub pairs: Pairs,
+    pub sets: Sets,
+}
+
+impl Bench {
+    pub fn new(alloc: Global) -> Self {
+        Bench {
+            diagrams: Diagrams::new(alloc),
+            nodes: Vec::new(alloc),
+            pairs: Pairs::new(alloc),
+            sets: Sets::new(alloc),
+        }
+    }
+
+    /// Gives a node the next number.
+    pub fn push(&mut self, node: Node) -> Result<(), RowError> {
+        self.nodes.push(node)?;
+        Ok(())
+    }
+
+    /// The node of the number that the next field has, counted from 0.
+    pub fn node(&self, fields: &mut Fields) -> Result<Node, RowError>
+        ensures { IfOk result (λ node. node < length self.now.diagrams) }
+    {
+        let place = fields.u32()? as usize;
+        match self.nodes.get(place) {
+            Some(node) => known(&self.diagrams, *node),
+            None => Err(RowError::Name),
+        }
+    }
+}
+
+/// The node, which the diagrams have.
+fn known(diagrams: &Diagrams, node: Node) -> Result<Node, RowError>
+    ensures { IfOk result (λ known. known < length diagrams.now) }
+{
+    if diagrams.is_node(node) {
+        Ok(node)
+    } else {
+        Err(RowError::Condition)
+    }
+}
+
+/// The track of the next field.
+pub fn track(fields: &mut Fields) -> Result<u8, RowError>
+    ensures { IfOk result (λ track. track < 20) }
+{
+    let track = fields.u8()?;
+    if track >= TRACKS {
+        return Err(RowError::Condition);
+    }
+    Ok(track)
+}

@@ -1,0 +1,193 @@
+//! Steps that make a node.
+
+ghost use Rattle.std.specs.Prelude.{◌≡◌, ◌<◌, ℕ, All, IsTrue, IfOk, length};
+ghost use Rattle.letter_diagram.specs.Diagram.{map_at};
+
+use crate::bench::{Bench, TRACKS, track};
+use letter_diagram::laws::a_map_looks_from_its_top_track;
+use letter_diagram::{Diagrams, Node};
+use std::alloc::Global;
+use trial_rows::{Fields, RowError, numbers};
+
+/// The most pairs or sets that a row may number.
+const MOST_NUMBERED: usize = 1000000;
+
+/// What a step makes.
+#[derive(Clone, Copy)]
+pub enum Making {
+    Leaf,
+    Bit,
+    Node,
+    Choose,
+    Apply2,
+    Merge,
+    Map,
+    Relabel,
+    Restrict,
+}
+
+/// What the step of this word makes.
+pub fn making_of(word: &str) -> Option<Making> {
+    match word {
+        "leaf" => Some(Making::Leaf),
+        "bit" => Some(Making::Bit),
+        "node" => Some(Making::Node),
+        "choose" => Some(Making::Choose),
+        "apply2" => Some(Making::Apply2),
+        "merge" => Some(Making::Merge),
+        "map" => Some(Making::Map),
+        "relabel" => Some(Making::Relabel),
+        "restrict" => Some(Making::Restrict),
+        _ => None,
+    }
+}
+
+/// The node that a step makes.
+pub fn make(
+    alloc: Global,
+    bench: &mut Bench,
+    making: Making,
+    fields: &mut Fields,
+) -> Result<Node, RowError> {
+    match making {
+        Making::Leaf => leaf(bench, fields),
+        Making::Bit => bit(bench, fields),
+        Making::Node => test_node(bench, fields),
+        Making::Choose => choice(bench, fields),
+        Making::Apply2 => pairs_node(bench, fields),
+        Making::Merge => merged(bench, fields),
+        Making::Map => mapped(alloc, bench, fields),
+        Making::Relabel => relabelled(alloc, bench, fields),
+        Making::Restrict => restricted(bench, fields),
+    }
+}
+
+/// `leaf VALUE`: the constant map.
+fn leaf(bench: &mut Bench, fields: &mut Fields) -> Result<Node, RowError> {
+    let value = fields.u32()?;
+    Ok(bench.diagrams.leaf(value)?)
+}
+
+/// `bit TRACK`: the bit of the track.
+fn bit(bench: &mut Bench, fields: &mut Fields) -> Result<Node, RowError> {
+    let track = track(fields)?;
+    Ok(bench.diagrams.bit(track)?)
+}
+
+/// `node TRACK LOW HIGH`: both maps look only at later tracks.
+fn test_node(bench: &mut Bench, fields: &mut Fields) -> Result<Node, RowError> {
+    let track = track(fields)?;
+    let low = bench.node(fields)?;
+    let high = bench.node(fields)?;
+    if bench.diagrams.top(low) <= track || bench.diagrams.top(high) <= track {
+        return Err(RowError::Condition);
+    }
+    Ok(bench.diagrams.node(track, low, high)?)
+}
+
+/// `choose TRACK LOW HIGH`: the maps may look at any tracks.
+fn choice(bench: &mut Bench, fields: &mut Fields) -> Result<Node, RowError> {
+    let track = track(fields)?;
+    let low = bench.node(fields)?;
+    let high = bench.node(fields)?;
+    Ok(bench.diagrams.choose(track, low, high)?)
+}
+
+/// `apply2 NODE NODE`: the map of the pairs' numbers.
+fn pairs_node(bench: &mut Bench, fields: &mut Fields) -> Result<Node, RowError> {
+    let left = bench.node(fields)?;
+    let right = bench.node(fields)?;
+    if bench.pairs.len() > MOST_NUMBERED {
+        return Err(RowError::Condition);
+    }
+    Ok(bench.diagrams.apply2(left, right, &mut bench.pairs)?)
+}
+
+/// Whether each number is below a bound.
+fn are_below(numbers: &[u32], bound: usize) -> bool
+    ensures { IsTrue result → All (λ number. number < bound) numbers.now }
+{
+    numbers.iter().all(|number| (*number as usize) < bound)
+}
+
+/// Whether all values of a node's map are below a bound.
+fn is_below(diagrams: &Diagrams, node: Node, bound: usize) -> Result<bool, RowError>
+    requires { node < length diagrams.now }
+    ensures { IfOk result (λ below. IsTrue below → (letter : ℕ) → map_at diagrams.now node letter < bound) }
+{
+    let values = diagrams.leaves(node)?;
+    let below = are_below(values.as_slice(), bound);
+    Ok(below)
+}
+
+/// `merge TRACK NODE`: the map of the numbers of unions.
+fn merged(bench: &mut Bench, fields: &mut Fields) -> Result<Node, RowError> {
+    let track = track(fields)?;
+    let node = bench.node(fields)?;
+    let count = bench.sets.len();
+    if count > MOST_NUMBERED || !is_below(&bench.diagrams, node, count)? {
+        return Err(RowError::Condition);
+    }
+    Ok(bench.diagrams.merge_track(node, track, &mut bench.sets)?)
+}
+
+/// `map TABLE NODE`: the map of the table's entries.
+fn mapped(alloc: Global, bench: &mut Bench, fields: &mut Fields) -> Result<Node, RowError> {
+    let table = numbers::<u32>(alloc, fields.word()?)?;
+    let node = bench.node(fields)?;
+    if !is_below(&bench.diagrams, node, table.len())? {
+        return Err(RowError::Condition);
+    }
+    Ok(bench.diagrams.map_leaves(node, table.as_slice())?)
+}
+
+/// The map on the letters with the bits of these tracks.
+fn relabel(diagrams: &mut Diagrams, node: Node, tracks: &[u8]) -> Result<Node, RowError>
+    requires known { node < length diagrams.old }
+    requires count { length tracks.now ≡ 20 }
+    requires tracks { All (λ track. track < 20) tracks.now }
+{
+    a_map_looks_from_its_top_track();
+    let _ = diagrams.alloc();
+    Ok(diagrams.relabel(node, tracks)?)
+}
+
+/// The tracks of the next field. A track past the list's end is itself.
+fn tracks(alloc: Global, fields: &mut Fields) -> Result<Vec<u8>, RowError> {
+    let mut tracks = numbers::<u8>(alloc, fields.word()?)?;
+    for track in 0..TRACKS {
+        if tracks.len() <= track as usize {
+            tracks.push(track)?;
+        }
+    }
+    Ok(tracks)
+}
+
+/// Whether each is a track, and there is one for each track.
+fn are_tracks(tracks: &[u8]) -> bool
+    ensures count { IsTrue result → length tracks.now ≡ 20 }
+    ensures tracks { IsTrue result → All (λ track. track < 20) tracks.now }
+{
+    tracks.len() == 20 && tracks.iter().all(|track| *track < 20)
+}
+
+/// `relabel TRACKS NODE`: the map whose tracks take their bits from these. A track past the list's end keeps its own.
+fn relabelled(alloc: Global, bench: &mut Bench, fields: &mut Fields) -> Result<Node, RowError> {
+    let tracks = tracks(alloc, fields)?;
+    let node = bench.node(fields)?;
+    if !are_tracks(tracks.as_slice()) {
+        return Err(RowError::Condition);
+    }
+    relabel(&mut bench.diagrams, node, tracks.as_slice())
+}
+
+/// `restrict TRACK BIT NODE`: the map with this bit on the track.
+fn restricted(bench: &mut Bench, fields: &mut Fields) -> Result<Node, RowError> {
+    let track = track(fields)?;
+    let bit = fields.u8()?;
+    let node = bench.node(fields)?;
+    if bit > 1 {
+        return Err(RowError::Condition);
+    }
+    Ok(bench.diagrams.restrict(node, track, bit)?)
+}
