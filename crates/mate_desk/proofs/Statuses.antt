@@ -95,7 +95,7 @@ module _ (says : Claim → Report → Type 0) (budget : ℕ) (files : Files) (re
 
   found_status : (found : Option (List ℕ)) → OfFound says budget files found report → IsNotUsage report
   found_status None is' = other_status report _ is' (λ e. absurd (cc))
-  found_status (Some bytes) (inl (long, is')) = other_status report _ is' (λ e. absurd (cc))
+  found_status (Some bytes) (inl (too_long, is')) = other_status report _ is' (λ e. absurd (cc))
   found_status (Some bytes) (inr (short, (outcome, file, right))) = outcome_status outcome right
 
   pub file_status : (name : List ℕ) → OfFile says budget name files report → IsNotUsage report
