@@ -1,6 +1,6 @@
 """Makes `stdout` of a program of trials from the answers that stand in its script beside the rows.
 
-    python3 crates/trial_rows/answers.py crates/call_trials
+    python3 crates/trial_rows/answers.py crates/diagram_trials
 
 Each row of `stdin` but one that names something is followed by a line `#= ANSWER`, or by several. Nothing is run.
 """
