@@ -1,5 +1,5 @@
 -- Tables of sets that grow.
-use Rattle.std.specs.Prelude.{◌≡◌, ℕ, List, Some, slice_get}
+use Rattle.std.specs.Prelude.{List}
 use Rattle.auto_core.specs.Automaton.{Automaton}
 use Rattle.set_plan.specs.Sets.{Grows}
 

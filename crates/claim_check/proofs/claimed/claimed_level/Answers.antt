@@ -1,7 +1,7 @@
-use Rattle.std.proofs.Common.{◌≡◌, sym, subst}
+use Rattle.std.proofs.Common.{sym, subst}
 use Rattle.game_rules.specs.Game.{Position, Sound}
 use Rattle.rule_formula.specs.Fits.{masks_of}
-use Rattle.set_plan.specs.Outcome.{Ends, Stops}
+use Rattle.set_plan.specs.Outcome.{Ends}
 use Rattle.mate_plan.specs.Levels.{AreNamesIn, level_in}
 use Rattle.mate_plan.specs.Plan.{for_masks, no_sets}
 use Rattle.claim_check.specs.Ready.{claim_in}

@@ -1,5 +1,4 @@
 use Rattle.std.proofs.Common.{ℕ, suc, ◌+◌, List, ◌∙◌, subst}
-use Rattle.game_rules.specs.Game.{other}
 use Rattle.rule_formula.specs.Fits.{IsGameMask}
 use Rattle.mate_plan.specs.Claim.{claimed_level}
 use Rattle.mate_plan.specs.Levels.{level_in}

@@ -3,7 +3,6 @@ use Rattle.game_rules.specs.Game.{Position, Sound}
 use Rattle.rule_formula.specs.Fits.{IsGameMask}
 use Rattle.mate_plan.specs.Levels.{AreNamesIn, level_in}
 use Rattle.mate_plan.specs.Plan.{Program}
-use Rattle.mate_plan.specs.PlanOf.{rules_of}
 use Rattle.mate_plan.specs.Questions.{are_apart}
 use Rattle.claim_plan.specs.CheckPlan.{holds_by}
 use Rattle.claim_plan.specs.declared.names.RuleAt.{RuleAt}

@@ -1,6 +1,5 @@
 use Rattle.std.proofs.Common.{ℕ, suc, ◌+◌, sym, ap, ◌∙◌}
 use Rattle.std.proofs.lemmas.List.Elements.{All-tail}
-use Rattle.game_rules.specs.Game.{other}
 use Rattle.rule_formula.specs.Fits.{IsGameMask, masks_of}
 use Rattle.mate_plan.specs.Claim.{claimed_level}
 use Rattle.mate_plan.specs.Levels.{level_in}
