@@ -25,7 +25,7 @@ returns-in-Ok-End g c = record {
       let reader = c.next_line.new.self in (
         reader.pending,
         rw c.refuse_line.ensures.status (missing_ends c.args.budget files reader.line reader.pending call.within _ _ _ _ _ _ _ _
-        (rw (c.new-reader.ensures, c.in-Ok-End.field-0-is) at (call.lines fresh)) c.refuse_line.ensures.written),
+            (rw (c.new-reader.ensures, c.in-Ok-End.field-0-is) at (call.lines fresh)) c.refuse_line.ensures.written),
       );
 }
 
@@ -37,7 +37,7 @@ returns-in-Err-Cut g c = record {
       let reader = c.next_line.new.self in (
         reader.pending,
         rw c.refuse_line-in-Err-Cut.ensures.status (cut_ends c.args.budget files reader.line reader.pending call.within _ _ _ _ _ _ _ _
-        (rw (c.new-reader.ensures, c.in-Err-Cut.field-0-is) at (call.lines fresh)) c.refuse_line-in-Err-Cut.ensures.written),
+            (rw (c.new-reader.ensures, c.in-Err-Cut.field-0-is) at (call.lines fresh)) c.refuse_line-in-Err-Cut.ensures.written),
       );
 }
 
@@ -49,7 +49,7 @@ returns-in-Err-TooLong g c = record {
       let reader = c.next_line.new.self in (
         reader.pending,
         rw c.refuse_line-in-Err-TooLong.ensures.status (long_ends c.args.budget files reader.line reader.pending call.within _ _ _ _ _ _ _ _
-        (rw (c.new-reader.ensures, c.in-Err-TooLong.field-0-is) at (call.lines fresh)) c.refuse_line-in-Err-TooLong.ensures.written),
+            (rw (c.new-reader.ensures, c.in-Err-TooLong.field-0-is) at (call.lines fresh)) c.refuse_line-in-Err-TooLong.ensures.written),
       );
 }
 
