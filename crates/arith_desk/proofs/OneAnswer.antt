@@ -7,10 +7,9 @@ use Rattle.track_word.specs.declared.tracks.Var.{Var}
 use Rattle.lin_formula.specs.Tree.{Tree, Ex, steps}
 use Rattle.formula_auto.specs.Step.{FirstOver}
 use Rattle.formula_auto.specs.declared.errors.CompileError.TheVariants.{Over}
-use Rattle.arith_desk.specs.declared.deciding.Truth.{Truth}
 use Rattle.arith_desk.specs.declared.deciding.Truth.TheVariants as truths
 use Rattle.arith_desk.specs.Laws.{OneExcess, OneTruth}
-use Rattle.arith_desk.specs.Truth.{Asks, HoldsWith, IsCompiledFor, IsNearest, IsOver, IsTrueFormula, IsTruth, IsWide, IsWithin, no_sets, with_zero}
+use Rattle.arith_desk.specs.Truth.{Asks, HoldsWith, IsCompiledFor, IsNearest, IsOver, IsTrueFormula, IsWide, IsWithin, no_sets, with_zero}
 
 -- two numbers that are the nearest are one
 one_nearest : (P : ℤ → Type 0) (v w : ℤ) → IsNearest P v → IsNearest P w → v ≡ w

@@ -6,7 +6,7 @@ use Rattle.std.proofs.lemmas.List.{append-nil}
 use Rattle.std.proofs.lemmas.List.Elements.{All-nil, All-push}
 use Rattle.desk_base.specs.Faults.{HasRisen}
 use Rattle.desk_base.specs.Files.{Files}
-use Rattle.desk_base.specs.Lines.{IsLine, Lines, full, lines_of, part_of}
+use Rattle.desk_base.specs.Lines.{IsLine, Lines, lines_of, part_of}
 use Rattle.desk_base.specs.Reading.{Takes}
 use Rattle.desk_base.specs.declared.line.Line.TheVariants.{Full, End}
 use Rattle.desk_base.specs.declared.line.LineError.TheVariants as fails
