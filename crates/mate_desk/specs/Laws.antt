@@ -1,11 +1,11 @@
 -- Laws of what a run does.
-use Rattle.std.specs.Prelude.{◌≡◌, ◌≢◌, ◌↔◌, ◌⊎◌, ℕ, ◌+◌, ◌-◌, List, ◌++◌, length, Option, Some, Ok, Err, slice_get}
+use Rattle.std.specs.Prelude.{◌≡◌, ◌≢◌, ◌↔◌, ◌⊎◌, ℕ, ◌+◌, ◌-◌, List, ◌++◌, Option, Some, Ok, Err, slice_get}
 use Rattle.desk_base.specs.Faults.{HasRisen}
 use Rattle.desk_base.specs.Files.{Files}
 use Rattle.desk_base.specs.Lines.{Lines, lines_of}
 use Rattle.game_rules.specs.Game.{Position, Least, Lost, Sound, Value}
 use Rattle.game_rules.specs.declared.men.Side.TheVariants.{White}
-use Rattle.chess_text.specs.PositionText.{IsWritable, position_lines, position_text}
+use Rattle.chess_text.specs.PositionText.{IsWritable, position_text}
 use Rattle.game_report.specs.Report.{IsReport, Match}
 use Rattle.game_report.specs.Report as game
 use Rattle.mate_plan.specs.Claim.{Claim}
@@ -20,7 +20,7 @@ use Rattle.desk_games.specs.Play.{as_played, first_match}
 use Rattle.mate_desk.specs.Report.{Reports, TakesMemory, UsesNoShelf}
 use Rattle.desk_games.specs.Resume.{claimed_match}
 use Rattle.mate_desk.specs.Run.{RunEnds}
-use Rattle.desk_text.specs.Text.{TextAt, white_mates, whole}
+use Rattle.desk_text.specs.Text.{TextAt, whole}
 use Rattle.desk_solve.specs.Verdict.{ExceedsAt, mate_line, no_mate_line}
 use Rattle.desk_words.specs.declared.order.Order.{Order}
 use Rattle.desk_words.specs.declared.order.Order.TheVariants as orders
