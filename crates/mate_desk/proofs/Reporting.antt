@@ -5,7 +5,7 @@ use Rattle.std.specs.Io.KnownBytes.{Consumes}
 use Rattle.std.proofs.KnownBytes.{Consumes-nil}
 use Rattle.std.proofs.lemmas.List.{append-nil}
 use Rattle.desk_base.specs.Faults.{HasRisen}
-use Rattle.desk_base.specs.Files.{Files, Go}
+use Rattle.desk_base.specs.Files.{Files, Go, no_files}
 use Rattle.desk_base.specs.Lines.{Lines, ended, lines_of}
 use Rattle.game_rules.specs.Game.{Sound}
 use Rattle.chess_game.specs.Unsoundness.{IsFirstUnsoundness}
