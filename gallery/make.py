@@ -1,0 +1,247 @@
+#!/usr/bin/env python3
+"""usage: gallery/make.py [--mate PROGRAM] [--stored] [--quick] [--only WORD]
+
+Asks ./mate, or another build of it, what positions.py lists, compares each answer with what is claimed there, and writes docs/GALLERY.md with
+its pictures docs/gallery/*.svg. Every answer is put into gallery/answers.json; with --stored those that stand there are taken, and only the
+others are asked for. --quick looks for the budget among the numbers 256, 512, 1024 and so on alone. --only asks for the entries and families whose names have the word, and writes no page. The code is 0 where all claims
+hold, else 1.
+"""
+import importlib.machinery
+import importlib.util
+import json
+import os
+import resource
+import subprocess
+import sys
+import tempfile
+
+HERE = os.path.dirname(os.path.realpath(__file__))
+TOP = os.path.dirname(HERE)
+sys.path.insert(0, HERE)
+from positions import ENTRIES, FAMILIES  # noqa: E402
+
+ANSWERS = f"{HERE}/answers.json"
+MOST_BUDGET = 200000
+OVER = 8
+
+
+def module_of(path):
+    """Returns the script ./board as a module, which draws the pictures."""
+    loader = importlib.machinery.SourceFileLoader("board", path)
+    made = importlib.util.module_from_spec(importlib.util.spec_from_loader("board", loader))
+    sys.modules["board"] = made
+    loader.exec_module(made)
+    return made
+
+
+board = module_of(f"{TOP}/board")
+
+
+def text_of(men, turn):
+    """Returns the position text of men as positions.py writes them."""
+    sides = zip("WB", men.split("/"))
+    lines = [f"{side} {man.strip()}" for side, part in sides for man in part.split(",")]
+    return "\n".join(["infinite chess 1", f"turn {turn}", *lines, "end", ""])
+
+
+class Engine:
+    """The program, with the answers that it gave: what it wrote, its code, and the user seconds that it took."""
+
+    def __init__(self, program, is_stored, is_quick):
+        self.program, self.is_quick, self.fresh, self.answers = program, is_quick, 0, {}
+        if is_stored and os.path.exists(ANSWERS):
+            with open(ANSWERS, encoding="utf-8") as it:
+                self.answers = json.load(it)
+
+    def ask(self, words, text):
+        key = words + "\n" + text
+        if key not in self.answers:
+            self.answers[key] = self.run(words, text)
+            self.fresh += 1
+            self.store()
+        return self.answers[key]
+
+    def run(self, words, text):
+        with tempfile.TemporaryDirectory() as folder:
+            before = resource.getrusage(resource.RUSAGE_CHILDREN).ru_utime
+            done = subprocess.run([self.program, *words.split()], input=text.encode(), stdout=subprocess.PIPE, cwd=folder)
+            seconds = resource.getrusage(resource.RUSAGE_CHILDREN).ru_utime - before
+            kept = [states_in(f"{folder}/{it}") for it in os.listdir(folder)]
+        return {"wrote": done.stdout.decode(), "code": done.returncode, "seconds": round(seconds, 2), "states": kept[0] if kept else []}
+
+    def store(self):
+        with open(ANSWERS, "w", encoding="utf-8") as it:
+            json.dump(self.answers, it, indent=1, sort_keys=True)
+            it.write("\n")
+
+
+def states_in(path):
+    """Returns the ply, the mask and the number of states of each set of a strategy file; docs/FORMATS.md has its form."""
+    with open(path, "rb") as it:
+        data = it.read()
+    count, at = data[7], 8
+    for _ in range(count):
+        at += 3 + 16 * data[at + 2]
+    sets = []
+    while at < len(data):
+        ply, mask = data[at], data[at + 1]
+        states = int.from_bytes(data[at + 2 : at + 6], "big")
+        letters = 4 ** bin(mask).count("1")
+        sets.append([ply, mask, states])
+        at += 6 + 4 * letters + states * (1 + 4 * letters)
+    return sets
+
+
+def least_budget(engine, words, text, is_quick):
+    """Returns bounds of the least budget with which the words are answered, by doubling and then by halves: the first is too small (or 0), the second
+    is enough, or None where the greatest is too small."""
+    answers = lambda budget: engine.ask(f"{words} {budget}", text)["code"] != OVER
+    high = 256
+    while high < MOST_BUDGET and not answers(high):
+        high = min(2 * high, MOST_BUDGET)
+    if not answers(high):
+        return high, None
+    low = 0 if high == 256 else high // 2
+    while high - low > 1 and not is_quick:
+        middle = (low + high) // 2
+        low, high = (low, middle) if answers(middle) else (middle, high)
+    return low, high
+
+
+def verdict_words(entry):
+    return f"least {entry.moves}" if entry.claim.startswith(("least", "none")) else f"decide {entry.moves}"
+
+
+class Wrong(Exception):
+    """An answer is not what is claimed."""
+
+
+def expect(what, claimed, answer):
+    if claimed != answer:
+        raise Wrong(f"{what}: claimed {claimed!r}, answered {answer!r}")
+
+
+def answers_of(engine, entry):
+    """Asks all that the page tells of an entry, and compares it with what is claimed."""
+    text = text_of(entry.men, entry.turn)
+    verdict = engine.ask(f"{verdict_words(entry)} {MOST_BUDGET}", text)
+    expect(entry.name, entry.claim + "\n", verdict["wrote"])
+    mates = entry.claim.startswith(("least", "mate"))
+    rays, states, game = [], None, []
+    if mates and entry.turn == "W":
+        rays = engine.ask(f"first {entry.moves} {MOST_BUDGET}", text)["wrote"].splitlines()[:-1]
+        if entry.rays is not None:
+            expect(f"{entry.name}, first moves", entry.rays, rays)
+    if mates:
+        states = engine.ask(f"keep {entry.moves} kept {MOST_BUDGET}", text)["states"]
+    if entry.played:
+        replies = "".join(f"{it}\n" for it in entry.replies)
+        game = engine.ask(f"play {entry.moves} {MOST_BUDGET}", text + replies)["wrote"].splitlines()
+        expect(f"{entry.name}, played", entry.played, game)
+    budget = least_budget(engine, f"decide {entry.moves}", text, engine.is_quick)
+    return {"text": text, "verdict": verdict, "rays": rays, "states": states, "game": game, "budget": budget}
+
+
+def picture(engine, entry, text):
+    """Writes the drawing of an entry, and returns its path from docs/ on."""
+    shown = engine.ask("show", text)["wrote"].splitlines()
+    name = f"gallery/{entry.name}.svg"
+    with open(f"{TOP}/docs/{name}", "w", encoding="utf-8") as it:
+        it.write(board.as_svg(board.Board(board.position_of(shown), [])))
+    return name
+
+
+def described(states):
+    """Returns the sentence about the sets of a strategy file."""
+    ply, mask, most = max(states, key=lambda it: it[2])
+    names = [str(at + 1) for at in range(8) if mask >> at & 1]
+    return f"{len(states)} sets; the greatest has {most} states (ply {ply}, men {', '.join(names)})"
+
+
+def budget_told(small, enough):
+    if enough is None:
+        return f"{small} is too small"
+    if enough == small + 1:
+        return f"{enough} is the least"
+    return f"{enough} is enough" + f", {small} too small" * bool(small)
+
+
+def entry_lines(engine, number, entry):
+    told = answers_of(engine, entry)
+    path = picture(engine, entry, told["text"])
+    turn = "White" if entry.turn == "W" else "Black"
+    rows = [("Verdict", f"`{entry.claim}` (`{verdict_words(entry)}`)")]
+    if told["rays"]:
+        rows.append(("Winning first moves", "<br>".join(f"`{it}`" for it in told["rays"])))
+    if told["states"] is not None:
+        rows.append(("Strategy", described(told["states"])))
+    rows.append(("Budget", budget_told(*told["budget"])))
+    rows.append(("Time", f"{told['verdict']['seconds']:.2f} s"))
+    if told["game"]:
+        replies = f", replies {', '.join(f'`{it}`' for it in entry.replies)}" * bool(entry.replies)
+        rows.append(("Played", " ".join(f"`{it}`" for it in told["game"]) + replies))
+    alt = f"{entry.men.replace(' / ', '. Black: ')}. {turn} to move."
+    table = [f"| {name} | {value} |" for name, value in rows]
+    return [f"### {number}. {entry.title}", "", f"![White: {alt}]({path})", "", entry.caption, "", "| | |", "|---|---|", *table, ""]
+
+
+def family_lines(engine, family):
+    lines = [f"### {family.title}", "", family.sentence, "", f"| {family.parameter} | answer |", "|---|---|"]
+    for value in family.values:
+        words = f"decide {family.moves} {family.budget}"
+        answer = engine.ask(words, text_of(family.men(value), "W"))["wrote"].strip()
+        expect(f"{family.title}, {value}", family.claim(value), answer)
+        lines.append(f"| {value} | {answer} |")
+    return [*lines, ""]
+
+
+def collected(engine, only):
+    """Returns the lines of all entries, those of all families, and what is not as it is claimed."""
+    entries, families, wrong = [], [], []
+    for number, entry in enumerate(ENTRIES, 1):
+        if only in entry.name:
+            collect(entries, wrong, entry.name, lambda: entry_lines(engine, number, entry))
+    for family in FAMILIES:
+        if only in family.title:
+            collect(families, wrong, family.title, lambda: family_lines(engine, family))
+    return entries, families, wrong
+
+
+def collect(lines, wrong, name, made):
+    try:
+        lines += made()
+        print(f"as claimed  {name}", flush=True)
+    except Wrong as why:
+        wrong.append(str(why))
+        print(f"WRONG       {why}", flush=True)
+
+
+def page_of(entries, families):
+    with open(f"{HERE}/head.md", encoding="utf-8") as it:
+        head = it.read()
+    with open(f"{HERE}/by-hand.md", encoding="utf-8") as it:
+        hand = it.read()
+    return "\n".join([head, "## Positions", "", *entries, "## Families", "", *families, hand])
+
+
+def option(words, name, default):
+    return words[words.index(name) + 1] if name in words else default
+
+
+def main(words):
+    if {"-h", "--help", "help"} & set(words):
+        print(__doc__, end="")
+        return 2
+    engine = Engine(option(words, "--mate", f"{TOP}/mate"), "--stored" in words or "--only" in words, "--quick" in words)
+    os.makedirs(f"{TOP}/docs/gallery", exist_ok=True)
+    entries, families, wrong = collected(engine, option(words, "--only", ""))
+    if not wrong and "--only" not in words:
+        with open(f"{TOP}/docs/GALLERY.md", "w", encoding="utf-8") as it:
+            it.write(page_of(entries, families))
+    seconds = sum(it["seconds"] for it in engine.answers.values())
+    print(f"{len(ENTRIES)} positions, {len(FAMILIES)} families, {len(wrong)} wrong; {engine.fresh} answers asked for, {seconds:.0f} s of the program in all")
+    return 1 if wrong else 0
+
+
+if __name__ == "__main__":
+    sys.exit(main(sys.argv[1:]))
