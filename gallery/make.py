@@ -1,9 +1,10 @@
 #!/usr/bin/env python3
-"""usage: gallery/make.py [--mate PROGRAM] [--stored] [--quick] [--only WORD]
+"""usage: gallery/make.py [--mate PROGRAM] [--stored] [--quick] [--kept] [--only WORD]
 
 Asks ./mate, or another build of it, what positions.py lists, compares each answer with what is claimed there, and writes docs/GALLERY.md with
 its pictures docs/gallery/*.svg. Every answer is put into gallery/answers.json; with --stored those that stand there are taken, and only the
-others are asked for. --quick looks for the budget among the numbers 256, 512, 1024 and so on alone. --only asks for the entries and families whose names have the word, and writes no page. The code is 0 where all claims
+others are asked for. --quick looks for the budget among the numbers 256, 512, 1024 and so on alone. With --kept nothing is asked for, and what has no kept answer
+is left out of the page, which says so. --only asks for the entries and families whose names have the word, and writes no page. The code is 0 where all claims
 hold, else 1.
 """
 import importlib.machinery
@@ -44,17 +45,24 @@ def text_of(men, turn):
     return "\n".join(["infinite chess 1", f"turn {turn}", *lines, "end", ""])
 
 
+class Missing(Exception):
+    """No answer is kept, and none may be asked for."""
+
+
 class Engine:
     """The program, with the answers that it gave: what it wrote, its code, and the user seconds that it took."""
 
-    def __init__(self, program, is_stored, is_quick):
-        self.program, self.is_quick, self.fresh, self.answers = program, is_quick, 0, {}
-        if is_stored and os.path.exists(ANSWERS):
+    def __init__(self, program, words):
+        self.program, self.fresh, self.answers = program, 0, {}
+        self.is_quick, self.asks = "--quick" in words, "--kept" not in words
+        if {"--stored", "--kept", "--only"} & set(words) and os.path.exists(ANSWERS):
             with open(ANSWERS, encoding="utf-8") as it:
                 self.answers = json.load(it)
 
     def ask(self, words, text):
         key = words + "\n" + text
+        if key not in self.answers and not self.asks:
+            raise Missing
         if key not in self.answers:
             self.answers[key] = self.run(words, text)
             self.fresh += 1
@@ -196,31 +204,35 @@ def family_lines(engine, family):
 
 
 def collected(engine, only):
-    """Returns the lines of all entries, those of all families, and what is not as it is claimed."""
-    entries, families, wrong = [], [], []
+    """Returns the lines of all entries, those of all families, what is not as it is claimed, and what is left out."""
+    entries, families, wrong, left_out = [], [], [], []
     for number, entry in enumerate(ENTRIES, 1):
         if only in entry.name:
-            collect(entries, wrong, entry.name, lambda: entry_lines(engine, number, entry))
+            collect(entries, wrong, left_out, entry.name, lambda: entry_lines(engine, number, entry))
     for family in FAMILIES:
         if only in family.title:
-            collect(families, wrong, family.title, lambda: family_lines(engine, family))
-    return entries, families, wrong
+            collect(families, wrong, left_out, family.title, lambda: family_lines(engine, family))
+    return entries, families, wrong, left_out
 
 
-def collect(lines, wrong, name, made):
+def collect(lines, wrong, left_out, name, made):
     try:
         lines += made()
         print(f"as claimed  {name}", flush=True)
     except Wrong as why:
         wrong.append(str(why))
         print(f"WRONG       {why}", flush=True)
+    except Missing:
+        left_out.append(name)
+        print(f"left out    {name}", flush=True)
 
 
-def page_of(entries, families):
+def page_of(entries, families, left_out):
     with open(f"{HERE}/head.md", encoding="utf-8") as it:
         head = it.read()
     with open(f"{HERE}/by-hand.md", encoding="utf-8") as it:
         hand = it.read()
+    head += f"Left out here, since their answers were not kept: {', '.join(left_out)}.\n" * bool(left_out)
     return "\n".join([head, "## Positions", "", *entries, "## Families", "", *families, hand])
 
 
@@ -232,12 +244,12 @@ def main(words):
     if {"-h", "--help", "help"} & set(words):
         print(__doc__, end="")
         return 2
-    engine = Engine(option(words, "--mate", f"{TOP}/mate"), "--stored" in words or "--only" in words, "--quick" in words)
+    engine = Engine(option(words, "--mate", f"{TOP}/mate"), words)
     os.makedirs(f"{TOP}/docs/gallery", exist_ok=True)
-    entries, families, wrong = collected(engine, option(words, "--only", ""))
+    entries, families, wrong, left_out = collected(engine, option(words, "--only", ""))
     if not wrong and "--only" not in words:
         with open(f"{TOP}/docs/GALLERY.md", "w", encoding="utf-8") as it:
-            it.write(page_of(entries, families))
+            it.write(page_of(entries, families, left_out))
     seconds = sum(it["seconds"] for it in engine.answers.values())
     print(f"{len(ENTRIES)} positions, {len(FAMILIES)} families, {len(wrong)} wrong; {engine.fresh} answers asked for, {seconds:.0f} s of the program in all")
     return 1 if wrong else 0
