@@ -3,8 +3,8 @@
 
 Asks ./mate, or another build of it, what positions.py lists, compares each answer with what is claimed there, and writes docs/GALLERY.md with
 its pictures docs/gallery/*.svg. Every answer is put into gallery/answers.json; with --stored those that stand there are taken, and only the
-others are asked for. --quick looks for the budget among the numbers 256, 512, 1024 and so on alone. With --kept nothing is asked for, and what has no kept answer
-is left out of the page, which says so. --only asks for the entries and families whose names have the word, and writes no page. The code is 0 where all claims
+others are asked for. --quick looks for the budget among the numbers 256, 512, 1024 and so on alone. With --kept nothing is asked for, and
+what has no kept answer is left out of the page, which says so. --only asks for the entries and families whose names have the word, and writes no page. The code is 0 where all claims
 hold, else 1.
 """
 import importlib.machinery
@@ -19,6 +19,7 @@ import tempfile
 HERE = os.path.dirname(os.path.realpath(__file__))
 TOP = os.path.dirname(HERE)
 sys.path.insert(0, HERE)
+sys.dont_write_bytecode = True
 from positions import ENTRIES, FAMILIES  # noqa: E402
 
 ANSWERS = f"{HERE}/answers.json"

@@ -127,7 +127,7 @@ FAMILIES = [
     Family("The white king's file", "There is a mate exactly where he stands on the black king's file.", "file of the white king",
            [-1000, -3, -2, -1, 0, 1, 2, 3, 1000], lambda at: ladder(king=f"K {at} -2"), 1, mates_if(lambda at: at == 0)),
     Family("A black rook far up", "He saves himself exactly on the files 1 to 5: on four he stands between, on the fifth he takes.", "file of the black rook",
-           [-2, -1, 0, 1, 2, 3, 4, 5, 6, 7, 8], lambda at: ladder() + f", R {at} 1000", 1, mates_if(lambda at: 1 <= at <= 5)),
+           [-2, -1, 0, 1, 2, 3, 4, 5, 6, 7, 8], lambda at: ladder() + f", R {at} 1000", 1, mates_if(lambda at: not 1 <= at <= 5)),
     Family("Near he is taken, far he takes", "A black bishop on the diagonal from 5 0 down to the right: at 5 0 he is taken with mate, from each farther square he takes the rook.",
            "steps from 5 0", [0, 1, 2, 3, 10, 1000, 10**6, 10**18], lambda at: ladder() + f", B {5 + at} {-at}", 1, mates_if(lambda at: at == 0)),
 ]
