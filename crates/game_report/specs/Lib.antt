@@ -1,5 +1,4 @@
 pub mod Laws
 pub mod Played
 pub mod Report
-pub mod Taken
 pub mod Turns

@@ -9,7 +9,7 @@ use Rattle.chess_text.specs.PositionText.{text_of_lines}
 use Rattle.game_session.specs.Choice.{target}
 use Rattle.game_report.specs.Laws.{last_game}
 use Rattle.game_report.specs.Report.{IsReport, Match, Report, moved}
-use Rattle.game_report.specs.Taken.{TakesLines}
+use Rattle.desk_text.specs.Taken.{TakesLines}
 use Rattle.game_report.specs.declared.play.Ending.{Ending}
 use Rattle.game_report.specs.declared.play.Ending.TheVariants.{Mated, Wide, Quit, NoLine, Many, CutAt, LongAt}
 use Rattle.game_report.specs.declared.play.GameError.{GameError}

@@ -1,22 +1,28 @@
--- A report of `decide` is exact.
+-- A report of `decide` is exact, and so is one of `arith`.
 use Rattle.std.proofs.Common.{◌≡◌, ◌↔◌, ◌⊎◌, ℕ, List, Result, Ok, inl, inr, refl, ap, sym, subst, ◌∙◌, get_or, arith}
 use Rattle.desk_base.specs.Files.{Files}
 use Rattle.desk_base.specs.Lines.{Lines, lines_of}
 use Rattle.game_rules.specs.Game.{Sound, Value}
 use Rattle.chess_game.proofs.UnsoundnessLemmas.{unsound_refuted}
 use Rattle.chess_text.specs.declared.reader.Stage.TheVariants.{Header}
-use Rattle.mate_desk.specs.Decide.{DecideReports, IsExact}
-use Rattle.mate_desk.specs.Laws.{DecidesExactly}
-use Rattle.mate_desk.specs.Order.{Ordered}
-use Rattle.mate_desk.specs.Outcome.{Report}
+use Rattle.lin_formula.specs.Tree.{Tree}
+use Rattle.arith_desk.specs.Reading.{IsFormulaLine}
+use Rattle.arith_desk.proofs.OneStop.{formula_is_not_refused, one_meaning}
+use Rattle.desk_arith.specs.Arith.{ArithReports, FormulaReports, LineReports, truth_line}
+use Rattle.desk_arith.proofs.Answered.{answers}
+use Rattle.desk_solve.specs.Decide.{DecideReports, IsExact}
+use Rattle.mate_desk.specs.Laws.{AnswersExactly, DecidesExactly, ReportsAnswer}
+use Rattle.desk_words.specs.Order.{Ordered}
+use Rattle.desk_report.specs.Outcome.{Report}
 use Rattle.mate_desk.specs.Report.{OfRead, OfSound, OfText, Reports, ReportsOrder, ReportsWords}
-use Rattle.mate_desk.specs.Text.{Text, TextAt, whole}
-use Rattle.mate_desk.specs.Verdict.{IsVerdict, mate_line, no_mate_line}
-use Rattle.mate_desk.specs.declared.order.Order.{Order}
-use Rattle.mate_desk.specs.declared.order.Order.TheVariants.{Decide}
-use Rattle.mate_desk.specs.declared.order.UsageWhy.{UsageWhy}
-use Rattle.mate_desk.specs.declared.problem.Problem.{Problem}
-use Rattle.mate_desk.proofs.OneReport.{once_text, once_words}
+use Rattle.desk_text.specs.Text.{Text, TextAt, whole}
+use Rattle.desk_solve.specs.Verdict.{IsVerdict, mate_line, no_mate_line}
+use Rattle.desk_words.specs.declared.order.Order.{Order}
+use Rattle.desk_words.specs.declared.order.Order.TheVariants.{Decide, Arith}
+use Rattle.desk_words.specs.declared.order.UsageWhy.{UsageWhy}
+use Rattle.desk_text.specs.declared.problem.Problem.{Problem}
+use Rattle.desk_words.proofs.OneOrder.{once_words}
+use Rattle.desk_text.proofs.OneText.{once_text}
 
 -- what is reported of the text of a sound problem is what its order says
 pub of_sound : (says : Report → Type 0) (files : Files) (problem : Problem) (report : Report) → Sound problem.position → OfSound says files problem.position report → says report
@@ -71,3 +77,19 @@ pub decides_exactly : DecidesExactly
 decides_exactly words bytes files n budget problem rest report ordered at sound reports =
     reports_exactly n budget problem files report
     (of_text (λ read behind. DecideReports n budget read files) files bytes problem rest report at sound (of_words words bytes files (Decide n budget) report ordered reports))
+
+-- what is reported of a formula answers it
+formula_exactly : (budget : ℕ) (f : Tree) (files : Files) (report : Report) → FormulaReports budget f files report → ReportsAnswer budget f files report
+formula_exactly budget f files report (inl over) = inl over
+formula_exactly budget f files report (inr (truth, within, right, is)) = inr (truth_line truth, answers f truth right, is)
+
+line_exactly : (budget : ℕ) (line : List ℕ) (f : Tree) (files : Files) (report : Report) → IsFormulaLine line f → LineReports budget line files report → ReportsAnswer budget f files report
+line_exactly budget line f files report means (inl (number, fault, is)) = absurd (formula_is_not_refused line f number means fault)
+line_exactly budget line f files report means (inr (g, also, right)) =
+    let P : Tree → Type 0 = λ t. FormulaReports budget t files report in
+    formula_exactly budget f files report (subst P (one_meaning line g f also means) right)
+
+pub answers_exactly : AnswersExactly
+answers_exactly words bytes files budget line rest f report ordered first means reports =
+    let P : Lines → Type 0 = λ lines. ArithReports budget lines files report in
+    line_exactly budget line f files report means (subst P first (of_words words bytes files (Arith budget) report ordered reports))

@@ -19,11 +19,11 @@ use Rattle.winning_sets.specs.Kept.{Kept, moves_left}
 use Rattle.winning_sets.specs.Reach.{Reach}
 use Rattle.winning_sets.proofs.KeptParts.{moves_counted}
 use Rattle.mate_desk.specs.Laws.{IsKeptGame, IsLostGame, PlayKeeps, PlaysGame}
-use Rattle.mate_desk.specs.Outcome as desk
-use Rattle.mate_desk.specs.Play.{PlayReports, first_match}
-use Rattle.mate_desk.specs.Resume.{claimed_match}
-use Rattle.mate_desk.specs.declared.order.Order.TheVariants.{Play}
-use Rattle.mate_desk.specs.declared.problem.Problem.{Problem}
+use Rattle.desk_report.specs.Outcome as desk
+use Rattle.desk_games.specs.Play.{PlayReports, first_match}
+use Rattle.desk_games.specs.Resume.{claimed_match}
+use Rattle.desk_words.specs.declared.order.Order.TheVariants.{Play}
+use Rattle.desk_text.specs.declared.problem.Problem.{Problem}
 use Rattle.mate_desk.proofs.Exact.{of_text, of_words}
 
 -- after the winner's move of this number

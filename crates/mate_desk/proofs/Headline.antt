@@ -6,18 +6,18 @@ use Rattle.desk_base.specs.Files.{Files}
 use Rattle.desk_base.specs.Lines.{lines_of}
 use Rattle.game_rules.specs.Game.{Position}
 use Rattle.chess_text.specs.PositionText.{position_lines, position_text}
-use Rattle.mate_desk.specs.Decide.{IsAnswered, IsOverBudget}
+use Rattle.desk_solve.specs.Decide.{IsAnswered, IsOverBudget}
 use Rattle.mate_desk.specs.Laws.{DecideWrites, HasRun, LeastWrites}
-use Rattle.mate_desk.specs.Least.{LeastFinds, LeastReports, least_line}
-use Rattle.mate_desk.specs.Outcome.{Report, Seen}
-use Rattle.mate_desk.specs.Text.{TextAt, white_mates, whole}
-use Rattle.mate_desk.specs.Verdict.{mate_line, no_mate_line}
-use Rattle.mate_desk.specs.declared.order.Order.{Order}
-use Rattle.mate_desk.specs.declared.order.Order.TheVariants as orders
-use Rattle.mate_desk.specs.declared.problem.Problem.{Problem}
-use Rattle.mate_desk.specs.declared.status.Status.TheVariants as is
+use Rattle.desk_solve.specs.Least.{LeastFinds, LeastReports, least_line}
+use Rattle.desk_report.specs.Outcome.{Report, Seen}
+use Rattle.desk_text.specs.Text.{TextAt, white_mates, whole}
+use Rattle.desk_solve.specs.Verdict.{mate_line, no_mate_line}
+use Rattle.desk_words.specs.declared.order.Order.{Order}
+use Rattle.desk_words.specs.declared.order.Order.TheVariants as orders
+use Rattle.desk_text.specs.declared.problem.Problem.{Problem}
+use Rattle.desk_report.specs.declared.status.Status.TheVariants as is
 use Rattle.mate_desk.proofs.Exact.{decides_exactly, of_text, of_words}
-use Rattle.mate_desk.proofs.RoundTrip.{text_is_read}
+use Rattle.desk_text.proofs.RoundTrip.{text_is_read}
 
 -- what was given is what the source told
 given_bytes : (before after : Option (List ℕ)) (bytes taken rest : List ℕ) → before ≡ Some bytes → Consumes before after taken → IfSome after (λ told. told ≡ rest) → bytes ≡ taken ++ rest

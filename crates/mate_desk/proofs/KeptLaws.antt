@@ -18,23 +18,23 @@ use Rattle.strategy_file.specs.KeptFile.{IsReadAsWon}
 use Rattle.strategy_file.specs.Layout.{Refusal}
 use Rattle.strategy_file.specs.StrategyFile.{Charts, File}
 use Rattle.winning_sets.specs.declared.names.StepName.{StepName}
-use Rattle.mate_desk.specs.Check.{CheckReports}
-use Rattle.mate_desk.specs.FileClaim.{OfClaim, OfFile, OfFound, OfOutcome}
-use Rattle.mate_desk.specs.Keep.{IsFileToKeep, KeepReports}
+use Rattle.desk_games.specs.Check.{CheckReports}
+use Rattle.desk_games.specs.FileClaim.{OfClaim, OfFile, OfFound, OfOutcome}
+use Rattle.desk_games.specs.Keep.{IsFileToKeep, KeepReports}
 use Rattle.mate_desk.specs.Laws.{CheckedAfterKeep, HasKept, ResumeKeeps, ResumesGame}
-use Rattle.mate_desk.specs.Outcome.{Report, Seen, done_with, over_budget}
+use Rattle.desk_report.specs.Outcome.{Report, Seen, done_with, over_budget}
 use Rattle.mate_desk.specs.Report.{OfRead, OfSound}
-use Rattle.mate_desk.specs.Resume.{GameReports, ResumeReports}
-use Rattle.mate_desk.specs.Text.{Text, whole, refused}
-use Rattle.mate_desk.specs.Verdict.{mate_line}
-use Rattle.mate_desk.specs.declared.order.Order.TheVariants.{Keep, Check, Resume}
-use Rattle.mate_desk.specs.declared.problem.Problem.{Problem}
-use Rattle.mate_desk.specs.declared.status.Status.TheVariants as is
+use Rattle.desk_games.specs.Resume.{GameReports, ResumeReports}
+use Rattle.desk_text.specs.Text.{Text, whole, refused}
+use Rattle.desk_solve.specs.Verdict.{mate_line}
+use Rattle.desk_words.specs.declared.order.Order.TheVariants.{Keep, Check, Resume}
+use Rattle.desk_text.specs.declared.problem.Problem.{Problem}
+use Rattle.desk_report.specs.declared.status.Status.TheVariants as is
 use Rattle.mate_desk.proofs.Exact.{of_words, one_line}
 use Rattle.mate_desk.proofs.Following.{claim_keeps}
 use Rattle.mate_desk.proofs.Headline.{take_none, told_bytes}
 use Rattle.mate_desk.proofs.ReadClaims.{read_is_claim}
-use Rattle.mate_desk.proofs.Shelves.{has_put}
+use Rattle.desk_games.proofs.Shelves.{has_put}
 
 -- what is said of the claim of a file may be more
 module _ (one more : Claim → Report → Type 0) (budget : ℕ) (files : Files) (report : Report) (says : (bytes : List ℕ) (charts : Charts) → File bytes (Ok charts) → plan.Ends (check_plan (claim_with charts)) budget None → one (claim_with charts) report → more (claim_with charts) report) where

@@ -1,10 +1,10 @@
 -- Words, a text and a position have one meaning each, and so an input has one report.
-use Rattle.std.proofs.Common.{◌≡◌, ◌⊎◌, ◌++◌, ℕ, ◌+◌, ◌≤◌, List, [], ◌∷◌, Option, Some, None, Result, Ok, Err, false, inl, inr, refl, sym, ap, subst, ◌∙◌, arith}
+use Rattle.std.proofs.Common.{◌≡◌, ◌⊎◌, ◌++◌, ℕ, ◌+◌, ◌≤◌, List, Option, Some, None, Result, Ok, Err, false, inl, inr, refl, sym, ap, subst, ◌∙◌, arith}
 use Rattle.std.specs.FinMap as map
 use Rattle.std.specs.Prelude.{IsSomeAnd}
 use Rattle.std.proofs.lemmas.Option.{same_Some}
 use Rattle.desk_base.specs.Files.{Files}
-use Rattle.desk_base.specs.Lines.{Lines, full, ended, cut, long, lines_of}
+use Rattle.desk_base.specs.Lines.{Lines, lines_of}
 use Rattle.game_rules.specs.Game.{Position}
 use Rattle.game_rules.specs.Game as game
 use Rattle.game_rules.specs.declared.men.Side.{Side}
@@ -13,11 +13,8 @@ use Rattle.chess_game.specs.Unsoundness.{IsFirstUnsoundness, IsLesserPair, rank}
 use Rattle.chess_game.specs.declared.unsoundness.Unsound.{Unsound}
 use Rattle.chess_game.specs.declared.unsoundness.Unsound.TheVariants.{NoKing, ManyKings, KingGone, SameSquare, OtherInCheck}
 use Rattle.chess_game.proofs.UnsoundnessLemmas.{unsound_refuted, number_cases}
-use Rattle.chess_text.specs.PositionText.{Turnout, position_text}
-use Rattle.chess_text.specs.PositionText as turnouts
-use Rattle.chess_text.specs.declared.reader.Stage.{Stage}
+use Rattle.chess_text.specs.PositionText.{position_text}
 use Rattle.chess_text.specs.declared.reader.Stage.TheVariants.{Header}
-use Rattle.chess_text.proofs.PositionLemmas.{feeds_once}
 use Rattle.game_report.proofs.Once.{one_report as one_game}
 use Rattle.winning_sets.specs.declared.names.StepName.{StepName}
 use Rattle.mate_plan.specs.Claim.{Claim}
@@ -26,167 +23,33 @@ use Rattle.strategy_file.proofs.KeptFiles.{one_kept_file}
 use Rattle.strategy_file.specs.Claims.{claim_with}
 use Rattle.strategy_file.specs.Layout.{Refusal}
 use Rattle.strategy_file.specs.StrategyFile.{Charts}
-use Rattle.mate_desk.specs.Check.{CheckReports}
-use Rattle.mate_desk.specs.Decide.{DecideReports}
-use Rattle.mate_desk.specs.FaultLines.{not_kept_line, too_large_line, unsound_line}
-use Rattle.mate_desk.specs.FileClaim.{OfClaim, OfFile, OfFound, OfOutcome, file_refused}
-use Rattle.mate_desk.specs.First.{FirstReports}
-use Rattle.mate_desk.specs.Keep.{FileReports, KeepReports, KeptReports}
+use Rattle.desk_games.specs.Check.{CheckReports}
+use Rattle.desk_solve.specs.Decide.{DecideReports}
+use Rattle.desk_report.specs.FaultLines.{not_kept_line, too_large_line, unsound_line}
+use Rattle.desk_games.specs.FileClaim.{OfClaim, OfFile, OfFound, OfOutcome, file_refused}
+use Rattle.desk_solve.specs.First.{FirstReports}
+use Rattle.desk_games.specs.Keep.{FileReports, KeepReports, KeptReports}
 use Rattle.mate_desk.specs.Laws.{OneReport}
-use Rattle.mate_desk.specs.Least.{LeastFinds, LeastReports, LeastStops, least_line}
-use Rattle.mate_desk.specs.Order.{ReadsNumber, FromNumber, WithName, WithNumber, DrillOrdered, FileOrdered, KeepOrdered, MovesOrdered, ReadsFile, ReadsMoves, ShowOrdered, Ordered, OrderedBehind, file_order_for, name_in, order_for, most_moves, most_budget, most_positions, most_seed, default_budget}
-use Rattle.mate_desk.specs.Outcome.{Report, done_with, over_budget, refusal_as}
-use Rattle.mate_desk.specs.Play.{PlayReports, PlayedReports, as_played, first_match}
+use Rattle.desk_solve.specs.Least.{LeastFinds, LeastReports, LeastStops, least_line}
+use Rattle.desk_words.specs.Order.{name_in}
+use Rattle.desk_report.specs.Outcome.{Report, done_with, over_budget, refusal_as}
+use Rattle.desk_games.specs.Play.{PlayReports, PlayedReports, as_played, first_match}
 use Rattle.mate_desk.specs.Report.{OfName, OfRead, OfSound, OfText, ReportsOrder, ReportsWords}
-use Rattle.mate_desk.specs.Resume.{GameReports, ResumeReports, claimed_match}
+use Rattle.desk_games.specs.Resume.{GameReports, ResumeReports, claimed_match}
 use Rattle.mate_desk.specs.Show.{IsCheckLine, ShowReports, live_line}
-use Rattle.mate_desk.specs.Text.{Text, whole, refused, AfterLine, ReadsLines}
-use Rattle.mate_desk.specs.Verdict.{ExceedsAt, IsVerdict, mate_line}
-use Rattle.mate_desk.specs.declared.order.Command.{Command}
-use Rattle.mate_desk.specs.declared.order.Command.TheVariants as commands
-use Rattle.mate_desk.specs.declared.order.Order.{Order}
-use Rattle.mate_desk.specs.declared.order.Order.TheVariants.{Decide, Least, First, Play, Keep, Check, Resume, Show, Drill}
-use Rattle.mate_desk.specs.declared.order.UsageWhy.{UsageWhy}
-use Rattle.mate_desk.specs.declared.order.UsageWhy.TheVariants.{NoCommand, Unknown, Count, Number, Limit, Name}
-use Rattle.mate_desk.specs.declared.problem.Problem.{Problem}
-use Rattle.mate_desk.specs.declared.status.Status.TheVariants as is
-use Rattle.mate_desk.proofs.Commands.{once_command}
-use Rattle.mate_desk.proofs.Drilled.{once_drill}
-use Rattle.mate_desk.proofs.Listing.{once_first}
-use Rattle.mate_desk.proofs.OneStep.{check_exceeds_once, exceeds_once, fits_exceeds, found_exceeds, found_once}
-
--- a word is one number, or none for one reason
-once_number : (word : List ℕ) (low high : ℕ) (one other : Result ℕ UsageWhy) → ReadsNumber word low high one → ReadsNumber word low high other → one ≡ other
-once_number word low high (Ok m) (Ok n) a b = ap Ok (sym a.0.value ∙ b.0.value)
-once_number word low high (Ok m) (Err Number) a b = absurd (b m a.0)
-once_number word low high (Ok m) (Err Limit) a b = absurd (b.2 (omega (arith, a.1, a.0.value, b.1.value)) (omega (arith, a.2, a.0.value, b.1.value)))
-once_number word low high (Ok m) (Err NoCommand) a b = absurd b
-once_number word low high (Ok m) (Err Unknown) a b = absurd b
-once_number word low high (Ok m) (Err Count) a b = absurd b
-once_number word low high (Ok m) (Err Name) a b = absurd b
-once_number word low high (Err Number) (Ok n) a b = absurd (a n b.0)
-once_number word low high (Err Number) (Err Number) a b = refl
-once_number word low high (Err Number) (Err Limit) a b = absurd (a b.0 b.1)
-once_number word low high (Err Number) (Err NoCommand) a b = absurd b
-once_number word low high (Err Number) (Err Unknown) a b = absurd b
-once_number word low high (Err Number) (Err Count) a b = absurd b
-once_number word low high (Err Number) (Err Name) a b = absurd b
-once_number word low high (Err Limit) (Ok n) a b = absurd (a.2 (omega (arith, b.1, b.0.value, a.1.value)) (omega (arith, b.2, b.0.value, a.1.value)))
-once_number word low high (Err Limit) (Err Number) a b = absurd (b a.0 a.1)
-once_number word low high (Err Limit) (Err Limit) a b = refl
-once_number word low high (Err Limit) (Err NoCommand) a b = absurd b
-once_number word low high (Err Limit) (Err Unknown) a b = absurd b
-once_number word low high (Err Limit) (Err Count) a b = absurd b
-once_number word low high (Err Limit) (Err Name) a b = absurd b
-once_number word low high (Err NoCommand) other a b = absurd a
-once_number word low high (Err Unknown) other a b = absurd a
-once_number word low high (Err Count) other a b = absurd a
-once_number word low high (Err Name) other a b = absurd a
-
-module _ {A : Type 0} (one other : Result A UsageWhy) where
-  from_number : (number : Result ℕ UsageWhy) (F G : ℕ → Type 0) → ((n : ℕ) → F n → G n → one ≡ other) → FromNumber number one F → FromNumber number other G → one ≡ other
-  from_number (Ok n) F G once a b = once n a b
-  from_number (Err why) F G once a b = a ∙ sym b
-
-  with_number : (word : List ℕ) (low high : ℕ) (F G : ℕ → Type 0) → ((n : ℕ) → F n → G n → one ≡ other) → WithNumber word low high one F → WithNumber word low high other G → one ≡ other
-  with_number word low high F G once (m, is_m, a) (n, is_n, b) =
-      let P : Result ℕ UsageWhy → Type 0 = λ r. FromNumber r other G in
-      from_number m F G once a (subst P (sym (once_number word low high m n is_m is_n)) b)
-
--- a word is a name, or none
-with_name : {A : Type 0} (one other : Result A UsageWhy) (word : List ℕ) (F G : Type 0) → (F → G → one ≡ other) → WithName word one F → WithName word other G → one ≡ other
-with_name one other word F G once (inl (no_name, a)) (inl (also, b)) = a ∙ sym b
-with_name one other word F G once (inl (no_name, a)) (inr (named, b)) = absurd (no_name named)
-with_name one other word F G once (inr (named, a)) (inl (no_name, b)) = absurd (no_name named)
-with_name one other word F G once (inr (named, a)) (inr (also, b)) = once a b
-
-module _ (one other : Result ℕ UsageWhy) where
-  once_file_budget : (words : List (List ℕ)) → ReadsFile words one → ReadsFile words other → one ≡ other
-  once_file_budget [] a b = a ∙ sym b
-  once_file_budget (name ∷ []) a b = with_name one other name (one ≡ Ok default_budget) (other ≡ Ok default_budget) (λ x y. x ∙ sym y) a b
-  once_file_budget (name ∷ budget ∷ []) a b =
-      with_name one other name (WithNumber budget 1 most_budget one (λ k. one ≡ Ok k)) (WithNumber budget 1 most_budget other (λ k. other ≡ Ok k))
-      (λ x y. with_number one other budget 1 most_budget (λ k. one ≡ Ok k) (λ k. other ≡ Ok k) (λ k u v. u ∙ sym v) x y) a b
-  once_file_budget (name ∷ budget ∷ word ∷ words) a b = a ∙ sym b
-
-module _ (one other : Result (ℕ × ℕ) UsageWhy) where
-  once_moves : (words : List (List ℕ)) → ReadsMoves words one → ReadsMoves words other → one ≡ other
-  once_moves [] a b = a ∙ sym b
-  once_moves (moves ∷ []) a b =
-      with_number one other moves 0 most_moves (λ n. one ≡ Ok (n, default_budget)) (λ n. other ≡ Ok (n, default_budget)) (λ n x y. x ∙ sym y) a b
-  once_moves (moves ∷ budget ∷ []) a b =
-      with_number one other moves 0 most_moves (λ n. WithNumber budget 1 most_budget one (λ k. one ≡ Ok (n, k))) (λ n. WithNumber budget 1 most_budget other (λ k. other ≡ Ok (n, k)))
-      (λ n x y. with_number one other budget 1 most_budget (λ k. one ≡ Ok (n, k)) (λ k. other ≡ Ok (n, k)) (λ k u v. u ∙ sym v) x y)
-      a b
-  once_moves (moves ∷ budget ∷ word ∷ words) a b = a ∙ sym b
-
-module _ (one other : Result Order UsageWhy) where
-  once_ordered : (order : ℕ → ℕ → Order) (words : List (List ℕ)) → MovesOrdered order words one → MovesOrdered order words other → one ≡ other
-  once_ordered order words a b = a.2 ∙ ap (order_for order) (once_moves a.0 b.0 words a.1 b.1) ∙ sym b.2
-
-  once_keeping : (words : List (List ℕ)) → KeepOrdered words one → KeepOrdered words other → one ≡ other
-  once_keeping [] a b = a ∙ sym b
-  once_keeping (moves ∷ []) a b = a ∙ sym b
-  once_keeping (moves ∷ name ∷ []) a b =
-      with_number one other moves 0 most_moves (λ n. WithName name one (one ≡ Ok (Keep n default_budget))) (λ n. WithName name other (other ≡ Ok (Keep n default_budget)))
-      (λ n x y. with_name one other name (one ≡ Ok (Keep n default_budget)) (other ≡ Ok (Keep n default_budget)) (λ u v. u ∙ sym v) x y) a b
-  once_keeping (moves ∷ name ∷ budget ∷ []) a b =
-      with_number one other moves 0 most_moves
-      (λ n. WithName name one (WithNumber budget 1 most_budget one (λ k. one ≡ Ok (Keep n k))))
-      (λ n. WithName name other (WithNumber budget 1 most_budget other (λ k. other ≡ Ok (Keep n k))))
-      (λ n x y. with_name one other name (WithNumber budget 1 most_budget one (λ k. one ≡ Ok (Keep n k))) (WithNumber budget 1 most_budget other (λ k. other ≡ Ok (Keep n k)))
-      (λ u v. with_number one other budget 1 most_budget (λ k. one ≡ Ok (Keep n k)) (λ k. other ≡ Ok (Keep n k)) (λ k p q. p ∙ sym q) u v) x y) a b
-  once_keeping (moves ∷ name ∷ budget ∷ word ∷ words) a b = a ∙ sym b
-
-  once_of_file : (order : ℕ → Order) (words : List (List ℕ)) → FileOrdered order words one → FileOrdered order words other → one ≡ other
-  once_of_file order words a b = a.2 ∙ ap (file_order_for order) (once_file_budget a.0 b.0 words a.1 b.1) ∙ sym b.2
-
-  once_show : (words : List (List ℕ)) → ShowOrdered words one → ShowOrdered words other → one ≡ other
-  once_show [] a b = a ∙ sym b
-  once_show (word ∷ words) a b = a ∙ sym b
-
-  once_drilled : (words : List (List ℕ)) → DrillOrdered words one → DrillOrdered words other → one ≡ other
-  once_drilled [] a b = a ∙ sym b
-  once_drilled (seed ∷ []) a b = a ∙ sym b
-  once_drilled (seed ∷ count ∷ []) a b =
-      with_number one other seed 0 most_seed (λ s. WithNumber count 0 most_positions one (λ k. one ≡ Ok (Drill s k))) (λ s. WithNumber count 0 most_positions other (λ k. other ≡ Ok (Drill s k)))
-      (λ s x y. with_number one other count 0 most_positions (λ k. one ≡ Ok (Drill s k)) (λ k. other ≡ Ok (Drill s k)) (λ k u v. u ∙ sym v) x y)
-      a b
-  once_drilled (seed ∷ count ∷ word ∷ words) a b = a ∙ sym b
-
-  once_behind : (command : Option Command) (words : List (List ℕ)) → OrderedBehind command words one → OrderedBehind command words other → one ≡ other
-  once_behind (Some commands.Decide) words a b = once_ordered (λ moves budget. Decide moves budget) words a b
-  once_behind (Some commands.Least) words a b = once_ordered (λ limit budget. Least limit budget) words a b
-  once_behind (Some commands.First) words a b = once_ordered (λ moves budget. First moves budget) words a b
-  once_behind (Some commands.Play) words a b = once_ordered (λ moves budget. Play moves budget) words a b
-  once_behind (Some commands.Keep) words a b = once_keeping words a b
-  once_behind (Some commands.Check) words a b = once_of_file (λ budget. Check budget) words a b
-  once_behind (Some commands.Resume) words a b = once_of_file (λ budget. Resume budget) words a b
-  once_behind (Some commands.Show) words a b = once_show words a b
-  once_behind (Some commands.Drill) words a b = once_drilled words a b
-  once_behind None words a b = a ∙ sym b
-
-  pub once_words : (words : List (List ℕ)) → Ordered words one → Ordered words other → one ≡ other
-  once_words [] a b = a ∙ sym b
-  once_words (word ∷ words) a b =
-      let P : Option Command → Type 0 = λ command. OrderedBehind command words other in
-      once_behind a.0 words a.2 (subst P (sym (once_command word a.0 b.0 a.1 b.1)) b.2)
-
--- lines are one text
-once_after : (turnout : Turnout) (number : ℕ) (rest : Lines) (one other : Text) (F G : Stage → Type 0) → ((next : Stage) → F next → G next → one ≡ other) → AfterLine turnout number rest one F → AfterLine turnout number rest other G → one ≡ other
-once_after (turnouts.more next) number rest one other F G once a b = once next a b
-once_after (turnouts.complete p) number rest one other F G once a b = a ∙ sym b
-once_after (turnouts.wrong why) number rest one other F G once a b = a ∙ sym b
-
-pub once_text : (stage : Stage) (number : ℕ) (lines : Lines) (one other : Text) → ReadsLines stage number lines one → ReadsLines stage number lines other → one ≡ other
-once_text stage number (full line rest) one other a b =
-    let F : Stage → Type 0 = λ next. ReadsLines next (number + 1) rest one in
-    let G : Stage → Type 0 = λ next. ReadsLines next (number + 1) rest other in
-    let P : Turnout → Type 0 = λ t. AfterLine t number rest other G in
-    once_after a.0 number rest one other F G (λ next x y. once_text next (number + 1) rest one other x y) a.2 (subst P (sym (feeds_once stage line a.0 b.0 a.1 b.1)) b.2)
-once_text stage number ended one other a b = a ∙ sym b
-once_text stage number (cut front) one other a b = a ∙ sym b
-once_text stage number long one other a b = a ∙ sym b
+use Rattle.desk_text.specs.Text.{Text, whole, refused}
+use Rattle.desk_solve.specs.Verdict.{ExceedsAt, IsVerdict, mate_line}
+use Rattle.desk_words.specs.declared.order.Order.{Order}
+use Rattle.desk_words.specs.declared.order.Order.TheVariants.{Decide, Least, First, Play, Keep, Check, Resume, Show, Drill, Arith}
+use Rattle.desk_words.specs.declared.order.UsageWhy.{UsageWhy}
+use Rattle.desk_text.specs.declared.problem.Problem.{Problem}
+use Rattle.desk_report.specs.declared.status.Status.TheVariants as is
+use Rattle.desk_arith.proofs.Once.{once_arith}
+use Rattle.desk_solve.proofs.Drilled.{once_drill}
+use Rattle.desk_solve.proofs.Listing.{once_first}
+use Rattle.desk_solve.proofs.OneStep.{check_exceeds_once, exceeds_once, fits_exceeds, found_exceeds, found_once}
+use Rattle.desk_words.proofs.OneOrder.{once_words}
+use Rattle.desk_text.proofs.OneText.{once_text}
 
 -- a position has one first fault
 same_pair : (i j k l : ℕ) → (SameSquare i j ≡ SameSquare k l) ⊎ (IsLesserPair (SameSquare i j) (SameSquare k l) ⊎ IsLesserPair (SameSquare k l) (SameSquare i j))
@@ -429,6 +292,7 @@ module _ (files : Files) (one other : Report) where
   once_order Show words bytes a b =
       once_of_text (λ problem rest. ShowReports problem.position files) (λ problem rest. once_shown problem.position) bytes a b
   once_order (Drill seed count) words bytes a b = once_drill files one other seed count a b
+  once_order (Arith budget) words bytes a b = once_arith files one other budget (lines_of bytes) a b
 
   once_answer : (answer : Result Order UsageWhy) (words : List (List ℕ)) (bytes : List ℕ) → ReportsWords answer words bytes files one → ReportsWords answer words bytes files other → one ≡ other
   once_answer (Err why) words bytes a b = a ∙ sym b

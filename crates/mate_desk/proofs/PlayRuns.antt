@@ -9,21 +9,22 @@ use Rattle.desk_base.specs.Lines.{IsLine, ended, lines_of}
 use Rattle.game_rules.specs.Game.{Sound}
 use Rattle.chess_game.proofs.UnsoundnessLemmas.{number_cases}
 use Rattle.chess_text.specs.PositionText.{text_of_lines}
-use Rattle.game_report.specs.Taken.{TakesLines}
-use Rattle.mate_desk.specs.Order.{Ordered}
-use Rattle.mate_desk.specs.Outcome.{NeverMisses, Report, Seen, of_streams, reported_on}
-use Rattle.mate_desk.specs.Play.{LacksAtFirst, PlayEnds, PlayReports}
+use Rattle.desk_text.specs.Taken.{TakesLines}
+use Rattle.desk_words.specs.Order.{Ordered}
+use Rattle.desk_report.specs.Outcome.{NeverMisses, Report, Seen, of_streams, reported_on}
+use Rattle.desk_games.specs.Play.{LacksAtFirst, PlayEnds, PlayReports}
 use Rattle.mate_desk.specs.Report.{MayLackMemory, MayMissShelf, Reports}
 use Rattle.mate_desk.specs.Run.{Given, IsLineDue, RunEnds}
-use Rattle.mate_desk.specs.Text.{TextAt, whole}
-use Rattle.mate_desk.specs.TextRead.{TextRead}
-use Rattle.mate_desk.specs.declared.order.Order.TheVariants.{Play}
-use Rattle.mate_desk.specs.declared.problem.Problem.{Problem}
-use Rattle.mate_desk.specs.declared.status.Status.{Status}
-use Rattle.mate_desk.specs.declared.status.Status.TheVariants as is
-use Rattle.mate_desk.proofs.Reporting.{files_of, known_files, line_due, takes_lines}
+use Rattle.desk_text.specs.Text.{TextAt, whole}
+use Rattle.desk_text.specs.TextRead.{TextRead}
+use Rattle.desk_words.specs.declared.order.Order.TheVariants.{Play}
+use Rattle.desk_text.specs.declared.problem.Problem.{Problem}
+use Rattle.desk_report.specs.declared.status.Status.{Status}
+use Rattle.desk_report.specs.declared.status.Status.TheVariants as is
+use Rattle.desk_games.proofs.Shelves.{files_of, known_files}
+use Rattle.mate_desk.proofs.Reporting.{line_due, takes_lines}
 use Rattle.mate_desk.proofs.Statuses.{not_usage, play_status}
-use Rattle.mate_desk.proofs.Writing.{at_files, ends_as, unchanged}
+use Rattle.desk_report.proofs.Writing.{at_files, ends_as, unchanged}
 
 take_behind : (a b : List (List ℕ)) (k j : ℕ) → k ≡ length a + j → take k (a ++ b) ≡ a ++ take j b
 take_behind [] b k j is = ap (λ n. take n b) (omega (arith, is))

@@ -11,45 +11,39 @@ use Rattle.game_rules.specs.Game.{Sound}
 use Rattle.chess_game.specs.Unsoundness.{IsFirstUnsoundness}
 use Rattle.chess_game.specs.declared.unsoundness.Unsound.{Unsound}
 use Rattle.chess_text.specs.PositionText.{text_of_lines}
-use Rattle.game_report.specs.Taken.{TakesLines}
-use Rattle.mate_desk.specs.Check.{CheckReports}
-use Rattle.mate_desk.specs.Decide.{DecideReports}
-use Rattle.mate_desk.specs.Drill.{DrillReports}
-use Rattle.mate_desk.specs.FaultLines.{unsound_line}
-use Rattle.mate_desk.specs.FileClaim.{MissesFetch, OnFiles}
-use Rattle.mate_desk.specs.First.{FirstReports, HasNoFirstMove}
-use Rattle.mate_desk.specs.Keep.{HasFileToKeep, KeepReports, MissesKeep}
-use Rattle.mate_desk.specs.Least.{LeastReports}
-use Rattle.mate_desk.specs.Order.{Ordered, name_in, usage_line}
-use Rattle.mate_desk.specs.Outcome.{Ends, Leaves, KeepsFiles, NeverMisses, Report, Seen, Writes, WriteFailed, of_shelf, of_sink, refusal_as, reported_on}
+use Rattle.desk_text.specs.Taken.{TakesLines}
+use Rattle.desk_arith.specs.Arith.{ArithEnds, ArithReports, IsBehindLine}
+use Rattle.desk_games.specs.Check.{CheckReports}
+use Rattle.desk_solve.specs.Decide.{DecideReports}
+use Rattle.desk_solve.specs.Drill.{DrillReports}
+use Rattle.desk_report.specs.FaultLines.{unsound_line}
+use Rattle.desk_games.specs.FileClaim.{MissesFetch, OnFiles}
+use Rattle.desk_solve.specs.First.{FirstReports, HasNoFirstMove}
+use Rattle.desk_games.specs.Keep.{HasFileToKeep, KeepReports, MissesKeep}
+use Rattle.desk_solve.specs.Least.{LeastReports}
+use Rattle.desk_words.specs.Order.{Ordered, name_in, usage_line}
+use Rattle.desk_report.specs.Outcome.{Ends, Leaves, KeepsFiles, NeverMisses, Report, Seen, Writes, WriteFailed, of_shelf, of_sink, of_streams, refusal_as, reported_on}
 use Rattle.mate_desk.specs.Report.{IsBehindText, MayLackMemory, MayMissShelf, OfName, OfText, OrderMayLack, Reports, ReportsOrder, TakesMemory}
-use Rattle.mate_desk.specs.Resume.{ResumeEnds, ResumeReports}
+use Rattle.desk_games.specs.Resume.{ResumeEnds, ResumeReports}
 use Rattle.mate_desk.specs.Run.{Given, IsLineDue, RunEnds, Takes}
 use Rattle.mate_desk.specs.Show.{ShowReports}
-use Rattle.mate_desk.specs.Text.{TextAt, whole, refused, is_end, refusal_line}
-use Rattle.mate_desk.specs.TextRead.{IsMissing, IsShort, TextRead}
-use Rattle.mate_desk.specs.Verdict.{HasNothingToPlay}
-use Rattle.mate_desk.specs.declared.order.Order.{Order}
-use Rattle.mate_desk.specs.declared.order.Order.TheVariants.{Decide, Least, First, Play, Keep, Check, Resume, Show, Drill}
-use Rattle.mate_desk.specs.declared.order.UsageWhy.{UsageWhy}
-use Rattle.mate_desk.specs.declared.problem.Problem.{Problem}
-use Rattle.mate_desk.specs.declared.status.Status.{Status}
-use Rattle.mate_desk.specs.declared.status.Status.TheVariants as is
-use Rattle.mate_desk.specs.declared.text.LineWhy.{LineWhy}
-use Rattle.mate_desk.specs.declared.text.LineWhy.TheVariants.{Missing}
-use Rattle.mate_desk.specs.declared.text.TextEnd.{TextEnd}
-use Rattle.mate_desk.specs.declared.text.TextEnd.TheVariants.{Fault, Refused}
-use Rattle.mate_desk.proofs.Statuses.{IsOfText, keep_status, not_usage, order_status, resume_status}
-use Rattle.mate_desk.proofs.TextSteps.{known_rest}
-use Rattle.mate_desk.proofs.Writing.{at_sink, ends_as, no_read_fault, unchanged, with_source}
-
--- the files of a store, or none where it does not tell them
-abbrev pub files_of : Option Files → Files
-files_of told = unwrap_or told no_files
-
-pub known_files : (told : Option Files) → IfSome told (λ files. files ≡ files_of told)
-known_files None = tt
-known_files (Some files) = refl
+use Rattle.desk_text.specs.Text.{TextAt, whole, refused, is_end, refusal_line}
+use Rattle.desk_text.specs.TextRead.{IsMissing, IsShort, TextRead}
+use Rattle.desk_solve.specs.Verdict.{HasNothingToPlay}
+use Rattle.desk_words.specs.declared.order.Order.{Order}
+use Rattle.desk_words.specs.declared.order.Order.TheVariants.{Decide, Least, First, Play, Keep, Check, Resume, Show, Drill, Arith}
+use Rattle.desk_words.specs.declared.order.UsageWhy.{UsageWhy}
+use Rattle.desk_text.specs.declared.problem.Problem.{Problem}
+use Rattle.desk_report.specs.declared.status.Status.{Status}
+use Rattle.desk_report.specs.declared.status.Status.TheVariants as is
+use Rattle.desk_text.specs.declared.text.LineWhy.{LineWhy}
+use Rattle.desk_text.specs.declared.text.LineWhy.TheVariants.{Missing}
+use Rattle.desk_text.specs.declared.text.TextEnd.{TextEnd}
+use Rattle.desk_text.specs.declared.text.TextEnd.TheVariants.{Fault, Refused}
+use Rattle.mate_desk.proofs.Statuses.{IsOfText, arith_status, keep_status, not_usage, order_status, resume_status}
+use Rattle.desk_games.proofs.Shelves.{files_of, known_files}
+use Rattle.desk_text.proofs.TextSteps.{known_rest}
+use Rattle.desk_report.proofs.Writing.{at_files, at_sink, ends_as, no_read_fault, on_all, unchanged, with_source}
 
 left_files : (told : Option Files) → Go told told (λ before after. after ≡ files_of told)
 left_files None = tt
@@ -70,6 +64,7 @@ refused_order (Check budget) of words bytes files number why at = absurd of
 refused_order (Resume budget) of words bytes files number why at = absurd of
 refused_order Show of words bytes files number why at = (refused number why, at, refl)
 refused_order (Drill seed count) of words bytes files number why at = absurd of
+refused_order (Arith budget) of words bytes files number why at = absurd of
 
 -- no line is taken
 no_lines : (IsDue : List (List ℕ) → Type 0) → TakesLines IsDue [] []
@@ -105,22 +100,6 @@ takes_lines words files is.Memory taken pending not t = (pending, t)
 takes_lines words files is.File taken pending not t = (pending, t)
 takes_lines words files is.Ended taken pending not t = (pending, t)
 takes_lines words files is.TooMany taken pending not t = (pending, t)
-
--- where the source has not failed, the report is on all bytes
-on_all : (status : Status) (taken rest : List ℕ) → status ≢ is.ReadFault → reported_on status taken rest ≡ taken ++ rest
-on_all is.ReadFault taken rest not = absurd (not refl)
-on_all is.Usage taken rest not = refl
-on_all is.Done taken rest not = refl
-on_all is.Text taken rest not = refl
-on_all is.Unsound taken rest not = refl
-on_all is.WriteFault taken rest not = refl
-on_all is.ShelfFault taken rest not = refl
-on_all is.Budget taken rest not = refl
-on_all is.Wide taken rest not = refl
-on_all is.Memory taken rest not = refl
-on_all is.File taken rest not = refl
-on_all is.Ended taken rest not = refl
-on_all is.TooMany taken rest not = refl
 
 -- so a run of an order ends whose source has not failed
 pub run_ends : (words : List (List ℕ)) (status : Status) (old new : Seen) (given : Given old new) (pending : List ℕ) → TakesLines (IsLineDue words given.files) given.taken pending → status ≢ is.Usage → status ≢ is.ReadFault
@@ -263,6 +242,7 @@ module _ (words : List (List ℕ)) (old new : Seen) (same : new.files ≡ old.fi
       unsound_order (Resume budget) of_text why fault = absurd of_text
       unsound_order Show of_text why fault = (whole problem (lines_of (pending ++ t.rest)), is_whole, inl (why, fault, refl))
       unsound_order (Drill seed count) of_text why fault = absurd of_text
+      unsound_order (Arith budget) of_text why fault = absurd of_text
 
       pub unsound_ends : (why : Unsound) → IsFirstUnsoundness problem.position why → Writes [] (unsound_line why) old.written new.written (WriteFailed old new) → RunEnds words is.Unsound old new
       unsound_ends why fault wrote = record {
@@ -418,4 +398,48 @@ module _ (words : List (List ℕ)) (old new : Seen) (status : Status) where
         ends =
             ends_as status (ResumeReports budget (lines_of all) name files) (λ report. Reports words all files report) (p.bytes ≡ []) (MayLackMemory words p.bytes) (MissesFetch p.bytes) (MayMissShelf words p.bytes) old new
             (λ report right. says all report right) (λ none. (order, ordered, none)) (λ keeping miss. (order, ordered, miss)) p.ends;
+      }
+
+-- `arith` has not the status of words that are no order
+pub arith_no_usage : (status : Status) (budget : ℕ) (left after written later : Option (List ℕ)) (reads reads_later writes writes_later : ℕ)
+    → ((files : Files) → (pending : List ℕ) × ArithEnds budget files status pending (of_streams files left written reads writes) (of_streams files after later reads_later writes_later))
+    → status ≢ is.Usage
+arith_no_usage status budget left after written later reads reads_later writes writes_later ends =
+    let old = of_streams no_files left written reads writes in
+    let new = of_streams no_files after later reads_later writes_later in
+    let p : ArithEnds budget no_files status (ends no_files).0 old new = (ends no_files).1 in
+    let all = lines_of (reported_on status p.bytes p.rest) in
+    not_usage status (ArithReports budget all no_files) (IsBehindLine p.bytes) NeverMisses old new (λ report right. arith_status budget all no_files report right) p.ends
+
+-- it reads a line, and has the sink alone
+module _ (words : List (List ℕ)) (old new : Seen) (status : Status) (budget : ℕ) where
+  abbrev seen_in : Files → Seen → Seen
+  seen_in files seen = of_streams files seen.left seen.written seen.read_faults seen.write_faults
+
+  abbrev EndsOnFiles : Type 0
+  EndsOnFiles = (files : Files) → (pending : List ℕ) × ArithEnds budget files status pending (seen_in files old) (seen_in files new)
+
+  pub arith_ends : Ordered words (Ok (Arith budget)) → new.files ≡ old.files → EndsOnFiles → RunEnds words status old new
+  arith_ends ordered same ends =
+      let order = Arith budget in
+      let files = files_of old.files in
+      let pending = (ends files).0 in
+      let p : ArithEnds budget files status pending (seen_in files old) (seen_in files new) = (ends files).1 in
+      let all = reported_on status p.bytes p.rest in
+      let lines : TakesLines (IsLineDue words files) p.bytes pending = record {
+        lines = p.takes.lines;
+        are_lines = p.takes.are_lines;
+        due = λ k below. let due = p.takes.due k below in (due.0, (Ok order, ordered, due.1), due.2);
+        bytes = p.takes.bytes;
+        few = p.takes.few;
+      } in
+      let reports : Report → Type 0 = ArithReports budget (lines_of all) files in
+      record {
+        given = record { taken = p.bytes; rest = p.rest; files = files; consumed = p.taken; left = p.left; kept = known_files old.files };
+        takes = takes_lines words files status p.bytes pending
+            (arith_no_usage status budget old.left new.left old.written new.written old.read_faults new.read_faults old.write_faults new.write_faults ends) lines;
+        ends =
+            ends_as status reports (λ report. Reports words all files report) (IsBehindLine p.bytes) (MayLackMemory words p.bytes) NeverMisses (MayMissShelf words p.bytes) old new
+            (λ report right. (Ok order, ordered, right)) (λ lack. (order, ordered, lack)) (λ keeping never. absurd never)
+            (at_files files old new (known_files old.files) (unchanged old.files new.files same) old.left new.left old.read_faults new.read_faults (λ risen. risen) status reports (IsBehindLine p.bytes) p.ends);
       }

@@ -3,41 +3,43 @@ use Rattle.std.proofs.Common.{◌≡◌, ◌≢◌, ◌↔◌, ℕ, List, [], le
 use Rattle.std.specs.FinMap as map
 use Rattle.std.specs.Prelude.{IfOk, IsSomeAnd}
 use Rattle.desk_base.specs.Files.{Files}
-use Rattle.desk_base.specs.Lines.{Lines, lines_of}
+use Rattle.desk_base.specs.Lines.{Lines, full, ended, cut, long, lines_of}
 use Rattle.game_rules.specs.Game.{Position}
 use Rattle.game_report.specs.declared.play.Ending.{Ending}
 use Rattle.game_report.specs.declared.play.Ending.TheVariants.{Mated, Wide, Quit, NoLine, Many, CutAt, LongAt}
+use Rattle.lin_formula.specs.Tree.{Tree}
 use Rattle.mate_plan.specs.Claim.{Claim}
 use Rattle.strategy_file.specs.Claims.{claim_with}
 use Rattle.strategy_file.specs.Layout.{Refusal}
 use Rattle.strategy_file.specs.StrategyFile.{Charts}
-use Rattle.mate_desk.specs.Check.{CheckReports}
-use Rattle.mate_desk.specs.Decide.{DecideReports}
-use Rattle.mate_desk.specs.Drill.{DrillReports, drilled, state_after}
-use Rattle.mate_desk.specs.FileClaim.{OfClaim, OfFile, OfFound, OfOutcome}
-use Rattle.mate_desk.specs.First.{FirstReports}
-use Rattle.mate_desk.specs.Keep.{KeepReports}
+use Rattle.desk_arith.specs.Arith.{ArithReports, FormulaReports}
+use Rattle.desk_games.specs.Check.{CheckReports}
+use Rattle.desk_solve.specs.Decide.{DecideReports}
+use Rattle.desk_solve.specs.Drill.{DrillReports, drilled, state_after}
+use Rattle.desk_games.specs.FileClaim.{OfClaim, OfFile, OfFound, OfOutcome}
+use Rattle.desk_solve.specs.First.{FirstReports}
+use Rattle.desk_games.specs.Keep.{KeepReports}
 use Rattle.mate_desk.specs.Laws.{FaultsAreCounted, MemoryLast, NoShelfFault, OrdersSome, UsageExactly}
-use Rattle.mate_desk.specs.Least.{LeastReports}
-use Rattle.mate_desk.specs.Order.{Ordered, as_order, name_in, usage_line}
-use Rattle.mate_desk.specs.Outcome.{Ends, Report, Seen, done_with, refusal_as}
-use Rattle.mate_desk.specs.Play.{PlayReports, status_of}
+use Rattle.desk_solve.specs.Least.{LeastReports}
+use Rattle.desk_words.specs.Order.{Ordered, as_order, name_in, usage_line}
+use Rattle.desk_report.specs.Outcome.{Ends, Report, Seen, done_with, refusal_as}
+use Rattle.desk_games.specs.Play.{PlayReports, status_of}
 use Rattle.mate_desk.specs.Report.{IsBehindText, OfName, OfRead, OfSound, OfText, OrderMayLack, OrderMayMiss, ReadsNoText, Reports, ReportsOrder, ReportsWords, TakesMemory, UsesNoShelf}
-use Rattle.mate_desk.specs.Resume.{GameReports, ResumeReports}
+use Rattle.desk_games.specs.Resume.{GameReports, ResumeReports}
 use Rattle.mate_desk.specs.Run.{RunEnds}
 use Rattle.mate_desk.specs.Show.{ShowReports}
-use Rattle.mate_desk.specs.Text.{Text, whole, refused}
-use Rattle.mate_desk.specs.Verdict.{mate_line}
-use Rattle.mate_desk.specs.declared.order.Order.{Order}
-use Rattle.mate_desk.specs.declared.order.Order.TheVariants.{Decide, Least, First, Play, Keep, Check, Resume, Show, Drill}
-use Rattle.mate_desk.specs.declared.order.TextOrder.{TextOrder}
-use Rattle.mate_desk.specs.declared.order.TextOrder.TheVariants as text_orders
-use Rattle.mate_desk.specs.declared.order.UsageWhy.{UsageWhy}
-use Rattle.mate_desk.specs.declared.problem.Problem.{Problem}
-use Rattle.mate_desk.specs.declared.status.Status.{Status}
-use Rattle.mate_desk.specs.declared.status.Status.TheVariants as is
-use Rattle.mate_desk.proofs.OneReport.{once_words}
-use Rattle.mate_desk.proofs.Rooks.{drill_sound}
+use Rattle.desk_text.specs.Text.{Text, whole, refused}
+use Rattle.desk_solve.specs.Verdict.{mate_line}
+use Rattle.desk_words.specs.declared.order.Order.{Order}
+use Rattle.desk_words.specs.declared.order.Order.TheVariants.{Decide, Least, First, Play, Keep, Check, Resume, Show, Drill, Arith}
+use Rattle.desk_words.specs.declared.order.TextOrder.{TextOrder}
+use Rattle.desk_words.specs.declared.order.TextOrder.TheVariants as text_orders
+use Rattle.desk_words.specs.declared.order.UsageWhy.{UsageWhy}
+use Rattle.desk_text.specs.declared.problem.Problem.{Problem}
+use Rattle.desk_report.specs.declared.status.Status.{Status}
+use Rattle.desk_report.specs.declared.status.Status.TheVariants as is
+use Rattle.desk_words.proofs.OneOrder.{once_words}
+use Rattle.desk_solve.proofs.Rooks.{drill_sound}
 
 -- what is reported of an order has another status than words that are none
 abbrev pub IsNotUsage : Report → Type 0
@@ -119,6 +121,18 @@ pub drill_status : (seed count : ℕ) (files : Files) (report : Report) → Dril
 drill_status seed count files report (inl (step, stops, is')) = other_status report _ is' (λ e. absurd (cc))
 drill_status seed count files report (inr (mates, finds, is')) = other_status report _ is' (λ e. absurd (cc))
 
+-- nor does what is reported of a formula, and of a line
+formula_status : (budget : ℕ) (f : Tree) (files : Files) (report : Report) → FormulaReports budget f files report → IsNotUsage report
+formula_status budget f files report (inl (step, over, is')) = other_status report _ is' (λ e. absurd (cc))
+formula_status budget f files report (inr (truth, within, right, is')) = other_status report _ is' (λ e. absurd (cc))
+
+pub arith_status : (budget : ℕ) (lines : Lines) (files : Files) (report : Report) → ArithReports budget lines files report → IsNotUsage report
+arith_status budget (full line rest) files report (inl (number, fault, is')) = other_status report _ is' (λ e. absurd (cc))
+arith_status budget (full line rest) files report (inr (f, means, right)) = formula_status budget f files report right
+arith_status budget ended files report is' = other_status report _ is' (λ e. absurd (cc))
+arith_status budget (cut front) files report is' = other_status report _ is' (λ e. absurd (cc))
+arith_status budget long files report is' = other_status report _ is' (λ e. absurd (cc))
+
 -- so its run has
 pub not_usage : (status : Status) (reports : Report → Type 0) (may_lack : Type 0) (may_miss : Option (List ℕ) → Type 0) (old new : Seen) → ((report : Report) → reports report → IsNotUsage report)
     → Ends status reports may_lack may_miss old new → status ≢ is.Usage
@@ -158,6 +172,7 @@ order_status (Resume budget) words bytes files report =
 order_status Show words bytes files report =
     text_status (λ problem rest. ShowReports problem.position files) files report (λ problem rest. show_status problem.position files report) bytes
 order_status (Drill seed count) words bytes files report = drill_status seed count files report
+order_status (Arith budget) words bytes files report = arith_status budget (lines_of bytes) files report
 
 pub words_status : (words : List (List ℕ)) (files : Files) (answer : Result Order UsageWhy) (bytes : List ℕ) (report : Report) → Ordered words answer → ReportsWords answer words bytes files report → report.status ≡ is.Usage → (why : UsageWhy) × Ordered words (Err why)
 words_status words files (Err why) bytes report ordered reports same = (why, ordered)
@@ -174,6 +189,7 @@ IsOfText (Check budget) = ⊥
 IsOfText (Resume budget) = ⊥
 IsOfText Show = Unit {0}
 IsOfText (Drill seed count) = ⊥
+IsOfText (Arith budget) = ⊥
 
 pub text_order : (o : TextOrder) → IsOfText (as_order o)
 text_order (text_orders.Decide n budget) = tt
@@ -239,7 +255,7 @@ usage_exactly words is.Memory old new run =
     other (λ same. absurd (cc)) (λ none. let lack = run.ends.0 in let both = once_words (Ok lack.0) (Err none.0) words lack.1 none.1 in absurd (cc))
 
 behind_text : (words : List (List ℕ)) (order : Order) (taken : List ℕ) → Ordered words (Ok order) → IsBehindText (TakesMemory order) taken → OrdersSome words
-behind_text words order taken ordered lack = (order, ordered, inr (lack.problem, lack.sound, lack.holds))
+behind_text words order taken ordered lack = (order, ordered, inr (inr (lack.problem, lack.sound, lack.holds)))
 
 order_lacks : (words : List (List ℕ)) (order : Order) (taken : List ℕ) → Ordered words (Ok order) → OrderMayLack order taken → OrdersSome words
 order_lacks words (Decide n budget) taken ordered lack = behind_text words (Decide n budget) taken ordered lack
@@ -251,7 +267,8 @@ order_lacks words (Check budget) taken ordered lack = (Check budget, ordered, in
 order_lacks words (Resume budget) taken ordered lack = (Resume budget, ordered, inl tt)
 order_lacks words Show taken ordered lack = behind_text words Show taken ordered lack
 order_lacks words (Drill seed count) taken ordered lack =
-    (Drill seed count, ordered, inr (drilled seed 0, drill_sound (state_after seed 1), (0, lack.1, refl)))
+    (Drill seed count, ordered, inr (inr (drilled seed 0, drill_sound (state_after seed 1), (0, lack.1, refl))))
+order_lacks words (Arith budget) taken ordered lack = (Arith budget, ordered, inr (inl (budget, refl)))
 
 pub memory_last : MemoryLast
 memory_last words old new run = let lack = run.ends.0 in order_lacks words lack.0 run.given.taken lack.1 lack.2
@@ -266,6 +283,7 @@ order_misses (Check budget) words taken keeping none misses = none
 order_misses (Resume budget) words taken keeping none misses = none
 order_misses Show words taken keeping none misses = misses
 order_misses (Drill seed count) words taken keeping none misses = misses
+order_misses (Arith budget) words taken keeping none misses = misses
 
 pub no_shelf_fault : NoShelfFault
 no_shelf_fault words order status old new ordered none run same =

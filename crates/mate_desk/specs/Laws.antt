@@ -1,33 +1,39 @@
 -- Laws of what a run does.
-use Rattle.std.specs.Prelude.{◌≡◌, ◌≢◌, ◌↔◌, ◌⊎◌, ℕ, ◌+◌, ◌-◌, List, ◌++◌, length, Option, Some, Ok, Err, slice_get}
+use Rattle.std.specs.Prelude.{◌≡◌, ◌≢◌, ◌↔◌, ◌⊎◌, ℕ, ◌+◌, ◌-◌, List, ◌++◌, length, false, Option, Some, Ok, Err, slice_get}
 use Rattle.desk_base.specs.Faults.{HasRisen}
 use Rattle.desk_base.specs.Files.{Files}
-use Rattle.desk_base.specs.Lines.{Lines, lines_of}
+use Rattle.desk_base.specs.Lines.{Lines, full, lines_of}
 use Rattle.game_rules.specs.Game.{Position, Least, Lost, Sound, Value}
 use Rattle.game_rules.specs.declared.men.Side.TheVariants.{White}
 use Rattle.chess_text.specs.PositionText.{IsWritable, position_lines, position_text}
 use Rattle.game_report.specs.Report.{IsReport, Match}
 use Rattle.game_report.specs.Report as game
+use Rattle.lin_formula.specs.Tree.{Tree}
+use Rattle.formula_auto.specs.declared.errors.CompileError.TheVariants.{Over}
+use Rattle.arith_desk.specs.Reading.{IsFormulaLine}
+use Rattle.arith_desk.specs.Truth.{IsOver}
+use Rattle.desk_arith.specs.Answer.{Answers}
+use Rattle.desk_arith.specs.Arith.{step_line}
 use Rattle.mate_plan.specs.Claim.{Claim}
 use Rattle.winning_sets.specs.Reach.{Reach}
 use Rattle.winning_sets.specs.declared.names.StepName.{StepName}
-use Rattle.mate_desk.specs.Decide.{IsExact}
-use Rattle.mate_desk.specs.FileClaim.{OfFile}
-use Rattle.mate_desk.specs.Least.{least_line}
-use Rattle.mate_desk.specs.Order.{Ordered, name_in}
-use Rattle.mate_desk.specs.Outcome.{Report, Seen, WriteFailed, done_with, over_budget}
-use Rattle.mate_desk.specs.Play.{as_played, first_match}
+use Rattle.desk_solve.specs.Decide.{IsExact}
+use Rattle.desk_games.specs.FileClaim.{OfFile}
+use Rattle.desk_solve.specs.Least.{least_line}
+use Rattle.desk_words.specs.Order.{Ordered, name_in}
+use Rattle.desk_report.specs.Outcome.{Report, Seen, WriteFailed, done_with, over_budget, refusal_as}
+use Rattle.desk_games.specs.Play.{as_played, first_match}
 use Rattle.mate_desk.specs.Report.{Reports, TakesMemory, UsesNoShelf}
-use Rattle.mate_desk.specs.Resume.{claimed_match}
+use Rattle.desk_games.specs.Resume.{claimed_match}
 use Rattle.mate_desk.specs.Run.{RunEnds}
-use Rattle.mate_desk.specs.Text.{TextAt, white_mates, whole}
-use Rattle.mate_desk.specs.Verdict.{ExceedsAt, mate_line, no_mate_line}
-use Rattle.mate_desk.specs.declared.order.Order.{Order}
-use Rattle.mate_desk.specs.declared.order.Order.TheVariants as orders
-use Rattle.mate_desk.specs.declared.order.UsageWhy.{UsageWhy}
-use Rattle.mate_desk.specs.declared.problem.Problem.{Problem}
-use Rattle.mate_desk.specs.declared.status.Status.{Status}
-use Rattle.mate_desk.specs.declared.status.Status.TheVariants as is
+use Rattle.desk_text.specs.Text.{TextAt, white_mates, whole}
+use Rattle.desk_solve.specs.Verdict.{ExceedsAt, mate_line, no_mate_line}
+use Rattle.desk_words.specs.declared.order.Order.{Order}
+use Rattle.desk_words.specs.declared.order.Order.TheVariants as orders
+use Rattle.desk_words.specs.declared.order.UsageWhy.{UsageWhy}
+use Rattle.desk_text.specs.declared.problem.Problem.{Problem}
+use Rattle.desk_report.specs.declared.status.Status.{Status}
+use Rattle.desk_report.specs.declared.status.Status.TheVariants as is
 
 -- What `decide` wrote behind the bytes `old`: one of the two lines, the one exactly where White mates within n moves of his own, and the
 -- other exactly where he does not.
@@ -66,16 +72,6 @@ LeastWrites =
     → HasRun words (orders.Least limit budget) p old new out
     → (all : List ℕ) × (new.written ≡ Some all) × WritesLeast limit p out all
 
--- the text of a position, whatever comes behind it, is read as that position, with White to mate, and has so many lines
-abbrev pub TextIsRead : Type 0
-TextIsRead =
-    (p : Position) (rest : List ℕ) → IsWritable p
-    → TextAt (position_text p ++ rest) (whole (white_mates p (length (position_lines p))) (lines_of rest))
-
--- each text that is read has White to mate
-abbrev pub WhiteIsToMate : Type 0
-WhiteIsToMate = (bytes : List ℕ) (problem : Problem) (rest : Lines) → TextAt bytes (whole problem rest) → problem.winner ≡ White
-
 -- the status is that of words that are no order exactly where they are none
 abbrev pub UsageExactly : Type 0
 UsageExactly =
@@ -94,12 +90,17 @@ IsOfFile (orders.Check budget) = Unit {0}
 IsOfFile (orders.Resume budget) = Unit {0}
 IsOfFile orders.Show = ⊥
 IsOfFile (orders.Drill seed count) = ⊥
+IsOfFile (orders.Arith budget) = ⊥
 
--- the words order something of a file that was kept, or something of a sound position that takes memory
+-- the order is of a formula that is typed as a line
+abbrev pub IsOfFormula : Order → Type 0
+IsOfFormula order = (budget : ℕ) × (order ≡ orders.Arith budget)
+
+-- the words order something of a file that was kept, of a formula, or of a sound position, and there it takes memory
 abbrev pub OrdersSome : List (List ℕ) → Type 0
 OrdersSome words =
     (order : Order) × Ordered words (Ok order)
-    × (IsOfFile order ⊎ ((problem : Problem) × Sound problem.position × TakesMemory order problem))
+    × (IsOfFile order ⊎ IsOfFormula order ⊎ ((problem : Problem) × Sound problem.position × TakesMemory order problem))
 
 -- want of memory comes only after such words
 abbrev pub MemoryLast : Type 0
@@ -205,3 +206,19 @@ CheckedAfterKeep =
     → name_in (orders.Check other) later ≡ Some name
     → Reports later bytes files report
     → (report ≡ done_with files (mate_line n)) ⊎ ((step : StepName) × (report ≡ over_budget files step))
+
+-- What `arith` reports of a formula: the first of its steps that exceeds the budget, or a line that answers it.
+abbrev pub ReportsAnswer : (budget : ℕ) → Tree → Files → Report → Type 0
+ReportsAnswer budget f files report =
+    ((step : ℕ) × IsOver f budget (Over step) × (report ≡ refusal_as files is.Budget (step_line step) false))
+    ⊎ ((line : List ℕ) × Answers f line × (report ≡ done_with files line))
+
+-- each report of `arith` on a line that is a formula, whatever comes behind it
+abbrev pub AnswersExactly : Type 0
+AnswersExactly =
+    (words : List (List ℕ)) (bytes : List ℕ) (files : Files) (budget : ℕ) (line : List ℕ) (rest : Lines) (f : Tree) (report : Report)
+    → Ordered words (Ok (orders.Arith budget))
+    → lines_of bytes ≡ full line rest
+    → IsFormulaLine line f
+    → Reports words bytes files report
+    → ReportsAnswer budget f files report

@@ -5,26 +5,27 @@ use Rattle.desk_base.specs.Lines.{Lines, ended, lines_of}
 use Rattle.game_rules.specs.Game.{Position, Sound}
 use Rattle.chess_game.specs.Unsoundness.{IsFirstUnsoundness}
 use Rattle.chess_game.specs.declared.unsoundness.Unsound.{Unsound}
-use Rattle.mate_desk.specs.Check.{CheckReports}
-use Rattle.mate_desk.specs.Decide.{DecideReports}
-use Rattle.mate_desk.specs.Drill.{DrillReports, IsDrilled}
-use Rattle.mate_desk.specs.FaultLines.{unsound_line}
-use Rattle.mate_desk.specs.FileClaim.{MissesFetch}
-use Rattle.mate_desk.specs.First.{FirstReports, HasNoFirstMove}
-use Rattle.mate_desk.specs.Keep.{HasFileToKeep, KeepReports}
-use Rattle.mate_desk.specs.Least.{LeastReports}
-use Rattle.mate_desk.specs.Order.{Ordered, name_in, usage_line}
-use Rattle.mate_desk.specs.Outcome.{NeverMisses, Report, refusal_as}
-use Rattle.mate_desk.specs.Play.{PlayReports}
-use Rattle.mate_desk.specs.Resume.{ResumeReports}
+use Rattle.desk_arith.specs.Arith.{ArithReports, IsBehindLine}
+use Rattle.desk_games.specs.Check.{CheckReports}
+use Rattle.desk_solve.specs.Decide.{DecideReports}
+use Rattle.desk_solve.specs.Drill.{DrillReports, IsDrilled}
+use Rattle.desk_report.specs.FaultLines.{unsound_line}
+use Rattle.desk_games.specs.FileClaim.{MissesFetch}
+use Rattle.desk_solve.specs.First.{FirstReports, HasNoFirstMove}
+use Rattle.desk_games.specs.Keep.{HasFileToKeep, KeepReports}
+use Rattle.desk_solve.specs.Least.{LeastReports}
+use Rattle.desk_words.specs.Order.{Ordered, name_in, usage_line}
+use Rattle.desk_report.specs.Outcome.{NeverMisses, Report, refusal_as}
+use Rattle.desk_games.specs.Play.{PlayReports}
+use Rattle.desk_games.specs.Resume.{ResumeReports}
 use Rattle.mate_desk.specs.Show.{ShowReports}
-use Rattle.mate_desk.specs.Text.{Text, TextAt, whole, refused, is_end, refusal_line}
-use Rattle.mate_desk.specs.Verdict.{HasNothingToPlay}
-use Rattle.mate_desk.specs.declared.order.Order.{Order}
-use Rattle.mate_desk.specs.declared.order.Order.TheVariants as orders
-use Rattle.mate_desk.specs.declared.order.UsageWhy.{UsageWhy}
-use Rattle.mate_desk.specs.declared.problem.Problem.{Problem}
-use Rattle.mate_desk.specs.declared.status.Status.TheVariants as is
+use Rattle.desk_text.specs.Text.{Text, TextAt, whole, refused, is_end, refusal_line}
+use Rattle.desk_solve.specs.Verdict.{HasNothingToPlay}
+use Rattle.desk_words.specs.declared.order.Order.{Order}
+use Rattle.desk_words.specs.declared.order.Order.TheVariants as orders
+use Rattle.desk_words.specs.declared.order.UsageWhy.{UsageWhy}
+use Rattle.desk_text.specs.declared.problem.Problem.{Problem}
+use Rattle.desk_report.specs.declared.status.Status.TheVariants as is
 
 -- the report on a position is that it is not sound, or else what `reports` says
 abbrev pub OfSound : (Report → Type 0) → Files → Position → Report → Type 0
@@ -58,6 +59,7 @@ ReportsOrder (orders.Resume budget) words bytes files =
     OfName (orders.Resume budget) words (λ name. ResumeReports budget (lines_of bytes) name files)
 ReportsOrder orders.Show words bytes files = OfText (λ problem rest. ShowReports problem.position files) files bytes
 ReportsOrder (orders.Drill seed count) words bytes files = DrillReports seed count files
+ReportsOrder (orders.Arith budget) words bytes files = ArithReports budget (lines_of bytes) files
 
 abbrev pub ReportsWords : Result Order UsageWhy → (words : List (List ℕ)) → List ℕ → Files → Report → Type 0
 ReportsWords (Err why) words bytes files report = report ≡ refusal_as files is.Usage (usage_line why) false
@@ -78,6 +80,7 @@ TakesMemory (orders.Check budget) problem = ⊥
 TakesMemory (orders.Resume budget) problem = ⊥
 TakesMemory orders.Show problem = Unit {0}
 TakesMemory (orders.Drill seed count) problem = IsDrilled seed count problem
+TakesMemory (orders.Arith budget) problem = ⊥
 
 -- The bytes taken are the text of a sound position, of which this holds, and at most 256 behind it.
 pub record IsBehindText (Holds : Problem → Type 0) (taken : List ℕ) : Type 0 where
@@ -101,6 +104,7 @@ OrderMayLack (orders.Check budget) taken = taken ≡ []
 OrderMayLack (orders.Resume budget) taken = taken ≡ []
 OrderMayLack orders.Show taken = IsBehindText (TakesMemory orders.Show) taken
 OrderMayLack (orders.Drill seed count) taken = (taken ≡ []) × (0 < count)
+OrderMayLack (orders.Arith budget) taken = IsBehindLine taken
 
 -- the words are an order, and memory may be wanting after these bytes were taken
 abbrev pub MayLackMemory : List (List ℕ) → (taken : List ℕ) → Type 0
@@ -122,6 +126,7 @@ OrderMayMiss (orders.Check budget) words taken = MissesFetch taken
 OrderMayMiss (orders.Resume budget) words taken = MissesFetch taken
 OrderMayMiss orders.Show words taken = NeverMisses
 OrderMayMiss (orders.Drill seed count) words taken = NeverMisses
+OrderMayMiss (orders.Arith budget) words taken = NeverMisses
 
 -- the words are an order, and the shelf may fail so after these bytes were taken
 abbrev pub MayMissShelf : List (List ℕ) → (taken : List ℕ) → (keeping : Option (List ℕ)) → Type 0
@@ -138,6 +143,7 @@ UsesNoShelf (orders.Check budget) = ⊥
 UsesNoShelf (orders.Resume budget) = ⊥
 UsesNoShelf orders.Show = Unit {0}
 UsesNoShelf (orders.Drill seed count) = Unit {0}
+UsesNoShelf (orders.Arith budget) = Unit {0}
 
 -- the order reads nothing: it is of no text, and of no lines
 abbrev pub ReadsNoText : Order → Type 0
@@ -150,3 +156,4 @@ ReadsNoText (orders.Check budget) = Unit {0}
 ReadsNoText (orders.Resume budget) = ⊥
 ReadsNoText orders.Show = ⊥
 ReadsNoText (orders.Drill seed count) = Unit {0}
+ReadsNoText (orders.Arith budget) = ⊥

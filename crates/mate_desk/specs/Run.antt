@@ -3,11 +3,11 @@ use Rattle.std.specs.Prelude.{◌≡◌, ℕ, List, [], IfSome, IsTrue}
 use Rattle.std.specs.Io.KnownBytes.{Consumes}
 use Rattle.chess_text.specs.PositionText.{text_of_lines}
 use Rattle.desk_base.specs.Files.{Files}
-use Rattle.game_report.specs.Taken.{TakesLines}
-use Rattle.mate_desk.specs.Outcome.{Report, Seen, Ends, reported_on}
+use Rattle.desk_text.specs.Taken.{TakesLines}
+use Rattle.desk_report.specs.Outcome.{Report, Seen, Ends, reported_on}
 use Rattle.mate_desk.specs.Report.{Reports, MayLackMemory, MayMissShelf}
-use Rattle.mate_desk.specs.declared.status.Status.{Status}
-use Rattle.mate_desk.specs.declared.status.Status.TheVariants as is
+use Rattle.desk_report.specs.declared.status.Status.{Status}
+use Rattle.desk_report.specs.declared.status.Status.TheVariants as is
 
 -- What a run was given: the bytes that it took of its source, those behind them, and the files. They are what the ports tell, where they
 -- tell.

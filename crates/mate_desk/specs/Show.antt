@@ -4,7 +4,7 @@ use Rattle.std.specs.Fmt.{decimal}
 use Rattle.desk_base.specs.Files.{Files}
 use Rattle.game_rules.specs.Game.{Position, InCheck, square_of}
 use Rattle.chess_text.specs.PositionText.{position_text}
-use Rattle.mate_desk.specs.Outcome.{Report, done_with}
+use Rattle.desk_report.specs.Outcome.{Report, done_with}
 
 -- the line says whether the side to move is in check
 abbrev pub IsCheckLine : Position → List ℕ → Type 0

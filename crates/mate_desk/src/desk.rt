@@ -1,31 +1,30 @@
 //! The top call.
 
 ghost use Rattle.std.specs.Prelude.{◌≡◌, ◌≢◌, ℕ, List, IfOk, Ok, Result, map, string_bytes};
-ghost use Rattle.mate_desk.specs.Order.{IsOrderOf, IsWithinLimits, Ordered, as_order};
-ghost use Rattle.mate_desk.specs.Outcome.{seen_of};
+ghost use Rattle.desk_words.specs.Order.{IsOrderOf, IsWithinLimits, Ordered, as_order};
+ghost use Rattle.desk_report.specs.Outcome.{seen_of};
 ghost use Rattle.mate_desk.specs.Report.{ReadsNoText, UsesNoShelf};
 ghost use Rattle.mate_desk.specs.Run.{RunEnds};
 
-use crate::check::check;
-use crate::decide::decide;
-use crate::drill::drill;
-use crate::fault_line::{refusal_line, refuse, unsound_line};
-use crate::first::first;
-use crate::keep::keep;
-use crate::least::least;
-use crate::order::{FILE_NAME, KEEP_NAME, Order, TextOrder, UsageWhy, order_of, word_at};
-use crate::play::play;
-use crate::problem::FileTask;
-use crate::resume::resume;
 use crate::show::show;
-use crate::status::Status;
-use crate::text::{TextEnd, read_problem};
 use chess_game::soundness;
+use desk_arith::arith::arith;
 use desk_base::{LineReader, Shelf, Sink, Source};
+use desk_games::check::check;
+use desk_games::keep::keep;
+use desk_games::play::play;
+use desk_games::resume::resume;
+use desk_report::{Status, refusal_line, refuse, unsound_line};
+use desk_solve::decide::decide;
+use desk_solve::drill::drill;
+use desk_solve::first::first;
+use desk_solve::least::least;
+use desk_text::{FileTask, TextEnd, read_problem};
+use desk_words::{FILE_NAME, KEEP_NAME, Order, TextOrder, UsageWhy, order_of, word_at};
 use std::alloc::Global;
 
-/// Does what the words say, with the position text at the front of the source and the replies behind it, or with a file that was kept, and writes the
-/// answer to the sink.
+/// Does what the words say, with the position text at the front of the source and the replies behind it, with a file that was kept, or with a formula
+/// typed as a line, and writes the answer to the sink.
 ///
 /// The words come first, then, where the order is of a text, the text line by line, then whether its position is sound, then the sets, the files and
 /// the answer; the first refusal ends the run with its one fault line. Where writing that line fails, the status stays the refusal's.
@@ -89,6 +88,7 @@ pub fn run<S: Source, K: Sink, H: Shelf>(
         }
         Order::Show => answer(alloc, TextOrder::Show, source, sink, shelf),
         Order::Drill { seed, count } => drill(alloc, seed, count, sink),
+        Order::Arith { budget } => arith(alloc, budget, source, sink),
     }
 }
 

@@ -1,6 +1,7 @@
 //! Laws of a run, each the contract of a function that does nothing. They are of the relation that the contract of `run` names.
 
-ghost use Rattle.mate_desk.specs.Laws.{CheckedAfterKeep, DecidesExactly, DecideWrites, FaultsAreCounted, LeastWrites, MemoryLast, NoShelfFault, OneReport, PlayKeeps, ResumeKeeps, TextIsRead, UsageExactly, WhiteIsToMate};
+ghost use Rattle.desk_text.specs.TextLaws.{TextIsRead, WhiteIsToMate};
+ghost use Rattle.mate_desk.specs.Laws.{AnswersExactly, CheckedAfterKeep, DecidesExactly, DecideWrites, FaultsAreCounted, LeastWrites, MemoryLast, NoShelfFault, OneReport, PlayKeeps, ResumeKeeps, UsageExactly};
 
 /// A run of `decide` that is done, on the text of a sound position and whatever comes behind it, writes `mate in n` exactly where White
 /// mates within n moves of his own, whatever is replied on the whole board, and `no mate in n` exactly where he does not.
@@ -29,7 +30,8 @@ pub fn usage_exactly()
     ensures { UsageExactly }
 {}
 
-/// Want of memory comes only after words that order something of a file that was kept, or something of a sound position that takes memory.
+/// Want of memory comes only after words that order something of a file that was kept, of a formula, or of a sound position, and there it takes
+/// memory.
 pub fn memory_last()
     ensures { MemoryLast }
 {}
@@ -71,4 +73,11 @@ pub fn resume_keeps()
 /// its budget.
 pub fn checked_after_keep()
     ensures { CheckedAfterKeep }
+{}
+
+/// Of a line that is a formula `arith` reports that it holds exactly where it does over all integers, and `false` exactly where it does not; a number
+/// that it reports is the one nearest to 0 of those with which what the formula says there is one of holds; or it names the first step that exceeds
+/// the budget.
+pub fn answers_exactly()
+    ensures { AnswersExactly }
 {}

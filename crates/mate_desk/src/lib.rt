@@ -4,27 +4,10 @@
 //! the run. What a run does is the relation `Reports` under `specs`, and the contract of `run` says how a run may differ from it where an object fails.
 #![tactic(auto)]
 
-mod check;
-mod decide;
 mod desk;
-mod drill;
-mod drill_positions;
-mod fault_line;
-mod file_claim;
-mod first;
-mod keep;
 pub mod laws;
-mod least;
-mod mates;
-mod order;
-mod output;
-mod play;
-mod problem;
-mod resume;
 mod show;
-mod status;
-mod text;
 
 pub use desk::run;
-pub use order::{Order, UsageWhy, order_of};
-pub use status::Status;
+pub use desk_report::Status;
+pub use desk_words::{Order, UsageWhy, order_of};

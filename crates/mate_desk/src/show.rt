@@ -3,17 +3,15 @@
 ghost use Rattle.std.specs.Prelude.{IfOk, ◌≡◌, ◌≤◌, is_some, length};
 ghost use Rattle.desk_base.specs.Files.{Files};
 ghost use Rattle.game_rules.specs.Game.{Sound, square_of};
-ghost use Rattle.mate_desk.specs.Outcome.{Ends, NeverMisses, of_sink};
+ghost use Rattle.desk_report.specs.Outcome.{Ends, NeverMisses, of_sink};
 ghost use Rattle.mate_desk.specs.Show.{IsCheckLine, IsShown, ShowReports, live_line};
 ghost use Rattle.mate_desk.specs.Show as specs;
 
-use crate::fault_line::refuse;
-use crate::output::print;
-use crate::status::Status;
 use chess_game::{Man, Place, Position, in_check};
 use chess_text::line_buffer::LineBuffer;
 use chess_text::position_bytes;
 use desk_base::Sink;
+use desk_report::{Status, print, refuse};
 use std::alloc::{AllocError, Global};
 
 /// Writes the position, whether its side to move is in check, and how many men are live.

@@ -1,10 +1,10 @@
 -- How the program ends where there are no words.
 use Rattle.std.specs.Prelude.{◌≡◌, ℕ, List, [], Option}
-use Rattle.mate_desk.specs.Order.{usage_line}
-use Rattle.mate_desk.specs.Outcome.{Seen, Writes, WriteFailed}
-use Rattle.mate_desk.specs.declared.order.UsageWhy.TheVariants as usage
-use Rattle.mate_desk.specs.declared.status.Status.{Status}
-use Rattle.mate_desk.specs.declared.status.Status.TheVariants as is
+use Rattle.desk_words.specs.Order.{usage_line}
+use Rattle.desk_report.specs.Outcome.{Seen, Writes, WriteFailed}
+use Rattle.desk_words.specs.declared.order.UsageWhy.TheVariants as usage
+use Rattle.desk_report.specs.declared.status.Status.{Status}
+use Rattle.desk_report.specs.declared.status.Status.TheVariants as is
 use Rattle.mate_main.specs.declared.program.WordsError.{WordsError}
 use Rattle.mate_main.specs.declared.program.WordsError.TheVariants.{Memory, Untold}
 

@@ -3,8 +3,8 @@
 ghost use Rattle.std.specs.Prelude.{◌≡◌, MatchResult, Some, map, string_bytes};
 ghost use Rattle.std.specs.Process.{exit_status};
 ghost use Rattle.desk_base.specs.Faults.{HasRisen};
-ghost use Rattle.mate_desk.specs.Codes.{code_of};
-ghost use Rattle.mate_desk.specs.Outcome.{seen_of};
+ghost use Rattle.desk_report.specs.Codes.{code_of};
+ghost use Rattle.desk_report.specs.Outcome.{seen_of};
 ghost use Rattle.mate_desk.specs.Run.{RunEnds};
 ghost use Rattle.mate_main.specs.Program.{EndsWithoutWords, RefusesWords};
 

@@ -2,12 +2,13 @@ use Rattle.std.proofs.Common.{[], ◌++◌, Ok, refl, subst, rules}
 use Rattle.chess_text.specs.PositionText.{text_of_lines}
 use Rattle.desk_base.specs.Files.{no_files}
 use Rattle.desk_base.specs.Lines.{lines_of}
-use Rattle.mate_desk.specs.Order.{IsOrderOf, Ordered, as_order}
-use Rattle.mate_desk.specs.declared.order.TextOrder.{TextOrder}
+use Rattle.desk_words.specs.Order.{IsOrderOf, Ordered, as_order}
+use Rattle.desk_words.specs.declared.order.TextOrder.{TextOrder}
 use Rattle.mate_desk.proofs.PlayRuns.{play_ends}
-use Rattle.mate_desk.proofs.Reporting.{decide_ends, fault_ends, files_of, first_ends, keep_ends, known_files, least_ends, refused_ends, show_ends, unsound_ends}
+use Rattle.desk_games.proofs.Shelves.{files_of, known_files}
+use Rattle.mate_desk.proofs.Reporting.{decide_ends, fault_ends, first_ends, keep_ends, least_ends, refused_ends, show_ends, unsound_ends}
 use Rattle.mate_desk.proofs.Statuses.{decide_status, first_status, keep_status, least_status, not_usage, play_status, show_status, text_order}
-use Rattle.mate_desk.proofs.WhiteToMate.{white_is_to_mate}
+use Rattle.desk_text.proofs.WhiteToMate.{white_is_to_mate}
 use Rattle.mate_desk.proofs.desk.answer.Goals as goal
 
 pub returns-in-Err-Fault-clause-ends : goal.returns-in-Err-Fault-clause-ends

@@ -1,7 +1,7 @@
 use Rattle.std.proofs.Common.{map, string_bytes, Ok, refl, subst}
-use Rattle.mate_desk.specs.Order.{Ordered}
-use Rattle.mate_desk.specs.declared.order.Order.{Order}
-use Rattle.mate_desk.proofs.Reporting.{check_ends, drill_ends, resume_ends, usage_ends}
+use Rattle.desk_words.specs.Order.{Ordered}
+use Rattle.desk_words.specs.declared.order.Order.{Order}
+use Rattle.mate_desk.proofs.Reporting.{arith_ends, arith_no_usage, check_ends, drill_ends, resume_ends, usage_ends}
 use Rattle.mate_desk.proofs.Statuses.{no_shelfless, no_textless}
 use Rattle.mate_desk.proofs.desk.run.Goals as goal
 
@@ -142,3 +142,18 @@ returns-in-Drill-clause-ends g c =
 
 pub returns-in-Drill-clause-nothing_read : goal.returns-in-Drill-clause-nothing_read
 returns-in-Drill-clause-nothing_read g c = λ usage. refl
+
+pub returns-in-Arith-clause-ends : goal.returns-in-Arith-clause-ends
+returns-in-Arith-clause-ends g c =
+    let words = map string_bytes c.args.words.now.items in
+    let IsOrdered : Order → Type 0 = λ order. Ordered words (Ok order) in
+    arith_ends words _ _ c.arith.result c.in-Arith.budget (subst IsOrdered c.in-Arith.is c.in-Ok.ensures.ordered) refl c.arith.ensures.ends
+
+pub returns-in-Arith-clause-nothing_read : goal.returns-in-Arith-clause-nothing_read
+returns-in-Arith-clause-nothing_read g c = λ usage. absurd (arith_no_usage c.arith.result c.in-Arith.budget _ _ _ _ _ _ _ _ c.arith.ensures.ends usage)
+
+pub returns-in-Arith-clause-no_text_read : goal.returns-in-Arith-clause-no_text_read
+returns-in-Arith-clause-no_text_read g c = λ other also none.
+    let words = map string_bytes c.args.words.now.items in
+    let IsOrdered : Order → Type 0 = λ order. Ordered words (Ok order) in
+    absurd (no_textless words _ (subst IsOrdered c.in-Arith.is c.in-Ok.ensures.ordered) (λ none. none) other also none)

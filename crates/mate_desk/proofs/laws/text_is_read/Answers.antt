@@ -1,4 +1,4 @@
-use Rattle.mate_desk.proofs.RoundTrip.{text_is_read}
+use Rattle.desk_text.proofs.RoundTrip.{text_is_read}
 use Rattle.mate_desk.proofs.laws.text_is_read.Goals as goal
 
 pub returns : goal.returns

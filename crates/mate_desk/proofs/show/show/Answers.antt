@@ -1,7 +1,7 @@
 use Rattle.std.proofs.Common.{refl}
-use Rattle.mate_desk.specs.Outcome.{done_with}
+use Rattle.desk_report.specs.Outcome.{done_with}
 use Rattle.mate_desk.specs.Show.{ShowReports}
-use Rattle.mate_desk.proofs.Writing.{printed}
+use Rattle.desk_report.proofs.Writing.{printed}
 use Rattle.mate_desk.proofs.show.show.Goals as goal
 
 pub returns-in-Ok : goal.returns-in-Ok

@@ -1,5 +1,5 @@
 use Rattle.std.proofs.Common.{refl}
-use Rattle.mate_desk.proofs.Writing.{fault_line}
+use Rattle.desk_report.proofs.Writing.{fault_line}
 use Rattle.mate_main.proofs.program.refuse_words.Goals as goal
 
 pub returns-in-Untold : goal.returns-in-Untold

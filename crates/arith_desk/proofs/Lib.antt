@@ -1,0 +1,14 @@
+pub mod Signed
+pub mod Splitting
+pub mod ReadLemmas
+pub mod QuestionLemmas
+pub mod WholeLemmas
+pub mod Nearests
+pub mod Counts
+pub mod TruthLemmas
+pub mod Blanks
+pub mod OneReading
+pub mod OneStop
+pub mod Rays
+pub mod Answering
+pub mod OneAnswer

@@ -1,0 +1,29 @@
+-- The fields of a line.
+use Rattle.std.specs.Prelude.{◌≡◌, ◌≢◌, ℕ, List, [], ◌∷◌, ◌++◌, map}
+use Rattle.std.specs.Borrow.{Bor}
+use Rattle.std.specs.List.{All}
+
+abbrev pub HasNoBlank : List ℕ → Type 0
+HasNoBlank text = All (λ byte. byte ≢ 32) text
+
+-- fields with one blank between each two
+abbrev pub parted : List (List ℕ) → List ℕ
+parted [] = []
+parted (field ∷ []) = field
+parted (field ∷ next ∷ fields) = field ++ 32 ∷ parted (next ∷ fields)
+
+-- These are the fields of the line, at least one. Between two blanks that stand side by side is a field without bytes.
+pub record AreFields (line : List ℕ) (fields : List (List ℕ)) : Type 0 where
+  pub some : fields ≢ []
+  pub no_blank : All HasNoBlank fields
+  pub is : line ≡ parted fields
+
+-- the texts that are lent
+abbrev pub texts : List (Bor (List ℕ)) → List (List ℕ)
+texts fields = map (λ field. field.now) fields
+
+-- the fields of the line are added
+pub record AddsFields (line : List ℕ) (old new : List (List ℕ)) : Type 0 where
+  pub added : List (List ℕ)
+  pub are_fields : AreFields line added
+  pub after : new ≡ old ++ added

@@ -1,0 +1,91 @@
+//! Formulas put together. Err is want of memory alone.
+ghost use Rattle.std.specs.Prelude.{◌≡◌, IfOk};
+ghost use Rattle.track_word.specs.Atom.{IsAtom};
+ghost use Rattle.lin_formula.specs.Tree as tree;
+ghost use Rattle.lin_formula.specs.TreeOf.{tree_of};
+ghost use Rattle.arith_desk.specs.Typed.{bind, join};
+
+use crate::words::{Connective, Quantifier};
+use lin_formula::{Formula, LinWhy};
+use std::alloc::{AllocError, Global};
+use track_word::{Rel, Var};
+
+/// The sum of the terms against the bound.
+pub fn compared(
+    alloc: Global,
+    terms: &[(i8, Var)],
+    rel: Rel,
+    bound: i32,
+) -> Result<Formula, AllocError>
+    requires { IsAtom terms.now bound }
+    ensures { IfOk result (λ f. tree_of f ≡ tree.Lin terms.now rel bound) }
+{
+    match lin_formula::lin(alloc, terms, rel, bound) {
+        Ok(f) => Ok(f),
+        Err(LinWhy::Memory) => Err(AllocError),
+        Err(_) => unreachable!(),
+    }
+}
+
+/// The formula does not hold.
+pub fn denied(alloc: Global, f: Formula) -> Result<Formula, AllocError>
+    ensures { IfOk result (λ made. tree_of made ≡ tree.Not (tree_of f)) }
+{
+    match lin_formula::not(alloc, f) {
+        Ok(made) => Ok(made),
+        Err(_) => Err(AllocError),
+    }
+}
+
+/// Both formulas hold, or one of them does.
+pub fn joined(
+    alloc: Global,
+    connective: Connective,
+    f: Formula,
+    g: Formula,
+) -> Result<Formula, AllocError>
+    ensures { IfOk result (λ made. tree_of made ≡ join connective (tree_of f) (tree_of g)) }
+{
+    let made = match connective {
+        Connective::And => lin_formula::and(alloc, f, g),
+        Connective::Or => lin_formula::or(alloc, f, g),
+    };
+    match made {
+        Ok(made) => Ok(made),
+        Err(_) => Err(AllocError),
+    }
+}
+
+/// The formula holds with some integer as the variable's value.
+fn some(alloc: Global, var: Var, f: Formula) -> Result<Formula, AllocError>
+    ensures { IfOk result (λ made. tree_of made ≡ tree.Ex var (tree_of f)) }
+{
+    match lin_formula::ex(alloc, var, f) {
+        Ok(made) => Ok(made),
+        Err(_) => Err(AllocError),
+    }
+}
+
+/// The formula holds with each integer as the variable's value.
+fn every(alloc: Global, var: Var, f: Formula) -> Result<Formula, AllocError>
+    ensures { IfOk result (λ made. tree_of made ≡ tree.Not (tree.Ex var (tree.Not (tree_of f)))) }
+{
+    let fails = denied(alloc, f)?;
+    let somewhere = some(alloc, var, fails)?;
+    denied(alloc, somewhere)
+}
+
+/// The formula holds with some integer as the variable's value, or with each.
+pub fn bound(
+    alloc: Global,
+    quantifier: Quantifier,
+    var: Var,
+    f: Formula,
+) -> Result<Formula, AllocError>
+    ensures { IfOk result (λ made. tree_of made ≡ bind quantifier var (tree_of f)) }
+{
+    match quantifier {
+        Quantifier::Ex => some(alloc, var, f),
+        Quantifier::All => every(alloc, var, f),
+    }
+}

@@ -1,0 +1,115 @@
+//! What a field says by itself: a word, a letter, a number.
+ghost use Rattle.std.specs.Prelude.{◌≡◌, ◌≢◌, ◌<◌, ◌≤ℤ◌, ℤ, FitsSigned, IfSome, IfNone};
+ghost use Rattle.std.specs.Int.{w64};
+ghost use Rattle.std.specs.Fmt.{signed_decimal};
+ghost use Rattle.track_word.specs.declared.tracks.Var.{Var};
+ghost use Rattle.arith_desk.specs.Words.{IsNamed, letter};
+
+use itoa::Buffer;
+use std::str;
+use track_word::{Rel, Var};
+
+/// What two formulas are joined by.
+#[derive(Clone, Copy, PartialEq, Eq, Debug)]
+pub enum Connective {
+    And,
+    Or,
+}
+
+/// For how many integers a body holds.
+#[derive(Clone, Copy, PartialEq, Eq, Debug)]
+pub enum Quantifier {
+    /// At least one.
+    Ex,
+    /// Each.
+    All,
+}
+
+/// What a formula begins with.
+#[derive(Clone, Copy, PartialEq, Eq, Debug)]
+pub enum Word {
+    Not,
+    Join(Connective),
+    Bind(Quantifier),
+    Compare(Rel),
+}
+
+/// The word that the field is.
+pub fn word_of(field: &[u8]) -> Option<Word>
+    ensures { IsNamed field.now result }
+{
+    if field == b"not".as_slice() {
+        return Some(Word::Not);
+    }
+    if field == b"and".as_slice() {
+        return Some(Word::Join(Connective::And));
+    }
+    if field == b"or".as_slice() {
+        return Some(Word::Join(Connective::Or));
+    }
+    if field == b"ex".as_slice() {
+        return Some(Word::Bind(Quantifier::Ex));
+    }
+    if field == b"all".as_slice() {
+        return Some(Word::Bind(Quantifier::All));
+    }
+    if field == b"le".as_slice() {
+        return Some(Word::Compare(Rel::Le));
+    }
+    if field == b"eq".as_slice() {
+        return Some(Word::Compare(Rel::Eq));
+    }
+    None
+}
+
+/// The variable whose letter the field is.
+pub fn letter_of(field: &[u8]) -> Option<Var>
+    ensures some { IfSome result (λ x. (x.0 < 16) × (field.now ≡ letter x)) }
+    ensures none { IfNone result ((x : Var) → x.0 < 16 → field.now ≢ letter x) }
+{
+    let [byte] = field else {
+        return None;
+    };
+    if *byte < b'a' || *byte > b'p' {
+        return None;
+    }
+    Some(Var(*byte - b'a'))
+}
+
+/// The number that the field spells, in its one spelling.
+fn read_number(field: &[u8]) -> Option<i64>
+    ensures some { IfSome result (λ n. field.now ≡ signed_decimal n) }
+    ensures fits { IfSome result (FitsSigned w64) }
+    ensures none { IfNone result ((n : ℤ) → FitsSigned w64 n → field.now ≢ signed_decimal n) }
+{
+    match str::from_utf8(field) {
+        Err(_) => None,
+        Ok(text) => match text.parse::<i64>() {
+            Err(_) => None,
+            Ok(number) => {
+                if Buffer::new().format(number) == text {
+                    Some(number)
+                } else {
+                    None
+                }
+            }
+        },
+    }
+}
+
+/// The number that the field spells, if it is one between two others.
+pub fn number_between(field: &[u8], low: i32, high: i32) -> Option<i32>
+    ensures low { IfSome result (λ n. low ≤ℤ n) }
+    ensures high { IfSome result (λ n. n ≤ℤ high) }
+    ensures some { IfSome result (λ n. field.now ≡ signed_decimal n) }
+    ensures none { IfNone result ((n : ℤ) → low ≤ℤ n → n ≤ℤ high → field.now ≢ signed_decimal n) }
+{
+    let number = read_number(field)?;
+    if number < i64::from(low) {
+        return None;
+    }
+    if number > i64::from(high) {
+        return None;
+    }
+    Some(number as i32)
+}

@@ -1,0 +1,73 @@
+-- What is reported of `arith`, and how it ends.
+use Rattle.std.specs.Prelude.{◌≡◌, ◌⊎◌, ℕ, ◌≤◌, ℤ, List, [], ◌∷◌, ◌++◌, length, false, codes}
+use Rattle.std.specs.Fmt.{decimal, signed_decimal}
+use Rattle.lin_formula.specs.Tree.{Tree}
+use Rattle.formula_auto.specs.declared.errors.CompileError.TheVariants.{Over}
+use Rattle.arith_desk.specs.Reading.{IsFirstRefused, IsFormulaLine}
+use Rattle.arith_desk.specs.Truth.{IsOver, IsTruth, IsWithin}
+use Rattle.arith_desk.specs.declared.deciding.Truth.{Truth}
+use Rattle.arith_desk.specs.declared.deciding.Truth.TheVariants as truths
+use Rattle.desk_base.specs.Files.{Files}
+use Rattle.desk_base.specs.Lines.{IsLine, Lines, full, ended, cut, long}
+use Rattle.desk_report.specs.ByLines.{EndsByLines}
+use Rattle.desk_report.specs.Outcome.{NeverMisses, Report, Seen, done_with, refusal_as}
+use Rattle.desk_text.specs.Text.{is_end, refusal_line}
+use Rattle.desk_report.specs.declared.status.Status.{Status}
+use Rattle.desk_report.specs.declared.status.Status.TheVariants as is
+use Rattle.desk_text.specs.declared.text.LineWhy.{LineWhy}
+use Rattle.desk_text.specs.declared.text.LineWhy.TheVariants.{Long, Cut, Missing}
+
+-- the line with a number, with which what the formula says there is one of holds
+abbrev pub witness_line : ℤ → List ℕ
+witness_line w = codes "true witness " ++ signed_decimal w ++ codes "\n"
+
+-- the line that says what is answered of a formula
+abbrev pub truth_line : Truth → List ℕ
+truth_line truths.False = codes "false\n"
+truth_line truths.True = codes "true\n"
+truth_line (truths.Witness w) = witness_line w
+truth_line truths.WitnessWide = codes "true witness wide\n"
+
+-- the fault line of a line that is no formula: its field of this number is the first that cannot stand where it stands
+abbrev pub field_line : (number : ℕ) → List ℕ
+field_line number = codes "text line 1 formula " ++ decimal number ++ codes "\n"
+
+-- the fault line of a formula whose step of this number is the first that exceeds the budget
+abbrev pub step_line : (step : ℕ) → List ℕ
+step_line step = codes "over budget at arith " ++ decimal step ++ codes "\n"
+
+-- the first step of a formula that exceeds the budget, or whether the formula holds over all integers
+abbrev pub FormulaReports : (budget : ℕ) → Tree → Files → Report → Type 0
+FormulaReports budget f files report =
+    ((step : ℕ) × IsOver f budget (Over step) × (report ≡ refusal_as files is.Budget (step_line step) false))
+    ⊎ ((truth : Truth) × IsWithin f budget × IsTruth f truth × (report ≡ done_with files (truth_line truth)))
+
+-- the first field of a line that cannot stand where it stands, or what is reported of the formula that the line is
+abbrev pub LineReports : (budget : ℕ) → (line : List ℕ) → Files → Report → Type 0
+LineReports budget line files report =
+    ((number : ℕ) × IsFirstRefused line number × (report ≡ refusal_as files is.Text (field_line number) false))
+    ⊎ ((f : Tree) × IsFormulaLine line f × FormulaReports budget f files report)
+
+-- the line is refused whatever a formula is
+abbrev pub refused_as : Files → LineWhy → Report
+refused_as files why = refusal_as files is.Text (refusal_line 1 why) (is_end why)
+
+-- what is reported of the first of these lines
+abbrev pub ArithReports : (budget : ℕ) → Lines → Files → Report → Type 0
+ArithReports budget (full line rest) files report = LineReports budget line files report
+ArithReports budget ended files report = report ≡ refused_as files Missing
+ArithReports budget (cut front) files report = report ≡ refused_as files Cut
+ArithReports budget long files report = report ≡ refused_as files Long
+
+-- The bytes taken are a line, its LF, and at most 256 behind it.
+pub record IsBehindLine (taken : List ℕ) : Type 0 where
+  pub line : List ℕ
+  pub pending : List ℕ
+  pub is_line : IsLine line
+  pub bytes : taken ≡ line ++ 10 ∷ pending
+  pub few : length pending ≤ 256
+
+-- how `arith` ends, of whose input nothing was taken before; what is held in the end is `pending`
+abbrev pub ArithEnds : (budget : ℕ) → Files → Status → (pending : List ℕ) → Seen → Seen → Type 0
+ArithEnds budget files status pending old new =
+    EndsByLines (λ lines. ArithReports budget lines files) IsBehindLine (λ bytes. NeverMisses) status [] pending old new

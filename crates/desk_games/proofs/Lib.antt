@@ -1,0 +1,3 @@
+pub mod FileClaims
+pub mod Playing
+pub mod Shelves

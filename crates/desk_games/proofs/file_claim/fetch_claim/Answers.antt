@@ -1,0 +1,32 @@
+use Rattle.std.proofs.Common.{◌≡◌, Result, Err, sym, subst, rules}
+use Rattle.strategy_file.specs.Claims.{claim_of}
+use Rattle.winning_sets.specs.Solve.{Solution}
+use Rattle.desk_games.specs.FileClaim.{Fetches}
+use Rattle.desk_games.specs.declared.file_claim.NoClaim.{NoClaim}
+use Rattle.desk_games.proofs.FileClaims.{checks, not_fetched, not_read}
+use Rattle.desk_games.proofs.file_claim.fetch_claim.Goals as goal
+
+pub returns-in_err-bytes-clause-fetches : goal.returns-in_err-bytes-clause-fetches
+returns-in_err-bytes-clause-fetches g c =
+    let f = c.in_err-bytes.ensures.fetched in
+    let why = c.in_err-bytes.field-0.0 in
+    let P : Result Solution NoClaim → Type 0 = λ r. Fetches c.args.budget c.args.name.now f.0 r in
+    let is : c.from_residual.result ≡ Err why = search rules in
+    (f.0, f.1, subst P (sym is) (not_fetched c.args.budget c.args.name.now f.0 why f.2))
+
+pub returns-in_err-claim-clause-fetches : goal.returns-in_err-claim-clause-fetches
+returns-in_err-claim-clause-fetches g c =
+    let f = c.in_ok-bytes.ensures.fetched in
+    let why = c.in_err-claim.field-0.0 in
+    let P : Result Solution NoClaim → Type 0 = λ r. Fetches c.args.budget c.args.name.now f.0 r in
+    let is : c.from_residual-in_err-claim.result ≡ Err why = search rules in
+    (f.0, f.1, subst P (sym is) (not_read c.args.budget c.args.name.now f.0 c.in_ok-bytes.bytes.items f.2.0 f.2.1 why c.in_err-claim.ensures.reads))
+
+pub returns-clause-fetches : goal.returns-clause-fetches
+returns-clause-fetches g c =
+    let f = c.in_ok-bytes.ensures.fetched in
+    let read = c.in_ok-claim.ensures.reads in (
+      f.0,
+      f.1,
+      checks c.args.budget c.args.name.now f.0 c.in_ok-bytes.bytes.items f.2.0 f.2.1 (claim_of c.in_ok-claim.claim) read.0 read.1 c.check_claim.result c.check_claim.ensures.checks,
+    )

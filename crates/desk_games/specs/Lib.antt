@@ -1,0 +1,5 @@
+pub mod Check
+pub mod FileClaim
+pub mod Keep
+pub mod Play
+pub mod Resume

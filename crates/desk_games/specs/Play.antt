@@ -1,0 +1,68 @@
+-- What is reported of `play`, and how it ends.
+use Rattle.std.specs.Prelude.{◌≡◌, ◌⊎◌, ℕ, List, [], Option, Result, Ok, Err, codes}
+use Rattle.desk_base.specs.Files.{Files}
+use Rattle.desk_base.specs.Lines.{Lines}
+use Rattle.game_rules.specs.Game.{Value}
+use Rattle.game_report.specs.Played.{is_short}
+use Rattle.game_report.specs.Report.{ByKept, IsReport, Match, ending_line}
+use Rattle.game_report.specs.Report as game
+use Rattle.game_report.specs.declared.play.Ending.{Ending}
+use Rattle.game_report.specs.declared.play.Ending.TheVariants.{Mated, Wide, Quit, NoLine, Many, CutAt, LongAt}
+use Rattle.game_report.specs.declared.play.GameError.{GameError}
+use Rattle.game_report.specs.declared.play.GameError.TheVariants.{Read, Write}
+use Rattle.winning_sets.specs.declared.names.StepName.{StepName}
+use Rattle.desk_report.specs.ByLines.{EndsByLines}
+use Rattle.desk_report.specs.Outcome.{NeverMisses, Report, Seen, Writes, done_with, over_budget}
+use Rattle.desk_solve.specs.Verdict.{ExceedsAt, FitsBudget, HasNothingToPlay, no_mate_line}
+use Rattle.desk_text.specs.declared.problem.Problem.{Problem}
+use Rattle.desk_report.specs.declared.status.Status.{Status}
+use Rattle.desk_report.specs.declared.status.Status.TheVariants as is
+
+-- the game of a problem in which nothing was moved yet
+abbrev pub first_match : ℕ → Problem → Match
+first_match n problem =
+    record { winner = problem.winner; start = problem.position; moves = n; strategy = ByKept; position = problem.position; ply = 0 }
+
+-- the status of a run whose game ends so
+abbrev pub status_of : Ending → Status
+status_of Mated = is.Done
+status_of Wide = is.Wide
+status_of Quit = is.Ended
+status_of NoLine = is.Ended
+status_of Many = is.TooMany
+status_of (CutAt number) = is.Text
+status_of (LongAt number) = is.Text
+
+-- a run that reports a game, and leaves these files
+abbrev pub as_played : Files → game.Report → Report
+as_played files played =
+    record { status = status_of played.ending; text = played.text; fault = ending_line played.ending; short = is_short played.ending; files = files }
+
+-- where the winner mates within n moves of his own, the game with these lines behind the text, and else that he does not
+abbrev pub PlayedReports : ℕ → Problem → Lines → Files → Report → Type 0
+PlayedReports n problem lines files report =
+    ((Value problem.winner n problem.position → ⊥) × (report ≡ done_with files (no_mate_line n)))
+    ⊎ (Value problem.winner n problem.position
+    × ((played : game.Report) × IsReport problem.lines lines (first_match n problem) played × (report ≡ as_played files played)))
+
+-- the same, or the first step that exceeds the budget
+abbrev pub PlayReports : ℕ → ℕ → Problem → Lines → Files → Report → Type 0
+PlayReports n budget problem lines files report =
+    ((step : StepName) × ExceedsAt problem budget n step × (report ≡ over_budget files step))
+    ⊎ (FitsBudget problem budget n × PlayedReports n problem lines files report)
+
+-- where memory may be wanting: there is something to play, and nothing was taken
+pub record LacksAtFirst (n : ℕ) (problem : Problem) (bytes : List ℕ) : Type 0 where
+  pub some : ¬ HasNothingToPlay n problem
+  pub none : bytes ≡ []
+
+-- how `play` ends
+abbrev pub PlayEnds : (n budget : ℕ) → Problem → Files → Status → (held pending : List ℕ) → Seen → Seen → Type 0
+PlayEnds n budget problem files status held pending old new =
+    EndsByLines (λ lines. PlayReports n budget problem lines files) (LacksAtFirst n problem) (λ bytes. NeverMisses) status held pending old new
+
+-- what is written after a game was played, and the status then
+abbrev pub Finishes : Result Ending GameError → Status → (old new : Option (List ℕ)) → (failed : Type 0) → Type 0
+Finishes (Ok ending) status old new failed = (status ≡ status_of ending) × Writes [] (ending_line ending) old new failed
+Finishes (Err Read) status old new failed = (status ≡ is.ReadFault) × Writes [] (codes "read fault\n") old new failed
+Finishes (Err Write) status old new failed = (status ≡ is.WriteFault) × (new ≡ old)

@@ -1,0 +1,36 @@
+//! Whether the claim of a file keeps all rules.
+
+ghost use Rattle.std.specs.Prelude.{[]};
+ghost use Rattle.desk_games.specs.Check.{CheckReports};
+ghost use Rattle.desk_games.specs.FileClaim.{MissesFetch, OnFiles};
+ghost use Rattle.desk_words.specs.Order.{IsBudget};
+ghost use Rattle.desk_report.specs.Outcome.{Ends, of_shelf};
+
+use crate::file_claim::{fetch_claim, refuse_file};
+use desk_base::{Shelf, Sink};
+use desk_report::{Status, print};
+use desk_solve::decide::verdict_line;
+use desk_text::FileTask;
+use std::alloc::Global;
+
+/// Checks the claim of the file of a name, and writes within how many moves its winner mates.
+pub fn check<K: Sink, H: Shelf>(
+    alloc: Global,
+    file: &FileTask,
+    sink: &mut K,
+    shelf: &mut H,
+) -> Status
+    requires { IsBudget file.now.budget }
+    ensures ends { OnFiles (H.files shelf.old) (λ files.
+        Ends result (CheckReports file.now.budget file.now.name.now files) (Unit {0}) (MissesFetch [])
+        (of_shelf (K.written sink.old) (H.files shelf.old) (K.faults sink.old) (H.faults shelf.old))
+        (of_shelf (K.written sink.new) (H.files shelf.new) (K.faults sink.new) (H.faults shelf.new))) }
+{
+    match fetch_claim(alloc, file.name, file.budget, shelf) {
+        Ok(solved) => {
+            let line = verdict_line(true, solved.moves());
+            print(sink, line.as_slice())
+        }
+        Err(why) => refuse_file(sink, why),
+    }
+}

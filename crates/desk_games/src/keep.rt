@@ -1,0 +1,99 @@
+//! The file of the sets by which the winner mates.
+
+ghost use Rattle.std.specs.Prelude.{◌≡◌, ◌≤◌, ℕ, List, IfSome, length};
+ghost use Rattle.desk_base.specs.Files.{Files};
+ghost use Rattle.game_rules.specs.Game.{Value};
+ghost use Rattle.game_rules.specs.declared.men.Side.TheVariants.{White};
+ghost use Rattle.winning_sets.specs.declared.origin.Origin.TheVariants.{Plan};
+ghost use Rattle.desk_games.specs.Keep.{FileReports, HasFileToKeep, IsFileToKeep, KeepReports, MissesKeep};
+ghost use Rattle.desk_report.specs.Outcome.{Ends, of_shelf};
+ghost use Rattle.desk_solve.specs.Verdict.{HasNothingToPlay, IsTask};
+
+use desk_base::{KeepError, Shelf, Sink};
+use desk_report::{Status, print, print_error, refuse, too_large_line};
+use desk_solve::decide::verdict_line;
+use desk_solve::won;
+use desk_text::Task;
+use std::alloc::Global;
+use strategy_file::{WriteFileError, write_file};
+use winning_sets::{Solved, Solver};
+
+/// Keeps a file of the sets by which the winner mates within so many moves of his own, under the name, and writes that he does; or that he does
+/// not, and then no file is kept.
+pub fn keep<K: Sink, H: Shelf>(
+    alloc: Global,
+    task: &Task,
+    name: &str,
+    sink: &mut K,
+    shelf: &mut H,
+) -> Status
+    requires task { IsTask task.now }
+    requires white { task.now.problem.winner ≡ White }
+    ensures ends { (files : Files) → IfSome (H.files shelf.old) (λ told. told ≡ files) →
+        Ends result (KeepReports task.now.moves task.now.budget task.now.problem name.now files)
+        (¬ HasNothingToPlay task.now.moves task.now.problem) (MissesKeep name.now (HasFileToKeep task.now.moves task.now.budget task.now.problem))
+        (of_shelf (K.written sink.old) (H.files shelf.old) (K.faults sink.old) (H.faults shelf.old))
+        (of_shelf (K.written sink.new) (H.files shelf.new) (K.faults sink.new) (H.faults shelf.new)) }
+{
+    let Task {
+        problem,
+        moves,
+        budget,
+    } = *task;
+    let mut solver = Solver::new(alloc, &problem.position, problem.winner, budget);
+    match won(&mut solver, &problem, moves) {
+        Ok(Some(solved)) => keep_file(alloc, &solved, name, sink, shelf),
+        Ok(None) => {
+            let line = verdict_line(false, moves);
+            print(sink, line.as_slice())
+        }
+        Err(error) => print_error(sink, error),
+    }
+}
+
+/// Keeps the file of a solved position under the name, and writes within how many moves its winner mates. All of the file is made before the shelf is
+/// called.
+fn keep_file<K: Sink, H: Shelf>(
+    alloc: Global,
+    solved: &Solved,
+    name: &str,
+    sink: &mut K,
+    shelf: &mut H,
+) -> Status
+    requires plan { solved.now.origin ≡ Plan }
+    requires white { solved.now.winner ≡ White }
+    requires few { length solved.now.position.men ≤ 5 }
+    ensures ends { (files : Files) → IfSome (H.files shelf.old) (λ told. told ≡ files) →
+        Ends result (FileReports solved.now.winner solved.now.position solved.now.moves name.now files) (Unit {0})
+        (MissesKeep name.now ((bytes : List ℕ) × IsFileToKeep solved.now.winner solved.now.position solved.now.moves bytes))
+        (of_shelf (K.written sink.old) (H.files shelf.old) (K.faults sink.old) (H.faults shelf.old))
+        (of_shelf (K.written sink.new) (H.files shelf.new) (K.faults sink.new) (H.faults shelf.new)) }
+{
+    let _masks = solved.masks();
+    let bytes = match write_file(alloc, solved) {
+        Ok(bytes) => bytes,
+        Err(WriteFileError::TooLarge { length }) => {
+            let line = too_large_line(length);
+            refuse(sink, line.as_slice());
+            return Status::File;
+        }
+        Err(WriteFileError::Memory) => {
+            refuse(sink, b"memory\n");
+            return Status::Memory;
+        }
+    };
+    match shelf.keep(alloc, name, bytes.as_slice()) {
+        Ok(()) => {
+            let line = verdict_line(true, solved.moves());
+            print(sink, line.as_slice())
+        }
+        Err(KeepError::Failed) => {
+            refuse(sink, b"shelf fault\n");
+            Status::ShelfFault
+        }
+        Err(KeepError::Memory) => {
+            refuse(sink, b"memory\n");
+            Status::Memory
+        }
+    }
+}

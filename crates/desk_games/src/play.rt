@@ -1,0 +1,111 @@
+//! A game that the winner plays against replies that come behind the text.
+
+ghost use Rattle.std.specs.Prelude.{◌≡◌, ◌≤◌, [], None, length};
+ghost use Rattle.desk_base.specs.Faults.{HasRisen};
+ghost use Rattle.desk_base.specs.Files.{Files};
+ghost use Rattle.game_report.specs.Report.{ending_line};
+ghost use Rattle.desk_report.specs.Outcome.{Writes, of_streams};
+ghost use Rattle.desk_games.specs.Play.{Finishes, PlayEnds, status_of};
+ghost use Rattle.desk_solve.specs.Verdict.{IsTask};
+
+use chess_game::Frame;
+use desk_base::{LineReader, Sink, Source};
+use desk_report::{Status, print, print_error, refusal_line, refuse};
+use desk_solve::decide::verdict_line;
+use desk_solve::won;
+use desk_text::{LineWhy, Task};
+use game_report::{Ending, GameError, play_game};
+use std::alloc::Global;
+use white_player::Session;
+use winning_sets::{Solved, Solver};
+
+/// Writes the game that the winner plays, whose replies are read behind the text, or that he does not mate within so many moves.
+/// All memory is taken before the first line.
+pub fn play<S: Source, K: Sink>(
+    alloc: Global,
+    task: &Task,
+    reader: &mut LineReader,
+    source: &mut S,
+    sink: &mut K,
+) -> Status
+    requires task { IsTask task.now }
+    requires goes_on { reader.old.stopped ≡ None }
+    requires held { length reader.old.pending ≤ 256 }
+    requires lines { task.now.problem.lines ≤ 8 }
+    ensures ends { (files : Files) →
+        PlayEnds task.now.moves task.now.budget task.now.problem files result reader.old.pending reader.new.pending
+        (of_streams files (S.left source.old) (K.written sink.old) (S.faults source.old) (K.faults sink.old))
+        (of_streams files (S.left source.new) (K.written sink.new) (S.faults source.new) (K.faults sink.new)) }
+{
+    let Task {
+        problem,
+        moves,
+        budget,
+    } = *task;
+    let mut solver = Solver::new(alloc, &problem.position, problem.winner, budget);
+    match won(&mut solver, &problem, moves) {
+        Ok(Some(solved)) => match Session::begin(alloc, solved, Frame::whole()) {
+            Ok(mut session) => {
+                let played = play_game(&mut session, reader, source, sink, problem.lines);
+                finish(played, sink)
+            }
+            Err(_) => {
+                refuse(sink, b"memory\n");
+                Status::Memory
+            }
+        },
+        Ok(None) => {
+            let line = verdict_line(false, moves);
+            print(sink, line.as_slice())
+        }
+        Err(error) => print_error(sink, error),
+    }
+}
+
+/// Writes what is still to be written of a game that was played.
+pub fn finish<K: Sink>(played: Result<Ending, GameError>, sink: &mut K) -> Status
+    ensures ends { Finishes played result (K.written sink.old) (K.written sink.new) (HasRisen (K.faults sink.old) (K.faults sink.new)) }
+    ensures never_falls { K.faults sink.old ≤ K.faults sink.new }
+{
+    match played {
+        Ok(ending) => close(ending, sink),
+        Err(GameError::Read) => {
+            refuse(sink, b"read fault\n");
+            Status::ReadFault
+        }
+        Err(GameError::Write) => Status::WriteFault,
+    }
+}
+
+/// Writes the line that tells of an ending other than mate, as far as the sink takes it.
+fn close<K: Sink>(ending: Ending, sink: &mut K) -> Status
+    ensures status { result ≡ status_of ending }
+    ensures written { Writes [] (ending_line ending) (K.written sink.old) (K.written sink.new) (HasRisen (K.faults sink.old) (K.faults sink.new)) }
+    ensures never_falls { K.faults sink.old ≤ K.faults sink.new }
+{
+    match ending {
+        Ending::Mated => Status::Done,
+        Ending::Wide => {
+            refuse(sink, b"wide\n");
+            Status::Wide
+        }
+        Ending::Quit | Ending::NoLine => {
+            refuse(sink, b"ended\n");
+            Status::Ended
+        }
+        Ending::Many => {
+            refuse(sink, b"too many lines\n");
+            Status::TooMany
+        }
+        Ending::CutAt(number) => {
+            let line = refusal_line(number, LineWhy::Cut);
+            refuse(sink, line.as_slice());
+            Status::Text
+        }
+        Ending::LongAt(number) => {
+            let line = refusal_line(number, LineWhy::Long);
+            refuse(sink, line.as_slice());
+            Status::Text
+        }
+    }
+}

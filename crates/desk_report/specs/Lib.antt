@@ -1,0 +1,4 @@
+pub mod ByLines
+pub mod Codes
+pub mod FaultLines
+pub mod Outcome

@@ -1,0 +1,5 @@
+pub mod Drilled
+pub mod Listing
+pub mod OneStep
+pub mod Rooks
+pub mod Values

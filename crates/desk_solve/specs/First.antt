@@ -1,0 +1,84 @@
+-- What is reported of `first`.
+use Rattle.std.specs.Prelude.{◌≡◌, ◌⊎◌, ℕ, zero, suc, ◌≤◌, List, [], ◌++◌, length, Option, Some, None, codes}
+use Rattle.std.specs.Fmt.{decimal, signed_decimal}
+use Rattle.auto_search.specs.declared.few.Few.{Few}
+use Rattle.auto_search.specs.declared.few.Few.TheVariants.{One}
+use Rattle.desk_base.specs.Files.{Files}
+use Rattle.game_report.specs.Report.{all_squares}
+use Rattle.game_rules.specs.Game.{Position, other}
+use Rattle.game_rules.specs.declared.men.Side.{Side}
+use Rattle.white_player.specs.Firsts.{Firsts, IsFirstLine}
+use Rattle.white_player.specs.Game.{HasRoom}
+use Rattle.white_player.specs.declared.first_line.FirstLine.{FirstLine}
+use Rattle.winning_sets.specs.Solve.{Solution}
+use Rattle.winning_sets.specs.declared.names.StepName.{StepName}
+use Rattle.winning_sets.specs.declared.origin.Origin.TheVariants.{Plan}
+use Rattle.desk_report.specs.Outcome.{Report, done_with, over_budget}
+use Rattle.desk_solve.specs.Verdict.{ExceedsAt, FitsBudget}
+use Rattle.desk_text.specs.declared.problem.Problem.{Problem}
+
+-- the winner has no first move: no move of his own is left, or the loser is to move
+abbrev pub HasNoFirstMove : ℕ → Problem → Type 0
+HasNoFirstMove n problem = (n ≡ 0) ⊎ (problem.position.turn ≡ other problem.winner)
+
+-- the least distance to a square of 64 bits, or that there is none
+abbrev pub distance_word : Option ℕ → List ℕ
+distance_word (Some distance) = decimal distance
+distance_word None = codes "wide"
+
+-- whether there are several distances
+abbrev pub few_word : Few → List ℕ
+few_word One = codes "only"
+few_word _ = codes "more"
+
+-- the line of a ray
+abbrev pub line_of : FirstLine → List ℕ
+line_of line =
+    codes "man " ++ decimal line.man ++ codes " step " ++ signed_decimal line.dx ++ codes " " ++ signed_decimal line.dy
+    ++ codes " least " ++ distance_word line.least ++ codes " " ++ few_word line.few ++ codes "\n"
+
+-- a ray's text: its line where the man has a first move along it, and else nothing
+abbrev pub RayText : Side → ℕ → Position → (man ray : ℕ) → List ℕ → Type 0
+RayText winner n p man ray text =
+    (((distance : ℕ) → Firsts winner n p man ray distance → ⊥) × (text ≡ []))
+    ⊎ ((line : FirstLine) × IsFirstLine all_squares winner n p man ray line × (text ≡ line_of line))
+
+-- texts one after another, of the first so many
+unfoldable pub Listed : (ℕ → List ℕ → Type 0) → ℕ → List ℕ → Type 0
+Listed Of zero text = text ≡ []
+Listed Of (suc k) text = (front : List ℕ) × (last : List ℕ) × Listed Of k front × Of k last × (text ≡ front ++ last)
+
+-- a man's text, by ray: a kind has eight rays at most
+abbrev pub ManText : Side → ℕ → Position → (man : ℕ) → List ℕ → Type 0
+ManText winner n p man = Listed (RayText winner n p man) 8
+
+-- the text of all men
+abbrev pub MenText : Side → ℕ → Position → List ℕ → Type 0
+MenText winner n p = Listed (λ before. ManText winner n p (suc before)) (length p.men)
+
+-- the lines of the winner's first moves, by man and ray, and a last line
+abbrev pub AreLines : Side → ℕ → Position → List ℕ → Type 0
+AreLines winner n p told = (text : List ℕ) × MenText winner n p text × (told ≡ text ++ codes "end\n")
+
+-- these, or the first step that exceeds the budget
+abbrev pub LinesReport : ℕ → ℕ → Problem → Files → Report → Type 0
+LinesReport n budget problem files report =
+    ((step : StepName) × ExceedsAt problem budget n step × (report ≡ over_budget files step))
+    ⊎ ((told : List ℕ) × FitsBudget problem budget n × AreLines problem.winner n problem.position told × (report ≡ done_with files told))
+
+-- the last line alone where the winner has no first move, and else what is reported of his first moves
+abbrev pub FirstReports : ℕ → ℕ → Problem → Files → Report → Type 0
+FirstReports n budget problem files report =
+    (HasNoFirstMove n problem × (report ≡ done_with files (codes "end\n")))
+    ⊎ ((¬ HasNoFirstMove n problem) × LinesReport n budget problem files report)
+
+-- a text of this kind was added at the end
+abbrev pub Adds : (List ℕ → Type 0) → (old new : List ℕ) → Type 0
+Adds Of old new = (added : List ℕ) × Of added × (new ≡ old ++ added)
+
+-- the sets of a solved position come of a plan, its winner is to move and has a move left, and a search for so many states serves all its sets
+pub record IsServed (states : ℕ) (s : Solution) : Type 0 where
+  pub plan : s.origin ≡ Plan
+  pub turn : s.position.turn ≡ s.winner
+  pub moves : 1 ≤ s.moves
+  pub room : HasRoom states s

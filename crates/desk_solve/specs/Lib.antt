@@ -1,0 +1,5 @@
+pub mod Decide
+pub mod Drill
+pub mod First
+pub mod Least
+pub mod Verdict

@@ -1,0 +1,44 @@
+-- Whether the winner of a problem mates within a number of moves, and whether the plan that decides it is within the budget.
+use Rattle.std.specs.Prelude.{◌≡◌, ◌⊎◌, ℕ, ◌≤◌, List, ◌++◌, length, codes}
+use Rattle.std.specs.Fmt.{decimal}
+use Rattle.game_rules.specs.Game.{Sound, Value}
+use Rattle.mate_plan.specs.PlanOf.{plan_of}
+use Rattle.winning_sets.specs.Solve.{IsWithin, IsSolveError}
+use Rattle.winning_sets.specs.declared.names.SolveError.TheVariants as solve_error
+use Rattle.winning_sets.specs.declared.names.StepName.{StepName}
+use Rattle.desk_words.specs.Order.{IsBudget, most_moves}
+use Rattle.desk_text.specs.declared.problem.Problem.{Problem}
+use Rattle.desk_text.specs.declared.problem.Task.{Task}
+
+-- the two lines of a verdict
+abbrev pub mate_line : ℕ → List ℕ
+mate_line n = codes "mate in " ++ decimal n ++ codes "\n"
+
+abbrev pub no_mate_line : ℕ → List ℕ
+no_mate_line n = codes "no mate in " ++ decimal n ++ codes "\n"
+
+-- the line says whether the winner mates within n moves of his own, whatever is replied
+abbrev pub IsVerdict : ℕ → Problem → List ℕ → Type 0
+IsVerdict n problem line =
+    ((line ≡ mate_line n) × Value problem.winner n problem.position)
+    ⊎ ((line ≡ no_mate_line n) × (Value problem.winner n problem.position → ⊥))
+
+-- no step of the plan by which the winner is to mate within n moves exceeds the budget
+abbrev pub FitsBudget : Problem → ℕ → ℕ → Type 0
+FitsBudget problem budget n = IsWithin (plan_of problem.winner problem.position n) budget
+
+-- the step is the first of that plan that exceeds the budget
+abbrev pub ExceedsAt : Problem → ℕ → ℕ → StepName → Type 0
+ExceedsAt problem budget n step = IsSolveError (plan_of problem.winner problem.position n) n budget (solve_error.Over step)
+
+-- the winner is to move, and has no move of his own left to make
+pub record HasNothingToPlay (moves : ℕ) (problem : Problem) : Type 0 where
+  pub none : moves ≡ 0
+  pub turn : problem.position.turn ≡ problem.winner
+
+-- the position is sound and has no more men than a text, and the numbers are within their limits
+pub record IsTask (task : Task) : Type 0 where
+  pub sound : Sound task.problem.position
+  pub few : length task.problem.position.men ≤ 5
+  pub moves : task.moves ≤ most_moves
+  pub budget : IsBudget task.budget

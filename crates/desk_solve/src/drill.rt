@@ -1,0 +1,76 @@
+//! From how many positions of a seed White mates in one move.
+
+ghost use Rattle.std.specs.Prelude.{◌≡◌, ◌↔◌, ◌<◌, ◌≤◌, Err, IfOk, IfErr, IsTrue, OnOk, length};
+ghost use Rattle.desk_base.specs.Files.{Files};
+ghost use Rattle.game_rules.specs.Game.{Sound, Value};
+ghost use Rattle.winning_sets.specs.declared.names.StepName.{StepName};
+ghost use Rattle.desk_solve.specs.Drill.{DrillFinds, DrillReports, DrillStops};
+ghost use Rattle.desk_solve.specs.Drill as specs;
+ghost use Rattle.desk_words.specs.Order.{default_budget};
+ghost use Rattle.desk_report.specs.Outcome.{Ends, NeverMisses, of_sink};
+ghost use Rattle.desk_solve.specs.Verdict.{ExceedsAt, FitsBudget};
+
+use crate::drill_positions::{Generator, problem_of};
+use crate::mates::won;
+use chess_text::line_buffer::LineBuffer;
+use desk_base::Sink;
+use desk_report::{Status, print, print_error};
+use desk_text::Problem;
+use desk_words::DEFAULT_BUDGET;
+use std::alloc::Global;
+use winning_sets::{SolveError, Solver};
+
+/// Writes from how many of so many positions, which follow from the seed, White mates in one move.
+pub fn drill<K: Sink>(alloc: Global, seed: u64, count: u8, sink: &mut K) -> Status
+    ensures ends { (files : Files) →
+        Ends result (DrillReports seed count files) (0 < count) NeverMisses
+        (of_sink files (K.written sink.old) (K.faults sink.old)) (of_sink files (K.written sink.new) (K.faults sink.new)) }
+{
+    match count_mates(alloc, seed, count) {
+        Ok(mates) => {
+            let line = drill_line(mates, count);
+            print(sink, line.as_slice())
+        }
+        Err(error) => print_error(sink, error),
+    }
+}
+
+/// From how many of so many positions White mates in one move.
+fn count_mates(alloc: Global, seed: u64, count: u8) -> Result<u8, SolveError>
+    ensures found { IfOk result (DrillFinds seed count) }
+    ensures step { IfErr result (λ error. (step : StepName) → error ≡ SolveError.Over step → DrillStops seed count step) }
+    ensures memory { result ≡ Err SolveError.Memory → 0 < count }
+{
+    let mut generator = Generator { state: seed };
+    let mut mates = 0;
+    for _number in 0..count {
+        let problem = problem_of(generator.next());
+        let won = is_mate_in_one(alloc, &problem)?;
+        mates += u8::from(won);
+    }
+    Ok(mates)
+}
+
+/// Whether the winner mates in one move.
+fn is_mate_in_one(alloc: Global, problem: &Problem) -> Result<bool, SolveError>
+    requires sound { Sound problem.now.position }
+    requires few { length problem.now.position.men ≤ 8 }
+    ensures won { IfOk result (λ won. IsTrue won ↔ Value problem.now.winner 1 problem.now.position) }
+    ensures fits { OnOk result (FitsBudget problem.now default_budget 1) }
+    ensures step { IfErr result (λ error. (step : StepName) → error ≡ SolveError.Over step → ExceedsAt problem.now default_budget 1 step) }
+{
+    let mut solver = Solver::new(alloc, &problem.position, problem.winner, DEFAULT_BUDGET);
+    Ok(won(&mut solver, problem, 1)?.is_some())
+}
+
+/// The line that says from how many of so many positions White mates in one move.
+fn drill_line(mates: u8, count: u8) -> LineBuffer
+    ensures { result ≡ specs.drill_line mates count }
+{
+    let mut line = LineBuffer::new();
+    line.push_number(i64::from(mates));
+    line.push(b" of ");
+    line.push_number(i64::from(count));
+    line.push(b" mate in 1\n");
+    line
+}

@@ -1,0 +1,177 @@
+//! The winner's first moves, ray by ray.
+
+ghost use Rattle.std.specs.Prelude.{◌≡◌, ◌↔◌, ◌≤◌, ◌+◌, ◌++◌, IfOk, IsTrue, OnOk, length};
+ghost use Rattle.desk_base.specs.Files.{Files};
+ghost use Rattle.winning_sets.specs.declared.origin.Origin.TheVariants.{Plan};
+ghost use Rattle.desk_solve.specs.First.{Adds, AreLines, FirstReports, HasNoFirstMove, IsServed, ManText, MenText, RayText, line_of};
+ghost use Rattle.desk_solve.specs.First as specs;
+ghost use Rattle.desk_report.specs.Outcome.{Ends, NeverMisses, of_sink};
+ghost use Rattle.desk_solve.specs.Verdict.{IsTask};
+
+use crate::mates::won;
+use auto_search::{Few, Search};
+use chess_game::Frame;
+use chess_text::line_buffer::LineBuffer;
+use desk_base::Sink;
+use desk_report::{Status, print, print_error, push_large};
+use desk_text::Task;
+use game_session::has_ray;
+use std::alloc::{AllocError, Global};
+use white_player::{FirstLine, first_moves};
+use winning_sets::{SolveError, Solved, Solver};
+
+/// The most rays that a kind has.
+const RAYS: u8 = 8;
+
+/// Writes for each man and ray the winner's first moves along it by which he mates within so many moves of his own, and a last line. All of it is
+/// known before the first byte is written.
+pub fn first<K: Sink>(alloc: Global, task: &Task, sink: &mut K) -> Status
+    requires { IsTask task.now }
+    ensures ends { (files : Files) →
+        Ends result (FirstReports task.now.moves task.now.budget task.now.problem files)
+        (¬ HasNoFirstMove task.now.moves task.now.problem) NeverMisses
+        (of_sink files (K.written sink.old) (K.faults sink.old)) (of_sink files (K.written sink.new) (K.faults sink.new)) }
+{
+    if has_no_first_move(task) {
+        return print(sink, b"end\n");
+    }
+    let Task {
+        problem,
+        moves,
+        budget,
+    } = *task;
+    let mut solver = Solver::new(alloc, &problem.position, problem.winner, budget);
+    match won(&mut solver, &problem, moves) {
+        Ok(Some(solved)) => match first_lines(alloc, &solved) {
+            Ok(text) => print(sink, text.as_slice()),
+            Err(_) => print_error(sink, SolveError::Memory),
+        },
+        Ok(None) => print(sink, b"end\n"),
+        Err(error) => print_error(sink, error),
+    }
+}
+
+/// Whether the winner has no first move: no move of his own is left, or the loser is to move.
+fn has_no_first_move(task: &Task) -> bool
+    ensures { IsTrue result ↔ HasNoFirstMove task.now.moves task.now.problem }
+{
+    if task.moves == 0 {
+        return true;
+    }
+    task.problem.position.turn() == task.problem.winner.other()
+}
+
+/// The lines of all men, and the last line.
+fn first_lines(alloc: Global, solved: &Solved) -> Result<Vec<u8>, AllocError>
+    requires plan { solved.now.origin ≡ Plan }
+    requires turn { solved.now.position.turn ≡ solved.now.winner }
+    requires moves { 1 ≤ solved.now.moves }
+    ensures { IfOk result (λ text. AreLines solved.now.winner solved.now.moves solved.now.position text.items) }
+{
+    let mut text = Vec::new(alloc);
+    let mut search = Search::reserve(alloc, solved.most_states())?;
+    push_men(&mut text, solved, &mut search)?;
+    text.extend_from_slice(b"end\n")?;
+    Ok(text)
+}
+
+/// Adds the lines of all men.
+fn push_men(text: &mut Vec<u8>, solved: &Solved, search: &mut Search) -> Result<(), AllocError>
+    requires { IsServed search.old solved.now }
+    ensures { OnOk result (Adds (MenText solved.now.winner solved.now.moves solved.now.position) text.old.items text.new.items) }
+{
+    let position = solved.position();
+    for index in 0..position.count() {
+        push_man(text, solved, search, index + 1)?;
+    }
+    Ok(())
+}
+
+/// Adds the lines of a man.
+fn push_man(
+    text: &mut Vec<u8>,
+    solved: &Solved,
+    search: &mut Search,
+    man: u8,
+) -> Result<(), AllocError>
+    requires served { IsServed search.old solved.now }
+    requires first { 1 ≤ man }
+    requires last { man ≤ length solved.now.position.men }
+    ensures adds { OnOk result (Adds (ManText solved.now.winner solved.now.moves solved.now.position man) text.old.items text.new.items) }
+    ensures kept { search.new ≡ search.old }
+{
+    for ray in 0..RAYS {
+        push_ray(text, solved, search, man, ray)?;
+    }
+    Ok(())
+}
+
+/// Adds the line of a man's ray of this number, where he has a first move along it.
+fn push_ray(
+    text: &mut Vec<u8>,
+    solved: &Solved,
+    search: &mut Search,
+    man: u8,
+    ray: u8,
+) -> Result<(), AllocError>
+    requires served { IsServed search.old solved.now }
+    requires first { 1 ≤ man }
+    requires last { man ≤ length solved.now.position.men }
+    ensures adds { OnOk result (Adds (RayText solved.now.winner solved.now.moves solved.now.position man ray) text.old.items text.new.items) }
+    ensures kept { search.new ≡ search.old }
+{
+    let position = solved.position();
+    if !has_ray(&position, man, ray) {
+        return Ok(());
+    }
+    match first_moves(solved, search, Frame::whole(), man, ray) {
+        Some(first) => {
+            let line = first_line(first);
+            text.extend_from_slice(line.as_slice())?;
+            Ok(())
+        }
+        None => Ok(()),
+    }
+}
+
+/// The line of a ray.
+fn first_line(first: FirstLine) -> LineBuffer
+    ensures { result ≡ line_of first }
+{
+    let mut line = LineBuffer::new();
+    line.push(b"man ");
+    line.push_number(i64::from(first.man));
+    line.push(b" step ");
+    line.push_number(i64::from(first.dx));
+    line.push(b" ");
+    line.push_number(i64::from(first.dy));
+    line.push(b" least ");
+    push_distance(&mut line, first.least);
+    line.push(b" ");
+    line.push(few_word(first.few));
+    line.push(b"\n");
+    line
+}
+
+/// Adds the least distance, in at most 40 bytes, or that there is none.
+fn push_distance(line: &mut LineBuffer, least: Option<u128>)
+    requires { length line.old + 40 ≤ 128 }
+    ensures text { line.new ≡ line.old ++ specs.distance_word least }
+    ensures room { length line.new ≤ length line.old + 40 }
+{
+    match least {
+        Some(distance) => push_large(line, distance),
+        None => line.push(b"wide"),
+    }
+}
+
+/// The word for whether there are several distances.
+fn few_word(few: Few) -> &'static [u8]
+    ensures word { result.now ≡ specs.few_word few }
+    ensures short { length result.now ≤ 4 }
+{
+    match few {
+        Few::One => b"only",
+        _ => b"more",
+    }
+}

@@ -1,0 +1,65 @@
+//! Within how few moves the winner mates.
+
+ghost use Rattle.std.specs.Prelude.{◌≡◌, Err, IfOk, IfErr};
+ghost use Rattle.desk_base.specs.Files.{Files};
+ghost use Rattle.winning_sets.specs.declared.names.StepName.{StepName};
+ghost use Rattle.desk_solve.specs.Least.{LeastFinds, LeastReports, LeastStops};
+ghost use Rattle.desk_solve.specs.Least as specs;
+ghost use Rattle.desk_report.specs.Outcome.{Ends, NeverMisses, of_sink};
+ghost use Rattle.desk_solve.specs.Verdict.{HasNothingToPlay, IsTask};
+
+use crate::mates::{number_line, won};
+use chess_text::line_buffer::LineBuffer;
+use desk_base::Sink;
+use desk_report::{Status, print, print_error};
+use desk_text::Task;
+use std::alloc::Global;
+use winning_sets::{SolveError, Solver};
+
+/// Writes within how few moves of his own the winner mates, if he does within so many.
+pub fn least<K: Sink>(alloc: Global, task: &Task, sink: &mut K) -> Status
+    requires { IsTask task.now }
+    ensures ends { (files : Files) →
+        Ends result (LeastReports task.now.moves task.now.budget task.now.problem files)
+        (¬ HasNothingToPlay task.now.moves task.now.problem) NeverMisses
+        (of_sink files (K.written sink.old) (K.faults sink.old)) (of_sink files (K.written sink.new) (K.faults sink.new)) }
+{
+    match least_moves(alloc, task) {
+        Ok(found) => {
+            let line = least_line(task.moves, found);
+            print(sink, line.as_slice())
+        }
+        Err(error) => print_error(sink, error),
+    }
+}
+
+/// The least number of moves up to the limit within which the winner mates. What is reached is computed once for all of them.
+fn least_moves(alloc: Global, task: &Task) -> Result<Option<u8>, SolveError>
+    requires { IsTask task.now }
+    ensures found { IfOk result (LeastFinds task.now.moves task.now.budget task.now.problem) }
+    ensures step { IfErr result (λ error. (step : StepName) → error ≡ SolveError.Over step → LeastStops task.now.moves task.now.budget task.now.problem step) }
+    ensures memory { result ≡ Err SolveError.Memory → ¬ HasNothingToPlay task.now.moves task.now.problem }
+{
+    let Task {
+        problem,
+        moves: limit,
+        budget,
+    } = *task;
+    let mut solver = Solver::new(alloc, &problem.position, problem.winner, budget);
+    for moves in 0..=limit {
+        if won(&mut solver, &problem, moves)?.is_some() {
+            return Ok(Some(moves));
+        }
+    }
+    Ok(None)
+}
+
+/// The line that says within how few moves the winner mates, if he does within the limit.
+fn least_line(limit: u8, found: Option<u8>) -> LineBuffer
+    ensures { result ≡ specs.least_line limit found }
+{
+    match found {
+        Some(moves) => number_line(b"least ", moves),
+        None => number_line(b"none up to ", limit),
+    }
+}

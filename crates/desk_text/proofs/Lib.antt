@@ -1,0 +1,4 @@
+pub mod OneText
+pub mod RoundTrip
+pub mod TextSteps
+pub mod WhiteToMate

@@ -1,0 +1,281 @@
+-- What each line makes of a text that is read.
+use Rattle.std.proofs.Common.{◌≡◌, ℕ, ◌+◌, ◌-◌, ◌<◌, ◌≤◌, List, [], ◌∷◌, ◌++◌, length, take, Option, Ok, Err, Some, None, IfSome, IsTrue, inl, inr, refl, sym, ◌∙◌, ap, subst, arith, append_assoc, length-append}
+use Rattle.std.specs.Prelude.{unwrap_or}
+use Rattle.std.specs.Io.KnownBytes.{Consumes, IsAtEnd}
+use Rattle.std.specs.List.{All}
+use Rattle.std.proofs.KnownBytes.{Consumes-nil, Consumes-trans}
+use Rattle.std.proofs.lemmas.List.{append-nil, take_all, take-append-le}
+use Rattle.std.proofs.lemmas.List.Elements.{All-push, All-nil}
+use Rattle.chess_game.proofs.UnsoundnessLemmas.{number_cases}
+use Rattle.desk_base.specs.Lines.{Lines, IsLine, part_of, lines_of}
+use Rattle.desk_base.specs.Reading.{KeepsLine, Takes}
+use Rattle.desk_base.proofs.LinesOf.{line_first}
+use Rattle.desk_base.specs.declared.line.Line.TheVariants.{Full, End}
+use Rattle.desk_base.specs.declared.line.LineError.TheVariants as fails
+use Rattle.game_rules.specs.Game.{Position}
+use Rattle.chess_text.specs.PositionText.{Feeds, Turnout, text_of_lines, with_man}
+use Rattle.chess_text.specs.PositionText as turnouts
+use Rattle.chess_text.specs.Progress.{Progress, ReadsLine, position_of}
+use Rattle.chess_text.specs.declared.man_line.TextWhy.{TextWhy}
+use Rattle.chess_text.specs.declared.reader.Stage.{Stage}
+use Rattle.chess_text.specs.declared.reader.Stage.TheVariants as stages
+use Rattle.chess_text.specs.declared.reader.Fed.{Fed}
+use Rattle.chess_text.specs.declared.reader.Fed.TheVariants.{More, Whole}
+use Rattle.desk_text.specs.Taken.{TakesLines}
+use Rattle.desk_text.specs.Text.{Text, white_mates, whole, refused, AfterLine, ReadsLines, TextAt, is_end}
+use Rattle.desk_text.specs.TextRead.{IsMissing, TextRead}
+use Rattle.desk_text.specs.declared.text.LineWhy.{LineWhy}
+use Rattle.desk_text.specs.declared.text.LineWhy.TheVariants.{Grammar, Long, Cut, Missing}
+use Rattle.desk_text.specs.declared.text.TextEnd.TheVariants.{Fault, Refused}
+
+-- how many lines may come before the last
+abbrev pub lines_left : Stage → ℕ
+lines_left stages.Header = 7
+lines_left stages.Turn = 6
+lines_left (stages.Men p) = 5 - length p.men
+
+-- there are at most five men
+abbrev pub IsFew : Stage → Type 0
+IsFew stages.Header = Unit {0}
+IsFew stages.Turn = Unit {0}
+IsFew (stages.Men p) = length p.men ≤ 5
+
+-- what a text that goes on has come to
+pub record GoesOn (stage next : Stage) : Type 0 where
+  pub nearer : lines_left next + 1 ≡ lines_left stage
+  pub few : IsFew next
+
+goes_to : (stage next due : Stage) → next ≡ due → GoesOn stage due → GoesOn stage next
+goes_to stage next due is h = let P : Stage → Type 0 = λ s. GoesOn stage s in subst P (sym is) h
+
+pub fed_more : (stage next : Stage) (line : List ℕ) → Feeds stage line (turnouts.more next) → GoesOn stage next
+fed_more stages.Header next line (inl (e, i)) = goes_to stages.Header next stages.Turn (let s : next ≡ stages.Turn = cc in s) (record { nearer = refl; few = tt })
+fed_more stages.Header next line (inr (e, i)) = absurd (cc)
+fed_more stages.Turn next line (inl (s, e, i)) =
+    goes_to stages.Turn next (stages.Men (record { men = []; turn = s })) (let same : next ≡ stages.Men (record { men = []; turn = s }) = cc in same)
+    (record { nearer = refl; few = omega arith })
+fed_more stages.Turn next line (inr (e, i)) = absurd (cc)
+fed_more (stages.Men p) next line (inl (a, e, i)) = absurd (cc)
+fed_more (stages.Men p) next line (inr (inl (a, e, i))) = absurd (cc)
+fed_more (stages.Men p) next line (inr (inr (inl (a, e, i)))) = absurd (cc)
+fed_more (stages.Men p) next line (inr (inr (inr (a, e, inl (m, is, i))))) =
+    goes_to (stages.Men p) next (stages.Men (with_man p m)) (let same : next ≡ stages.Men (with_man p m) = cc in same)
+    (record { nearer = omega (arith, a, length-append p.men (m ∷ [])); few = omega (arith, a, length-append p.men (m ∷ [])) })
+fed_more (stages.Men p) next line (inr (inr (inr (a, e, inr (reason, r, i))))) = absurd (cc)
+
+pub fed_whole : (stage : Stage) (p : Position) (line : List ℕ) → IsFew stage → Feeds stage line (turnouts.complete p) → length p.men ≤ 5
+fed_whole stages.Header p line few (inl (e, i)) = absurd (cc)
+fed_whole stages.Header p line few (inr (e, i)) = absurd (cc)
+fed_whole stages.Turn p line few (inl (s, e, i)) = absurd (cc)
+fed_whole stages.Turn p line few (inr (e, i)) = absurd (cc)
+fed_whole (stages.Men q) p line few (inl (a, e, i)) = absurd (cc)
+fed_whole (stages.Men q) p line few (inr (inl (a, e, i))) =
+    let same : p ≡ q = cc in
+    let P : Position → Type 0 = λ r. length r.men ≤ 5 in
+    subst P (sym same) few
+fed_whole (stages.Men q) p line few (inr (inr (inl (a, e, i)))) = absurd (cc)
+fed_whole (stages.Men q) p line few (inr (inr (inr (a, e, inl (m, is, i))))) = absurd (cc)
+fed_whole (stages.Men q) p line few (inr (inr (inr (a, e, inr (reason, r, i))))) = absurd (cc)
+
+-- what the reader of a text has answered
+pub answer_whole : (stage : Stage) (line : List ℕ) (fed : Fed) (p : Position) (reader : Progress) → position_of fed ≡ Some p → ReadsLine stage line (Ok fed) reader → Feeds stage line (turnouts.complete p)
+answer_whole stage line More p reader is reads = absurd (cc)
+answer_whole stage line (Whole q) p reader is reads =
+    let same : q ≡ p = cc in
+    let P : Position → Type 0 = λ r. Feeds stage line (turnouts.complete r) in
+    subst P same reads.0
+
+pub answer_more : (stage : Stage) (line : List ℕ) (fed : Fed) (reader : Progress) → position_of fed ≡ None → ReadsLine stage line (Ok fed) reader → Feeds stage line (turnouts.more reader.stage) × (reader.answer ≡ None)
+answer_more stage line More reader is reads = reads
+answer_more stage line (Whole q) reader is reads = absurd (cc)
+
+-- what is known of the bytes behind those taken, or nothing
+pub known_rest : (after : Option (List ℕ)) → IfSome after (λ told. told ≡ unwrap_or after [])
+known_rest None = tt
+known_rest (Some bytes) = refl
+
+pub no_rest : (after : Option (List ℕ)) → IsAtEnd after → IfSome after (λ told. told ≡ [])
+no_rest None end = tt
+no_rest (Some bytes) end = end
+
+-- the bytes of one line more
+with_line : (lines : List (List ℕ)) (line : List ℕ) → text_of_lines (lines ++ line ∷ []) ≡ text_of_lines lines ++ (line ++ 10 ∷ [])
+with_line [] line = append-nil (line ++ 10 ∷ [])
+with_line (l ∷ lines) line = ap (λ bytes. (l ++ 10 ∷ []) ++ bytes) (with_line lines line) ∙ sym (append_assoc (l ++ 10 ∷ []) (text_of_lines lines) (line ++ 10 ∷ []))
+
+all_lines : (lines : List (List ℕ)) (line : List ℕ) → All IsLine lines → IsLine line → All IsLine (lines ++ line ∷ [])
+all_lines lines line are is = All-push IsLine lines line are is
+
+-- a whole line that a reader gives is one
+pub line_read : (len : ℕ) (old new : List ℕ) → KeepsLine (Ok (Full len)) old new → IsLine new
+line_read len old new keeps = record { free = keeps.2; short = omega (arith, keeps.0, keeps.1) }
+
+-- The lines read so far are a text up to this stage, and `pending` was taken behind them.
+pub record SoFar (stage : Stage) (number : ℕ) (pending : List ℕ) (before after : Option (List ℕ)) : Type 0 where
+  pub lines : List (List ℕ)
+  pub are_lines : All IsLine lines
+  pub due : (k : ℕ) → k < length lines → IsMissing (take k lines)
+  pub count : number ≡ length lines + 1
+  pub taken : Consumes before after (text_of_lines lines ++ pending)
+  pub text : (more : List ℕ) (text : Text) → ReadsLines stage number (lines_of more) text → TextAt (text_of_lines lines ++ more) text
+
+pub nothing_read : (left : Option (List ℕ)) → SoFar stages.Header 1 [] left left
+nothing_read left = record {
+  lines = [];
+  are_lines = All-nil IsLine;
+  due = λ k below. absurd (omega arith);
+  count = refl;
+  taken = Consumes-nil left;
+  text = λ more text reads. reads;
+}
+
+module _ (stage : Stage) (number : ℕ) (pending : List ℕ) (before mid after : Option (List ℕ)) (line rest : List ℕ) (so_far : SoFar stage number pending before mid) where
+  abbrev lines : List (List ℕ)
+  lines = so_far.lines
+
+  -- what is taken in the next call comes behind the pending bytes
+  all_taken : (bytes : List ℕ) → Consumes mid after bytes → Consumes before after (text_of_lines so_far.lines ++ (pending ++ bytes))
+  all_taken bytes took = subst (Consumes before after) (append_assoc (text_of_lines so_far.lines) pending bytes) (Consumes-trans before mid after (text_of_lines so_far.lines ++ pending) bytes so_far.taken took)
+
+  module _ (len : ℕ) (took : Takes (Ok (Full len)) pending line rest mid after) (is_line : IsLine line) where
+    abbrev now : List (List ℕ)
+    now = so_far.lines ++ line ∷ []
+
+    -- the line and its LF are the next bytes, and the rest is pending
+    next_bytes : text_of_lines lines ++ (pending ++ took.bytes) ≡ text_of_lines now ++ rest
+    next_bytes =
+        ap (λ bytes. text_of_lines lines ++ bytes) (took.keeps ∙ sym (append_assoc line (10 ∷ []) rest))
+        ∙ sym (append_assoc (text_of_lines lines) (line ++ 10 ∷ []) rest)
+        ∙ ap (λ bytes. bytes ++ rest) (sym (with_line lines line))
+
+    consumed : Consumes before after (text_of_lines now ++ rest)
+    consumed = subst (Consumes before after) next_bytes (all_taken took.bytes took.taken)
+
+    -- the line was due
+    due_here : IsMissing lines
+    due_here =
+        let P : List ℕ → Type 0 = λ b. TextAt b (refused number Missing) in
+        let Q : ℕ → Type 0 = λ n. TextAt (text_of_lines lines) (refused n Missing) in
+        subst Q so_far.count (subst P (append-nil (text_of_lines lines)) (so_far.text [] (refused number Missing) refl))
+
+    due_now : (k : ℕ) → k < length now → IsMissing (take k now)
+    due_now k below = elim (number_cases k (length lines)) [
+      | inl less ↦ subst IsMissing (sym (take-append-le k lines (line ∷ []) (omega (arith, less)))) (so_far.due k less)
+      | inr (inr more) ↦ absurd (omega (arith, more, below, length-append lines (line ∷ [])))
+      | inr (inl last) ↦
+          let front : take k now ≡ lines = take-append-le k lines (line ∷ []) (omega (arith, last)) ∙ take_all k lines (omega (arith, last)) in
+          subst IsMissing (sym front) due_here
+    ]
+
+    takes_now : (few : length rest ≤ 256) → TakesLines IsMissing (text_of_lines now ++ rest) rest
+    takes_now few = record { lines = now; are_lines = all_lines lines line so_far.are_lines is_line; due = due_now; bytes = refl; few = few }
+
+    text_full : (more : List ℕ) (t : Text) (turnout : Turnout) → Feeds stage line turnout → AfterLine turnout number (lines_of more) t (λ next. ReadsLines next (number + 1) (lines_of more) t) → TextAt (text_of_lines now ++ more) t
+    text_full more t turnout feeds after_it =
+        let P : Lines → Type 0 = λ l. ReadsLines stage number l t in
+        let read = so_far.text (line ++ 10 ∷ more) t (subst P (sym (line_first line more is_line.free is_line.short)) (turnout, feeds, after_it)) in
+        let Q : List ℕ → Type 0 = λ b. TextAt b t in
+        let same : text_of_lines lines ++ (line ++ 10 ∷ more) ≡ text_of_lines now ++ more =
+        ap (λ bytes. text_of_lines lines ++ bytes) (sym (append_assoc line (10 ∷ []) more))
+        ∙ sym (append_assoc (text_of_lines lines) (line ++ 10 ∷ []) more)
+        ∙ ap (λ bytes. bytes ++ more) (sym (with_line lines line)) in
+        subst Q same read
+
+    -- the same of the bytes taken, and others behind them
+    text_taken : (more : List ℕ) (t : Text) (turnout : Turnout) → Feeds stage line turnout → AfterLine turnout number (lines_of (rest ++ more)) t (λ next. ReadsLines next (number + 1) (lines_of (rest ++ more)) t) → TextAt ((text_of_lines now ++ rest) ++ more) t
+    text_taken more t turnout feeds after_it =
+        let Q : List ℕ → Type 0 = λ b. TextAt b t in
+        subst Q (sym (append_assoc (text_of_lines now) rest more)) (text_full (rest ++ more) t turnout feeds after_it)
+
+    pub goes_on : (next : Stage) → Feeds stage line (turnouts.more next) → SoFar next (number + 1) rest before after
+    goes_on next feeds = record {
+      lines = now;
+      are_lines = all_lines lines line so_far.are_lines is_line;
+      due = due_now;
+      count = omega (arith, so_far.count, length-append lines (line ∷ []));
+      taken = consumed;
+      text = λ more t r. text_full more t (turnouts.more next) feeds r;
+    }
+
+    pub is_whole : (p : Position) → length rest ≤ 256 → Feeds stage line (turnouts.complete p) → TextRead (Ok (white_mates p number)) rest before after
+    unfolding takes_now
+    is_whole p few feeds = record {
+      bytes = text_of_lines now ++ rest;
+      rest = unwrap_or after [];
+      taken = consumed;
+      left = known_rest after;
+      takes = takes_now few;
+      reads = λ more. text_full more (whole (white_mates p number) (lines_of more)) (turnouts.complete p) feeds refl;
+    }
+
+    pub is_wrong : (why : TextWhy) → length rest ≤ 256 → Feeds stage line (turnouts.wrong why) → TextRead (Err (Refused number (Grammar why))) rest before after
+    unfolding takes_now
+    is_wrong why few feeds =
+        let behind = unwrap_or after [] in
+        record {
+          bytes = text_of_lines now ++ rest;
+          rest = behind;
+          taken = consumed;
+          left = known_rest after;
+          reads = text_taken behind (refused number (Grammar why)) (turnouts.wrong why) feeds refl;
+          takes = takes_now few;
+        }
+
+  -- no whole line came: all that was taken is pending
+  module _ (bytes : List ℕ) (took : Consumes mid after bytes) (keeps : rest ≡ pending ++ bytes) where
+    still : Consumes before after (text_of_lines lines ++ rest)
+    still = subst (λ b. Consumes before after (text_of_lines lines ++ b)) (sym keeps) (all_taken bytes took)
+
+    takes_still : length rest ≤ 256 → TakesLines IsMissing (text_of_lines lines ++ rest) rest
+    takes_still few = record { lines = lines; are_lines = so_far.are_lines; due = so_far.due; bytes = refl; few = few }
+
+    refused_still : (behind : List ℕ) (why : LineWhy) → IfSome after (λ told. told ≡ behind) → length rest ≤ 256 → ReadsLines stage number (lines_of (rest ++ behind)) (refused number why) → TextRead (Err (Refused number why)) rest before after
+    unfolding takes_still
+    refused_still behind why left few r =
+        let Q : List ℕ → Type 0 = λ b. TextAt b (refused number why) in
+        record {
+          bytes = text_of_lines lines ++ rest;
+          rest = behind;
+          taken = still;
+          left = left;
+          reads = subst Q (sym (append_assoc (text_of_lines lines) rest behind)) (so_far.text (rest ++ behind) (refused number why) r);
+          takes = takes_still few;
+        }
+
+  pub is_missing : length rest ≤ 256 → Takes (Ok End) pending line rest mid after → TextRead (Err (Refused number Missing)) rest before after
+  is_missing few took =
+      let P : Lines → Type 0 = λ l. ReadsLines stage number l (refused number Missing) in
+      refused_still took.bytes took.taken took.keeps [] Missing (no_rest after took.reads.0) few
+      (subst P (sym (ap lines_of (append-nil rest ∙ took.keeps) ∙ took.reads.1)) refl)
+
+  pub is_cut : length rest ≤ 256 → Takes (Err fails.Cut) pending line rest mid after → TextRead (Err (Refused number Cut)) rest before after
+  is_cut few took =
+      let P : Lines → Type 0 = λ l. ReadsLines stage number l (refused number Cut) in
+      refused_still took.bytes took.taken took.keeps [] Cut (no_rest after took.reads.0) few
+      (subst P (sym (ap lines_of (append-nil rest ∙ took.keeps) ∙ took.reads.1)) refl)
+
+  pub is_long : length rest ≤ 256 → Takes (Err fails.TooLong) pending line rest mid after → TextRead (Err (Refused number Long)) rest before after
+  is_long few took =
+      let behind = unwrap_or after [] in
+      let P : Lines → Type 0 = λ l. ReadsLines stage number l (refused number Long) in
+      refused_still took.bytes took.taken took.keeps behind Long (known_rest after) few
+      (subst P (sym (ap (λ b. lines_of (b ++ behind)) took.keeps ∙ ap lines_of (append_assoc pending took.bytes behind) ∙ took.reads behind)) refl)
+
+  -- a text whose lines are a part of one ends because its input does
+  part_ends : (bytes : List ℕ) → (why : LineWhy) × ReadsLines stage number (part_of bytes) (refused number why) × IsTrue (is_end why)
+  part_ends [] = (Missing, refl, refl)
+  part_ends (b ∷ bytes) = (Cut, refl, refl)
+
+  pub is_fault : length rest ≤ 256 → Takes (Err fails.Read) pending line rest mid after → TextRead (Err Fault) rest before after
+  unfolding takes_still
+  is_fault few took =
+      let part = part_ends (pending ++ took.bytes) in
+      let P : Lines → Type 0 = λ l. ReadsLines stage number l (refused number part.0) in
+      record {
+        bytes = text_of_lines lines ++ rest;
+        rest = unwrap_or after [];
+        taken = still took.bytes took.taken took.keeps;
+        left = known_rest after;
+        reads = record { number = number; why = part.0; text = so_far.text rest (refused number part.0) (subst P (sym (ap lines_of took.keeps ∙ took.reads)) part.1); short = part.2 };
+        takes = takes_still took.bytes took.taken took.keeps few;
+      }

@@ -1,0 +1,66 @@
+use Rattle.std.proofs.Common.{sym, ◌∙◌, arith}
+use Rattle.desk_text.proofs.TextSteps.{fed_more, fed_whole, answer_more, answer_whole, line_read, goes_on, is_whole, is_wrong, is_missing, is_cut, is_long, is_fault}
+use Rattle.desk_text.proofs.text.read_problem.Goals as goal
+
+pub loop-text-preserved : goal.loop-text-preserved
+loop-text-preserved g c =
+    let inv = c.loop-text.invariant in
+    let call = c.in-Ok-Full.ensures in
+    let more = answer_more c.loop-text.text.stage c.line.result.now c.in-Ok.fed c.feed_line.new.self (sym c.position.ensures ∙ c.in-None.is) (c.in-Ok.ensures.feeds inv.no_answer) in
+    let step = fed_more c.loop-text.text.stage c.feed_line.new.self.stage c.line.result.now more.0 in
+    record {
+      goes_on = rw c.in-Ok-Full.field-0-is at (call.stops inv.goes_on);
+      no_answer = more.1;
+      number = omega (arith, inv.number, step.nearer);
+      few = step.few;
+      so_far =
+          goes_on _ _ _ _ _ _ _ _ inv.so_far _ (rw c.in-Ok-Full.field-0-is at (call.lines inv.goes_on)) (line_read _ c.loop-text.reader.line _ (rw c.in-Ok-Full.field-0-is at (call.line inv.goes_on))) _
+          (rw c.line.ensures at more.0);
+      faults = omega (arith, inv.faults, c.next_line.ensures.never_falls);
+    }
+
+pub returns-in-Some-clause-reads : goal.returns-in-Some-clause-reads
+returns-in-Some-clause-reads g c =
+    let inv = c.loop-text.invariant in
+    let call = c.in-Ok-Full.ensures in
+    let feeds = answer_whole c.loop-text.text.stage c.line.result.now c.in-Ok.fed c.in-Some.position c.feed_line.new.self (sym c.position.ensures ∙ c.in-Some.is) (c.in-Ok.ensures.feeds inv.no_answer) in
+    is_whole _ _ _ _ _ _ _ _ inv.so_far _ (rw c.in-Ok-Full.field-0-is at (call.lines inv.goes_on)) (line_read _ c.loop-text.reader.line _ (rw c.in-Ok-Full.field-0-is at (call.line inv.goes_on))) _ call.within
+    (rw c.line.ensures at feeds)
+
+pub returns-in-Some-clause-few : goal.returns-in-Some-clause-few
+returns-in-Some-clause-few g c =
+    let inv = c.loop-text.invariant in
+    let feeds = answer_whole c.loop-text.text.stage c.line.result.now c.in-Ok.fed c.in-Some.position c.feed_line.new.self (sym c.position.ensures ∙ c.in-Some.is) (c.in-Ok.ensures.feeds inv.no_answer) in
+    fed_whole c.loop-text.text.stage c.in-Some.position c.line.result.now inv.few feeds
+
+pub returns-in-Err-clause-reads : goal.returns-in-Err-clause-reads
+returns-in-Err-clause-reads g c =
+    let inv = c.loop-text.invariant in
+    let call = c.in-Ok-Full.ensures in
+    let feeds = (c.in-Err.ensures.feeds inv.no_answer).0 in
+    is_wrong _ _ _ _ _ _ _ _ inv.so_far _ (rw c.in-Ok-Full.field-0-is at (call.lines inv.goes_on)) (line_read _ c.loop-text.reader.line _ (rw c.in-Ok-Full.field-0-is at (call.line inv.goes_on))) _ call.within
+    (rw c.line.ensures at feeds)
+
+pub returns-in-Ok-End-clause-reads : goal.returns-in-Ok-End-clause-reads
+returns-in-Ok-End-clause-reads g c =
+    let inv = c.loop-text.invariant in
+    let call = c.in-Ok-End.ensures in
+    is_missing _ _ _ _ _ _ _ _ inv.so_far call.within (rw c.in-Ok-End.field-0-is at (call.lines inv.goes_on))
+
+pub returns-in-Err-Cut-clause-reads : goal.returns-in-Err-Cut-clause-reads
+returns-in-Err-Cut-clause-reads g c =
+    let inv = c.loop-text.invariant in
+    let call = c.in-Err-Cut.ensures in
+    is_cut _ _ _ _ _ _ _ _ inv.so_far call.within (rw c.in-Err-Cut.field-0-is at (call.lines inv.goes_on))
+
+pub returns-in-Err-TooLong-clause-reads : goal.returns-in-Err-TooLong-clause-reads
+returns-in-Err-TooLong-clause-reads g c =
+    let inv = c.loop-text.invariant in
+    let call = c.in-Err-TooLong.ensures in
+    is_long _ _ _ _ _ _ _ _ inv.so_far call.within (rw c.in-Err-TooLong.field-0-is at (call.lines inv.goes_on))
+
+pub returns-in-Err-Read-clause-reads : goal.returns-in-Err-Read-clause-reads
+returns-in-Err-Read-clause-reads g c =
+    let inv = c.loop-text.invariant in
+    let call = c.in-Err-Read.ensures in
+    is_fault _ _ _ _ _ _ _ _ inv.so_far call.within (rw c.in-Err-Read.field-0-is at (call.lines inv.goes_on))

@@ -1,0 +1,4 @@
+pub mod Taken
+pub mod Text
+pub mod TextLaws
+pub mod TextRead

@@ -1,0 +1,49 @@
+-- Words that are numbers, and words behind a command.
+use Rattle.std.proofs.Common.{◌≡◌, ◌≢◌, ℕ, ◌<◌, ◌≤◌, ◌^◌, List, [], ◌∷◌, length, get_or, drop, map, Option, Result, Err, inl, inr, subst, take, ◌-◌, arith}
+use Rattle.std.specs.Char.{IsAsciiDigit}
+use Rattle.std.specs.List.{All}
+use Rattle.std.specs.Str.Parse.{AllDigits, digits_value, ParsesUnsigned}
+use Rattle.std.proofs.lemmas.Str.Parse.{IsNumeralModel, numerals_by_value, tells_digits, parse_plain}
+use Rattle.std.proofs.lemmas.List.Elements.{All-head, All-tail}
+use Rattle.std.proofs.lemmas.List.{take_rest}
+use Rattle.desk_words.specs.Order.{IsCommand, IsNaturalText, KeepOrdered, Ordered, OrderedBehind, ReadsNumber, most_moves}
+use Rattle.desk_words.specs.declared.order.Command.{Command}
+use Rattle.desk_words.specs.declared.order.Order.{Order}
+use Rattle.desk_words.specs.declared.order.UsageWhy.{UsageWhy}
+
+digits_model : IsNumeralModel (AllDigits 10) (digits_value 10)
+digits_model = numerals_by_value (AllDigits 10) tells_digits
+
+all_digits : (word : List ℕ) → All IsAsciiDigit word → AllDigits 10 word
+all_digits [] h = tt
+all_digits (d ∷ word) h = tells_digits.more d word (All-head IsAsciiDigit d word h) (all_digits word (All-tail IsAsciiDigit d word h))
+
+-- a natural's text is digits, and no plus stands first
+natural_digits : (word : List ℕ) → IsNaturalText word → AllDigits 10 word × (0 < length word) × (get_or word 0 0 ≢ 43)
+natural_digits [] h = absurd h
+natural_digits (first ∷ rest) (inl (zero', none)) =
+    (rw none (tells_digits.more first [] (omega (arith, zero'), omega (arith, zero')) tt), omega arith, λ plus. omega (arith, plus, zero'))
+natural_digits (first ∷ rest) (inr (low, high, more)) =
+    (tells_digits.more first rest (omega (arith, low), high) (all_digits rest more), omega arith, λ plus. omega (arith, plus, low))
+
+-- a natural that is no u64 is too large
+pub no_number : {E : Type 0} (word : List ℕ) (why : E) → IsNaturalText word → ParsesUnsigned 64 10 word (Err why) → digits_value 10 word < 2 ^ 64 → ⊥
+no_number word why text parsed small =
+    let shape = natural_digits word text in
+    parse_plain digits_model 64 word (Err why) parsed shape.2 (shape.0, shape.1, small)
+
+-- what the words order whose first names this command, or none
+pub behind : {A : Type 0} (f : A → List ℕ) (answer : Result Order UsageWhy) (command : Option Command) (words : List A) (first : A) → 1 ≤ length words → first ≡ get_or words 0 first → IsCommand (f first) command → OrderedBehind command (map f (take (length words - 1) (drop 1 words))) answer → Ordered (map f words) answer
+behind f answer command [] first some at is says = absurd (omega arith)
+behind {A} f answer command (head ∷ words) first some at is says =
+    let P : List A → Type 0 = λ rest. OrderedBehind command (map f rest) answer in
+    let Q : A → Type 0 = λ word. IsCommand (f word) command in (command, subst Q at is, subst P (take_rest (head ∷ words) 1) says)
+
+-- three words behind `keep` whose first is no number of moves
+pub keep_refused : {A : Type 0} (f : A → List ℕ) (answer : Result Order UsageWhy) (why : UsageWhy) (words : List A) (first : A) → 3 ≤ length words → length words < 4 → first ≡ get_or words 0 first → ReadsNumber (f first) 0 most_moves (Err why) → answer ≡ Err why → KeepOrdered (map f words) answer
+keep_refused f answer why [] first low high at reads is = absurd (omega arith)
+keep_refused f answer why (a ∷ []) first low high at reads is = absurd (omega arith)
+keep_refused f answer why (a ∷ b ∷ []) first low high at reads is = absurd (omega arith)
+keep_refused {A} f answer why (a ∷ b ∷ c ∷ []) first low high at reads is =
+    let P : A → Type 0 = λ w. ReadsNumber (f w) 0 most_moves (Err why) in (Err why, subst P at reads, is)
+keep_refused f answer why (a ∷ b ∷ c ∷ d ∷ words) first low high at reads is = absurd (omega arith)

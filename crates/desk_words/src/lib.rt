@@ -1,0 +1,8 @@
+//! The words of a command line: the order that they are, or the first reason why they are none (`specs/Order`).
+#![tactic(auto)]
+
+mod order;
+
+pub use order::{
+    DEFAULT_BUDGET, FILE_NAME, KEEP_NAME, Order, TextOrder, UsageWhy, order_of, word_at,
+};
