@@ -2,10 +2,10 @@
 """usage: gallery/make.py [--mate PROGRAM] [--stored] [--quick] [--kept] [--only WORD]
 
 Asks ./mate, or another build of it, what positions.py lists, compares each answer with what is claimed there, and writes docs/GALLERY.md with
-its pictures docs/gallery/*.svg. Every answer is put into gallery/answers.json; with --stored those that stand there are taken, and only the
-others are asked for. --quick looks for the budget among the numbers 256, 512, 1024 and so on alone. With --kept nothing is asked for, and
-what has no kept answer is left out of the page, which says so. --only asks for the entries and families whose names have the word, and writes no page. The code is 0 where all claims
-hold, else 1.
+its pictures docs/gallery/*.svg. Every answer is put into gallery/answers.json, with the program that gave it; with --stored those that stand
+there are taken, and only the others are asked for. --quick looks for the budget among the numbers 256, 512, 1024 and so on alone. With --kept
+nothing is asked for, and what has no kept answer is left out of the page, which says so. --only asks for the entries and families whose names
+have the word, and writes no page. The code is 0 where all claims hold, else 1.
 """
 import importlib.machinery
 import importlib.util
@@ -20,11 +20,14 @@ HERE = os.path.dirname(os.path.realpath(__file__))
 TOP = os.path.dirname(HERE)
 sys.path.insert(0, HERE)
 sys.dont_write_bytecode = True
-from positions import ENTRIES, FAMILIES  # noqa: E402
+from positions import ENTRIES, FAMILIES, SEARCH, TRIED  # noqa: E402
 
 ANSWERS = f"{HERE}/answers.json"
 MOST_BUDGET = 200000
 OVER = 8
+# Where a verdict takes more seconds than this, the least budget is not looked for by halves.
+SECONDS_FOR_HALVES = 1.0
+OWN = "./mate"
 
 
 def module_of(path):
@@ -55,28 +58,34 @@ class Engine:
 
     def __init__(self, program, words):
         self.program, self.fresh, self.answers = program, 0, {}
+        self.name = OWN if os.path.realpath(program) == f"{TOP}/mate" else "another build"
         self.is_quick, self.asks = "--quick" in words, "--kept" not in words
         if {"--stored", "--kept", "--only"} & set(words) and os.path.exists(ANSWERS):
             with open(ANSWERS, encoding="utf-8") as it:
                 self.answers = json.load(it)
 
-    def ask(self, words, text):
+    def ask(self, words, text, most_seconds=None):
         key = words + "\n" + text
         if key not in self.answers and not self.asks:
             raise Missing
         if key not in self.answers:
-            self.answers[key] = self.run(words, text)
+            self.answers[key] = self.run(words, text, most_seconds)
             self.fresh += 1
             self.store()
         return self.answers[key]
 
-    def run(self, words, text):
+    def run(self, words, text, most_seconds):
+        def bound():
+            if most_seconds:
+                resource.setrlimit(resource.RLIMIT_CPU, (most_seconds, most_seconds))
+
         with tempfile.TemporaryDirectory() as folder:
             before = resource.getrusage(resource.RUSAGE_CHILDREN).ru_utime
-            done = subprocess.run([self.program, *words.split()], input=text.encode(), stdout=subprocess.PIPE, cwd=folder)
+            done = subprocess.run([self.program, *words.split()], input=text.encode(), stdout=subprocess.PIPE, cwd=folder, preexec_fn=bound)
             seconds = resource.getrusage(resource.RUSAGE_CHILDREN).ru_utime - before
             kept = [states_in(f"{folder}/{it}") for it in os.listdir(folder)]
-        return {"wrote": done.stdout.decode(), "code": done.returncode, "seconds": round(seconds, 2), "states": kept[0] if kept else []}
+        states = kept[0] if kept else []
+        return {"wrote": done.stdout.decode(), "code": done.returncode, "seconds": round(seconds, 2), "states": states, "by": self.name}
 
     def store(self):
         with open(ANSWERS, "w", encoding="utf-8") as it:
@@ -147,7 +156,8 @@ def answers_of(engine, entry):
         replies = "".join(f"{it}\n" for it in entry.replies)
         game = engine.ask(f"play {entry.moves} {MOST_BUDGET}", text + replies)["wrote"].splitlines()
         expect(f"{entry.name}, played", entry.played, game)
-    budget = least_budget(engine, f"decide {entry.moves}", text, engine.is_quick)
+    is_quick = engine.is_quick or verdict["seconds"] > SECONDS_FOR_HALVES
+    budget = least_budget(engine, f"decide {entry.moves}", text, is_quick)
     return {"text": text, "verdict": verdict, "rays": rays, "states": states, "game": game, "budget": budget}
 
 
@@ -197,11 +207,45 @@ def entry_lines(engine, number, entry):
 def family_lines(engine, family):
     lines = [f"### {family.title}", "", family.sentence, "", f"| {family.parameter} | answer |", "|---|---|"]
     for value in family.values:
-        words = f"decide {family.moves} {family.budget}"
+        words = f"{family.word} {family.moves} {family.budget}"
         answer = engine.ask(words, text_of(family.men(value), "W"))["wrote"].strip()
         expect(f"{family.title}, {value}", family.claim(value), answer)
         lines.append(f"| {value} | {answer} |")
     return [*lines, ""]
+
+
+def outcome(engine, words, text, most_seconds):
+    """Returns what the engine answers within so many seconds, or that it does not."""
+    answer = engine.ask(words, text, most_seconds)
+    done = answer["code"] in (0, OVER) and answer["wrote"].endswith("\n")
+    return answer["wrote"].strip() if done else f"no answer within {most_seconds} s"
+
+
+def tried_lines(engine):
+    """Returns the section on what passes every budget, with the step that the engine names."""
+    lines = ["| White / Black | command | outcome |", "|---|---|---|"]
+    open_ones, answered = [], []
+    for number, tried in enumerate(TRIED, 1):
+        words = f"decide {tried.moves} {MOST_BUDGET}"
+        told = outcome(engine, words, text_of(tried.men, "W"), tried.most_seconds)
+        lines.append(f"| {number}. {tried.men} | `{words}` | `{told}` |")
+        (answered if "mate in" in told else open_ones).append(str(number))
+    not_known = f"Not known here: whether White can mate within the number of moves in position {', '.join(open_ones)}. " * bool(open_ones)
+    known = f"The engine decides position {', '.join(answered)}." * bool(answered)
+    return [*lines, "", (not_known + known).strip(), ""]
+
+
+def search_lines(engine):
+    """Returns the section on the longest least number among the positions that were searched with the budget of a command that names none."""
+    words = f"least {SEARCH.moves} {SEARCH.budget}"
+    lines = ["| White / Black | outcome |", "|---|---|"]
+    longest = 0
+    for men in SEARCH.positions:
+        told = outcome(engine, words, text_of(men, "W"), SEARCH.most_seconds)
+        longest = max(longest, int(told.split()[1]) if told.startswith("least ") else 0)
+        lines.append(f"| {men} | `{told}` |")
+    end = f"The longest least number among these {len(SEARCH.positions)} is {longest}. Others were not searched, so a longer one may stand elsewhere."
+    return [SEARCH.sentence, "", f"Command: `{words}`, for at most {SEARCH.most_seconds} s each.", "", *lines, "", end, ""]
 
 
 def collected(engine, only):
@@ -213,7 +257,11 @@ def collected(engine, only):
     for family in FAMILIES:
         if only in family.title:
             collect(families, wrong, left_out, family.title, lambda: family_lines(engine, family))
-    return entries, families, wrong, left_out
+    tried, search = [], []
+    if not only:
+        collect(tried, wrong, left_out, "what passes every budget", lambda: tried_lines(engine))
+        collect(search, wrong, left_out, "the longest least number", lambda: search_lines(engine))
+    return {"Positions": entries, "Families": families, "What the engine cannot decide": tried, "The longest least number": search}, wrong, left_out
 
 
 def collect(lines, wrong, left_out, name, made):
@@ -228,13 +276,23 @@ def collect(lines, wrong, left_out, name, made):
         print(f"left out    {name}", flush=True)
 
 
-def page_of(entries, families, left_out):
+def whose(engine):
+    """Returns the sentence on the programs that gave the answers."""
+    others = sum(it.get("by") != OWN for it in engine.answers.values())
+    if not others:
+        return "All answers here are those of the proved program, `./mate`."
+    return f"Of the {len(engine.answers)} answers, {others} are those of a build of the same sources without their proofs."
+
+
+def page_of(engine, sections, left_out):
     with open(f"{HERE}/head.md", encoding="utf-8") as it:
         head = it.read()
     with open(f"{HERE}/by-hand.md", encoding="utf-8") as it:
         hand = it.read()
-    head += f"Left out here, since their answers were not kept: {', '.join(left_out)}.\n" * bool(left_out)
-    return "\n".join([head, "## Positions", "", *entries, "## Families", "", *families, hand])
+    head += f"\n{whose(engine)}\n"
+    head += f"\nLeft out here, since their answers were not kept: {', '.join(left_out)}.\n" * bool(left_out)
+    parts = [line for title, lines in sections.items() if lines for line in (f"## {title}", "", *lines)]
+    return "\n".join([head, *parts, hand])
 
 
 def option(words, name, default):
@@ -247,12 +305,12 @@ def main(words):
         return 2
     engine = Engine(option(words, "--mate", f"{TOP}/mate"), words)
     os.makedirs(f"{TOP}/docs/gallery", exist_ok=True)
-    entries, families, wrong, left_out = collected(engine, option(words, "--only", ""))
+    sections, wrong, left_out = collected(engine, option(words, "--only", ""))
     if not wrong and "--only" not in words:
         with open(f"{TOP}/docs/GALLERY.md", "w", encoding="utf-8") as it:
-            it.write(page_of(entries, families, left_out))
+            it.write(page_of(engine, sections, left_out))
     seconds = sum(it["seconds"] for it in engine.answers.values())
-    print(f"{len(ENTRIES)} positions, {len(FAMILIES)} families, {len(wrong)} wrong; {engine.fresh} answers asked for, {seconds:.0f} s of the program in all")
+    print(f"{len(ENTRIES)} positions, {len(FAMILIES)} families, {len(wrong)} wrong; {engine.fresh} asked for, {seconds:.0f} s of the program in all")
     return 1 if wrong else 0
 
 

@@ -63,6 +63,11 @@ ENTRIES = [
           "After the check the black rook comes down file 3 and stands between. From the file beyond the king's other side it could not, however near it is."),
     Entry("near-defender", "Lost from near by", "K 0 -2, R 10 1, R 5 7 / K 0 0, R -3 3", 1, "least 1",
           "Nearer, and on the wrong side: no square between the king and the rook at 5 0 can be reached."),
+    Entry("bishop-near", "Too near to help", "K 0 -2, R 10 1, R 5 7 / K 0 0, B 1000 3", 1, "least 1",
+          "The bishop stands 3 ranks above rank 0 and reaches it at 997 0 and 1003 0, on the far side of the rook at 5 0.",
+          rays=["man 3 step 0 -1 least 7 only"]),
+    Entry("bishop-far", "Saved only from far away", "K 0 -2, R 10 1, R 5 7 / K 0 0, B 1000 997", 1, "none up to 1",
+          "From 997 ranks above he comes down the diagonal to 3 0 and stands between. The table of his heights is below."),
     Entry("knight", "A knight defends", "K 0 -2, R 10 1, R 5 7 / K 0 0, N 6 2", 1, "none up to 1", "The knight takes on 5 0."),
     Entry("knight-aside", "A knight one file aside", "K 0 -2, R 10 1, R 5 7 / K 0 0, N 7 2", 1, "least 1",
           "From 7 2 a knight reaches neither 5 0 nor a square between."),
@@ -74,7 +79,7 @@ ENTRIES = [
     Entry("queen-knight", "King, queen and knight", "K 0 2, Q 5 1, N 0 -3 / K 0 0", 1, "least 1",
           "The knight has 1 -1 and -1 -1, the two squares that a queen at 0 1 leaves."),
     Entry("queen-pawn", "King, queen and pawn", "K 0 2, Q 5 1, P 0 -2 / K 0 0", 1, "least 1",
-          "So has a pawn. Two men that are worth little give what a board's edge would."),
+          "A pawn at 0 -2 has the same two squares."),
     Entry("queen-alone", "A mate on 8 by 8 that is none here", "K 0 2, Q 5 1 / K 0 0", 2, "none up to 2",
           "On a board that ends below rank 0 the queen mates at 0 1. Here the king leaves to 1 -1 or -1 -1."),
     Entry("rook-alone", "A rook mates on 8 by 8", "K 0 2, R 5 5 / K 0 0", 2, "none up to 2",
@@ -85,11 +90,11 @@ ENTRIES = [
           "Guarded by the other, the lower queen mates at -1 0. At -1 -2 she would stalemate."),
     Entry("stalemate", "Stalemate", "K 100 100, Q 1 2, Q -1 -2 / K 0 0", 1, "none up to 1", "Black has no move and is not in check: no mate.", turn="B"),
     Entry("three-rooks-in-one", "Three rooks", "K 50 50, R 6 1, R 5 7, R -9 -1 / K 0 0", 1, "least 1",
-          "Three rooks need no king: each has a rank."),
+          "Their king takes no part: each rook has a rank."),
     Entry("three-rooks-in-two", "Three rooks in two", "K 50 50, R 5 1, R 5 7, R -9 -1 / K 0 0", 2, "least 2",
           "One rook stands in the other's way and steps aside first."),
     Entry("rook-bishop", "Rook and bishop", "K 0 2, R 5 -1, B 6 6 / K 3 0", 1, "none up to 1",
-          "Each check leaves the king a square: a rook has one line, a bishop two, and their king is on one side."),
+          "No mate here, and none anywhere: king, rook and bishop have seven of the eight squares that they need. The proof is below."),
     Entry("lone-kings", "Two kings", "K 0 0 / K 10 0", 3, "none up to 3", "A king gives no check."),
     Entry("captured-queen", "A captured queen", "K 0 -2, R 10 1, R 5 7, Q gone / K 0 0", 1, "least 1", "She takes no part."),
     Entry("guard-moves", "The guard on the wrong side", ladder(guard="R 10 -1"), 1, "none up to 1",
@@ -113,13 +118,38 @@ class Family:
     moves: int
     claim: object
     budget: int = 200000
+    word: str = "decide"
 
 
 def mates_if(test):
     return lambda at: "mate in 1" if test(at) else "no mate in 1"
 
 
+def two_rooks(file):
+    return f"least {abs(file) + 1}" if abs(file) <= 1 else "none up to 2"
+
+
+def three_rooks(file):
+    return "least 2" if file in (-10, -9, -8, 4, 6, 7) else "least 1"
+
+
 FAMILIES = [
+    Family("Two rooks against a lone king, by his distance",
+           "White's king is at 0 -2, his rooks at 20 1 and 30 7, Black's king at F 0. Opposite the white king he is mated in one, one file aside in two "
+           "(the rook first takes the file beyond him, and he has to step back), and from two files on he is not mated in two.", "file of the black king",
+           [-10, -4, -3, -2, -1, 0, 1, 2, 3, 4, 10], lambda at: f"K 0 -2, R 20 1, R 30 7 / K {at} 0", 2, two_rooks, word="least"),
+    Family("Three rooks and a wandering king",
+           "White's king is at 50 50, his rooks at 6 1, 5 7 and -9 -1, Black's king at F 0. He is mated in one wherever he is beside none of 5 0, 6 1 and -9 -1, "
+           "and else in two: there he would take the rook that checks or one that guards, and White first sends it away. (On file 5 he is in check.)",
+           "file of the black king", [-1000, -100, -11, -10, -9, -8, -7, -1, 0, 1, 2, 3, 4, 6, 7, 8, 9, 100, 1000],
+           lambda at: f"K 50 50, R 6 1, R 5 7, R -9 -1 / K {at} 0", 2, three_rooks, word="least"),
+    Family("A defender who saves himself only from far away",
+           "A black bishop on file 1000. From the heights 995 to 999 a diagonal leads him to one of the squares 1 0 to 4 0 or to the rook at 5 0. Nearer to rank 0, "
+           "and farther still, it leads him elsewhere, and White mates.", "height of the bishop",
+           [1, 2, 3, 10, 100, 500, 994, 995, 996, 997, 998, 999, 1000, 1001, 2000], lambda at: ladder() + f", B 1000 {at}", 1,
+           mates_if(lambda at: not 995 <= at <= 999)),
+    Family("The white king's rank", "There is a mate where he stands two ranks below the black king.", "rank of the white king",
+           [-1000, -4, -3, -2, 2, 3, 1000], lambda at: ladder(king=f"K 0 {at}"), 1, mates_if(lambda at: at == -2)),
     Family("The ladder by distance", "The rook mates from every height of file 5.", "rank of the rook",
            [1, 2, 3, 7, 8, 100, 2**16, 10**6, 2**31, 10**12, 10**18, MOST], lambda at: ladder(rook=f"R 5 {at}"), 1, mates_if(lambda at: True)),
     Family("The ladder by file", "The rook mates from each file but those beside the king's and the guard's own.", "file of the rook",
@@ -131,3 +161,37 @@ FAMILIES = [
     Family("Near he is taken, far he takes", "A black bishop on the diagonal from 5 0 down to the right: at 5 0 he is taken with mate, from each farther square he takes the rook.",
            "steps from 5 0", [0, 1, 2, 3, 10, 1000, 10**6, 10**18], lambda at: ladder() + f", B {5 + at} {-at}", 1, mates_if(lambda at: at == 0)),
 ]
+
+
+@dataclass
+class Tried:
+    """A position with White to move of which a mate is asked for with the greatest budget, and the seconds that it may take."""
+
+    men: str
+    moves: int
+    most_seconds: int = 90
+
+
+TRIED = [
+    Tried("K 0 -2, R 10 1, R 7 7 / K 1 0, Q 20 20", 2),
+    Tried("K 0 -2, R 10 1, R 7 7 / K 1 0, R 20 20", 2),
+    Tried("K 50 50, R 6 1, R 5 7, R -9 -1 / K 4 0", 3),
+]
+
+
+@dataclass
+class Search:
+    """Positions of which the least number is asked for, with a budget and the seconds that each may take."""
+
+    sentence: str
+    positions: list
+    moves: int
+    budget: int
+    most_seconds: int
+
+
+SEARCH = Search(
+    "With the budget 50000, that of a command which names none, these positions were searched: White's king at 0 -2 or 0 -3, Black's at 0 0, 1 0 or 2 0, and two "
+    "men with which a mate is near.",
+    [f"K 0 {rank}, {men} / K {file} 0" for men in ("R 10 1, R 7 7", "Q 5 1, P 0 -4") for rank in (-2, -3) for file in (0, 1, 2)],
+    4, 50000, 15)
