@@ -169,7 +169,7 @@ class Tried:
 
     men: str
     moves: int
-    most_seconds: int = 90
+    most_seconds: int = 60
 
 
 TRIED = [
