@@ -208,7 +208,7 @@ def family_lines(engine, family):
     lines = [f"### {family.title}", "", family.sentence, "", f"| {family.parameter} | answer |", "|---|---|"]
     for value in family.values:
         words = f"{family.word} {family.moves} {family.budget}"
-        answer = engine.ask(words, text_of(family.men(value), "W"))["wrote"].strip()
+        answer = engine.ask(words, text_of(family.men(value), family.turn))["wrote"].strip()
         expect(f"{family.title}, {value}", family.claim(value), answer)
         lines.append(f"| {value} | {answer} |")
     return [*lines, ""]

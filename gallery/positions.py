@@ -40,7 +40,8 @@ ENTRIES = [
           "A check at once lets the king out at 2 -1. The rook first takes file 2 from him.",
           replies=["4 0 0"], played=["white 3 2 7", "white 3 2 0", "mate"]),
     Entry("black-to-move", "One reply", "K 0 -2, R 10 1, R 2 7 / K 1 0", 1, "least 1",
-          "Black is to move and has one move, to 0 0, where the rook mates him from 2 0.", turn="B"),
+          "Black is to move and has one move, to 0 0, where the rook mates him from 2 0.", turn="B",
+          replies=["4 0 0"], played=["white 3 2 0", "mate"]),
     Entry("far-rook", "A rook from far away", ladder(rook=f"R 5 {10**18}"), 1, "least 1",
           "A rook needs one move for any distance.", rays=[f"man 3 step 0 -1 least {10**18} only"]),
     Entry("longest-way", "From one end of the numbers to the other",
@@ -73,11 +74,12 @@ ENTRIES = [
           "From 7 2 a knight reaches neither 5 0 nor a square between."),
     Entry("pawn", "A pawn mates", "K 0 -2, R 10 1, N 0 2, P 1 -2 / K 0 0", 1, "least 1",
           "The pawn checks from 1 -1, where its king guards it. The knight has the squares beside the black king on his rank.",
-          rays=["man 4 step 0 1 least 1 only"]),
+          rays=["man 4 step 0 1 least 1 only"], played=["white 4 1 -1", "mate"]),
     Entry("queen-rook", "King, queen and rook", "K 0 2, Q 5 1, R 10 -1 / K 0 0", 1, "least 1",
           "The queen mates from 0 1, guarded by the king; the rook has rank -1."),
     Entry("queen-knight", "King, queen and knight", "K 0 2, Q 5 1, N 0 -3 / K 0 0", 1, "least 1",
-          "The knight has 1 -1 and -1 -1, the two squares that a queen at 0 1 leaves."),
+          "The knight has 1 -1 and -1 -1, the two squares that a queen at 0 1 leaves.",
+          rays=["man 2 step -1 0 least 5 only"], played=["white 2 0 1", "mate"]),
     Entry("queen-pawn", "King, queen and pawn", "K 0 2, Q 5 1, P 0 -2 / K 0 0", 1, "least 1",
           "A pawn at 0 -2 has the same two squares."),
     Entry("queen-alone", "A mate on 8 by 8 that is none here", "K 0 2, Q 5 1 / K 0 0", 2, "none up to 2",
@@ -85,9 +87,11 @@ ENTRIES = [
     Entry("rook-alone", "A rook mates on 8 by 8", "K 0 2, R 5 5 / K 0 0", 2, "none up to 2",
           "On a board that ends below rank 0 the rook mates at 5 0. Here rank -1 is open."),
     Entry("no-edge", "A mate because there is no edge", "K 6 3, R 8 1, R 8 -1, R 2 5 / K 1 0", 1, "least 1",
-          "On the board of files 1 to 8 and ranks -2 to 5 Black is stalemated. Here he has the move to 0 0, and the rook mates at 2 0.", turn="B"),
+          "On the board of files 1 to 8 and ranks -2 to 5 Black is stalemated. Here he has the move to 0 0, and the rook mates at 2 0.", turn="B",
+          replies=["5 0 0"], played=["white 4 2 0", "mate"]),
     Entry("two-queens", "King and two queens, their king far away", "K 100 100, Q 1 2, Q -1 -7 / K 0 0", 1, "least 1",
-          "Guarded by the other, the lower queen mates at -1 0. At -1 -2 she would stalemate."),
+          "Guarded by the other, the lower queen mates at -1 0. At -1 -2 she would stalemate.",
+          rays=["man 3 step 0 1 least 7 only"], played=["white 3 -1 0", "mate"]),
     Entry("stalemate", "Stalemate", "K 100 100, Q 1 2, Q -1 -2 / K 0 0", 1, "none up to 1", "Black has no move and is not in check: no mate.", turn="B"),
     Entry("three-rooks-in-one", "Three rooks", "K 50 50, R 6 1, R 5 7, R -9 -1 / K 0 0", 1, "least 1",
           "Their king takes no part: each rook has a rank."),
@@ -119,6 +123,7 @@ class Family:
     claim: object
     budget: int = 200000
     word: str = "decide"
+    turn: str = "W"
 
 
 def mates_if(test):
@@ -158,6 +163,9 @@ FAMILIES = [
            [-1000, -3, -2, -1, 0, 1, 2, 3, 1000], lambda at: ladder(king=f"K {at} -2"), 1, mates_if(lambda at: at == 0)),
     Family("A black rook far up", "He saves himself exactly on the files 1 to 5: on four he stands between, on the fifth he takes.", "file of the black rook",
            [-2, -1, 0, 1, 2, 3, 4, 5, 6, 7, 8], lambda at: ladder() + f", R {at} 1000", 1, mates_if(lambda at: not 1 <= at <= 5)),
+    Family("How far the bishop goes", "The bishop of `bishop` after D steps up to the right, with Black to move: he is mated but for D = 1, so the set of winning "
+           "squares on this ray, as far as it is listed, is all but the first.", "D", [1, 2, 3, 4, 5, 6, 10, 100, 10**6, 10**18],
+           lambda at: f"K 0 -2, R 10 0, R 10 1, B {5 + at} {at} / K 0 0", 0, lambda at: "no mate in 0" if at == 1 else "mate in 0", turn="B"),
     Family("Near he is taken, far he takes", "A black bishop on the diagonal from 5 0 down to the right: at 5 0 he is taken with mate, from each farther square he takes the rook.",
            "steps from 5 0", [0, 1, 2, 3, 10, 1000, 10**6, 10**18], lambda at: ladder() + f", B {5 + at} {-at}", 1, mates_if(lambda at: at == 0)),
 ]
@@ -176,6 +184,7 @@ TRIED = [
     Tried("K 0 -2, R 10 1, R 7 7 / K 1 0, Q 20 20", 2),
     Tried("K 0 -2, R 10 1, R 7 7 / K 1 0, R 20 20", 2),
     Tried("K 50 50, R 6 1, R 5 7, R -9 -1 / K 4 0", 3),
+    Tried("K 0 -2, R 10 1, R 5 7 / K 0 0, Q 7905747460161236407 -5270498306774157605", 1),
 ]
 
 
@@ -194,4 +203,4 @@ SEARCH = Search(
     "With the budget 50000, that of a command which names none, these positions were searched: White's king at 0 -2 or 0 -3, Black's at 0 0, 1 0 or 2 0, and two "
     "men with which a mate is near.",
     [f"K 0 {rank}, {men} / K {file} 0" for men in ("R 10 1, R 7 7", "Q 5 1, P 0 -4") for rank in (-2, -3) for file in (0, 1, 2)],
-    4, 50000, 15)
+    4, 50000, 12)
