@@ -200,7 +200,6 @@ class Search:
 
 
 SEARCH = Search(
-    "With the budget 50000, that of a command which names none, these positions were searched: White's king at 0 -2 or 0 -3, Black's at 0 0, 1 0 or 2 0, and two "
-    "men with which a mate is near.",
-    [f"K 0 {rank}, {men} / K {file} 0" for men in ("R 10 1, R 7 7", "Q 5 1, P 0 -4") for rank in (-2, -3) for file in (0, 1, 2)],
-    4, 50000, 12)
+    "The budget of a command which names none is 50000. These positions of king and two rooks were searched with it: White's king at 0 -2 or 0 -3, his rooks "
+    "at 10 1 and 7 7, Black's king at F 0 for F from 0 to 3.",
+    [f"K 0 {rank}, R 10 1, R 7 7 / K {file} 0" for rank in (-2, -3) for file in range(4)], 4, 50000, 30)
