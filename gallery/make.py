@@ -223,16 +223,20 @@ def outcome(engine, words, text, most_seconds):
 
 def tried_lines(engine):
     """Returns the section on what passes every budget, with the step that the engine names."""
-    lines = ["| White / Black | command | outcome |", "|---|---|---|"]
-    open_ones, answered = [], []
+    lines = ["Asked for with the greatest budget. The step that passes it is named by the engine; docs/FORMATS.md says how to read its line.", ""]
+    lines += ["| White / Black | command | outcome |", "|---|---|---|"]
+    numbers = {"mate in": [], "over budget": [], "no answer": []}
     for number, tried in enumerate(TRIED, 1):
         words = f"decide {tried.moves} {MOST_BUDGET}"
         told = outcome(engine, words, text_of(tried.men, "W"), tried.most_seconds)
         lines.append(f"| {number}. {tried.men} | `{words}` | `{told}` |")
-        (answered if "mate in" in told else open_ones).append(str(number))
-    not_known = f"Not known here: whether White can mate within the number of moves in position {', '.join(open_ones)}. " * bool(open_ones)
-    known = f"The engine decides position {', '.join(answered)}." * bool(answered)
-    return [*lines, "", (not_known + known).strip(), ""]
+        next(its for part, its in numbers.items() if part in told).append(f"{number}")
+    said = {
+        "mate in": "Decided: position {}.",
+        "over budget": "Past every budget: position {}. Whether White mates there within this number of moves, the engine cannot say.",
+        "no answer": "Ended for want of time: position {}. It is not known whether the budget is enough there.",
+    }
+    return [*lines, "", *[said[part].format(", ".join(its)) for part, its in numbers.items() if its], ""]
 
 
 def search_lines(engine):
@@ -244,7 +248,7 @@ def search_lines(engine):
         told = outcome(engine, words, text_of(men, "W"), SEARCH.most_seconds)
         longest = max(longest, int(told.split()[1]) if told.startswith("least ") else 0)
         lines.append(f"| {men} | `{told}` |")
-    end = f"The longest least number among these {len(SEARCH.positions)} is {longest}. Others were not searched, so a longer one may stand elsewhere."
+    end = f"The longest least number found among these {len(SEARCH.positions)} is {longest}. Others were not searched, so a longer one may stand elsewhere."
     return [SEARCH.sentence, "", f"Command: `{words}`, for at most {SEARCH.most_seconds} s each.", "", *lines, "", end, ""]
 
 
