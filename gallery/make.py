@@ -1,0 +1,322 @@
+#!/usr/bin/env python3
+"""usage: gallery/make.py [--mate PROGRAM] [--stored] [--quick] [--kept] [--only WORD]
+
+Asks ./mate, or another build of it, what positions.py lists, compares each answer with what is claimed there, and writes docs/GALLERY.md with
+its pictures docs/gallery/*.svg. Every answer is put into gallery/answers.json, with the program that gave it; with --stored those that stand
+there are taken, and only the others are asked for. --quick looks for the budget among the numbers 256, 512, 1024 and so on alone. With --kept
+nothing is asked for, and what has no kept answer is left out of the page, which says so. --only asks for the entries and families whose names
+have the word, and writes no page. The code is 0 where all claims hold, else 1.
+"""
+import importlib.machinery
+import importlib.util
+import json
+import os
+import resource
+import subprocess
+import sys
+import tempfile
+
+HERE = os.path.dirname(os.path.realpath(__file__))
+TOP = os.path.dirname(HERE)
+sys.path.insert(0, HERE)
+sys.dont_write_bytecode = True
+from positions import ENTRIES, FAMILIES, SEARCH, TRIED  # noqa: E402
+
+ANSWERS = f"{HERE}/answers.json"
+MOST_BUDGET = 200000
+OVER = 8
+# Where a verdict takes more seconds than this, the least budget is not looked for by halves.
+SECONDS_FOR_HALVES = 1.0
+OWN = "./mate"
+
+
+def module_of(path):
+    """Returns the script ./board as a module, which draws the pictures."""
+    loader = importlib.machinery.SourceFileLoader("board", path)
+    made = importlib.util.module_from_spec(importlib.util.spec_from_loader("board", loader))
+    sys.modules["board"] = made
+    loader.exec_module(made)
+    return made
+
+
+board = module_of(f"{TOP}/board")
+
+
+def text_of(men, turn):
+    """Returns the position text of men as positions.py writes them."""
+    sides = zip("WB", men.split("/"))
+    lines = [f"{side} {man.strip()}" for side, part in sides for man in part.split(",")]
+    return "\n".join(["infinite chess 1", f"turn {turn}", *lines, "end", ""])
+
+
+class Missing(Exception):
+    """No answer is kept, and none may be asked for."""
+
+
+class Engine:
+    """The program, with the answers that it gave: what it wrote, its code, and the user seconds that it took."""
+
+    def __init__(self, program, words):
+        self.program, self.fresh, self.answers = program, 0, {}
+        self.name = OWN if os.path.realpath(program) == f"{TOP}/mate" else "another build"
+        self.is_quick, self.asks = "--quick" in words, "--kept" not in words
+        if {"--stored", "--kept", "--only"} & set(words) and os.path.exists(ANSWERS):
+            with open(ANSWERS, encoding="utf-8") as it:
+                self.answers = json.load(it)
+
+    def ask(self, words, text, most_seconds=None):
+        key = words + "\n" + text
+        if key not in self.answers and not self.asks:
+            raise Missing
+        if key not in self.answers:
+            self.answers[key] = self.run(words, text, most_seconds)
+            self.fresh += 1
+            self.store()
+        return self.answers[key]
+
+    def run(self, words, text, most_seconds):
+        def bound():
+            if most_seconds:
+                resource.setrlimit(resource.RLIMIT_CPU, (most_seconds, most_seconds))
+
+        with tempfile.TemporaryDirectory() as folder:
+            before = resource.getrusage(resource.RUSAGE_CHILDREN).ru_utime
+            done = subprocess.run([self.program, *words.split()], input=text.encode(), stdout=subprocess.PIPE, cwd=folder, preexec_fn=bound)
+            seconds = resource.getrusage(resource.RUSAGE_CHILDREN).ru_utime - before
+            kept = [states_in(f"{folder}/{it}") for it in os.listdir(folder)]
+        states = kept[0] if kept else []
+        return {"wrote": done.stdout.decode(), "code": done.returncode, "seconds": round(seconds, 2), "states": states, "by": self.name}
+
+    def store(self):
+        with open(ANSWERS, "w", encoding="utf-8") as it:
+            json.dump(self.answers, it, indent=1, sort_keys=True)
+            it.write("\n")
+
+
+def states_in(path):
+    """Returns the ply, the mask and the number of states of each set of a strategy file; docs/FORMATS.md has its form."""
+    with open(path, "rb") as it:
+        data = it.read()
+    count, at = data[7], 8
+    for _ in range(count):
+        at += 3 + 16 * data[at + 2]
+    sets = []
+    while at < len(data):
+        ply, mask = data[at], data[at + 1]
+        states = int.from_bytes(data[at + 2 : at + 6], "big")
+        letters = 4 ** bin(mask).count("1")
+        sets.append([ply, mask, states])
+        at += 6 + 4 * letters + states * (1 + 4 * letters)
+    return sets
+
+
+def least_budget(engine, words, text, is_quick):
+    """Returns bounds of the least budget with which the words are answered, by doubling and then by halves: the first is too small (or 0), the second
+    is enough, or None where the greatest is too small."""
+    answers = lambda budget: engine.ask(f"{words} {budget}", text)["code"] != OVER
+    high = 256
+    while high < MOST_BUDGET and not answers(high):
+        high = min(2 * high, MOST_BUDGET)
+    if not answers(high):
+        return high, None
+    low = 0 if high == 256 else high // 2
+    while high - low > 1 and not is_quick:
+        middle = (low + high) // 2
+        low, high = (low, middle) if answers(middle) else (middle, high)
+    return low, high
+
+
+def verdict_words(entry):
+    return f"least {entry.moves}" if entry.claim.startswith(("least", "none")) else f"decide {entry.moves}"
+
+
+class Wrong(Exception):
+    """An answer is not what is claimed."""
+
+
+def expect(what, claimed, answer):
+    if claimed != answer:
+        raise Wrong(f"{what}: claimed {claimed!r}, answered {answer!r}")
+
+
+def answers_of(engine, entry):
+    """Asks all that the page tells of an entry, and compares it with what is claimed."""
+    text = text_of(entry.men, entry.turn)
+    verdict = engine.ask(f"{verdict_words(entry)} {MOST_BUDGET}", text)
+    expect(entry.name, entry.claim + "\n", verdict["wrote"])
+    mates = entry.claim.startswith(("least", "mate"))
+    rays, states, game = [], None, []
+    if mates and entry.turn == "W":
+        rays = engine.ask(f"first {entry.moves} {MOST_BUDGET}", text)["wrote"].splitlines()[:-1]
+        if entry.rays is not None:
+            expect(f"{entry.name}, first moves", entry.rays, rays)
+    if mates:
+        states = engine.ask(f"keep {entry.moves} kept {MOST_BUDGET}", text)["states"]
+    if entry.played:
+        replies = "".join(f"{it}\n" for it in entry.replies)
+        game = engine.ask(f"play {entry.moves} {MOST_BUDGET}", text + replies)["wrote"].splitlines()
+        expect(f"{entry.name}, played", entry.played, game)
+    is_quick = engine.is_quick or verdict["seconds"] > SECONDS_FOR_HALVES
+    budget = least_budget(engine, f"decide {entry.moves}", text, is_quick)
+    return {"text": text, "verdict": verdict, "rays": rays, "states": states, "game": game, "budget": budget}
+
+
+def picture(engine, entry, text):
+    """Writes the drawing of an entry, and returns its path from docs/ on."""
+    shown = engine.ask("show", text)["wrote"].splitlines()
+    name = f"gallery/{entry.name}.svg"
+    with open(f"{TOP}/docs/{name}", "w", encoding="utf-8") as it:
+        it.write(board.as_svg(board.Board(board.position_of(shown), [])))
+    return name
+
+
+def described(states):
+    """Returns the sentence about the sets of a strategy file."""
+    ply, mask, most = max(states, key=lambda it: it[2])
+    names = [str(at + 1) for at in range(8) if mask >> at & 1]
+    return f"{len(states)} sets; the greatest has {most} states (ply {ply}, men {', '.join(names)})"
+
+
+def budget_told(small, enough):
+    if enough is None:
+        return f"{small} is too small"
+    if enough == small + 1:
+        return f"{enough} is the least"
+    return f"{enough} is enough" + f", {small} too small" * bool(small)
+
+
+def entry_lines(engine, number, entry):
+    told = answers_of(engine, entry)
+    path = picture(engine, entry, told["text"])
+    turn = "White" if entry.turn == "W" else "Black"
+    rows = [("Verdict", f"`{entry.claim}` (`{verdict_words(entry)}`)")]
+    if told["rays"]:
+        rows.append(("Winning first moves", "<br>".join(f"`{it}`" for it in told["rays"])))
+    if told["states"] is not None:
+        rows.append(("Strategy", described(told["states"])))
+    rows.append(("Budget", budget_told(*told["budget"])))
+    rows.append(("Time", f"{told['verdict']['seconds']:.2f} s"))
+    if told["game"]:
+        replies = f", replies {', '.join(f'`{it}`' for it in entry.replies)}" * bool(entry.replies)
+        rows.append(("Played", " ".join(f"`{it}`" for it in told["game"]) + replies))
+    alt = f"{entry.men.replace(' / ', '. Black: ')}. {turn} to move."
+    table = [f"| {name} | {value} |" for name, value in rows]
+    return [f"### {number}. {entry.title}", "", f"![White: {alt}]({path})", "", entry.caption, "", "| | |", "|---|---|", *table, ""]
+
+
+def family_lines(engine, family):
+    lines = [f"### {family.title}", "", family.sentence, "", f"| {family.parameter} | answer |", "|---|---|"]
+    for value in family.values:
+        words = f"{family.word} {family.moves} {family.budget}"
+        answer = engine.ask(words, text_of(family.men(value), family.turn))["wrote"].strip()
+        expect(f"{family.title}, {value}", family.claim(value), answer)
+        lines.append(f"| {value} | {answer} |")
+    return [*lines, ""]
+
+
+def outcome(engine, words, text, most_seconds):
+    """Returns what the engine answers within so many seconds, or that it does not."""
+    answer = engine.ask(words, text, most_seconds)
+    done = answer["code"] in (0, OVER) and answer["wrote"].endswith("\n")
+    return answer["wrote"].strip() if done else f"no answer within {most_seconds} s"
+
+
+def tried_lines(engine):
+    """Returns the section on what passes every budget, with the step that the engine names."""
+    lines = ["Asked for with the greatest budget. The step that passes it is named by the engine; docs/FORMATS.md says how to read its line.", ""]
+    lines += ["| White / Black | command | outcome |", "|---|---|---|"]
+    numbers = {"mate in": [], "over budget": [], "no answer": []}
+    for number, tried in enumerate(TRIED, 1):
+        words = f"decide {tried.moves} {MOST_BUDGET}"
+        told = outcome(engine, words, text_of(tried.men, "W"), tried.most_seconds)
+        lines.append(f"| {number}. {tried.men} | `{words}` | `{told}` |")
+        next(its for part, its in numbers.items() if part in told).append(f"{number}")
+    said = {
+        "mate in": "Decided: position {}.",
+        "over budget": "Past every budget: position {}. Whether White mates there within this number of moves, the engine cannot say.",
+        "no answer": "Ended for want of time: position {}. It is not known whether the budget is enough there.",
+    }
+    return [*lines, "", *[said[part].format(", ".join(its)) for part, its in numbers.items() if its], ""]
+
+
+def search_lines(engine):
+    """Returns the section on the longest least number among the positions that were searched with the budget of a command that names none."""
+    words = f"least {SEARCH.moves} {SEARCH.budget}"
+    lines = ["| White / Black | outcome |", "|---|---|"]
+    longest = 0
+    for men in SEARCH.positions:
+        told = outcome(engine, words, text_of(men, "W"), SEARCH.most_seconds)
+        longest = max(longest, int(told.split()[1]) if told.startswith("least ") else 0)
+        lines.append(f"| {men} | `{told}` |")
+    end = f"The longest least number found among these {len(SEARCH.positions)} is {longest}. Others were not searched, so a longer one may stand elsewhere."
+    return [SEARCH.sentence, "", f"Command: `{words}`, for at most {SEARCH.most_seconds} s each.", "", *lines, "", end, ""]
+
+
+def collected(engine, only):
+    """Returns the lines of all entries, those of all families, what is not as it is claimed, and what is left out."""
+    entries, families, wrong, left_out = [], [], [], []
+    for number, entry in enumerate(ENTRIES, 1):
+        if only in entry.name:
+            collect(entries, wrong, left_out, entry.name, lambda: entry_lines(engine, number, entry))
+    for family in FAMILIES:
+        if only in family.title:
+            collect(families, wrong, left_out, family.title, lambda: family_lines(engine, family))
+    tried, search = [], []
+    if not only:
+        collect(tried, wrong, left_out, "what passes every budget", lambda: tried_lines(engine))
+        collect(search, wrong, left_out, "the longest least number", lambda: search_lines(engine))
+    return {"Positions": entries, "Families": families, "What the engine cannot decide": tried, "The longest least number": search}, wrong, left_out
+
+
+def collect(lines, wrong, left_out, name, made):
+    try:
+        lines += made()
+        print(f"as claimed  {name}", flush=True)
+    except Wrong as why:
+        wrong.append(str(why))
+        print(f"WRONG       {why}", flush=True)
+    except Missing:
+        left_out.append(name)
+        print(f"left out    {name}", flush=True)
+
+
+def whose(engine):
+    """Returns the sentence on the programs that gave the answers."""
+    others = sum(it.get("by") != OWN for it in engine.answers.values())
+    if not others:
+        return "All answers here are those of the proved program, `./mate`."
+    return f"Of the {len(engine.answers)} answers, {others} are those of a build of the same sources without their proofs."
+
+
+def page_of(engine, sections, left_out):
+    with open(f"{HERE}/head.md", encoding="utf-8") as it:
+        head = it.read()
+    with open(f"{HERE}/by-hand.md", encoding="utf-8") as it:
+        hand = it.read()
+    head += f"\n{whose(engine)}\n"
+    head += f"\nLeft out here, since their answers were not kept: {', '.join(left_out)}.\n" * bool(left_out)
+    parts = [line for title, lines in sections.items() if lines for line in (f"## {title}", "", *lines)]
+    return "\n".join([head, *parts, hand])
+
+
+def option(words, name, default):
+    return words[words.index(name) + 1] if name in words else default
+
+
+def main(words):
+    if {"-h", "--help", "help"} & set(words):
+        print(__doc__, end="")
+        return 2
+    engine = Engine(option(words, "--mate", f"{TOP}/mate"), words)
+    os.makedirs(f"{TOP}/docs/gallery", exist_ok=True)
+    sections, wrong, left_out = collected(engine, option(words, "--only", ""))
+    if not wrong and "--only" not in words:
+        with open(f"{TOP}/docs/GALLERY.md", "w", encoding="utf-8") as it:
+            it.write(page_of(engine, sections, left_out))
+    seconds = sum(it["seconds"] for it in engine.answers.values())
+    print(f"{len(ENTRIES)} positions, {len(FAMILIES)} families, {len(wrong)} wrong; {engine.fresh} asked for, {seconds:.0f} s of the program in all")
+    return 1 if wrong else 0
+
+
+if __name__ == "__main__":
+    sys.exit(main(sys.argv[1:]))
