@@ -1,7 +1,7 @@
 #!/usr/bin/env python3
 """usage: random_runs.py [PROGRAM] [--seed S] [--count N]
 
-Runs the program `mate` N times, with words, texts, replies and files drawn from the seed: changes of good ones, and new ones put together of
+Runs the program `mate` N times, with words, texts, formulas, replies and files drawn from the seed: changes of good ones, and new ones put together of
 the pieces that the formats know. Each run has to end in 30 seconds with a code of docs/FORMATS.md, without a byte on standard error, and with the
 output that belongs to the code: where a reader of this folder's own (reader.py) says what has to come, with just that. Each run that ends
 otherwise is printed. Then the codes are counted. PROGRAM is ../crates/mate_main/out/mate_main if left out; the code is 0 where nothing was found.
@@ -29,13 +29,13 @@ BLACK_FIRST = HEAD + b"turn B\nW K 0 -2\nW R 10 1\nW R 2 7\nB K 1 0\nend\n"
 GOOD = [LADDER, MATED, BLACK_FIRST, HEAD + b"turn W\nW K 0 0\nB K 10 0\nend\n", HEAD + b"turn B\nW K 5 5\nB P 1 2\nB K -3 -3\nW Q gone\nW N 7 7\nend\n"]
 EDGES = [2**63 - 1, -2**63, 2**63, -2**63 - 1, 2**64, 10**19, 10**18, 2**31, 10**40, 0, -1, 20, 21, 100, 101, 200000, 200001]
 # What may come with each code where the reader does not say it. With the codes 3, 9, 12 and 13 the lines of a game may come before.
-NAMED = rb"over budget at moves [0-9]+ ply [0-9]+ men [0-9]+ part [a-z]+ at [0-9]+\n"
+NAMED = rb"over budget at (moves [0-9]+ ply [0-9]+ men [0-9]+ part [a-z]+ at|arith) [0-9]+\n"
 GAME = rb"((white [1-8] \S+ \S+|illegal|unreadable)\n)*"
 WHYS = rb"(magic|version|moves|turn|count|side|kind|place|unsound|ply|men|states|entry|flag)"
 RULES = rb"(sign|same|guard|first|left|stale)"
 ANSWERS = {
     0: rb"mate in [0-9]+\n|no mate in [0-9]+\n|least [0-9]+\n|none up to [0-9]+\n|(man [1-5] step -?[012] -?[012] least (wide|[0-9]+) (only|more)\n)*end\n|"
-    rb"[0-9]+ of [0-9]+ mate in 1\n|" + GAME + rb"mate\n",
+    rb"[0-9]+ of [0-9]+ mate in 1\n|true( witness (wide|0|-?[1-9][0-9]*))?\n|false\n|" + GAME + rb"mate\n",
     3: GAME + rb"text line [0-9]+ (cut|long)\n",
     8: NAMED,
     9: GAME + rb"wide\n",
@@ -169,6 +169,48 @@ def text_case(draw):
     return Case(words, text)
 
 
+def drawn_atom(draw, scope):
+    letters = draw.sample(scope, min(len(scope), draw.choice([1, 1, 2, 2, 3])))
+    pairs = [b"%d %s" % (draw.choice([1, 1, -1, 2, -2, 3, -3, 5, -7, 64, -64]), letter) for letter in letters]
+    return b" ".join([draw.choice([b"le", b"eq"]), b"%d" % len(pairs), *pairs, b"%d" % draw.choice([0, 0, 1, -1, 5, 17, -40, 1000, -1000])])
+
+
+def drawn_formula(draw, scope, depth):
+    """A formula within quantifiers of these letters."""
+    pick = draw.randrange(8) if depth else 7
+    if not scope or pick < 3:
+        letter = draw.choice([it for it in reader.LETTERS if it not in scope])
+        return b" ".join([draw.choice([b"ex", b"ex", b"all"]), letter, drawn_formula(draw, [*scope, letter], max(depth - 1, 0))])
+    if pick < 6:
+        return b" ".join([draw.choice([b"and", b"or"]), drawn_formula(draw, scope, depth - 1), drawn_formula(draw, scope, depth - 1)])
+    return b"not " + drawn_formula(draw, scope, depth - 1) if pick < 7 else drawn_atom(draw, scope)
+
+
+def changed_fields(draw, line):
+    fields = line.split(b" ")
+    at = draw.randrange(len(fields))
+    other = draw.choice([b"", b"0", b"-0", b"01", b"+1", b"9", b"65", b"-65", b"1001", b"q", b"a", b"b", b"ab", b"ex", b"all", b"le", b"and", b"Not", b"\xff", b"9" * 30])
+    fields[at:at + draw.choice([0, 1, 1, 2])] = draw.choice([[], [other], [other], [other, other]])
+    return b" ".join(fields)
+
+
+def formula_case(draw):
+    """A line for `arith`."""
+    line = drawn_formula(draw, [], draw.choice([0, 1, 2, 3]))
+    line = changed_fields(draw, line) if draw.random() < 0.5 else line
+    text = line + draw.choice([b"\n", b"\n", b"\n", b"", b"\r\n", b" \n", b"\nx", b" " * 200 + b"\n"])
+    words = [b"arith", b"%d" % draw.choice([1, 2, 5, 20, 100, 500])]
+    try:
+        due = Lines(text)
+        read = due.next()
+        if read is None:
+            due.refuse("missing")
+        reader.read_formula_line(read)
+    except Refused as why:
+        return Case(words, text, wanted=(f"{why.line}\n".encode(), why.code))
+    return Case(words, text)
+
+
 def drawn_reply(draw):
     pick = draw.random()
     if pick < 0.015:
@@ -277,9 +319,10 @@ def main():
     with tempfile.TemporaryDirectory() as top:
         folder, program = pathlib.Path(top), pathlib.Path(given.program).resolve()
         kept = list(files(program, folder))
-        makers = {"words": words_case, "texts": text_case, "games": lambda it: replies_case(it, kept), "files": lambda it: file_case(it, kept)}
+        makers = {"words": words_case, "texts": text_case, "formulas": formula_case}
+        makers |= {"games": lambda it: replies_case(it, kept), "files": lambda it: file_case(it, kept)}
         for number in range(given.count):
-            kind = draw.choices(list(makers), [400, 400, 5, 195])[0]
+            kind = draw.choices(list(makers), [350, 350, 150, 5, 145])[0]
             case, started = makers[kind](draw), time.time()
             try:
                 output, code, errors = run(program, folder, case)

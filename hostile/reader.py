@@ -1,4 +1,4 @@
-"""A reader of words, texts and replies, written from docs/FORMATS.md; it shares nothing with the program. Files are read, and attacks found,
+"""A reader of words, texts, formulas and replies, written from docs/FORMATS.md; it shares nothing with the program. Files are read, and attacks found,
 by ../crates/file_trials/random_files.py, which is such a reader too. A man is (side, kind, place): side 0 White, 1 Black; the kinds
 king, queen, rook, bishop, knight, pawn are 0 to 5; the place of a captured man is None."""
 import pathlib
@@ -20,8 +20,9 @@ MOVES, BUDGET = (0, 20), (1, 200000)
 SHAPES = {
     b"decide": [MOVES, BUDGET], b"least": [MOVES, BUDGET], b"first": [MOVES, BUDGET], b"play": [MOVES, BUDGET],
     b"keep": [MOVES, None, BUDGET], b"check": [None, BUDGET], b"resume": [None, BUDGET],
-    b"show": [], b"drill": [(0, 2**64 - 1), (0, 100)],
+    b"show": [], b"drill": [(0, 2**64 - 1), (0, 100)], b"arith": [BUDGET],
 }
+LETTERS = [bytes([letter]) for letter in b"abcdefghijklmnop"]
 
 
 class Refused(Exception):
@@ -162,3 +163,50 @@ def read_reply(line):
         return None
     move = int(shape[1]), coordinate(shape[2]), coordinate(shape[3])
     return None if None in move else move
+
+
+class Fields:
+    """The fields of a line. The first that cannot stand where it stands is told as a refusal."""
+
+    def __init__(self, line):
+        self.fields, self.at = line.split(b" "), 0
+
+    def refuse(self):
+        raise Refused(3, f"text line 1 formula {self.at + 1}")
+
+    def next(self, fits):
+        if self.at == len(self.fields) or not fits(self.fields[self.at]):
+            self.refuse()
+        self.at += 1
+        return self.fields[self.at - 1]
+
+
+def between(low, high):
+    return lambda field: len(field) < 9 and NUMBER.fullmatch(field) and low <= int(field) <= high
+
+
+def read_comparison(fields, scope):
+    used = []
+    for _ in range(int(fields.next(between(1, 8)))):
+        fields.next(lambda field: field != b"0" and between(-64, 64)(field))
+        used.append(fields.next(lambda field: field in scope and field not in used))
+    fields.next(between(-1000, 1000))
+
+
+def read_formula(fields, scope=()):
+    word = fields.next(lambda field: field in (b"not", b"and", b"or", b"ex", b"all", b"le", b"eq"))
+    if word in (b"le", b"eq"):
+        read_comparison(fields, scope)
+    elif word in (b"ex", b"all"):
+        letter = fields.next(lambda field: field in LETTERS and field not in scope)
+        read_formula(fields, (*scope, letter))
+    else:
+        for _ in range(1 if word == b"not" else 2):
+            read_formula(fields, scope)
+
+
+def read_formula_line(line):
+    fields = Fields(line)
+    read_formula(fields)
+    if fields.at < len(fields.fields):
+        fields.refuse()
