@@ -145,8 +145,8 @@ FAMILIES = [
            [-10, -4, -3, -2, -1, 0, 1, 2, 3, 4, 10], lambda at: f"K 0 -2, R 20 1, R 30 7 / K {at} 0", 2, two_rooks, word="least"),
     Family("Three rooks and a wandering king",
            "White's king is at 50 50, his rooks at 6 1, 5 7 and -9 -1, Black's king at F 0. He is mated in one wherever he is beside none of 5 0, 6 1 and -9 -1, "
-           "and else in two: there he would take the rook that checks or one that guards, and White first sends it away. (On file 5 he is in check.)",
-           "file of the black king", [-1000, -100, -11, -10, -9, -8, -7, -1, 0, 1, 2, 3, 4, 6, 7, 8, 9, 100, 1000],
+           "and else in two: there he would take the rook that checks or one that guards, and White first sends it away. (On the files 5, 6 and -9 he is in check.)",
+           "file of the black king", [-1000, -100, -11, -10, -8, -7, -1, 0, 1, 2, 3, 4, 7, 8, 9, 100, 1000],
            lambda at: f"K 50 50, R 6 1, R 5 7, R -9 -1 / K {at} 0", 2, three_rooks, word="least"),
     Family("A defender who saves himself only from far away",
            "A black bishop on file 1000. From the heights 995 to 999 a diagonal leads him to one of the squares 1 0 to 4 0 or to the rook at 5 0. Nearer to rank 0, "
