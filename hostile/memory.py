@@ -40,6 +40,8 @@ COMMANDS = {
     "check": ("check a", b"", [KEPT]),
     "resume": ("resume a", b"4 2 0\n4 0 0\n", [("keep 1 a", BLACK_FIRST)]),
     "drill": ("drill 7 1", b"", []),
+    "arith": ("arith", (HERE.parent / "examples/remainders.txt").read_bytes(), []),
+    "arith-refused": ("arith", b"ex a le 1 1 b 0\n", []),
 }
 MEMORY = 10
 
