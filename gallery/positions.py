@@ -202,4 +202,4 @@ class Search:
 SEARCH = Search(
     "The budget of a command which names none is 50000. These positions of king and two rooks were searched with it: White's king at 0 -2 or 0 -3, his rooks "
     "at 10 1 and 7 7, Black's king at F 0 for F from 0 to 3.",
-    [f"K 0 {rank}, R 10 1, R 7 7 / K {file} 0" for rank in (-2, -3) for file in range(4)], 4, 50000, 30)
+    [f"K 0 {rank}, R 10 1, R 7 7 / K {file} 0" for rank in (-2, -3) for file in range(4)], 4, 50000, 90)
