@@ -1,5 +1,12 @@
+use Rattle.std.proofs.Common.{◌+◌, ◌*◌}
 use Rattle.automaton_trials.proofs.spelling.+automaton.Given as goal
 
--- the depth that is left
+-- the depth that is left, counted twice: a part of an automaton begins at the same depth
 abbrev pub decreases-automaton : goal.decreases-automaton
-decreases-automaton l = l.reader.depth
+decreases-automaton l = 2 * l.reader.depth
+
+abbrev pub decreases-negated : goal.decreases-negated
+decreases-negated l = 2 * l.inner.depth + 1
+
+abbrev pub decreases-both : goal.decreases-both
+decreases-both l = 2 * l.inner.depth + 1
