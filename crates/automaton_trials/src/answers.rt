@@ -91,17 +91,29 @@ fn over(alloc: Global, a: &Auto, vars: &[Var]) -> Result<Auto, RowError>
     Ok(a.rename(alloc, vars)?)
 }
 
+/// Whether an automaton over these variables and another one, where they are its own too, accept the same words.
+fn is_like(alloc: Global, one: &Auto, other: &Auto, vars: &[Var]) -> Result<bool, RowError>
+    requires { one.now.tracks ≡ with_vars vars.now [] }
+{
+    let two = over(alloc, other, vars)?;
+    Ok(same_set(alloc, one, &two)?)
+}
+
 /// Whether they accept the same words, where they are over the same variables.
 fn are_same(alloc: Global, a: &Auto, b: &Auto) -> Result<bool, RowError> {
     let vars = a.tracks();
     let one = over(alloc, a, vars)?;
-    let two = over(alloc, b, vars)?;
-    Ok(same_set(alloc, &one, &two)?)
+    is_like(alloc, &one, b, vars)
+}
+
+/// Whether an automaton accepts the same words as the one that the fields spell.
+fn is_next(reader: Reader, a: &Auto, fields: &mut Fields) -> Result<bool, RowError> {
+    let set = whole(reader, fields)?;
+    are_same(reader.alloc, a, set.auto())
 }
 
 /// `same A A`: whether two automata over the same variables accept the same words.
 fn is_same(reader: Reader, fields: &mut Fields) -> Result<bool, RowError> {
-    let left = automaton(reader, fields)?;
-    let right = whole(reader, fields)?;
-    are_same(reader.alloc, left.auto(), right.auto())
+    let set = automaton(reader, fields)?;
+    is_next(reader, set.auto(), fields)
 }

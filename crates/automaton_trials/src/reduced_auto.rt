@@ -76,12 +76,7 @@ pub fn grown(alloc: Global, answer: Result<Auto, Grown>) -> Result<ReducedAuto, 
 }
 
 /// Refuses a comparison whose parts are not such as may be.
-fn check_atom(
-    alloc: Global,
-    terms: &[(i8, Var)],
-    rel: Rel,
-    bound: i32,
-) -> Result<(), RowError>
+fn check_atom(alloc: Global, terms: &[(i8, Var)], rel: Rel, bound: i32) -> Result<(), RowError>
     ensures { IfOk result (λ _. IsAtom terms.now bound) }
 {
     match lin(alloc, terms, rel, bound) {

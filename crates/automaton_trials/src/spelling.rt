@@ -1,11 +1,9 @@
 //! The spelling of an automaton: fields in prefix form, as `docs/CALLS.md` has them.
 
-ghost use Rattle.std.specs.Prelude.{◌<◌, IfOk};
+ghost use Rattle.std.specs.Prelude.{◌<◌, ◌≤◌, IfOk};
 
 use crate::letters::{var, vars};
-use crate::reduced_auto::{
-    Connective, ReducedAuto, comparison, grown, joined, others, reduced,
-};
+use crate::reduced_auto::{Connective, ReducedAuto, comparison, grown, joined, others, reduced};
 use crate::tables::{Tables, tabled};
 use auto_core::Auto;
 use auto_walk::residue;
@@ -206,8 +204,22 @@ fn both(
 ) -> Result<ReducedAuto, RowError> {
     let budget = fields.budget()?;
     let left = automaton(inner, fields)?;
+    with_next(inner, connective, &left, budget, fields)
+}
+
+/// An automaton, put together with the one that follows.
+#[cycle(automaton)]
+fn with_next(
+    inner: Reader,
+    connective: Connective,
+    left: &ReducedAuto,
+    budget: u32,
+    fields: &mut Fields,
+) -> Result<ReducedAuto, RowError>
+    requires { (1 ≤ budget) × (budget ≤ 200000) }
+{
     let right = automaton(inner, fields)?;
-    joined(inner.alloc, connective, &left, &right, budget)
+    joined(inner.alloc, connective, left, &right, budget)
 }
 
 /// An automaton that all of the fields spell.
