@@ -94,7 +94,8 @@ module _ (shapes : List Shape) (is : IsDiagram shapes) where
       ]
 
   -- the low sides of two tests of one track with equal maps
-  low_sides : (a b track low high low' high' letter : ℕ) → IsAt shapes a (Test track low high) → IsTest shapes a track low high → IsAt shapes b (Test track low' high') → IsTest shapes b track low' high'
+  low_sides : (a b track low high low' high' letter : ℕ) → IsAt shapes a (Test track low high) → IsTest shapes a track low high → IsAt shapes b (Test track low' high')
+      → IsTest shapes b track low' high'
       → ((l : ℕ) → map_at shapes a l ≡ map_at shapes b l) → map_at shapes low letter ≡ map_at shapes low' letter
   low_sides a b track low high low' high' letter at fits at' fits' same =
       let other = flip letter track in
@@ -110,7 +111,8 @@ module _ (shapes : List Shape) (is : IsDiagram shapes) where
             flipped low track letter (omega arith) fits.low_above ∙ sym (low_is a track low high other at z) ∙ same other ∙ low_is b track low' high' other at' z ∙ sym (flipped low' track letter (omega arith) fits'.low_above)
       ]
 
-  high_sides : (a b track low high low' high' letter : ℕ) → IsAt shapes a (Test track low high) → IsTest shapes a track low high → IsAt shapes b (Test track low' high') → IsTest shapes b track low' high'
+  high_sides : (a b track low high low' high' letter : ℕ) → IsAt shapes a (Test track low high) → IsTest shapes a track low high → IsAt shapes b (Test track low' high')
+      → IsTest shapes b track low' high'
       → ((l : ℕ) → map_at shapes a l ≡ map_at shapes b l) → map_at shapes high letter ≡ map_at shapes high' letter
   high_sides a b track low high low' high' letter at fits at' fits' same =
       let other = flip letter track in

@@ -63,7 +63,8 @@ map_at-push before after shape letter =
     ∙ get_or_push (values_at letter before) (value_of letter (values_at letter before) shape) 0 (length before) lengths
 
 -- the value of a shape over earlier nodes, in a longer list
-value_of-append : (before after : List Shape) (shape : Shape) (letter : ℕ) → FitsBelow (before ++ after) (length before) shape → value_of letter (values_at letter before) shape ≡ value_in (before ++ after) shape letter
+value_of-append : (before after : List Shape) (shape : Shape) (letter : ℕ) → FitsBelow (before ++ after) (length before) shape
+    → value_of letter (values_at letter before) shape ≡ value_in (before ++ after) shape letter
 unfolding map_at
 value_of-append before after (Leaf value) letter h = refl
 value_of-append before after (Test track low high) letter h =

@@ -97,7 +97,8 @@ Meets-again m node letter earlier at le = record {
   below = λ bound under all. all;
 }
 
-pub Meets-insert : (old new : BTreeMap ℕ ℕ) (node letter : ℕ) → ((l : ℕ) → get nat_cmp old node ≡ Some l → letter ≤ l) → Updates nat_cmp old new node (Some letter) → new.entries ≡ insert_entry nat_cmp old.entries node letter → Meets old new node letter
+pub Meets-insert : (old new : BTreeMap ℕ ℕ) (node letter : ℕ) → ((l : ℕ) → get nat_cmp old node ≡ Some l → letter ≤ l) → Updates nat_cmp old new node (Some letter)
+    → new.entries ≡ insert_entry nat_cmp old.entries node letter → Meets old new node letter
 Meets-insert old new node letter least updates entries = record {
   here = (letter, get-same old new node (Some letter) updates, omega arith);
   kept = λ n l e. elim (cases_eq node n) [
@@ -157,7 +158,8 @@ high-bits l track top letter before small e =
 
 -- ---- the pass
 
-pub IsPass-start : (shapes : List Shape) (root : ℕ) (empty met firsts : BTreeMap ℕ ℕ) → root < length shapes → empty.entries ≡ [] → firsts.entries ≡ [] → Updates nat_cmp empty met root (Some 0) → IsPass shapes root met firsts
+pub IsPass-start : (shapes : List Shape) (root : ℕ) (empty met firsts : BTreeMap ℕ ℕ) → root < length shapes → empty.entries ≡ [] → firsts.entries ≡ []
+    → Updates nat_cmp empty met root (Some 0) → IsPass shapes root met firsts
 IsPass-start shapes root empty met firsts known none none_first updates = record {
   met_at = λ node letter at. elim (cases_eq root node) [
     | inl same ↦
@@ -356,13 +358,16 @@ AreFirsts-passed shapes root met firsts pass none = record {
 -- ---- the pass ends
 
 -- the nodes that are left are fewer, by a bound
-pub smaller-leaf : (old new : BTreeMap ℕ ℕ) (node letter : ℕ) → old.entries ≡ new.entries ++ (node, letter) ∷ [] → All (λ key. IsLtBy nat_cmp key node) (keys_of new.entries) → above new.entries < above old.entries
+pub smaller-leaf : (old new : BTreeMap ℕ ℕ) (node letter : ℕ) → old.entries ≡ new.entries ++ (node, letter) ∷ [] → All (λ key. IsLtBy nat_cmp key node) (keys_of new.entries)
+    → above new.entries < above old.entries
 smaller-leaf old new node letter removal all =
     let le = above-le new.entries node (under new.entries node all) in
     let lt = above-last new.entries (node, letter) in
     subst (λ es. above new.entries < above es) (sym removal) (omega (arith, le, lt))
 
-pub smaller-test : (old met half new : BTreeMap ℕ ℕ) (node letter low high first second : ℕ) → old.entries ≡ met.entries ++ (node, letter) ∷ [] → All (λ key. IsLtBy nat_cmp key node) (keys_of met.entries) → low < node → high < node → Meets met half low first → Meets half new high second → above new.entries < above old.entries
+pub smaller-test : (old met half new : BTreeMap ℕ ℕ) (node letter low high first second : ℕ) → old.entries ≡ met.entries ++ (node, letter) ∷ []
+    → All (λ key. IsLtBy nat_cmp key node) (keys_of met.entries) → low < node → high < node → Meets met half low first → Meets half new high second
+    → above new.entries < above old.entries
 smaller-test old met half new node letter low high first second removal all low_before high_before a b =
     let le = above-le new.entries node (b.below node high_before (a.below node low_before (under met.entries node all))) in
     let lt = above-last met.entries (node, letter) in

@@ -1,7 +1,6 @@
 -- The maps of nodes.
 use Rattle.std.specs.Prelude.{◌≡◌, ◌≢◌, ℕ, ◌<◌, ◌≤◌, List, [], ◌∷◌, ◌++◌, length, fold, slice_index, slice_index_or, slice_get, Some, nat_eq, if◌then◌else◌}
 use Rattle.std.specs.Int.{bit_at}
-use Rattle.std.specs.HashMap.{HashMap, get}
 use Rattle.letter_diagram.specs.declared.diagrams.Shape.{Shape}
 use Rattle.letter_diagram.specs.declared.diagrams.Shape.TheVariants.{Leaf, Test}
 
@@ -72,17 +71,6 @@ pub record Grows (old new : List Shape) : Type 0 where
 abbrev pub HasChildren : List Shape → ℕ → Shape → Type 0
 HasChildren shapes node (Leaf value) = Unit {0}
 HasChildren shapes node (Test track low high) = (letter : ℕ) → ((l : ℕ) × (map_at shapes node l ≡ map_at shapes low letter)) × ((l : ℕ) × (map_at shapes node l ≡ map_at shapes high letter))
-
--- the map of r is that of a, led through the table
-pub record IsMapped (shapes : List Shape) (table : List ℕ) (a r : ℕ) : Type 0 where
-  pub known : r < length shapes
-  pub source_known : a < length shapes
-  pub map : (letter : ℕ) → map_at shapes r letter ≡ slice_index table (map_at shapes a letter)
-  pub top : top_track shapes a ≤ top_track shapes r
-
--- the nodes in a memo are led through the table
-pub record RemembersMapped {S : Type 0} (shapes : List Shape) (table : List ℕ) (memo : HashMap ℕ ℕ S) : Type 0 where
-  pub mapped : (a r : ℕ) → get nat_eq memo a ≡ Some r → IsMapped shapes table a r
 
 -- a node's map looks only at tracks below a bound
 pub record LooksBelow (shapes : List Shape) (node bound : ℕ) : Type 0 where

@@ -5,8 +5,12 @@ use Rattle.std.specs.HashMap.{HashMap, get}
 use Rattle.letter_diagram.specs.declared.diagrams.Shape.{Shape}
 use Rattle.letter_diagram.specs.Diagram.{map_at, top_track}
 use Rattle.letter_diagram.specs.Paired.{top_of_both, pair_eq}
-use Rattle.letter_diagram.specs.Restricted.{IsWithBit}
 use Rattle.letter_diagram.specs.Sets.{IsUnion}
+
+-- a letter that has this bit on a track, and is the other letter elsewhere
+pub record IsWithBit (other letter track bit : ℕ) : Type 0 where
+  pub same : (k : ℕ) → k ≢ track → bit_at other k ≡ bit_at letter k
+  pub at : bit_at other track ≡ bit
 
 -- each value of a node's map is the number of a set
 pub record HasSets (shapes : List Shape) (sets : List (List ℕ)) (node : ℕ) : Type 0 where

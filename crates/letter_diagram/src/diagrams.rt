@@ -96,13 +96,6 @@ impl Diagrams {
         self.shapes.is_empty()
     }
 
-    /// Whether a node is of these.
-    pub fn is_node(&self, node: Node) -> bool
-        ensures { IsTrue result ↔ (node < length self.now) }
-    {
-        node.number() < self.shapes.len()
-    }
-
     /// The same nodes, with the same maps.
     pub fn copy(&self) -> Result<Diagrams, AllocError>
         ensures { IfOk result (λ copy. copy ≡ self.now) }
@@ -191,7 +184,7 @@ impl Diagrams {
         ensures sides { IsSplit self.now node track result.0 result.1 }
         ensures diagram { IsDiagram self.now }
     {
-        let _ = &self.shapes;
+        let _ = &self.shapes; // for its invariant
         match self.shape(node) {
             Shape::Test {
                 track: own,
@@ -209,7 +202,7 @@ impl Diagrams {
         ensures equal { IsTrue result ↔ (a ≡ b) }
         ensures map { IsTrue result ↔ ((letter : ℕ) → letter < 2 ^ 20 → map_at self.now a letter ≡ map_at self.now b letter) }
     {
-        let _ = &self.shapes;
+        let _ = &self.shapes; // for its invariant
         a == b
     }
 

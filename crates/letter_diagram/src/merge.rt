@@ -3,7 +3,7 @@ ghost use Rattle.std.specs.Prelude.{◌≡◌, ◌<◌, ◌≤◌, ◌+◌, ◌^
 ghost use Rattle.letter_diagram.specs.Diagram.{map_at, top_track, Grows};
 ghost use Rattle.letter_diagram.specs.Sets.{SetsKept, IsUnion};
 ghost use Rattle.letter_diagram.specs.Paired.{IsSplit, top_of_both, room_for};
-ghost use Rattle.letter_diagram.specs.Restricted.{IsWithBit};
+ghost use Rattle.letter_diagram.specs.Merged.{IsWithBit};
 ghost use Rattle.letter_diagram.specs.Merged.{HasSets, IsUnited, AreUnions, RemembersUnited, IgnoresTrack, IsMerged, AreMerged, RemembersMerged};
 
 use crate::diagrams::{Diagrams, Node};
