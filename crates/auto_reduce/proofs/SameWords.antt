@@ -7,7 +7,7 @@ use Rattle.track_word.specs.Word.{IsWord}
 use Rattle.letter_diagram.specs.declared.diagrams.Shape.{Shape}
 use Rattle.letter_diagram.specs.Diagram.{map_at, LooksBelow, Grows}
 use Rattle.letter_diagram.specs.Listed.{EachAnswers}
-use Rattle.letter_diagram.specs.Brought.{IsBrought}
+use Rattle.letter_diagram.specs.Carried.{IsCarried}
 use Rattle.auto_core.specs.Automaton.{Automaton, IsAutomaton, width, first_state, next_state, run, state_of, is_final, Accepts}
 use Rattle.auto_core.specs.Rows.{IsOverNodes}
 use Rattle.auto_core.proofs.RowLemmas.{get_or-row_of, map_at-narrow}
@@ -84,7 +84,7 @@ module _ (a : Automaton) (over : IsOverNodes a) where
   nodes_lead (suc state) letter within below = (AreRowNodes-own a over).leads state letter (omega (arith, within, nodes_size)) below
 
 module _ (a b : Automaton) (is_a : IsAutomaton a) (is_b : IsAutomaton b) (over_a : IsOverNodes a) (over_b : IsOverNodes b) (tracks : a.tracks ≡ b.tracks) (flags : a.accept ≡ b.accept)
-    (shapes : List Shape) (brought : List ℕ) (grows : Grows a.shapes shapes) (each : EachAnswers (IsBrought b.shapes shapes) (nodes_of b) brought) where
+    (shapes : List Shape) (brought : List ℕ) (grows : Grows a.shapes shapes) (each : EachAnswers (IsCarried b.shapes shapes (λ letter. letter) (λ value. value)) (nodes_of b) brought) where
   sizes : length (nodes_of a) ≡ length (nodes_of b)
   sizes = nodes_size a over_a ∙ ap (λ l. suc (length l)) flags ∙ sym (nodes_size b over_b)
 

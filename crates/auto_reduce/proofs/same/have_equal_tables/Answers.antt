@@ -2,7 +2,7 @@ use Rattle.std.proofs.Common.{◌∙◌, sym, ◌≡◌, ◌∷◌}
 use Rattle.std.proofs.lemmas.Bool.{false≢true}
 use Rattle.letter_diagram.specs.Diagram.{Grows}
 use Rattle.letter_diagram.specs.Listed.{EachAnswers}
-use Rattle.letter_diagram.specs.Brought.{IsBrought}
+use Rattle.letter_diagram.specs.Carried.{IsCarried}
 use Rattle.auto_reduce.proofs.Flags.{flags_differ, flags_agree}
 use Rattle.auto_reduce.proofs.SameWords.{HaveEqualTables-maps, HaveEqualMaps-tables, own_known, brought_known, brought_size}
 use Rattle.auto_reduce.proofs.same.have_equal_tables.Goals as goal
@@ -20,7 +20,7 @@ flags_are c = sym c.flags.ensures ∙ flags_agree _ _ _ c.ne.ensures c.if-ne.fal
 grows : (c : goal.After-as_slice-3) → Grows c.args.a.now.shapes c.bring.new.self
 grows c = rw (c.in_ok-diagrams.ensures, c.diagrams.ensures.shapes) at c.bring.ensures.grows
 
-each : (c : goal.After-as_slice-3) → EachAnswers (IsBrought c.args.b.now.shapes c.bring.new.self) (c.args.b.now.first_node ∷ c.args.b.now.row_nodes) c.in_ok-brought.brought.items
+each : (c : goal.After-as_slice-3) → EachAnswers (IsCarried c.args.b.now.shapes c.bring.new.self (λ letter. letter) (λ value. value)) (c.args.b.now.first_node ∷ c.args.b.now.row_nodes) c.in_ok-brought.brought.items
 each c = rw (c.diagrams-3.ensures.shapes, c.as_slice.ensures.value, c.in_ok-others.ensures.nodes) at c.in_ok-brought.ensures.brought
 
 pub have_equal_maps-requires-clause-size : goal.have_equal_maps-requires-clause-size
