@@ -8,7 +8,8 @@ use Rattle.track_word.specs.declared.tracks.Var.{Var}
 use Rattle.track_word.specs.Tracks.{place, restrict}
 use Rattle.letter_diagram.specs.declared.diagrams.Shape.{Shape}
 use Rattle.letter_diagram.specs.Diagram.{map_at, LooksBelow, Grows}
-use Rattle.letter_diagram.specs.BroughtRelabelled.{IsBroughtRelabelled}
+use Rattle.letter_diagram.specs.Relabelled.{relabelled}
+use Rattle.letter_diagram.specs.Carried.{IsCarried}
 use Rattle.letter_diagram.specs.Listed.{EachAnswers}
 use Rattle.auto_core.specs.Automaton.{Automaton, IsAutomaton, width, first_state, next_state}
 use Rattle.auto_core.specs.Rows.{IsOverNodes}
@@ -46,7 +47,7 @@ module _ (a : Automaton) (valid : IsAutomaton a) (over : IsOverNodes a) where
   row-map : (state letter : ℕ) → state < length a.row_nodes → letter < width a → map_at a.shapes (get_or a.row_nodes state 0) letter ≡ next_state a state letter
   row-map state letter known below = sym (ap (λ l. get_or l (state * width a + letter) 0) over.next ∙ get_or-rows_of a.shapes (2 ^ length a.tracks) a.row_nodes state letter 0 known below)
 
-  module _ (all : List Var) (shapes : List Shape) (nodes : List ℕ) (among : AreAmong all a.tracks) (brought : EachAnswers (IsBroughtRelabelled a.shapes shapes (map (place all) a.tracks)) (a.first_node ∷ a.row_nodes) nodes) where
+  module _ (all : List Var) (shapes : List Shape) (nodes : List ℕ) (among : AreAmong all a.tracks) (brought : EachAnswers (IsCarried a.shapes shapes (relabelled (map (place all) a.tracks)) (λ value. value)) (a.first_node ∷ a.row_nodes) nodes) where
     reads-at : (i node : ℕ) (value : ℕ → ℕ) → slice_get nodes i ≡ Some node → ((letter : ℕ) → letter < width a → map_at a.shapes (get_or (a.first_node ∷ a.row_nodes) i 0) letter ≡ value letter)
         → Reads shapes (length all) node (λ letter. value (restrict all a.tracks letter))
     reads-at i node value at says =

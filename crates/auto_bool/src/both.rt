@@ -87,7 +87,7 @@ impl<'a> Walk for Both<'a> {
 
     fn first_row(&mut self) -> Result<Node, AllocError> {
         let node = self.product.apply(self.left_nodes[0], self.right_nodes[0])?;
-        let _ = self.product.pairs().len();
+        let _ = self.product.pairs().len(); // for its invariant
         Ok(node)
     }
 
@@ -96,7 +96,7 @@ impl<'a> Walk for Both<'a> {
         let left_row = self.left_nodes[left as usize + 1];
         let right_row = self.right_nodes[right as usize + 1];
         let node = self.product.apply(left_row, right_row)?;
-        let _ = self.product.pairs().len();
+        let _ = self.product.pairs().len(); // for its invariant
         Ok(node)
     }
 

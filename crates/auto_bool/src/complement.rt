@@ -28,7 +28,7 @@ pub fn not(alloc: Global, a: &Auto) -> Result<Auto, AllocError>
 fn row_nodes(alloc: Global, a: &Auto) -> Result<Vec<Node>, AllocError>
     ensures { IfOk result (λ rows. rows.items ≡ a.now.row_nodes) }
 {
-    let _ = a.diagrams();
+    let _ = a.diagrams(); // for its invariant
     let mut rows = Vec::new(alloc);
     for state in 0..a.states() {
         rows.push(a.row_node(state))?;

@@ -14,7 +14,7 @@ use auto_core::Auto;
 use auto_walk::{Grown, walked};
 use std::alloc::Global;
 
-// The automaton over the pairs of states that words lead to.
+/// The automaton over the pairs of states that words lead to.
 pub fn walk_pairs(
     alloc: Global,
     a: &Auto,
@@ -34,7 +34,7 @@ pub fn walk_pairs(
     walked(alloc, both, budget)
 }
 
-// The same for reduced automata, where different pairs are different residuals.
+/// The same for reduced automata, where different pairs are different residuals.
 fn product(
     alloc: Global,
     a: &Auto,

@@ -10,8 +10,7 @@ use Rattle.std.proofs.lemmas.Nat.Bits.{bit_at-suc, bit_at_lowest}
 use Rattle.track_word.specs.declared.tracks.Var.{Var}
 use Rattle.track_word.specs.Tracks.{place}
 use Rattle.letter_diagram.specs.Relabelled.{relabelled}
-use Rattle.letter_diagram.proofs.Narrow.{bit_at-relabelled}
-use Rattle.auto_core.proofs.Renamed.{relabelled-below}
+use Rattle.letter_diagram.proofs.Narrow.{bit_at-relabelled, relabelled-below}
 
 halved : (letter n : ℕ) → letter < 2 ^ suc n → letter / 2 < 2 ^ n
 halved letter n small = omega (arith, small)

@@ -10,25 +10,15 @@ use Rattle.track_word.specs.Tracks.{IsAscending, place, restrict, part_of}
 use Rattle.letter_diagram.specs.declared.diagrams.Shape.{Shape}
 use Rattle.letter_diagram.specs.Diagram.{map_at, LooksBelow}
 use Rattle.letter_diagram.specs.Relabelled.{relabelled}
-use Rattle.letter_diagram.specs.BroughtRelabelled.{IsBroughtRelabelled}
+use Rattle.letter_diagram.specs.Carried.{IsCarried}
 use Rattle.letter_diagram.specs.Listed.{EachAnswers}
-use Rattle.letter_diagram.proofs.Narrow.{bit_at-relabelled}
+use Rattle.letter_diagram.proofs.Narrow.{bit_at-relabelled, relabelled-below}
 use Rattle.auto_core.specs.Automaton.{Automaton, width, first_state, next_state, run, state_of, is_final, Accepts}
 use Rattle.auto_core.specs.Integers.{DecidesIntegers}
 use Rattle.auto_core.specs.Reduced.{IsReduced}
 use Rattle.auto_core.specs.Rows.{AreRows, IsOverNodes}
 use Rattle.auto_core.proofs.RowLemmas.{get_or-row_of, get_or-rows_of}
 use Rattle.auto_core.proofs.Members.{IsWord-repeat}
-
-pub relabelled-below : (places : List ℕ) (letter : ℕ) → relabelled places letter < 2 ^ length places
-relabelled-below [] letter = omega arith
-relabelled-below (p ∷ places) letter =
-    let small = bit_at-lt letter p in
-    let rest = relabelled-below places letter in
-    doubled (bit_at letter p) (relabelled places letter) (length places) small rest
-  where
-    doubled : (b r n : ℕ) → b < 2 → r < 2 ^ n → b + 2 * r < 2 ^ suc n
-    doubled b r n small rest = omega (arith, small, rest)
 
 relabelled-same : (places : List ℕ) (bound a b : ℕ) → All (λ p. p < bound) places → ((k : ℕ) → k < bound → bit_at a k ≡ bit_at b k) → relabelled places a ≡ relabelled places b
 relabelled-same [] bound a b below same = refl
@@ -54,7 +44,7 @@ pub record AreRenamed (a : Automaton) (shapes : List Shape) (places : List ℕ) 
   pub rows_are : (i letter : ℕ) → i < length a.row_nodes → map_at shapes (slice_index rows i) letter ≡ map_at a.shapes (slice_index a.row_nodes i) (relabelled places letter)
 
 -- the nodes that were brought for an automaton's rows, that of the first row apart
-pub AreRenamed-brought : (a : Automaton) (shapes : List Shape) (places answers : List ℕ) (first : ℕ) (rows : List ℕ) → EachAnswers (IsBroughtRelabelled a.shapes shapes places) (a.first_node ∷ a.row_nodes) answers → first ≡ slice_index_or answers 0 first → rows ≡ remove answers 0
+pub AreRenamed-brought : (a : Automaton) (shapes : List Shape) (places answers : List ℕ) (first : ℕ) (rows : List ℕ) → EachAnswers (IsCarried a.shapes shapes (relabelled places) (λ value. value)) (a.first_node ∷ a.row_nodes) answers → first ≡ slice_index_or answers 0 first → rows ≡ remove answers 0
     → AreRenamed a shapes places first rows
 AreRenamed-brought a shapes places [] first rows brought is rest = let size = brought.size in absurd (omega (arith, size))
 AreRenamed-brought a shapes places (answer ∷ answers) first rows brought is rest =
@@ -68,18 +58,19 @@ AreRenamed-brought a shapes places (answer ∷ answers) first rows brought is re
 
 -- nodes stay as they are for letters whose tracks keep their places
 brought-in_order : (shapes : List Shape) (places nodes : List ℕ) → ((i : ℕ) → i < length places → slice_index places i ≡ i) → All (λ node. node < length shapes) nodes → All (λ node. LooksBelow shapes node (length places)) nodes
-    → EachAnswers (IsBroughtRelabelled shapes shapes places) nodes nodes
+    → EachAnswers (IsCarried shapes shapes (relabelled places) (λ value. value)) nodes nodes
 brought-in_order shapes places nodes in_order known narrow = record {
   size = refl;
   each = λ i h. record {
     known = known i 0 h;
     source_known = known i 0 h;
     map = λ letter. (narrow i 0 h).same letter (relabelled places letter) (λ k below. sym (bit_at-relabelled places letter k 0 below ∙ ap (bit_at letter) (in_order k below)));
+    top = λ _. omega arith;
   };
 }
 
 pub rows-in_order : (a : Automaton) (places : List ℕ) → IsOverNodes a → length places ≡ length a.tracks → ((i : ℕ) → i < length places → slice_index places i ≡ i)
-    → EachAnswers (IsBroughtRelabelled a.shapes a.shapes places) (a.first_node ∷ a.row_nodes) (a.first_node ∷ a.row_nodes)
+    → EachAnswers (IsCarried a.shapes a.shapes (relabelled places) (λ value. value)) (a.first_node ∷ a.row_nodes) (a.first_node ∷ a.row_nodes)
 rows-in_order a places over count in_order =
     brought-in_order a.shapes places (a.first_node ∷ a.row_nodes) in_order (all_cons (λ node. node < length a.shapes) a.first_node a.row_nodes over.nodes.first_known over.nodes.rows_known)
     (subst (λ n. All (λ node. LooksBelow a.shapes node n) (a.first_node ∷ a.row_nodes)) (sym count) (all_cons (λ node. LooksBelow a.shapes node (length a.tracks)) a.first_node a.row_nodes over.nodes.first_narrow over.nodes.rows_narrow))

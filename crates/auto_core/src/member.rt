@@ -21,7 +21,7 @@ impl Auto {
         bits_spell_their_integers();
         repeating_first_letter_keeps_values();
         words_of_equal_values_are_equal();
-        let _ = self.tracks();
+        let _ = self.tracks(); // for its invariant
         let state = self.state_of_values(values);
         self.accept_of(state)
     }
@@ -33,7 +33,7 @@ impl Auto {
         ensures within { result < length self.now.accept }
         ensures fits { All (FitsBelow 63) values.now }
     {
-        let _ = self.tracks();
+        let _ = self.tracks(); // for its invariant
         let mut state = self.first_of(letter_at(values, 63));
         for read in 0..63u8 {
             state = self.next_of(state, letter_at(values, 62 - read));

@@ -3,7 +3,7 @@ ghost use Rattle.std.specs.Prelude.{◌≡◌, ◌≢◌, ◌↔◌, ◌≤◌, 
 ghost use Rattle.std.specs.List.{position_or_len};
 ghost use Rattle.track_word.specs.Word.{IsWord};
 ghost use Rattle.track_word.specs.Tracks.{with_vars, with_var, place, part_of, IsAscending};
-ghost use Rattle.letter_diagram.specs.BroughtRelabelled.{IsBroughtRelabelled};
+ghost use Rattle.letter_diagram.specs.Carried.{IsCarried};
 ghost use Rattle.letter_diagram.specs.Listed.{EachAnswers};
 ghost use Rattle.letter_diagram.specs.Relabelled.{relabelled};
 ghost use Rattle.auto_core.specs.Automaton.{IsAutomaton, Accepts};
@@ -29,7 +29,7 @@ impl Auto {
         ensures reduced { IsReduced self.now → AllPairs (λ x y. x ≢ y) vars.now → IfOk result (λ r. IsReduced r) }
         ensures valid { IfOk result (λ r. IsAutomaton r) }
     {
-        let _ = self.tracks();
+        let _ = self.tracks(); // for its invariant
         let tracks = ascending(alloc, vars)?;
         let places = places_of(alloc, tracks.as_slice(), vars)?;
         let renamed = self.over_tracks(alloc, tracks, places.as_slice())?;
@@ -42,7 +42,7 @@ impl Auto {
         requires count { length places.now ≡ length self.now.tracks }
         requires places { All (λ place. place < 20) places.now }
         ensures over { IsOverNodes self.now }
-        ensures brought { IfOk result (λ made. EachAnswers (IsBroughtRelabelled self.now.shapes made.0 places.now) (self.now.first_node ∷ self.now.row_nodes) made.1.items) }
+        ensures brought { IfOk result (λ made. EachAnswers (IsCarried self.now.shapes made.0 (relabelled places.now) (λ value. value)) (self.now.first_node ∷ self.now.row_nodes) made.1.items) }
     {
         let nodes = self.all_nodes(alloc)?;
         if are_in_order(places) {
@@ -72,12 +72,12 @@ impl Auto {
         ensures reduced { IsReduced self.now → AllPairs (λ x y. x ≢ y) places.now → IfOk result (λ r. IsReduced r) }
         ensures valid { IfOk result (λ r. IsAutomaton r) }
     {
-        let _ = self.tracks();
+        let _ = self.tracks(); // for its invariant
         let (diagrams, mut rows) = self.nodes_over(alloc, places)?;
         let first = rows.remove(0);
         let accept = self.flags().to_vec(alloc)?;
         let renamed = Auto::from_diagrams(tracks, diagrams, first, rows, accept);
-        let _ = renamed.diagrams();
+        let _ = renamed.diagrams(); // for its invariant
         Ok(renamed)
     }
 }

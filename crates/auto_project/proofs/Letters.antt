@@ -13,7 +13,7 @@ use Rattle.std.proofs.lemmas.List.Sums.{position_or_len_is, fails_before_first, 
 use Rattle.std.proofs.lemmas.Nat.Bits.{bit_at-lt, bit_at-suc, bit_at_lowest, bit_at_above, bit_at_cat_low, bit_at_cat_high, same_from_bits_below}
 use Rattle.track_word.specs.declared.tracks.Var.{Var}
 use Rattle.track_word.specs.Tracks.{IsAscending, without_var, place, restrict}
-use Rattle.letter_diagram.specs.Restricted.{IsWithBit}
+use Rattle.letter_diagram.specs.Merged.{IsWithBit}
 use Rattle.auto_walk.proofs.Restricted.{restrict-below}
 use Rattle.auto_project.specs.Lifted.{ReadsAs}
 use Rattle.auto_project.specs.Subsets.{lengthened}

@@ -14,7 +14,7 @@ use Rattle.letter_diagram.specs.Diagram.{map_at, Grows}
 use Rattle.letter_diagram.specs.Sets.{set_at, SetsKept}
 use Rattle.letter_diagram.specs.Relabelled.{relabelled}
 use Rattle.letter_diagram.specs.Listed.{EachAnswers}
-use Rattle.letter_diagram.specs.Restricted.{IsWithBit}
+use Rattle.letter_diagram.specs.Merged.{IsWithBit}
 use Rattle.letter_diagram.specs.Merged.{HasSets, IsMerged}
 use Rattle.letter_diagram.proofs.Canonical.{flip, bit_at-flip_same, bit_at-flip_other}
 use Rattle.auto_core.specs.Automaton.{Automaton, IsAutomaton, width, first_state, next_state}

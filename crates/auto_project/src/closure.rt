@@ -103,7 +103,7 @@ impl<'a> Rows<'a> {
         }
         let mut merger = uniter(diagrams, sets);
         let next = united(&mut merger, nodes.as_slice())?;
-        let _ = merger.sets().len();
+        let _ = merger.sets().len(); // for its invariant
         Ok((merger, next))
     }
 
@@ -117,7 +117,7 @@ impl<'a> Rows<'a> {
         ensures grows { IfOk result (λ made. Grows merger.shapes made.0.shapes) }
         ensures kept { IfOk result (λ made. SetsKept merger.sets made.0.sets) }
     {
-        let _ = merger.sets().len();
+        let _ = merger.sets().len(); // for its invariant
         let mut merger = merger;
         let mut node = first;
         for round in 0..self.nodes.len() {

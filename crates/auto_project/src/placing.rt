@@ -50,7 +50,7 @@ impl Places {
         ensures kept { SetsKept self.old.sets self.new.sets }
         ensures placed { self.new.placed ≡ self.old.placed }
     {
-        let _ = sets.len();
+        let _ = sets.len(); // for its invariant
         match sets.get(number) {
             Some(set) => {
                 let place = number_of(&mut self.sets, set)?;
@@ -100,7 +100,7 @@ impl Places {
     {
         self.placed.make_room(merger.diagrams().len())?;
         let row = self.led(merger, node)?;
-        let _ = self.sets.len();
+        let _ = self.sets.len(); // for its invariant
         Ok(row)
     }
 }

@@ -125,6 +125,6 @@ pub fn set_rows(alloc: Global, a: &Auto, var: Var, tracks: &[Var]) -> Result<Set
         });
     }
     let made = without_track(alloc, wide, sets, tracks.len() as u8)?;
-    let _ = made.merger.sets().len();
+    let _ = made.merger.sets().len(); // for its invariant
     Ok(made)
 }

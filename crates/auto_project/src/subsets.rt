@@ -90,7 +90,7 @@ impl<'a> Subsets<'a> {
             nodes,
         };
         let (merger, first) = rows.closed(merger, first)?;
-        let _ = merger.sets().len();
+        let _ = merger.sets().len(); // for its invariant
         Ok(Subsets {
             rows,
             first,
@@ -112,7 +112,7 @@ impl<'a> Subsets<'a> {
         ensures places { self.new.places ≡ self.old.places }
     {
         let node = united_rows(&mut self.merger, self.rows.nodes.as_slice(), set)?;
-        let _ = self.merger.sets().len();
+        let _ = self.merger.sets().len(); // for its invariant
         Ok(node)
     }
 

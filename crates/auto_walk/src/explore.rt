@@ -10,7 +10,7 @@ use auto_core::Auto;
 use letter_diagram::Node;
 use std::alloc::{AllocError, Global};
 
-// The first row, unless more places than the budget are numbered by it.
+/// The first row, unless more places than the budget are numbered by it.
 fn first_row<W: Walk>(walk: &mut W, budget: u32) -> Result<Node, Grown>
     requires { W.places walk.old ≡ [] }
     ensures walker { W.walker walk.new ≡ W.walker walk.old }
@@ -26,7 +26,7 @@ fn first_row<W: Walk>(walk: &mut W, budget: u32) -> Result<Node, Grown>
     Ok(node)
 }
 
-// The row of a numbered place, unless more places than the budget are numbered by it.
+/// The row of a numbered place, unless more places than the budget are numbered by it.
 fn next_row<W: Walk>(walk: &mut W, number: u32, budget: u32) -> Result<Node, Grown>
     requires numbered { AreNumbered (W.walker walk.old) (W.places walk.old) }
     requires known { number < length (W.places walk.old) }
@@ -47,7 +47,7 @@ fn next_row<W: Walk>(walk: &mut W, number: u32, budget: u32) -> Result<Node, Gro
     Ok(node)
 }
 
-// The rows of the places that are numbered, and of all that these lead to.
+/// The rows of the places that are numbered, and of all that these lead to.
 fn all_rows<W: Walk>(alloc: Global, walk: &mut W, budget: u32) -> Result<Vec<Node>, Grown>
     requires numbered { AreNumbered (W.walker walk.old) (W.places walk.old) }
     requires room { length (W.places walk.old) ≤ budget }
@@ -71,7 +71,7 @@ fn all_rows<W: Walk>(alloc: Global, walk: &mut W, budget: u32) -> Result<Vec<Nod
     Ok(rows)
 }
 
-// Whether each place is accepting.
+/// Whether each place is accepting.
 fn flags<W: Walk>(alloc: Global, walk: &W) -> Result<Vec<bool>, AllocError>
     requires numbered { AreNumbered (W.walker walk.now) (W.places walk.now) }
     requires room { length (W.places walk.now) < 2 ^ 31 }

@@ -97,7 +97,7 @@ fn bit_row(
 {
     let low = number_of(seen, low)?;
     let high = number_of(seen, high)?;
-    let _ = seen.len();
+    let _ = seen.len(); // for its invariant
     let low = diagrams.leaf(low)?;
     let high = diagrams.leaf(high)?;
     let node = diagrams.node(0, low, high)?;
