@@ -21,7 +21,7 @@ use Rattle.auto_bool.specs.declared.connective.Connective.{Connective}
 use Rattle.auto_bool.specs.declared.connective.Connective.TheVariants.{And, Or}
 use Rattle.auto_bool.specs.Both.{combined, place_of_pair, walker_over, both_walker}
 use Rattle.auto_bool.specs.Sides.{Reads}
-use Rattle.auto_walk.proofs.States.{state_within}
+use Rattle.auto_core.proofs.States.{state_within}
 
 pub get_pair : (pairs : List (ℕ × ℕ)) (number : ℕ) (pair : ℕ × ℕ) → slice_get pairs number ≡ Some pair → slice_get (map place_of_pair pairs) number ≡ Some (place_of_pair pair)
 get_pair pairs number pair at = slice_get-map place_of_pair pairs number ∙ ap (option_map place_of_pair) at
@@ -47,7 +47,8 @@ different-places pairs h i j d less within =
     λ e. h i j (0, 0) less inside (same_pair _ _ (sym (at i below) ∙ e ∙ at j inside))
 
 module _ (tracks : List Var) (a b : Automaton) (connective : Connective) where
-  fold-pair : (letters : List ℕ) (p q : ℕ) → fold (walker_over tracks a b connective).next (p ∷ q ∷ []) letters ≡ run a p (map (restrict tracks a.tracks) letters) ∷ run b q (map (restrict tracks b.tracks) letters) ∷ []
+  fold-pair : (letters : List ℕ) (p q : ℕ)
+      → fold (walker_over tracks a b connective).next (p ∷ q ∷ []) letters ≡ run a p (map (restrict tracks a.tracks) letters) ∷ run b q (map (restrict tracks b.tracks) letters) ∷ []
   fold-pair [] p q = refl
   fold-pair (letter ∷ letters) p q = fold-pair letters (next_state a p (restrict tracks a.tracks letter)) (next_state b q (restrict tracks b.tracks letter))
 
@@ -66,7 +67,8 @@ module _ (tracks : List Var) (a b : Automaton) (connective : Connective) where
   second_of_two : (p q r s : ℕ) → p ∷ q ∷ [] ≡ r ∷ s ∷ [] → q ≡ s
   second_of_two p q r s e = cc
 
-  pub states_at : (pairs : List (ℕ × ℕ)) (number left right : ℕ) → IsAutomaton a → IsAutomaton b → slice_get pairs number ≡ Some (left, right) → AreNumbered (walker_over tracks a b connective) (map place_of_pair pairs) → (left < length a.accept) × (right < length b.accept)
+  pub states_at : (pairs : List (ℕ × ℕ)) (number left right : ℕ) → IsAutomaton a → IsAutomaton b → slice_get pairs number ≡ Some (left, right)
+      → AreNumbered (walker_over tracks a b connective) (map place_of_pair pairs) → (left < length a.accept) × (right < length b.accept)
   states_at pairs number left right a_valid b_valid at numbered =
       let r = All-at (IsReached (walker_over tracks a b connective)) (map place_of_pair pairs) number (left ∷ right ∷ []) (get_pair pairs number (left, right) at) numbered.reached in
       let e = sym (place_of-pair r.word r.is_word.nonempty) ∙ r.leads in (
@@ -76,7 +78,8 @@ module _ (tracks : List Var) (a b : Automaton) (connective : Connective) where
 
 -- the row of the pairs of two rows
 pub IsRow-paired : (w : Walker) (old_shapes shapes : List Shape) (old_pairs pairs : List (ℕ × ℕ)) (lead : ℕ → List ℕ) (left right node : ℕ) (left_value right_value : ℕ → ℕ)
-    → Reads old_shapes (length w.tracks) left left_value → Reads old_shapes (length w.tracks) right right_value → ((letter : ℕ) → lead letter ≡ left_value letter ∷ right_value letter ∷ []) → node < length shapes
+    → Reads old_shapes (length w.tracks) left left_value → Reads old_shapes (length w.tracks) right right_value
+    → ((letter : ℕ) → lead letter ≡ left_value letter ∷ right_value letter ∷ []) → node < length shapes
     → ((letter : ℕ) → slice_get pairs (map_at shapes node letter) ≡ Some (map_at old_shapes left letter, map_at old_shapes right letter))
     → AreAnswers old_shapes (length old_pairs) pairs left right → AllPairs (λ p q. p ≢ q) pairs
     → IsRow w shapes (map place_of_pair old_pairs) (map place_of_pair pairs) lead node
@@ -133,20 +136,23 @@ module _ (a b m : Automaton) where
       subst (λ t. Accepts m word ↔ IsTrue (combined connective (is_final a (state_of a (part_of t a.tracks word))) (is_final b (state_of b (part_of t b.tracks word))))) (sym walked.tracks)
       (λ h. here.0 (words.0 h), λ h. words.1 (here.1 h))
 
-  pub accepts-both : IsWalked (both_walker a b And) m → (word : List ℕ) → IsWord (length m.tracks) word → Accepts m word ↔ (Accepts a (part_of m.tracks a.tracks word) × Accepts b (part_of m.tracks b.tracks word))
+  pub accepts-both : IsWalked (both_walker a b And) m → (word : List ℕ) → IsWord (length m.tracks) word
+      → Accepts m word ↔ (Accepts a (part_of m.tracks a.tracks word) × Accepts b (part_of m.tracks b.tracks word))
   accepts-both walked word is =
       let one = accepts-combined And walked word is in
       let two = both_true (is_final a (state_of a (part_of m.tracks a.tracks word))) (is_final b (state_of b (part_of m.tracks b.tracks word))) in
       (λ h. two.0 (one.0 h), λ h. one.1 (two.1 h))
 
-  pub accepts-one : IsWalked (both_walker a b Or) m → (word : List ℕ) → IsWord (length m.tracks) word → Accepts m word ↔ (Accepts a (part_of m.tracks a.tracks word) ⊎ Accepts b (part_of m.tracks b.tracks word))
+  pub accepts-one : IsWalked (both_walker a b Or) m → (word : List ℕ) → IsWord (length m.tracks) word
+      → Accepts m word ↔ (Accepts a (part_of m.tracks a.tracks word) ⊎ Accepts b (part_of m.tracks b.tracks word))
   accepts-one walked word is =
       let one = accepts-combined Or walked word is in
       let two = one_true (is_final a (state_of a (part_of m.tracks a.tracks word))) (is_final b (state_of b (part_of m.tracks b.tracks word))) in
       (λ h. two.0 (one.0 h), λ h. one.1 (two.1 h))
 
 -- the states of a numbered pair, however the pairs are listed
-pub states_in : (tracks : List Var) (a b : Automaton) (connective : Connective) (pairs listed : List (ℕ × ℕ)) (number : ℕ) → IsAutomaton a → IsAutomaton b → listed ≡ pairs → number < length (map place_of_pair pairs)
+pub states_in : (tracks : List Var) (a b : Automaton) (connective : Connective) (pairs listed : List (ℕ × ℕ)) (number : ℕ) → IsAutomaton a → IsAutomaton b → listed ≡ pairs
+    → number < length (map place_of_pair pairs)
     → AreNumbered (walker_over tracks a b connective) (map place_of_pair pairs) → ((get_or listed number (0, 0)).0 < length a.accept) × ((get_or listed number (0, 0)).1 < length b.accept)
 states_in tracks a b connective pairs listed number a_valid b_valid same known numbered =
     let within : number < length pairs = let l = length-map pairs place_of_pair in omega (arith, l, known) in
@@ -154,7 +160,8 @@ states_in tracks a b connective pairs listed number a_valid b_valid same known n
     let found = states_at tracks a b connective pairs number (get_or pairs number (0, 0)).0 (get_or pairs number (0, 0)).1 a_valid b_valid at numbered in
     (subst (λ (l : List (ℕ × ℕ)). (get_or {A = ℕ × ℕ} l number (0, 0)).0 < length a.accept) (sym same) found.0, subst (λ (l : List (ℕ × ℕ)). (get_or {A = ℕ × ℕ} l number (0, 0)).1 < length b.accept) (sym same) found.1)
 
-pub place_in : (pairs listed : List (ℕ × ℕ)) (number : ℕ) → listed ≡ pairs → number < length (map place_of_pair pairs) → slice_get (map place_of_pair pairs) number ≡ Some (place_of_pair (get_or listed number (0, 0)))
+pub place_in : (pairs listed : List (ℕ × ℕ)) (number : ℕ) → listed ≡ pairs → number < length (map place_of_pair pairs)
+    → slice_get (map place_of_pair pairs) number ≡ Some (place_of_pair (get_or listed number (0, 0)))
 place_in pairs listed number same known =
     let within : number < length pairs = let l = length-map pairs place_of_pair in omega (arith, l, known) in
     get_pair pairs number (get_or pairs number (0, 0)) (slice_get-get_or pairs number (0, 0) within) ∙ ap (λ (l : List (ℕ × ℕ)). Some (place_of_pair (get_or l number (0, 0)))) (sym same)

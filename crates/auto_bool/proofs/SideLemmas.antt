@@ -15,7 +15,7 @@ use Rattle.auto_core.specs.Automaton.{Automaton, IsAutomaton, width, first_state
 use Rattle.auto_core.specs.Rows.{IsOverNodes}
 use Rattle.auto_core.proofs.RowLemmas.{get_or-row_of, get_or-rows_of}
 use Rattle.auto_bool.specs.Sides.{Reads, IsSide, AreAmong}
-use Rattle.auto_walk.proofs.Restricted.{relabelled-places, restrict-below, all_narrow}
+use Rattle.auto_core.proofs.Restricted.{relabelled-places, restrict-below}
 use Rattle.auto_bool.proofs.TrackLemmas.{restrict-same}
 
 pub Reads-kept : (old new : List Shape) (tracks node : ℕ) (value : ℕ → ℕ) → Grows old new → Reads old tracks node value → Reads new tracks node value
@@ -79,7 +79,8 @@ module _ (a : Automaton) (valid : IsAutomaton a) (over : IsOverNodes a) where
         }
 
 -- nodes that are read from a side
-pub first-reads : (shapes : List Shape) (all : List Var) (a : Automaton) (nodes : List ℕ) (node : ℕ) → IsSide shapes all a nodes → node ≡ get_or nodes 0 node → Reads shapes (length all) node (λ letter. first_state a (restrict all a.tracks letter))
+pub first-reads : (shapes : List Shape) (all : List Var) (a : Automaton) (nodes : List ℕ) (node : ℕ) → IsSide shapes all a nodes → node ≡ get_or nodes 0 node
+    → Reads shapes (length all) node (λ letter. first_state a (restrict all a.tracks letter))
 first-reads shapes all a nodes node s is = s.first node (slice_get-get_or nodes 0 node (let size = s.size in omega (arith, size)) ∙ ap Some (sym is))
 
 pub row-reads : (shapes : List Shape) (all : List Var) (a : Automaton) (nodes : List ℕ) (state node : ℕ) → IsSide shapes all a nodes → state < length a.accept → node ≡ get_or nodes (state + 1) node

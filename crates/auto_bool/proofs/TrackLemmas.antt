@@ -26,7 +26,8 @@ order : (a b : ℕ) → (a < b) ⊎ ((a ≡ b) ⊎ (b < a))
 order a b = grind arith
 
 -- a track that goes to a place is there afterwards, between the tracks before and after
-pub with_var-insert : (x : Var) (ys : List Var) (at : ℕ) → at ≤ length ys → ((k : ℕ) → k < at → (get_or ys k x).0 < x.0) → (at < length ys → x.0 < (get_or ys at x).0) → with_var x ys ≡ take at ys ++ x ∷ drop at ys
+pub with_var-insert : (x : Var) (ys : List Var) (at : ℕ) → at ≤ length ys → ((k : ℕ) → k < at → (get_or ys k x).0 < x.0) → (at < length ys → x.0 < (get_or ys at x).0)
+    → with_var x ys ≡ take at ys ++ x ∷ drop at ys
 with_var-insert x [] zero within before after = refl
 with_var-insert x [] (suc at) within before after = absurd (omega arith)
 with_var-insert x (y ∷ ys) zero within before after = before-is x y ys (after (omega arith))
@@ -139,7 +140,8 @@ pub AreAmong-right : (xs ys : List Var) → AreAmong (with_vars xs ys) ys
 AreAmong-right xs ys = record { within = All-map (λ track. track < length (with_vars xs ys)) (place (with_vars xs ys)) ys (all_within (with_vars xs ys) ys (has-right xs ys)) }
 
 -- letters that agree on all tracks agree on some
-restrict-agree : (all some : List Var) (a b : ℕ) → All (λ track. track < length all) (map (place all) some) → ((k : ℕ) → k < length all → bit_at a k ≡ bit_at b k) → restrict all some a ≡ restrict all some b
+restrict-agree : (all some : List Var) (a b : ℕ) → All (λ track. track < length all) (map (place all) some) → ((k : ℕ) → k < length all → bit_at a k ≡ bit_at b k)
+    → restrict all some a ≡ restrict all some b
 restrict-agree all [] a b within agree = refl
 restrict-agree all (v ∷ vs) a b within agree =
     let bit = agree (place all v) (All-head (λ track. track < length all) (place all v) (map (place all) vs) within) in
@@ -158,6 +160,7 @@ pub place-at : (all some : List Var) (i : ℕ) (d : Var) → AreAmong all some �
 place-at all some i d among h =
     subst (λ n. n < length all) (get_or-places all some i d h) (among.within i (place all d) (let l = length-map some (place all) in omega (arith, l, h)))
 
-pub places-more : (all some : List Var) (places : List ℕ) (i n : ℕ) (d : Var) → i < length some → places ≡ map (place all) (take i some) → n ≡ place all (get_or some i d) → places ++ n ∷ [] ≡ map (place all) (take (i + 1) some)
+pub places-more : (all some : List Var) (places : List ℕ) (i n : ℕ) (d : Var) → i < length some → places ≡ map (place all) (take i some) → n ≡ place all (get_or some i d)
+    → places ++ n ∷ [] ≡ map (place all) (take (i + 1) some)
 places-more all some places i n d h so_far next =
     ap (λ l. l ++ n ∷ []) so_far ∙ ap (λ m. map (place all) (take i some) ++ m ∷ []) next ∙ sym (map-take_more (place all) some i (get_or some i d) (slice_get-get_or some i d h))

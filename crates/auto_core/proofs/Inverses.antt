@@ -44,7 +44,8 @@ index_of-place places i different within =
     (λ k before. other-number (get_or places k 0) (get_or places i 0) (different k i 0 before within))
     (λ _. same-number (get_or places i 0) (get_or places i 0) refl)
 
-pub covered : (places : List ℕ) (tracks letter : ℕ) → AllPairs (λ p q. p ≢ q) places → All (λ p. p < tracks) places → letter < 2 ^ length places → (from : ℕ) × (from < 2 ^ tracks) × (relabelled places from ≡ letter)
+pub covered : (places : List ℕ) (tracks letter : ℕ) → AllPairs (λ p q. p ≢ q) places → All (λ p. p < tracks) places → letter < 2 ^ length places
+    → (from : ℕ) × (from < 2 ^ tracks) × (relabelled places from ≡ letter)
 covered places tracks letter different below small =
     let inverse = map (index_of places) (range_with_len 0 tracks) in
     let size = length-map-range_with_len (index_of places) 0 tracks in (

@@ -57,7 +57,8 @@ accepts-repeated a decides (suc k) word is =
     (λ h. more.0 (before.0 h), λ h. before.1 (more.1 h))
 
 -- words of equal values, the one not longer than the other, are accepted alike
-alike : (a : Automaton) → DecidesIntegers a → RepeatKeepsValues → EqualValuesEqualWords → (v w : List ℕ) → IsWord (length a.tracks) v → IsWord (length a.tracks) w → length v ≤ length w → ((t : ℕ) → t < length a.tracks → val v t ≡ val w t) → Accepts a v ↔ Accepts a w
+alike : (a : Automaton) → DecidesIntegers a → RepeatKeepsValues → EqualValuesEqualWords → (v w : List ℕ) → IsWord (length a.tracks) v → IsWord (length a.tracks) w
+    → length v ≤ length w → ((t : ℕ) → t < length a.tracks → val v t ≡ val w t) → Accepts a v ↔ Accepts a w
 alike a decides keeps equal v w av aw shorter same =
     let k = length w - length v in
     let longer = accepts-repeated a decides k v av in
@@ -112,7 +113,8 @@ module _ (a : Automaton) (values : List ℤ) (is : IsAutomaton a) (count : lengt
   member-accepted flag tells = rw tells (accepted-spelled a values 63 is count decides fits spell keeps equal)
 
 -- an automaton that decides what holds of values decides a set of integers
-pub DecidesIntegers-values : RepeatKeepsValues → (a : Automaton) (tracks : List Var) (P : Values → Type 0) → a.tracks ≡ tracks → ((word : List ℕ) → IsWord (length tracks) word → Accepts a word ↔ P (word_values tracks word)) → DecidesIntegers a
+pub DecidesIntegers-values : RepeatKeepsValues → (a : Automaton) (tracks : List Var) (P : Values → Type 0) → a.tracks ≡ tracks
+    → ((word : List ℕ) → IsWord (length tracks) word → Accepts a word ↔ P (word_values tracks word)) → DecidesIntegers a
 DecidesIntegers-values keeps a tracks P same decides = record {
   stable = λ word is.
       let own = decides word (rw (← same) is) in
@@ -126,7 +128,8 @@ pub IsLeft-start : (a : Automaton) (values : List ℤ) (left state : ℕ) → le
 unfolding word_of
 IsLeft-start a values left state whole is = record { leads = rw (whole, is) refl }
 
-pub IsLeft-more : (a : Automaton) (values : List ℤ) (left rest place state next : ℕ) → left ≡ suc rest → place ≡ rest → next ≡ next_state a state (letter_of values place) → IsLeft a values left state → IsLeft a values rest next
+pub IsLeft-more : (a : Automaton) (values : List ℤ) (left rest place state next : ℕ) → left ≡ suc rest → place ≡ rest → next ≡ next_state a state (letter_of values place)
+    → IsLeft a values left state → IsLeft a values rest next
 IsLeft-more a values left rest place state next one at is here = record {
   leads = rw (is, at) (subst (λ n. run a state (letters_below values n) ≡ state_of a (word_of values)) one here.leads);
 }

@@ -3,10 +3,9 @@ use Rattle.std.proofs.Common.{◌≡◌, ◌≢◌, ◌↔◌, ℕ, zero, suc, �
 use Rattle.std.specs.Int.{bit_at}
 use Rattle.std.specs.List.{remove}
 use Rattle.std.proofs.lemmas.List.{get_or_default}
-use Rattle.std.proofs.lemmas.Nat.Bits.{bit_at-lt}
 use Rattle.track_word.specs.declared.tracks.Var.{Var}
 use Rattle.track_word.specs.Word.{IsWord, repeat_first}
-use Rattle.track_word.specs.Tracks.{IsAscending, place, restrict, part_of}
+use Rattle.track_word.specs.Tracks.{IsAscending, place, part_of}
 use Rattle.letter_diagram.specs.declared.diagrams.Shape.{Shape}
 use Rattle.letter_diagram.specs.Diagram.{map_at, LooksBelow}
 use Rattle.letter_diagram.specs.Relabelled.{relabelled}
@@ -18,6 +17,7 @@ use Rattle.auto_core.specs.Integers.{DecidesIntegers}
 use Rattle.auto_core.specs.Reduced.{IsReduced}
 use Rattle.auto_core.specs.Rows.{AreRows, IsOverNodes}
 use Rattle.auto_core.proofs.RowLemmas.{get_or-row_of, get_or-rows_of}
+use Rattle.auto_core.proofs.Restricted.{relabelled-places}
 use Rattle.auto_core.proofs.Members.{IsWord-repeat}
 
 relabelled-same : (places : List ℕ) (bound a b : ℕ) → All (λ p. p < bound) places → ((k : ℕ) → k < bound → bit_at a k ≡ bit_at b k) → relabelled places a ≡ relabelled places b
@@ -27,13 +27,8 @@ relabelled-same (p ∷ places) bound a b below same =
     let rest = relabelled-same places bound a b (λ i d h. below (suc i) d (omega (arith, h))) same in
     λ i. bit i + 2 * rest i
 
--- the letter by the places of variables
-relabelled-restrict : (tracks vars : List Var) (letter : ℕ) → relabelled (map (place tracks) vars) letter ≡ restrict tracks vars letter
-relabelled-restrict tracks [] letter = refl
-relabelled-restrict tracks (v ∷ vars) letter = ap (λ r. bit_at letter (place tracks v) + 2 * r) (relabelled-restrict tracks vars letter)
-
 pub part_of-relabelled : (tracks vars : List Var) (word : List ℕ) → map (relabelled (map (place tracks) vars)) word ≡ part_of tracks vars word
-part_of-relabelled tracks vars word = λ i. map (λ letter. relabelled-restrict tracks vars letter i) word
+part_of-relabelled tracks vars word = λ i. map (λ letter. relabelled-places tracks vars letter i) word
 
 -- the maps of first and rows are those of an automaton on relabelled letters
 pub record AreRenamed (a : Automaton) (shapes : List Shape) (places : List ℕ) (first : ℕ) (rows : List ℕ) : Type 0 where
@@ -44,7 +39,9 @@ pub record AreRenamed (a : Automaton) (shapes : List Shape) (places : List ℕ) 
   pub rows_are : (i letter : ℕ) → i < length a.row_nodes → map_at shapes (slice_index rows i) letter ≡ map_at a.shapes (slice_index a.row_nodes i) (relabelled places letter)
 
 -- the nodes that were brought for an automaton's rows, that of the first row apart
-pub AreRenamed-brought : (a : Automaton) (shapes : List Shape) (places answers : List ℕ) (first : ℕ) (rows : List ℕ) → EachAnswers (IsCarried a.shapes shapes (relabelled places) (λ value. value)) (a.first_node ∷ a.row_nodes) answers → first ≡ slice_index_or answers 0 first → rows ≡ remove answers 0
+pub AreRenamed-brought : (a : Automaton) (shapes : List Shape) (places answers : List ℕ) (first : ℕ) (rows : List ℕ)
+    → EachAnswers (IsCarried a.shapes shapes (relabelled places) (λ value. value)) (a.first_node ∷ a.row_nodes) answers → first ≡ slice_index_or answers 0 first
+    → rows ≡ remove answers 0
     → AreRenamed a shapes places first rows
 AreRenamed-brought a shapes places [] first rows brought is rest = let size = brought.size in absurd (omega (arith, size))
 AreRenamed-brought a shapes places (answer ∷ answers) first rows brought is rest =
@@ -57,7 +54,8 @@ AreRenamed-brought a shapes places (answer ∷ answers) first rows brought is re
     }))
 
 -- nodes stay as they are for letters whose tracks keep their places
-brought-in_order : (shapes : List Shape) (places nodes : List ℕ) → ((i : ℕ) → i < length places → slice_index places i ≡ i) → All (λ node. node < length shapes) nodes → All (λ node. LooksBelow shapes node (length places)) nodes
+brought-in_order : (shapes : List Shape) (places nodes : List ℕ) → ((i : ℕ) → i < length places → slice_index places i ≡ i) → All (λ node. node < length shapes) nodes
+    → All (λ node. LooksBelow shapes node (length places)) nodes
     → EachAnswers (IsCarried shapes shapes (relabelled places) (λ value. value)) nodes nodes
 brought-in_order shapes places nodes in_order known narrow = record {
   size = refl;
@@ -79,12 +77,14 @@ rows-in_order a places over count in_order =
     all_cons P x xs p ps zero d h = p
     all_cons P x xs p ps (suc i) d h = ps i d (omega (arith, h))
 
-narrow : (a : Automaton) (shapes : List Shape) (places : List ℕ) (bound node source : ℕ) → All (λ p. p < bound) places → ((letter : ℕ) → map_at shapes node letter ≡ map_at a.shapes source (relabelled places letter)) → LooksBelow shapes node bound
+narrow : (a : Automaton) (shapes : List Shape) (places : List ℕ) (bound node source : ℕ) → All (λ p. p < bound) places
+    → ((letter : ℕ) → map_at shapes node letter ≡ map_at a.shapes source (relabelled places letter)) → LooksBelow shapes node bound
 narrow a shapes places bound node source below is = record {
   same = λ x y bits. is x ∙ ap (map_at a.shapes source) (relabelled-same places bound x y below bits) ∙ sym (is y);
 }
 
-pub AreRows-renamed : (a : Automaton) (tracks : List Var) (shapes : List Shape) (places : List ℕ) (first : ℕ) (rows : List ℕ) (accept : List Bool) → IsOverNodes a → IsAscending tracks → length tracks ≤ 20 → accept ≡ a.accept
+pub AreRows-renamed : (a : Automaton) (tracks : List Var) (shapes : List Shape) (places : List ℕ) (first : ℕ) (rows : List ℕ) (accept : List Bool) → IsOverNodes a
+    → IsAscending tracks → length tracks ≤ 20 → accept ≡ a.accept
     → All (λ p. p < length tracks) places → AreRenamed a shapes places first rows → AreRows tracks shapes first rows accept
 AreRows-renamed a tracks shapes places first rows accept over up few same below are =
     let size = ap length same in
@@ -110,7 +110,8 @@ AreRows-renamed a tracks shapes places first rows accept over up few same below 
 first_state-over : (a : Automaton) → IsOverNodes a → (letter : ℕ) → letter < width a → first_state a letter ≡ map_at a.shapes a.first_node letter
 first_state-over a over letter h = ap (λ l. slice_index l letter) over.first ∙ get_or-row_of a.shapes (width a) a.first_node letter h
 
-next_state-over : (a : Automaton) → IsOverNodes a → (state letter : ℕ) → state < length a.row_nodes → letter < width a → next_state a state letter ≡ map_at a.shapes (slice_index a.row_nodes state) letter
+next_state-over : (a : Automaton) → IsOverNodes a → (state letter : ℕ) → state < length a.row_nodes → letter < width a
+    → next_state a state letter ≡ map_at a.shapes (slice_index a.row_nodes state) letter
 next_state-over a over state letter k h = ap (λ l. slice_index l (state * width a + letter)) over.next ∙ get_or-rows_of a.shapes (width a) a.row_nodes state letter 0 k h
 
 -- the word of the bits at the places is one of as many tracks

@@ -97,7 +97,8 @@ StandsFor-more weights bound span x d s t is between here there =
     subst (λ z. StandsFor span z t) (let e : ((span.low +ℤ pos s) +ℤ (span.low +ℤ pos s)) +ℤ d ≡ x +ℤ x +ℤ d = omega (arith, ints, same) in e) there))
 
 -- the value of a sum's state compares with the bound as the sum does
-pub Compares-state : (rel : Rel) (weights : List ℤ) (bound : ℤ) (span : Span) (x : ℤ) (s : ℕ) → IsSpanOf weights bound span → StandsFor span x s → Compares rel (span.low +ℤ pos s) bound ↔ Compares rel x bound
+pub Compares-state : (rel : Rel) (weights : List ℤ) (bound : ℤ) (span : Span) (x : ℤ) (s : ℕ) → IsSpanOf weights bound span → StandsFor span x s
+    → Compares rel (span.low +ℤ pos s) bound ↔ Compares rel x bound
 Compares-state rel weights bound span x s is here =
     let lower = is.below in
     let upper = is.above in

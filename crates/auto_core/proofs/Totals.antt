@@ -41,7 +41,8 @@ fold-none [] = refl
 fold-none (letter ∷ letters) = fold-none letters
 
 -- a sum of two weights, the one scaled
-fold-scaled : (c : ℤ) (f g : ℕ → ℤ) (letters : List ℕ) (x y : ℤ) → fold (step (λ letter. (c *ℤ f letter) +ℤ g letter)) ((c *ℤ x) +ℤ y) letters ≡ (c *ℤ fold (step f) x letters) +ℤ fold (step g) y letters
+fold-scaled : (c : ℤ) (f g : ℕ → ℤ) (letters : List ℕ) (x y : ℤ)
+    → fold (step (λ letter. (c *ℤ f letter) +ℤ g letter)) ((c *ℤ x) +ℤ y) letters ≡ (c *ℤ fold (step f) x letters) +ℤ fold (step g) y letters
 fold-scaled c f g [] x y = refl
 fold-scaled c f g (letter ∷ letters) x y =
     ap (λ z. fold (step (λ letter. (c *ℤ f letter) +ℤ g letter)) z letters) (double-scaled c x y (f letter) (g letter)) ∙ fold-scaled c f g letters (step f x letter) (step g y letter)

@@ -14,7 +14,7 @@ use Rattle.std.proofs.lemmas.Nat.Bits.{bit_at-lt, bit_at-suc, bit_at_lowest, bit
 use Rattle.track_word.specs.declared.tracks.Var.{Var}
 use Rattle.track_word.specs.Tracks.{IsAscending, without_var, place, restrict}
 use Rattle.letter_diagram.specs.Merged.{IsWithBit}
-use Rattle.auto_walk.proofs.Restricted.{restrict-below}
+use Rattle.auto_core.proofs.Restricted.{restrict-below}
 use Rattle.auto_project.specs.Lifted.{ReadsAs}
 use Rattle.auto_project.specs.Subsets.{lengthened}
 use Rattle.auto_project.proofs.Lists.{Contains-filter, Contains-from_filter, length-filter_less, length-filter_le}
@@ -138,7 +138,8 @@ module _ (all : List Var) (x : Var) (up : IsAscending all) where
       ∙ ap (bit_at bit) (let e : length (without_var x all) - length (without_var x all) ≡ 0 = omega arith in e) ∙ bit_at_lowest bit ∙ (let e : bit % 2 ≡ bit = omega arith in e)
 
   -- a letter with a bit on the lost track is read as the longer letter
-  pub lengthened-with : (letter bit longer : ℕ) → letter < 2 ^ length (without_var x all) → bit < 2 → IsWithBit longer letter (length (without_var x all)) bit → restrict (without_var x all) all longer ≡ lengthened all (without_var x all) bit letter
+  pub lengthened-with : (letter bit longer : ℕ) → letter < 2 ^ length (without_var x all) → bit < 2 → IsWithBit longer letter (length (without_var x all)) bit
+      → restrict (without_var x all) all longer ≡ lengthened all (without_var x all) bit letter
   lengthened-with letter bit longer h small is =
       restrict-agree (without_var x all) all (length (without_var x all) + 1) longer (letter + bit * 2 ^ length (without_var x all)) places-left (λ k below. elim (cases_eq k (length (without_var x all))) [
         | inl e ↦ ap (bit_at longer) e ∙ is.at ∙ sym (lost_bit letter bit h small) ∙ ap (bit_at (letter + bit * 2 ^ length (without_var x all))) (sym e)
@@ -195,7 +196,8 @@ module _ (all : List Var) (x : Var) (up : IsAscending all) where
   bit_cases : (letter k : ℕ) → (bit_at letter k ≡ 0) ⊎ (bit_at letter k ≡ 1)
   bit_cases letter k = let l = bit_at-lt letter k in grind (arith, common_steps, l)
 
-  pub lengthened-or : (letter longer : ℕ) → ReadsAs all (without_var x all) letter longer → (longer ≡ lengthened all (without_var x all) 0 letter) ⊎ (longer ≡ lengthened all (without_var x all) 1 letter)
+  pub lengthened-or : (letter longer : ℕ) → ReadsAs all (without_var x all) letter longer
+      → (longer ≡ lengthened all (without_var x all) 0 letter) ⊎ (longer ≡ lengthened all (without_var x all) 1 letter)
   lengthened-or letter longer is = elim (bit_cases longer (place all x)) [
     | inl z ↦ inl (reads-lengthened letter longer is ∙ ap (λ b. lengthened all (without_var x all) b letter) z)
     | inr o ↦ inr (reads-lengthened letter longer is ∙ ap (λ b. lengthened all (without_var x all) b letter) o)

@@ -13,7 +13,7 @@ use Rattle.track_word.specs.Word.{repeat_first, repeated}
 use Rattle.track_word.specs.Tracks.{without_var, part_of}
 use Rattle.auto_core.specs.Automaton.{Automaton, IsAutomaton, first_state, next_state, run, state_of}
 use Rattle.auto_core.specs.Spread.{IsLift}
-use Rattle.auto_walk.proofs.Restricted.{restrict-below}
+use Rattle.auto_core.proofs.Restricted.{restrict-below}
 use Rattle.auto_project.specs.Lifted.{ReadsAs, Begins, Follows, LiftLeads}
 use Rattle.auto_project.specs.Subsets.{lengthened, leads_to, next_set}
 use Rattle.auto_project.proofs.Lists.{Contains-cons, Contains-cases, Contains-head, Contains-filter, Contains-from_filter, Contains-range, increasing-range}
@@ -191,7 +191,8 @@ module _ (a : Automaton) (some : List Var) where
         fold_has letters ls (step set letter) (next_state a s l) t ((steps set letter (next_state a s l) small).1 (s, member, record { longer = l; is = zips.0; leads = refl })) zips.1 e
 
     -- the set after a word has just the states to which its lifts lead
-    pub lift_from : (sign : ℕ) (letters first : List ℕ) (t : ℕ) → ((s : ℕ) → Contains first s → LiftLeads a some (sign ∷ []) s) → All (λ l. l < 2 ^ length some) letters → Contains (fold step first letters) t → LiftLeads a some (sign ∷ letters) t
+    pub lift_from : (sign : ℕ) (letters first : List ℕ) (t : ℕ) → ((s : ℕ) → Contains first s → LiftLeads a some (sign ∷ []) s) → All (λ l. l < 2 ^ length some) letters
+        → Contains (fold step first letters) t → LiftLeads a some (sign ∷ letters) t
     lift_from sign letters first t firsts small h =
         let l = fold_leads letters first t small h in
         let s = firsts l.from l.member in
@@ -207,7 +208,8 @@ module _ (a : Automaton) (some : List Var) where
         no_more zero ls = refl
         no_more (suc n) ls = ap (λ l. sign ∷ l) (no_more n ls)
 
-    pub lift_to : (sign : ℕ) (letters first : List ℕ) (t : ℕ) → ((s : ℕ) → LiftLeads a some (sign ∷ []) s → Contains first s) → LiftLeads a some (sign ∷ letters) t → Contains (fold step first letters) t
+    pub lift_to : (sign : ℕ) (letters first : List ℕ) (t : ℕ) → ((s : ℕ) → LiftLeads a some (sign ∷ []) s → Contains first s) → LiftLeads a some (sign ∷ letters) t
+        → Contains (fold step first letters) t
     lift_to sign letters first t firsts l =
         let z = lift-zips a.tracks some sign letters l.lift l.is in
         let parts = cut a.tracks some (replicate (suc z.times) sign) letters l.lift z.zips in

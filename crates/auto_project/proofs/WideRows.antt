@@ -21,7 +21,7 @@ use Rattle.auto_core.specs.Automaton.{Automaton, IsAutomaton, width, first_state
 use Rattle.auto_core.specs.Rows.{IsOverNodes}
 use Rattle.auto_core.proofs.RowLemmas.{get_or-row_of, get_or-rows_of}
 use Rattle.auto_core.proofs.Renamed.{AreRenamed}
-use Rattle.auto_walk.proofs.Restricted.{relabelled-places, restrict-below}
+use Rattle.auto_core.proofs.Restricted.{relabelled-places, restrict-below}
 use Rattle.auto_project.specs.Lifted.{ReadsAs, Begins, Follows}
 use Rattle.auto_project.specs.Subsets.{lengthened}
 use Rattle.auto_project.specs.SetMaps.{set_of, IsNarrow, IsSetRow, HasSetRows, AreSingletons, IsWideRow, AreWideRows, HasWideRows}
@@ -36,7 +36,8 @@ module _ (a : Automaton) (valid : IsAutomaton a) (over : IsOverNodes a) (some : 
   row-map : (state letter : ℕ) → state < length a.row_nodes → letter < width a → map_at a.shapes (get_or a.row_nodes state 0) letter ≡ next_state a state letter
   row-map state letter known below = sym (ap (λ l. get_or l (state * width a + letter) 0) over.next ∙ get_or-rows_of a.shapes (2 ^ length a.tracks) a.row_nodes state letter 0 known below)
 
-  pub IsWideRow-made : (shapes : List Shape) (source node : ℕ) (value : ℕ → ℕ) → node < length shapes → ((letter : ℕ) → map_at a.shapes source letter < length a.accept) → ((letter : ℕ) → letter < width a → map_at a.shapes source letter ≡ value letter)
+  pub IsWideRow-made : (shapes : List Shape) (source node : ℕ) (value : ℕ → ℕ) → node < length shapes → ((letter : ℕ) → map_at a.shapes source letter < length a.accept)
+      → ((letter : ℕ) → letter < width a → map_at a.shapes source letter ≡ value letter)
       → ((letter : ℕ) → map_at shapes node letter ≡ map_at a.shapes source (relabelled (map (place some) a.tracks) letter)) → IsWideRow shapes a some node value
   IsWideRow-made shapes source node value known within says maps =
       let reads = λ (letter : ℕ). maps letter ∙ ap (map_at a.shapes source) (relabelled-places some a.tracks letter) in
@@ -70,7 +71,8 @@ module _ (a : Automaton) (x : Var) (valid : IsAutomaton a) where
   single-at sets number singles h = get_or_from_slice_get sets number (number ∷ []) [] (singles.single number h)
 
   -- the numbers of a wide row are numbers of sets
-  pub wide-sets : (shapes : List Shape) (sets : List (List ℕ)) (node : ℕ) (value : ℕ → ℕ) → AreSingletons sets (length a.accept) → IsWideRow shapes a (without_var x a.tracks) node value → HasSets shapes sets node
+  pub wide-sets : (shapes : List Shape) (sets : List (List ℕ)) (node : ℕ) (value : ℕ → ℕ) → AreSingletons sets (length a.accept)
+      → IsWideRow shapes a (without_var x a.tracks) node value → HasSets shapes sets node
   wide-sets shapes sets node value singles row = record {
     known = row.known;
     numbered = λ letter. let w = row.within letter in let e = singles.enough in omega (arith, w, e);
@@ -177,7 +179,8 @@ module _ (a : Automaton) (x : Var) (valid : IsAutomaton a) where
           | inr e ↦ inr (ap value (lengthened-with a.tracks x valid.ascending letter 1 on.0 below (omega arith) on.1 ∙ sym e) ∙ r.leads)
         ])
 
-    IsSetRow-merged : (Holds : ℕ → ℕ → Type 0) → ((letter state : ℕ) → Reads letter state value → Holds letter state) → ((letter state : ℕ) → Holds letter state → Reads letter state value) → IsSetRow shapes sets (length (without_var x a.tracks)) merged Holds
+    IsSetRow-merged : (Holds : ℕ → ℕ → Type 0) → ((letter state : ℕ) → Reads letter state value → Holds letter state)
+        → ((letter state : ℕ) → Holds letter state → Reads letter state value) → IsSetRow shapes sets (length (without_var x a.tracks)) merged Holds
     IsSetRow-merged Holds to from = record {
       is = record { known = is.known; numbered = λ letter. let off = with-off letter (length (without_var x a.tracks)) in let on = with-on letter (length (without_var x a.tracks)) in (is.map letter off.0 on.0 off.1 on.1).known };
       narrow = merged-narrow;
@@ -192,7 +195,8 @@ module _ (a : Automaton) (x : Var) (valid : IsAutomaton a) where
     shorter : (letter : ℕ) → restrict (without_var x a.tracks) a.tracks letter ≡ lengthened a.tracks (without_var x a.tracks) 0 letter
     shorter letter = ap (restrict (without_var x a.tracks) a.tracks) (let e : letter ≡ letter + 0 * 2 ^ length (without_var x a.tracks) = omega arith in e)
 
-    IsSetRow-wide : (Holds : ℕ → ℕ → Type 0) → ((letter state : ℕ) → Reads letter state value → Holds letter state) → ((letter state : ℕ) → Holds letter state → Reads letter state value) → IsSetRow shapes sets (length (without_var x a.tracks)) node Holds
+    IsSetRow-wide : (Holds : ℕ → ℕ → Type 0) → ((letter state : ℕ) → Reads letter state value → Holds letter state)
+        → ((letter state : ℕ) → Holds letter state → Reads letter state value) → IsSetRow shapes sets (length (without_var x a.tracks)) node Holds
     IsSetRow-wide Holds to from = record {
       is = wide-sets shapes sets node value singles row;
       narrow = record {
@@ -226,7 +230,8 @@ module _ (a : Automaton) (x : Var) (valid : IsAutomaton a) where
   follows-to : (from letter state : ℕ) → Follows a (without_var x a.tracks) from letter state → Reads letter state (next_state a from)
   follows-to from letter state r = record { longer = r.longer; is = r.is; leads = r.leads }
 
-  pub HasSetRows-wide : (shapes : List Shape) (sets : List (List ℕ)) (first : ℕ) (rows : List ℕ) → AreSingletons sets (length a.accept) → HasWideRows shapes a (without_var x a.tracks) first rows → length (without_var x a.tracks) ≡ length a.tracks
+  pub HasSetRows-wide : (shapes : List Shape) (sets : List (List ℕ)) (first : ℕ) (rows : List ℕ) → AreSingletons sets (length a.accept)
+      → HasWideRows shapes a (without_var x a.tracks) first rows → length (without_var x a.tracks) ≡ length a.tracks
       → HasSetRows shapes sets a (without_var x a.tracks) first rows
   HasSetRows-wide shapes sets first rows singles wide same = record {
     valid = valid;
@@ -237,8 +242,10 @@ module _ (a : Automaton) (x : Var) (valid : IsAutomaton a) where
     };
   }
 
-  pub HasSetRows-merged : (old shapes : List Shape) (before sets : List (List ℕ)) (first merged_first : ℕ) (rows merged : List ℕ) → AreSingletons before (length a.accept) → HasWideRows old a (without_var x a.tracks) first rows → Grows old shapes → SetsKept before sets
-      → IsMerged shapes sets (length (without_var x a.tracks)) first merged_first → EachAnswers (IsMerged shapes sets (length (without_var x a.tracks))) rows merged → HasSetRows shapes sets a (without_var x a.tracks) merged_first merged
+  pub HasSetRows-merged : (old shapes : List Shape) (before sets : List (List ℕ)) (first merged_first : ℕ) (rows merged : List ℕ) → AreSingletons before (length a.accept)
+      → HasWideRows old a (without_var x a.tracks) first rows → Grows old shapes → SetsKept before sets
+      → IsMerged shapes sets (length (without_var x a.tracks)) first merged_first → EachAnswers (IsMerged shapes sets (length (without_var x a.tracks))) rows merged
+      → HasSetRows shapes sets a (without_var x a.tracks) merged_first merged
   HasSetRows-merged old shapes before sets first merged_first rows merged singles wide grows kept first_is each = record {
     valid = valid;
     first_row = IsSetRow-merged old shapes before sets first merged_first (first_state a) singles wide.first_row grows kept first_is (Begins a (without_var x a.tracks)) begins-from begins-to;
@@ -255,5 +262,6 @@ module _ (a : Automaton) (x : Var) (valid : IsAutomaton a) where
     };
   }
 
-  pub wide-rows-sets : (shapes : List Shape) (sets : List (List ℕ)) (rows : List ℕ) → AreSingletons sets (length a.accept) → AreWideRows shapes a (without_var x a.tracks) rows → All (HasSets shapes sets) rows
+  pub wide-rows-sets : (shapes : List Shape) (sets : List (List ℕ)) (rows : List ℕ) → AreSingletons sets (length a.accept) → AreWideRows shapes a (without_var x a.tracks) rows
+      → All (HasSets shapes sets) rows
   wide-rows-sets shapes sets rows singles wide = All-from_get_or (HasSets shapes sets) rows 0 (λ i h. wide-sets shapes sets (get_or rows i 0) (next_state a i) singles (wide.each i (get_or rows i 0) (slice_get-get_or rows i 0 h)))

@@ -31,7 +31,8 @@ last_bit : (letter : ℕ) → (bit_at letter 0 ≡ 0) ⊎ (bit_at letter 0 ≡ 1
 last_bit letter = let below = bit_at-lt letter 0 in elim (cases_eq (bit_at letter 0) 0) [ inl e ↦ inl e | inr ne ↦ inr (omega (arith, below, ne)) ]
 
 -- a row by one bit, over one track
-pub IsRow-bits : (w : Walker) (shapes : List Shape) (old new : List (List ℕ)) (lead : ℕ → List ℕ) (low high node : ℕ) → length w.tracks ≡ 1 → ((letter : ℕ) → lead letter ≡ by_bit low high letter ∷ []) → IsBitRow shapes old new low high node → IsRow w shapes old new lead node
+pub IsRow-bits : (w : Walker) (shapes : List Shape) (old new : List (List ℕ)) (lead : ℕ → List ℕ) (low high node : ℕ) → length w.tracks ≡ 1
+    → ((letter : ℕ) → lead letter ≡ by_bit low high letter ∷ []) → IsBitRow shapes old new low high node → IsRow w shapes old new lead node
 IsRow-bits w shapes old new lead low high node one leads_to row =
     let at : (letter : ℕ) → slice_get new (map_at shapes node letter) ≡ Some (lead letter) = λ letter. row.leads letter ∙ ap Some (sym (leads_to letter)) in
     record {
@@ -59,7 +60,8 @@ first-by_bit modulus letter = ap (λ n. n ∷ []) (elim (last_bit letter) [
   | inr e ↦ ap (λ b. b * (modulus - 1)) e ∙ (let one : 1 * (modulus - 1) ≡ modulus - 1 = omega arith in one) ∙ sym (choice 0 (modulus - 1) letter 1 e)
 ])
 
-pub next-by_bit : (modulus letter low high : ℕ) (place : List ℕ) → low ≡ (2 * get_or place 0 0 + 0) % modulus → high ≡ (2 * get_or place 0 0 + 1) % modulus → next_residue modulus place letter ≡ by_bit low high letter ∷ []
+pub next-by_bit : (modulus letter low high : ℕ) (place : List ℕ) → low ≡ (2 * get_or place 0 0 + 0) % modulus → high ≡ (2 * get_or place 0 0 + 1) % modulus
+    → next_residue modulus place letter ≡ by_bit low high letter ∷ []
 next-by_bit modulus letter low high place l h = ap (λ n. n ∷ []) (elim (last_bit letter) [
   | inl e ↦ ap (λ b. (2 * get_or place 0 0 + b) % modulus) e ∙ sym l ∙ sym (choice low high letter 0 e)
   | inr e ↦ ap (λ b. (2 * get_or place 0 0 + b) % modulus) e ∙ sym h ∙ sym (choice low high letter 1 e)
@@ -91,7 +93,8 @@ sign-below modulus sign positive = elim (last_bit sign) [
   | inr e ↦ subst (λ b. b * (modulus - 1) < modulus) (sym e) (omega arith)
 ]
 
-place-residue : (tracks : List Var) (modulus wanted sign : ℕ) (letters : List ℕ) → 0 < modulus → place_of (residue_walker tracks modulus wanted) (sign ∷ letters) ≡ read_on (bit_at sign 0 * (modulus - 1)) letters % modulus ∷ []
+place-residue : (tracks : List Var) (modulus wanted sign : ℕ) (letters : List ℕ) → 0 < modulus
+    → place_of (residue_walker tracks modulus wanted) (sign ∷ letters) ≡ read_on (bit_at sign 0 * (modulus - 1)) letters % modulus ∷ []
 place-residue tracks modulus wanted sign letters positive =
     ap (λ k. fold (next_residue modulus) (k ∷ []) letters) (sym (mod-eq_of_lt {n = bit_at sign 0 * (modulus - 1)} {m = modulus} (sign-below modulus sign positive)))
     ∙ fold-residue modulus letters (bit_at sign 0 * (modulus - 1))
@@ -109,7 +112,8 @@ same_residue : (a b : ℕ) → pos a ≡ pos b → a ≡ b
 same_residue a b e = cc
 
 -- a word is accepted just if its value leaves the residue
-pub residue_words : (a : Automaton) (tracks : List Var) (var : Var) (modulus wanted : ℕ) → 0 < modulus → tracks ≡ var ∷ [] → IsWalked (residue_walker tracks modulus wanted) a → (word : List ℕ) → IsWord 1 word → Accepts a word ↔ ResidueHolds var modulus wanted word
+pub residue_words : (a : Automaton) (tracks : List Var) (var : Var) (modulus wanted : ℕ) → 0 < modulus → tracks ≡ var ∷ [] → IsWalked (residue_walker tracks modulus wanted) a
+    → (word : List ℕ) → IsWord 1 word → Accepts a word ↔ ResidueHolds var modulus wanted word
 residue_words a tracks var modulus wanted positive one walked [] is_word = absurd (is_word.nonempty refl)
 residue_words a tracks var modulus wanted positive one walked (sign ∷ letters) is_word =
     let n : ℕ = read_on (bit_at sign 0 * (modulus - 1)) letters % modulus in
@@ -127,6 +131,7 @@ residue_words a tracks var modulus wanted positive one walked (sign ∷ letters)
     nat_eq-same : {x y : ℕ} → x ≡ y → nat_eq x y ≡ true
     nat_eq-same {x} {y} e = grind (arith, common_steps, e)
 
-pub residue_integers : RepeatKeepsValues → (a : Automaton) (tracks : List Var) (var : Var) (modulus wanted : ℕ) → 0 < modulus → tracks ≡ var ∷ [] → IsWalked (residue_walker tracks modulus wanted) a → DecidesIntegers a
+pub residue_integers : RepeatKeepsValues → (a : Automaton) (tracks : List Var) (var : Var) (modulus wanted : ℕ) → 0 < modulus → tracks ≡ var ∷ []
+    → IsWalked (residue_walker tracks modulus wanted) a → DecidesIntegers a
 residue_integers repeat a tracks var modulus wanted positive one walked =
     DecidesIntegers-values repeat a (var ∷ []) (λ v. int_rem_euclid (v var.0) (pos modulus) ≡ pos wanted) (walked.tracks ∙ one) (residue_words a tracks var modulus wanted positive one walked)

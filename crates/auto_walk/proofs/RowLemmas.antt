@@ -60,7 +60,8 @@ module _ (w : Walker) where
       numbered-row shapes old new (w.next r.place) node (λ letter below. IsReached-next w r.place letter below from) n.reached more r.row
 
   -- a row keeps leading on as places and nodes are added
-  pub LeadsOn-kept : (old_shapes shapes : List Shape) (old new : List (List ℕ)) (number node : ℕ) → Grows old_shapes shapes → Extends old new → LeadsOn w old_shapes old number node → LeadsOn w shapes new number node
+  pub LeadsOn-kept : (old_shapes shapes : List Shape) (old new : List (List ℕ)) (number node : ℕ) → Grows old_shapes shapes → Extends old new → LeadsOn w old_shapes old number node
+      → LeadsOn w shapes new number node
   LeadsOn-kept old_shapes shapes old new number node grows more l = record {
     place = l.place;
     is = more.kept number l.place l.is;

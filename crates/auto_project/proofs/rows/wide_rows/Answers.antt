@@ -1,5 +1,5 @@
 use Rattle.auto_core.proofs.Renamed.{AreRenamed-brought}
-use Rattle.auto_walk.proofs.Restricted.{all_narrow}
+use Rattle.auto_core.proofs.Restricted.{all_narrow}
 use Rattle.auto_project.proofs.WideRows.{HasWideRows-renamed}
 use Rattle.auto_project.proofs.rows.wide_rows.Goals as goal
 

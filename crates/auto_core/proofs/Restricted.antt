@@ -1,4 +1,4 @@
--- Letters over some of the tracks, and rows that are read over more tracks.
+-- Letters over some of the tracks, and rows that are read over more tracks. Crates above cite these lemmas.
 use Rattle.std.proofs.Common.{◌≡◌, ℕ, suc, ◌<◌, ◌+◌, ◌*◌, ◌^◌, List, [], ◌∷◌, length, map, arith, refl, sym, ap, subst}
 use Rattle.std.specs.List.{All}
 use Rattle.std.specs.Int.{bit_at}
