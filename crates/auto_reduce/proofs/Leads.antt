@@ -9,14 +9,14 @@ use Rattle.letter_diagram.specs.Diagram.{LooksBelow}
 use Rattle.auto_core.specs.Automaton.{Automaton, width, first_state, next_state, state_of}
 use Rattle.auto_core.specs.Rows.{IsOverNodes}
 use Rattle.auto_core.proofs.RowLemmas.{low_bits, get_or-row_of}
-use Rattle.auto_reduce.specs.Leading.{entry_at}
+use Rattle.auto_refine.specs.Leading.{entry_at}
 use Rattle.auto_reduce.specs.Quotient.{IsCanonical, IsMet, IsOrderTo}
 use Rattle.auto_reduce.specs.Unmet.{AddsRow}
-use Rattle.auto_reduce.proofs.Counting.{length_le-below}
+use Rattle.auto_refine.proofs.Counting.{length_le-below}
 use Rattle.auto_walk.proofs.States.{state_within}
 use Rattle.auto_reduce.proofs.States.{state_of-append}
 use Rattle.auto_reduce.proofs.Orders.{Contains-on}
-use Rattle.auto_reduce.proofs.RowNodes.{AreRowNodes-own}
+use Rattle.auto_ways.proofs.RowNodes.{AreRowNodes-own}
 
 pub IsWord-one : (tracks letter : ℕ) → letter < 2 ^ tracks → IsWord tracks (letter ∷ [])
 IsWord-one tracks letter below = record { nonempty = λ e. cc e; letters = All-cons (λ l. l < 2 ^ tracks) letter [] below (All-nil (λ l. l < 2 ^ tracks)) }

@@ -8,7 +8,7 @@ use Rattle.auto_core.specs.Automaton.{Automaton, width, first_state, next_state}
 use Rattle.auto_reduce.specs.Quotient.{IsOrderTo, IsQuotientBy}
 use Rattle.auto_reduce.specs.Unmet.{AddsRow}
 use Rattle.auto_reduce.specs.Numbering.{mentions, IsNumberedBreadthFirst, led_in, IsMentioned, IsMentionedBefore, IsNumberedTo, IsQuotient}
-use Rattle.auto_reduce.proofs.States.{first_within, next_within}
+use Rattle.auto_refine.proofs.States.{first_within, next_within}
 use Rattle.auto_reduce.proofs.Orders.{place_in}
 use Rattle.auto_reduce.proofs.Leads.{LeadsTo, leads_low}
 use Rattle.auto_reduce.proofs.Quotients.{different_places}

@@ -10,14 +10,15 @@ use Rattle.auto_core.specs.Automaton.{Automaton, width, first_state, next_state,
 use Rattle.auto_core.specs.Reduced.{IsReduced, ToldApart}
 use Rattle.auto_core.specs.Rows.{AreRows, IsOverNodes, dense}
 use Rattle.auto_core.proofs.RowLemmas.{get_or-row_of, next_state-dense, IsAutomaton-dense}
-use Rattle.auto_reduce.specs.Leading.{entry_at, IsLedFrom}
-use Rattle.auto_reduce.specs.Quotient.{IsCanonical, IsMet, IsOrder, AreNumbers, AreClassNumbers, ArePicked, AreFlags, IsQuotientBy}
+use Rattle.auto_refine.specs.Led.{ArePicked}
+use Rattle.auto_refine.specs.Leading.{entry_at, IsLedFrom}
+use Rattle.auto_reduce.specs.Quotient.{IsCanonical, IsMet, IsOrder, AreNumbers, AreClassNumbers, AreFlags, IsQuotientBy}
 use Rattle.auto_reduce.specs.Numbering.{IsQuotient}
 use Rattle.auto_walk.proofs.States.{state_within, run_within}
-use Rattle.auto_reduce.proofs.States.{first_within, next_within}
+use Rattle.auto_refine.proofs.States.{first_within, next_within}
 use Rattle.auto_reduce.proofs.Orders.{place_in}
 use Rattle.auto_reduce.proofs.Leads.{LeadsTo, leads_low, leads-first, leads-row, canon_within, order_within, order_few, order_some}
-use Rattle.auto_reduce.proofs.Stales.{All-picked}
+use Rattle.auto_refine.proofs.Stales.{All-picked}
 
 -- a node that gives the numbers of the values of a row
 pub record IsNumbered (shapes : List Shape) (row : ℕ → ℕ) (numbers : List ℕ) (made : ℕ) : Type 0 where

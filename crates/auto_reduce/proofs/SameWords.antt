@@ -12,7 +12,7 @@ use Rattle.auto_core.specs.Automaton.{Automaton, IsAutomaton, width, first_state
 use Rattle.auto_core.specs.Rows.{IsOverNodes}
 use Rattle.auto_core.proofs.RowLemmas.{get_or-row_of, map_at-narrow}
 use Rattle.auto_reduce.specs.Tables.{AcceptSameWords, HaveEqualTables, HaveEqualMaps}
-use Rattle.auto_reduce.proofs.RowNodes.{AreRowNodes-own}
+use Rattle.auto_ways.proofs.RowNodes.{AreRowNodes-own}
 use Rattle.auto_reduce.proofs.SameTables.{next_ext}
 
 module _ (a b : Automaton) (tracks : a.tracks ≡ b.tracks) where

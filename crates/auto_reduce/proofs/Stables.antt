@@ -13,7 +13,7 @@ use Rattle.auto_core.specs.Automaton.{Automaton, IsAutomaton, width, first_state
 use Rattle.auto_core.specs.Reduced.{IsReduced}
 use Rattle.auto_core.specs.Integers.{DecidesIntegers}
 use Rattle.auto_walk.proofs.WalkWords.{map_at-low}
-use Rattle.auto_reduce.proofs.States.{first_within, next_within}
+use Rattle.auto_refine.proofs.States.{first_within, next_within}
 use Rattle.auto_reduce.proofs.Orders.{place_in}
 use Rattle.auto_reduce.proofs.Flags.{same_flag}
 

@@ -9,12 +9,12 @@ use Rattle.letter_diagram.specs.Diagram.{map_at, top_track, chosen, IsAt, Grows,
 use Rattle.letter_diagram.specs.Leaves.{AreLeaves}
 use Rattle.letter_diagram.specs.NodeMemo.{Remembers}
 use Rattle.letter_diagram.proofs.Memos.{node_answers-insert}
+use Rattle.auto_refine.specs.Leading.{entry_at}
 use Rattle.auto_reduce.specs.Quotient.{AddsAll}
-use Rattle.auto_reduce.specs.Leading.{entry_at}
 use Rattle.auto_reduce.specs.Unmet.{AddsRow, IsMetLeaf, IsPruned, RemembersPruned, AreDone, IsFound, Finds, AreDoneWith, AreDoneBut}
 use Rattle.auto_reduce.specs.declared.unmet.Unmet.{Unmet}
 use Rattle.auto_reduce.specs.declared.unmet.Unmet.TheVariants.{Nothing, One, Several}
-use Rattle.auto_reduce.proofs.Leadings.{entry-either}
+use Rattle.auto_refine.proofs.Leadings.{entry-either}
 use Rattle.std.proofs.lemmas.List.Elements.{Contains-push, Contains-append_left}
 use Rattle.auto_reduce.proofs.Orders.{place_in, Contains-kept, one_value}
 use Rattle.auto_reduce.proofs.Quotients.{different_places}

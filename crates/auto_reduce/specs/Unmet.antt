@@ -3,7 +3,7 @@ use Rattle.std.specs.Prelude.{◌≡◌, ◌⊎◌, ℕ, ◌<◌, ◌≤◌, Boo
 use Rattle.letter_diagram.specs.declared.diagrams.Shape.{Shape}
 use Rattle.letter_diagram.specs.Diagram.{map_at, top_track}
 use Rattle.letter_diagram.specs.NodeMemo.{answer_of}
-use Rattle.auto_reduce.specs.Leading.{entry_at}
+use Rattle.auto_refine.specs.Leading.{entry_at}
 use Rattle.auto_reduce.specs.declared.unmet.Unmet.{Unmet}
 use Rattle.auto_reduce.specs.declared.unmet.Unmet.TheVariants.{Nothing, One, Several}
 

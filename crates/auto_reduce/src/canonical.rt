@@ -3,9 +3,8 @@ ghost use Rattle.std.specs.Prelude.{IfOk};
 ghost use Rattle.auto_core.specs.Automaton.{IsAutomaton};
 ghost use Rattle.auto_reduce.specs.Quotient.{IsCanonical};
 
-use crate::classes::members;
-use crate::partition::coarsest;
 use auto_core::Auto;
+use auto_refine::{coarsest, members};
 use std::alloc::{AllocError, Global};
 
 /// For each state one of the states that nothing tells apart from it, the same for all of these.

@@ -3,16 +3,14 @@ ghost use Rattle.std.specs.Prelude.{◌≡◌, ◌≤◌, ◌<◌, ◌+◌, ◌^
 ghost use Rattle.track_word.specs.Word.{IsWord};
 ghost use Rattle.auto_core.specs.Automaton.{Accepts, IsAutomaton};
 ghost use Rattle.auto_core.specs.Reduced.{IsReduced};
+ghost use Rattle.auto_reduce.specs.Quotient.{IsCanonical, IsOrder, AreNumbers, AreClassNumbers, ArePlaces, AreFirstAndPicked, AreFlags, AreRowsOver, IsOverRows, IsQuotientBy};
 ghost use Rattle.auto_reduce.specs.Numbering.{IsNumberedTo, IsNumberedBreadthFirst, IsQuotient};
-ghost use Rattle.auto_reduce.specs.Quotient.{IsCanonical, IsOrder, AreNumbers, AreClassNumbers, AreFirstAndPicked, AreFlags, IsQuotientBy};
 
 use crate::canonical::canonical;
-use crate::leading::lead_nodes;
 use crate::order::Order;
-use crate::round_memo::RoundMemo;
-use crate::rows::picked;
 use crate::unmet::{Done, add_row, first_met};
 use auto_core::Auto;
+use auto_refine::{RoundMemo, lead_nodes, picked};
 use letter_diagram::{Diagrams, Node};
 use std::alloc::{AllocError, Global};
 
@@ -60,21 +58,57 @@ fn over_places(
     requires order { IsOrder a.now canon.now order.now }
     ensures { IfOk result (IsQuotientBy a.now canon.now order.now) }
 {
-    let numbers = numbers(alloc, order, a.states())?;
-    let table = class_numbers(alloc, canon, numbers.as_slice())?;
-    let accept = flags(alloc, a, order)?;
-    let tracks = a.tracks().to_vec(alloc)?;
+    let states = a.states();
     let from = a.diagrams();
-    let room = nodes_left(from.len(), a.states(), order.len());
-    let mut diagrams = Diagrams::with_capacity(alloc, room)?;
+    let table = place_table(alloc, canon, order, states)?;
     let nodes = first_and_picked(alloc, a, order)?;
-    let mut rows = lead_nodes(
+    let room = nodes_left(from.len(), states, order.len());
+    let mut diagrams = Diagrams::with_capacity(alloc, room)?;
+    let rows = lead_nodes(
         from,
         nodes.as_slice(),
         table.as_slice(),
         &mut diagrams,
         memo,
     )?;
+    let m = over_rows(alloc, a, order, diagrams, rows)?;
+    Ok(m)
+}
+
+/// For each state the place of its canonical state in an order.
+fn place_table(
+    alloc: Global,
+    canon: &[u32],
+    order: &[u32],
+    states: u32,
+) -> Result<Vec<u32>, AllocError>
+    requires canon { All (λ state. state < states) canon.now }
+    requires below { All (λ state. state < states) order.now }
+    requires different { AllPairs (λ j k. j ≢ k) order.now }
+    requires some { 0 < length order.now }
+    requires few { length order.now ≤ states }
+    ensures { IfOk result (λ table. ArePlaces canon.now order.now states table.items) }
+{
+    let numbers = numbers(alloc, order, states)?;
+    let table = class_numbers(alloc, canon, numbers.as_slice())?;
+    Ok(table)
+}
+
+/// The automaton over the first of some rows and those behind it, with the flags of an order's states.
+fn over_rows(
+    alloc: Global,
+    a: &Auto,
+    order: &[u32],
+    diagrams: Diagrams,
+    mut rows: Vec<Node>,
+) -> Result<Auto, AllocError>
+    requires order { All (λ state. state < length a.now.accept) order.now }
+    requires some { 0 < length rows.items }
+    requires rows { AreRowsOver a.now order.now diagrams rows.items }
+    ensures { IfOk result (IsOverRows a.now order.now diagrams rows.items) }
+{
+    let accept = flags(alloc, a, order)?;
+    let tracks = a.tracks().to_vec(alloc)?;
     let first = rows.remove(0);
     Ok(Auto::from_diagrams(tracks, diagrams, first, rows, accept))
 }

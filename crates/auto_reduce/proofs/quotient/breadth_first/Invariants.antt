@@ -1,7 +1,7 @@
 use Rattle.std.proofs.Common.{◌≤◌, ◌+◌, ◌-◌, length}
 use Rattle.auto_reduce.specs.Quotient.{IsOrderTo}
-use Rattle.auto_reduce.specs.Numbering.{IsNumberedTo}
 use Rattle.auto_reduce.specs.Unmet.{AreDone}
+use Rattle.auto_reduce.specs.Numbering.{IsNumberedTo}
 use Rattle.auto_reduce.proofs.quotient.breadth_first.Given as goal
 
 abbrev pub invariant-loop-place : goal.invariant-loop-place

@@ -1,0 +1,27 @@
+-- For each class a list in which all its states are.
+use Rattle.std.specs.Prelude.{◌≡◌, ◌⊎◌, ℕ, ◌<◌, List, [], ◌∷◌, ◌++◌, length, Contains, slice_index, slice_index_or, slice_set}
+use Rattle.auto_refine.specs.Coarsest.{AreMembers}
+
+-- for each class a state that stands for it, and states among which are all of the class
+pub record IsListing (classes : List ℕ) (count : ℕ) (representatives : List ℕ) (lists : List (List ℕ)) : Type 0 where
+  pub members : AreMembers classes count representatives
+  pub size : length lists ≡ count
+  pub within : (class state : ℕ) → Contains (slice_index_or lists class []) state → state < length classes
+  pub listed : (state : ℕ) → state < length classes → Contains (slice_index_or lists (slice_index classes state) []) state
+
+-- a state at the end of the list of a class
+abbrev pub IsPutInto : List (List ℕ) → ℕ → ℕ → List (List ℕ) → Type 0
+IsPutInto old class state new = new ≡ slice_set old class (slice_index_or old class [] ++ state ∷ [])
+
+-- states in the lists of their classes too, with those that were there
+pub record AreListed (old : List (List ℕ)) (states classes : List ℕ) (new : List (List ℕ)) : Type 0 where
+  pub size : length new ≡ length old
+  pub kept : (class state : ℕ) → Contains (slice_index_or old class []) state → Contains (slice_index_or new class []) state
+  pub added : (turn : ℕ) → turn < length states → Contains (slice_index_or new (slice_index classes turn) []) (slice_index states turn)
+  pub only : (class state : ℕ) → Contains (slice_index_or new class []) state → Contains (slice_index_or old class []) state ⊎ Contains states state
+
+-- lists without some states that have other classes
+pub record ArePruned (classes : List ℕ) (old new : List (List ℕ)) : Type 0 where
+  pub size : length new ≡ length old
+  pub fewer : (class state : ℕ) → Contains (slice_index_or new class []) state → Contains (slice_index_or old class []) state
+  pub kept : (class state : ℕ) → Contains (slice_index_or old class []) state → slice_index classes state ≡ class → Contains (slice_index_or new class []) state
