@@ -17,4 +17,3 @@ pub mod Connections
 pub mod MemoLemmas
 pub mod WithMemo
 pub mod PartLemmas
-pub mod Leaves

@@ -16,12 +16,15 @@ use Rattle.lin_formula.specs.declared.formula.Formula.{Formula}
 use Rattle.lin_formula.specs.SetOf.{SetOf, members}
 use Rattle.formula_auto.specs.Compiled.{IsCompiled, IsCompileError}
 use Rattle.formula_auto.specs.PlainParts.{is_plain, plain_within, plain_parts}
+use Rattle.formula_auto.specs.Recalled.{is_recalled, recalled_within}
 use Rattle.formula_auto.specs.MemoState.{MemoState, IsEntry, IsMemo, IsEntryAt, known, counted, with_entry, IsMemoAfter}
 use Rattle.formula_auto.specs.Remembered.{IsStopped}
+use Rattle.formula_auto.specs.declared.course.Recall.{Recall}
+use Rattle.formula_auto.specs.declared.course.Recall.TheVariants.{Plain, Nothing}
 use Rattle.formula_auto.specs.declared.errors.CompileError.{CompileError}
 use Rattle.formula_auto.specs.declared.errors.CompileError.TheVariants.{Over, Memory}
 use Rattle.formula_auto.proofs.NoSets.{Decides-no_set, steps-no_set, FirstOver-no_set, FirstOver-number}
-use Rattle.formula_auto.proofs.PlainLemmas.{plain_later, plain_whole, within-zero, within-all, after-none}
+use Rattle.formula_auto.proofs.PlainLemmas.{plain_later, plain_whole, within-zero, within-all, recalled-zero, after-none}
 
 and_left : (a b : Bool) → (a && b) ≡ true → a ≡ true
 and_left true b h = refl
@@ -76,27 +79,46 @@ module _ (f : Tree) (e : ℕ → SetOf) (before budget : ℕ) (a : Automaton) wh
     within = FirstOver-no_set (steps f) (members e) (members e) budget 1 (before + 1) (steps-no_set f (plain-no_set f entry.plain)) (entry.within e);
   }
 
-module _ (m : MemoState) (f : Tree) (before : ℕ) where
+-- what is looked up of a formula that is looked up itself
+pub recalled-itself : (r : Recall) (f : Tree) → is_recalled r f ≡ true → recalled_within r f (length (steps f)) ≡ f ∷ []
+recalled-itself Plain f h = plain-itself f h
+recalled-itself Nothing f h = absurd (cc)
+
+pub recalled-later : (r : Recall) (f : Tree) (n : ℕ) → is_recalled r f ≡ true → n < length (steps f) → recalled_within r f n ≡ []
+recalled-later Plain f n h less = plain-later f n h less
+recalled-later Nothing f n h less = refl
+
+pub recalled-plain : (r : Recall) (f : Tree) → is_recalled r f ≡ true → is_plain f ≡ true
+recalled-plain Plain f h = h
+recalled-plain Nothing f h = absurd (cc)
+
+-- without a step there is nothing to look up
+pub recalled-stepless : (r : Recall) (f : Tree) (n : ℕ) → steps f ≡ [] → recalled_within r f n ≡ []
+recalled-stepless Plain f n none = stepless f n none
+recalled-stepless Nothing f n none = refl
+
+module _ (r : Recall) (f : Tree) (before : ℕ) where
   -- memory ran out before a step of the formula
-  pub stopped-memory : IsStopped m m f before Memory
-  stopped-memory = record {
+  pub stopped-memory : (old new : MemoState) → IsMemoAfter old new [] → IsStopped old new f before r Memory
+  stopped-memory old new after = record {
     done = 0;
     few = omega arith;
     number = λ step over. cc;
-    after = subst (IsMemoAfter m m) (sym (within-zero f)) (after-none m);
+    after = subst (IsMemoAfter old new) (sym (recalled-zero r f)) after;
   }
 
-  -- it was compiled without the memo
-  pub stopped-without : (e : ℕ → SetOf) (budget : ℕ) (why : CompileError) → ((n : ℕ) → n < length (steps f) → plain_within f n ≡ []) → IsCompileError f e before budget why → IsStopped m m f before why
-  stopped-without e budget (Over step) none h =
-      let number = FirstOver-number (steps f) (members e) budget (before + 1) step h in
+  -- it was to be entered, and nothing of its parts was looked up
+  pub stopped-inside : (e : ℕ → SetOf) (old new : MemoState) (why : CompileError) → is_recalled r f ≡ true → IsCompileError f e before old.budget why → IsStopped old new f before Nothing why → IsStopped old new f before r why
+  stopped-inside e old new (Over step) recalled error h =
+      let number = FirstOver-number (steps f) (members e) old.budget (before + 1) step error in
+      let at = h.number step refl in
       record {
-        done = step - before - 1;
-        few = omega (arith, number);
-        number = λ other over. (let same : step ≡ other = cc in omega (arith, number, same));
-        after = subst (IsMemoAfter m m) (sym (none (step - before - 1) (omega (arith, number)))) (after-none m);
+        done = h.done;
+        few = h.few;
+        number = h.number;
+        after = subst (IsMemoAfter old new) (sym (recalled-later r f h.done recalled (omega (arith, number, at)))) h.after;
       }
-  stopped-without e budget Memory none h = stopped-memory
+  stopped-inside e old new Memory recalled error h = stopped-memory old new h.after
 
 -- a formula that is known
 pub after-known : (m : MemoState) (f : Tree) → Contains (known m) f → IsMemoAfter m (record m { found = counted m.found }) (f ∷ [])

@@ -18,6 +18,7 @@ pub mod Distinct
 pub mod Ready
 pub mod StepError
 pub mod PlainParts
+pub mod Recalled
 pub mod MemoState
 pub mod Remembered
 pub mod PartOf

@@ -7,6 +7,7 @@ use Rattle.lin_formula.specs.declared.formula.Formula.{Formula}
 use Rattle.lin_formula.specs.SetOf.{SetOf}
 use Rattle.formula_auto.specs.MemoState.{MemoState}
 use Rattle.formula_auto.specs.Remembered.{IsRemembered}
+use Rattle.formula_auto.specs.declared.course.Recall.{Recall}
 use Rattle.formula_auto.specs.declared.part.Part.{Part}
 use Rattle.formula_auto.specs.declared.part.Part.TheVariants.{Fresh, Kept}
 
@@ -20,7 +21,7 @@ abbrev pub HasReduced : MemoState → Part → Type 0
 HasReduced m part = (a : Automaton) × IsPart m part a × IsReduced a
 
 -- the part has the automaton that compiling it with the memo makes
-pub record IsRememberedPart (f : Tree) (e : ℕ → SetOf) (before : ℕ) (old new : MemoState) (part : Part) (last : ℕ) : Type 0 where
+pub record IsRememberedPart (f : Tree) (e : ℕ → SetOf) (before : ℕ) (recall : Recall) (old new : MemoState) (part : Part) (last : ℕ) : Type 0 where
   pub auto : Automaton
   pub has : IsPart new part auto
-  pub remembered : IsRemembered f e before old new auto last
+  pub remembered : IsRemembered f e before recall old new auto last

@@ -5,11 +5,12 @@
 
 mod compiling;
 mod connective;
+mod course;
 mod errors;
 mod memo;
+mod of_parts;
 mod part;
 mod plain;
-mod remembering;
 mod steps;
 mod table;
 

@@ -7,6 +7,7 @@ use Rattle.formula_auto.proofs.Rooms.{ready}
 use Rattle.formula_auto.proofs.Stable.{Decides-integers}
 use Rattle.formula_auto.proofs.WithMemo.{stopped-first}
 use Rattle.formula_auto.proofs.PartLemmas.{lent}
+use Rattle.formula_auto.specs.declared.course.Recall.TheVariants.{Plain}
 use Rattle.formula_auto.proofs.memo.Memo.compile.Goals as goal
 
 pub compiled-requires-clause-ready : goal.compiled-requires-clause-ready
@@ -40,30 +41,30 @@ returns-in_err-taken-clause-stopped c =
 
 pub returns-clause-reduced : goal.returns-clause-reduced
 returns-clause-reduced c =
-    let part = lent (tree_of c.args.f.now) (tables c.args.sets.now) 0 c.args.self.now c.compiled.new.self c.in_ok-made.made.part c.in_ok-made.made.done c.in_ok-made.ensures.ok c.in_ok-taken.field-0 c.in_ok-taken.ensures in
+    let part = lent (tree_of c.args.f.now) (tables c.args.sets.now) 0 Plain c.args.self.now c.compiled.new.self c.in_ok-made.made.part c.in_ok-made.made.done c.in_ok-made.ensures.ok c.in_ok-taken.field-0 c.in_ok-taken.ensures in
     part.compiled.reduced
 
 pub returns-clause-decides : goal.returns-clause-decides
 returns-clause-decides c =
-    let part = lent (tree_of c.args.f.now) (tables c.args.sets.now) 0 c.args.self.now c.compiled.new.self c.in_ok-made.made.part c.in_ok-made.made.done c.in_ok-made.ensures.ok c.in_ok-taken.field-0 c.in_ok-taken.ensures in
+    let part = lent (tree_of c.args.f.now) (tables c.args.sets.now) 0 Plain c.args.self.now c.compiled.new.self c.in_ok-made.made.part c.in_ok-made.made.done c.in_ok-made.ensures.ok c.in_ok-taken.field-0 c.in_ok-taken.ensures in
     part.compiled.decides
 
 pub returns-clause-integers : goal.returns-clause-integers
 returns-clause-integers c =
-    let part = lent (tree_of c.args.f.now) (tables c.args.sets.now) 0 c.args.self.now c.compiled.new.self c.in_ok-made.made.part c.in_ok-made.made.done c.in_ok-made.ensures.ok c.in_ok-taken.field-0 c.in_ok-taken.ensures in
+    let part = lent (tree_of c.args.f.now) (tables c.args.sets.now) 0 Plain c.args.self.now c.compiled.new.self c.in_ok-made.made.part c.in_ok-made.made.done c.in_ok-made.ensures.ok c.in_ok-taken.field-0 c.in_ok-taken.ensures in
     Decides-integers (tree_of c.args.f.now) (members (tables c.args.sets.now)) c.in_ok-taken.field-0 part.compiled.decides
 
 pub returns-clause-within : goal.returns-clause-within
 returns-clause-within c =
-    let part = lent (tree_of c.args.f.now) (tables c.args.sets.now) 0 c.args.self.now c.compiled.new.self c.in_ok-made.made.part c.in_ok-made.made.done c.in_ok-made.ensures.ok c.in_ok-taken.field-0 c.in_ok-taken.ensures in
+    let part = lent (tree_of c.args.f.now) (tables c.args.sets.now) 0 Plain c.args.self.now c.compiled.new.self c.in_ok-made.made.part c.in_ok-made.made.done c.in_ok-made.ensures.ok c.in_ok-taken.field-0 c.in_ok-taken.ensures in
     part.compiled.within
 
 pub returns-clause-after : goal.returns-clause-after
 returns-clause-after c =
-    let part = lent (tree_of c.args.f.now) (tables c.args.sets.now) 0 c.args.self.now c.compiled.new.self c.in_ok-made.made.part c.in_ok-made.made.done c.in_ok-made.ensures.ok c.in_ok-taken.field-0 c.in_ok-taken.ensures in
+    let part = lent (tree_of c.args.f.now) (tables c.args.sets.now) 0 Plain c.args.self.now c.compiled.new.self c.in_ok-made.made.part c.in_ok-made.made.done c.in_ok-made.ensures.ok c.in_ok-taken.field-0 c.in_ok-taken.ensures in
     part.after
 
 pub returns-clause-budget : goal.returns-clause-budget
 returns-clause-budget c =
-    let part = lent (tree_of c.args.f.now) (tables c.args.sets.now) 0 c.args.self.now c.compiled.new.self c.in_ok-made.made.part c.in_ok-made.made.done c.in_ok-made.ensures.ok c.in_ok-taken.field-0 c.in_ok-taken.ensures in
+    let part = lent (tree_of c.args.f.now) (tables c.args.sets.now) 0 Plain c.args.self.now c.compiled.new.self c.in_ok-made.made.part c.in_ok-made.made.done c.in_ok-made.ensures.ok c.in_ok-taken.field-0 c.in_ok-taken.ensures in
     part.after.budget
