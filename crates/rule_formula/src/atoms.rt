@@ -4,7 +4,7 @@ ghost use Rattle.std.specs.Prelude.{◌≡◌, ◌≢◌, ◌≤ℤ◌, IfOk, []
 ghost use Rattle.track_word.specs.Atom.{IsAtom};
 ghost use Rattle.lin_formula.specs.TreeOf.{tree_of};
 ghost use Rattle.rule_formula.specs.Seats.{IsSeat};
-ghost use Rattle.rule_formula.specs.Trees.{AreApart, IsCounted, IsDrawn, ahead as ahead_tree, falling as falling_tree, rising as rising_tree, difference as difference_tree, line as line_tree, on as on_tree, ordered as ordered_tree};
+ghost use Rattle.rule_formula.specs.Trees.{AreApart, IsCounted, IsDrawn, ahead as ahead_tree, falling as falling_tree, rising as rising_tree, difference as difference_tree, line as line_tree, on as on_tree, ordered as ordered_tree, past};
 ghost use Rattle.lin_formula.specs.Tree as tree;
 
 use crate::seats::Seat;
@@ -140,30 +140,54 @@ pub(crate) fn ahead(
     }
 }
 
-/// z stands on the way from a to b, which is included where the bound is 0 and excluded where it is -1.
-pub(crate) fn on(
-    alloc: Global,
-    ray: Ray,
-    a: Seat,
-    b: Seat,
-    z: Seat,
-    bound: i32,
-) -> Result<Formula, AllocError>
-    requires from { IsSeat a }
+/// How far a way goes.
+#[derive(Clone, Copy, Debug, PartialEq, Eq)]
+pub(crate) enum Extent {
+    /// Onto the square at its end.
+    Onto,
+    /// To the last square before.
+    Before,
+}
+
+impl Extent {
+    /// How far the squares of the way may be past its end.
+    fn bound(self) -> i32
+        ensures bound { result ≡ past self }
+        ensures low { negsuc 999 ≤ℤ result }
+        ensures high { result ≤ℤ pos 1000 }
+    {
+        match self {
+            Extent::Onto => 0,
+            Extent::Before => -1,
+        }
+    }
+}
+
+/// The squares of a ray from one seat, itself excluded, to another.
+#[derive(Clone, Copy)]
+pub(crate) struct Way {
+    pub(crate) ray: Ray,
+    pub(crate) from: Seat,
+    pub(crate) to: Seat,
+    pub(crate) extent: Extent,
+}
+
+/// The square stands on the way.
+pub(crate) fn on(alloc: Global, way: Way, z: Seat) -> Result<Formula, AllocError>
+    requires from { IsSeat way.from }
     requires middle { IsSeat z }
-    requires first { AreApart a z }
-    requires last { AreApart z b }
-    requires low { negsuc 999 ≤ℤ bound }
-    requires high { bound ≤ℤ pos 1000 }
-    ensures { IfOk result (λ f. tree_of f ≡ on_tree ray a b bound z) }
+    requires first { AreApart way.from z }
+    requires last { AreApart z way.to }
+    ensures { IfOk result (λ f. tree_of f ≡ on_tree way.ray way.from way.to (past way.extent) z) }
 {
-    if ray.far {
-        let line = line(alloc, ray, a, z)?;
-        let ahead_of_start = ahead(alloc, ray, a, z, -1)?;
+    if way.ray.far {
+        let line = line(alloc, way.ray, way.from, z)?;
+        let ahead_of_start = ahead(alloc, way.ray, way.from, z, -1)?;
         let started = both(alloc, line, ahead_of_start)?;
-        both(alloc, started, ahead(alloc, ray, z, b, bound)?)
+        let bound = way.extent.bound();
+        both(alloc, started, ahead(alloc, way.ray, z, way.to, bound)?)
     } else {
-        let across = difference(alloc, z.x, b.x, Rel::Eq, 0)?;
-        both(alloc, across, difference(alloc, z.y, b.y, Rel::Eq, 0)?)
+        let across = difference(alloc, z.x, way.to.x, Rel::Eq, 0)?;
+        both(alloc, across, difference(alloc, z.y, way.to.y, Rel::Eq, 0)?)
     }
 }

@@ -7,9 +7,9 @@ ghost use Rattle.rule_formula.specs.Seats.{new_seats, own as own_seat, vars_to};
 ghost use Rattle.rule_formula.specs.Trees.{bear_tree, ex_swept as swept_tree, image_body, image_tree, pre_body, pre_tree, safe_tree, twins_tree};
 ghost use Rattle.lin_formula.specs.Tree as tree;
 
-use crate::atoms::{both, difference, not};
+use crate::atoms::{Extent, Way, both, difference, not};
 use crate::chains::{Path, among_seats, and_clear, and_ray};
-use crate::seats::{Seats, new_seat, own, spare};
+use crate::seats::{ELSEWHERE, Seats, new_seat, own, spare};
 use game_rules::Ray;
 use lin_formula::{Formula, SetId};
 use std::alloc::{AllocError, Global};
@@ -70,14 +70,18 @@ fn image_inside(
     };
     let among = among_seats(alloc, count, mask, 0, seats, source)?;
     let along = and_ray(alloc, among, ray, from, to)?;
+    let extent = Extent::Onto;
     let path = Path {
-        ray,
-        from,
-        to,
+        way: Way {
+            ray,
+            from,
+            to,
+            extent,
+        },
         first: i,
         second: t,
     };
-    and_clear(alloc, along, count, mask, path, 0)
+    and_clear(alloc, along, count, mask, path)
 }
 
 /// The positions to which man i goes along the ray, taking man t, from those of the set.
@@ -97,8 +101,8 @@ pub(crate) fn image(
     ensures { IfOk result (λ f. tree_of f ≡ image_tree count mask i ray t source.0) }
 {
     let body = image_inside(alloc, count, mask, i, ray, t, source)?;
-    let over_y = ex_swept(alloc, ray.dy, Var(17), body)?;
-    ex_swept(alloc, ray.dx, Var(16), over_y)
+    let over_y = ex_swept(alloc, ray.dy, ELSEWHERE.y, body)?;
+    ex_swept(alloc, ray.dx, ELSEWHERE.x, over_y)
 }
 
 /// The position with the men on their own seats is in the one set, and that after the move in the other.
@@ -158,14 +162,18 @@ fn pre_inside(
     let to = new_seat(ray, i, t);
     let among = among_both(alloc, count, mask, i, ray, t, source, target)?;
     let along = and_ray(alloc, among, ray, from, to)?;
+    let extent = Extent::Onto;
     let path = Path {
-        ray,
-        from,
-        to,
+        way: Way {
+            ray,
+            from,
+            to,
+            extent,
+        },
         first: i,
         second: t,
     };
-    and_clear(alloc, along, count, mask, path, 0)
+    and_clear(alloc, along, count, mask, path)
 }
 
 /// The positions of the one set from which man i goes along the ray, taking man t, into the other.
@@ -191,8 +199,8 @@ pub(crate) fn pre(
     if t > 0 {
         return Ok(body);
     }
-    let over_y = ex_swept(alloc, ray.dy, Var(17), body)?;
-    ex_swept(alloc, ray.dx, Var(16), over_y)
+    let over_y = ex_swept(alloc, ray.dy, ELSEWHERE.y, body)?;
+    ex_swept(alloc, ray.dx, ELSEWHERE.x, over_y)
 }
 
 /// Man k bears along the ray on man g, in a position of the set.
@@ -222,14 +230,18 @@ pub(crate) fn bear(
     if !ray.far {
         return Ok(along);
     }
+    let extent = Extent::Before;
     let path = Path {
-        ray,
-        from,
-        to,
+        way: Way {
+            ray,
+            from,
+            to,
+            extent,
+        },
         first: k,
         second: g,
     };
-    and_clear(alloc, along, count, mask, path, -1)
+    and_clear(alloc, along, count, mask, path)
 }
 
 /// The positions of the set in which man k does not bear along the ray on man g.
