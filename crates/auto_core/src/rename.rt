@@ -1,8 +1,7 @@
 //! Automata whose tracks take their bits from other variables.
-ghost use Rattle.std.specs.Prelude.{◌≡◌, ◌≢◌, ◌↔◌, ◌≤◌, ◌<◌, ◌^◌, ◌∷◌, [], ℕ, List, length, map, slice_index, All, AllPairs, IfOk, OnOk, IsTrue, nat_le};
-ghost use Rattle.std.specs.List.{position_or_len};
+ghost use Rattle.std.specs.Prelude.{◌≡◌, ◌≢◌, ◌↔◌, ◌≤◌, ◌<◌, ◌^◌, ◌∷◌, [], ℕ, List, length, map, slice_index, All, AllPairs, IfOk, IsTrue};
 ghost use Rattle.track_word.specs.Word.{IsWord};
-ghost use Rattle.track_word.specs.Tracks.{with_vars, with_var, place, part_of, IsAscending};
+ghost use Rattle.track_word.specs.Tracks.{with_vars, place, part_of, IsAscending};
 ghost use Rattle.letter_diagram.specs.Carried.{IsCarried};
 ghost use Rattle.letter_diagram.specs.Listed.{EachAnswers};
 ghost use Rattle.letter_diagram.specs.Relabelled.{relabelled};
@@ -14,7 +13,7 @@ ghost use Rattle.auto_core.specs.Rows.{IsOverNodes};
 use crate::auto::Auto;
 use letter_diagram::{Diagrams, Node};
 use std::alloc::{AllocError, Global};
-use track_word::Var;
+use track_word::{Var, insert_tracks, places_of};
 
 impl Auto {
     /// The automaton over the variables that accepts a word where this one accepts what its tracks read of it:
@@ -30,7 +29,8 @@ impl Auto {
         ensures valid { IfOk result (λ r. IsAutomaton r) }
     {
         let _ = self.tracks(); // for its invariant
-        let tracks = ascending(alloc, vars)?;
+        let mut tracks = Vec::new(alloc);
+        insert_tracks(&mut tracks, vars)?;
         let places = places_of(alloc, tracks.as_slice(), vars)?;
         let renamed = self.over_tracks(alloc, tracks, places.as_slice())?;
         Ok(renamed)
@@ -92,69 +92,4 @@ fn are_in_order(places: &[u8]) -> bool
         }
     }
     true
-}
-
-/// The variables, ascending and without repeats.
-fn ascending(alloc: Global, vars: &[Var]) -> Result<Vec<Var>, AllocError>
-    ensures { IfOk result (λ sorted. sorted.items ≡ with_vars vars.now []) }
-{
-    match vars.split_first() {
-        None => Ok(Vec::new(alloc)),
-        Some((var, rest)) => {
-            let mut sorted = ascending(alloc, rest)?;
-            insert_var(&mut sorted, *var)?;
-            Ok(sorted)
-        }
-    }
-}
-
-/// Puts a variable at its place among ascending ones, unless it is there.
-fn insert_var(sorted: &mut Vec<Var>, var: Var) -> Result<(), AllocError>
-    ensures { OnOk result (sorted.new.items ≡ with_var var sorted.old.items) }
-{
-    let place = place_for(sorted.as_slice(), var);
-    if place < sorted.len() && sorted[place].0 == var.0 {
-        return Ok(());
-    }
-    sorted.insert(place, var)?;
-    Ok(())
-}
-
-/// The place of the first variable that does not come before a variable.
-fn place_for(vars: &[Var], var: Var) -> usize
-    ensures place { result ≡ position_or_len (λ other. nat_le var.0 other.0) vars.now }
-    ensures within { result ≤ length vars.now }
-{
-    for (index, other) in vars.iter().enumerate() {
-        if var.0 <= other.0 {
-            return index;
-        }
-    }
-    vars.len()
-}
-
-/// The place of a variable among tracks.
-fn place_in(tracks: &[Var], var: Var) -> usize
-    ensures place { result ≡ place tracks.now var }
-    ensures within { result ≤ length tracks.now }
-{
-    for (index, other) in tracks.iter().enumerate() {
-        if other.0 == var.0 {
-            return index;
-        }
-    }
-    tracks.len()
-}
-
-/// The places of variables among tracks.
-fn places_of(alloc: Global, tracks: &[Var], vars: &[Var]) -> Result<Vec<u8>, AllocError>
-    requires { length tracks.now ≤ 20 }
-    ensures { IfOk result (λ places. places.items ≡ map (place tracks.now) vars.now) }
-{
-    let mut places = Vec::new(alloc);
-    for var in vars {
-        let place = place_in(tracks, *var);
-        places.push(place as u8)?;
-    }
-    Ok(places)
 }
