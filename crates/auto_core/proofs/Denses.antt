@@ -8,12 +8,13 @@ use Rattle.std.proofs.lemmas.Bool.{cases_lt}
 use Rattle.std.proofs.lemmas.List.{ext_get_or, get_or-take, get_or-drop, get_or_append_left, get_or_push, get_or_default}
 use Rattle.std.specs.List.{Contains}
 use Rattle.std.proofs.lemmas.List.Elements.{Contains-get_or}
+use Rattle.track_word.proofs.LetterBits.{low_bits}
 use Rattle.track_word.specs.declared.tracks.Var.{Var}
 use Rattle.letter_diagram.specs.declared.diagrams.Shape.{Shape}
 use Rattle.letter_diagram.specs.Diagram.{map_at, LooksBelow, Grows}
 use Rattle.auto_core.specs.Rows.{row_of, rows_of, AreRows, AreTables}
 use Rattle.auto_core.specs.Dense.{IsRowFrom, AreRowsFrom}
-use Rattle.auto_core.proofs.RowLemmas.{length-row_of, get_or-row_of, length-rows_of, get_or-rows_of, low_bits}
+use Rattle.auto_core.proofs.RowLemmas.{length-row_of, get_or-row_of, length-rows_of, get_or-rows_of}
 
 pub IsRowFrom-grows : (old new : List Shape) (width : ℕ) (table : List ℕ) (offset node : ℕ) → Grows old new → IsRowFrom old width table offset node → IsRowFrom new width table offset node
 IsRowFrom-grows old new width table offset node grows is =

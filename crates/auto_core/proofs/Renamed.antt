@@ -3,6 +3,7 @@ use Rattle.std.proofs.Common.{◌≡◌, ◌≢◌, ◌↔◌, ℕ, zero, suc, �
 use Rattle.std.specs.Int.{bit_at}
 use Rattle.std.specs.List.{remove}
 use Rattle.std.proofs.lemmas.List.{get_or_default}
+use Rattle.track_word.proofs.Repeats.{IsWord-again}
 use Rattle.track_word.specs.declared.tracks.Var.{Var}
 use Rattle.track_word.specs.Word.{IsWord, repeat_first}
 use Rattle.track_word.specs.Tracks.{IsAscending, place, part_of}
@@ -18,7 +19,6 @@ use Rattle.auto_core.specs.Reduced.{IsReduced}
 use Rattle.auto_core.specs.Rows.{AreRows, IsOverNodes}
 use Rattle.auto_core.proofs.RowLemmas.{get_or-row_of, get_or-rows_of}
 use Rattle.auto_core.proofs.Restricted.{relabelled-places}
-use Rattle.auto_core.proofs.Members.{IsWord-repeat}
 
 relabelled-same : (places : List ℕ) (bound a b : ℕ) → All (λ p. p < bound) places → ((k : ℕ) → k < bound → bit_at a k ≡ bit_at b k) → relabelled places a ≡ relabelled places b
 relabelled-same [] bound a b below same = refl
@@ -210,7 +210,7 @@ module _ (a new : Automaton) (places : List ℕ) (over : IsOverNodes a) (made : 
   DecidesIntegers-renamed decides = record {
     stable = λ word is.
         let one = words-renamed word is in
-        let longer = words-renamed (repeat_first word) (IsWord-repeat (length new.tracks) word is) in
+        let longer = words-renamed (repeat_first word) (IsWord-again (length new.tracks) word is) in
         let old = decides.stable (map (relabelled places) word) (IsWord-map places (length new.tracks) (length a.tracks) word count is) in
         let twice = subst (λ w. Accepts a (map (relabelled places) word) ↔ Accepts a w) (repeat-map (relabelled places) word) old in
         (λ h. longer.1 (twice.0 (one.0 h)), λ h. one.1 (twice.1 (longer.0 h)));

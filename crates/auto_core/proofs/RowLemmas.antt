@@ -1,23 +1,16 @@
 -- Entries of dense rows of nodes.
-use Rattle.std.proofs.Common.{◌≡◌, ℕ, zero, suc, ◌+◌, ◌-◌, ◌*◌, ◌/◌, ◌%◌, ◌^◌, ◌<◌, Bool, List, [], ◌∷◌, ◌++◌, length, All, get_or, arith, inl, inr, sym, ap, ◌∙◌, subst}
+use Rattle.std.proofs.Common.{◌≡◌, ℕ, zero, suc, ◌+◌, ◌-◌, ◌*◌, ◌%◌, ◌^◌, ◌<◌, Bool, List, [], ◌∷◌, ◌++◌, length, All, get_or, arith, inl, inr, sym, ap, ◌∙◌, subst}
 use Rattle.std.specs.List.{flat_map}
-use Rattle.std.specs.Int.{bit_at}
 use Rattle.std.proofs.lemmas.Nat.{mod_below, pow_pos}
-use Rattle.std.proofs.lemmas.Nat.Bits.{bit_at_cat_low}
 use Rattle.std.proofs.lemmas.Bool.{cases_lt}
-use Rattle.std.proofs.lemmas.Grind.{common_steps}
 use Rattle.std.proofs.lemmas.List.{length-append, get_or_append_left, get_or-append_right}
 use Rattle.std.proofs.lemmas.List.FromFn.{length-map-range_with_len, get_or-map-range_with_len}
+pub use Rattle.track_word.proofs.LetterBits.{low_bits}
 use Rattle.track_word.specs.declared.tracks.Var.{Var}
 use Rattle.letter_diagram.specs.declared.diagrams.Shape.{Shape}
 use Rattle.letter_diagram.specs.Diagram.{map_at, LooksBelow}
 use Rattle.auto_core.specs.Automaton.{IsAutomaton, next_state}
 use Rattle.auto_core.specs.Rows.{row_of, rows_of, dense, AreRows}
-
-pub low_bits : (letter bound k : ℕ) → k < bound → bit_at letter k ≡ bit_at (letter % 2 ^ bound) k
-low_bits letter bound k below =
-    let whole : letter ≡ letter / 2 ^ bound * 2 ^ bound + letter % 2 ^ bound = grind (arith, common_steps) in
-    ap (λ n. bit_at n k) whole ∙ bit_at_cat_low (letter / 2 ^ bound) bound (letter % 2 ^ bound) k below
 
 module _ (shapes : List Shape) (width : ℕ) where
   pub length-row_of : (node : ℕ) → length (row_of shapes width node) ≡ width

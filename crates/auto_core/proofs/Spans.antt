@@ -2,18 +2,14 @@
 use Rattle.std.proofs.Common.{◌≡◌, ◌↔◌, ℕ, suc, ℤ, pos, negsuc, neg_ℤ, ◌+ℤ◌, ◌*ℤ◌, ◌≤ℤ◌, ◌<ℤ◌, ◌+◌, ◌<◌, List, [], ◌∷◌, length, map, arith, inl, inr, ◌⊎◌, refl, sym, ap, ◌∙◌, subst}
 use Rattle.std.specs.List.{sum_by}
 use Rattle.std.specs.Int.{bit_at}
-use Rattle.std.proofs.lemmas.Grind.{common_steps}
 use Rattle.std.proofs.lemmas.Int.{ints, by_lt_z}
 use Rattle.std.proofs.lemmas.List.Sums.{sum_by-cons}
-use Rattle.std.proofs.lemmas.Nat.Bits.{bit_at-lt}
+use Rattle.track_word.proofs.LetterBits.{bit_cases}
 use Rattle.track_word.specs.declared.atoms.Rel.{Rel}
 use Rattle.track_word.specs.declared.atoms.Rel.TheVariants.{Le, Eq}
 use Rattle.track_word.specs.Atom.{Compares}
 use Rattle.auto_core.specs.declared.sums.Span.{Span}
 use Rattle.auto_core.specs.Sums.{gain, loss, weight_from, IsSpan, IsSpanOf, StandsFor}
-
-bit_cases : (letter track : ℕ) → (bit_at letter track ≡ 0) ⊎ (bit_at letter track ≡ 1)
-bit_cases letter track = let l = bit_at-lt letter track in grind (arith, common_steps, l)
 
 -- what a letter adds lies between what the weights can take away and what they can add
 pub record IsBetween (down up : ℕ) (z : ℤ) : Type 0 where

@@ -1,13 +1,12 @@
 -- Rows of sums, as nodes are added and remembered.
-use Rattle.std.proofs.Common.{◌≡◌, ℕ, suc, ℤ, pos, ◌+ℤ◌, ◌*ℤ◌, ◌+◌, ◌<◌, ◌≤◌, Bool, true, false, List, [], ◌∷◌, length, drop, get_or, None, Some, nat_eq, if◌then◌else◌, arith, inl, inr, ◌⊎◌, refl, sym, ap, ◌∙◌, subst}
+use Rattle.std.proofs.Common.{◌≡◌, ℕ, suc, ℤ, pos, ◌+ℤ◌, ◌*ℤ◌, ◌+◌, ◌<◌, ◌≤◌, Bool, true, false, List, [], ◌∷◌, length, drop, get_or, None, Some, nat_eq, if◌then◌else◌, arith, inl, inr, refl, sym, ap, ◌∙◌, subst}
 use Rattle.std.specs.Int.{bit_at}
 use Rattle.std.specs.HashMap.{HashMap, get, Updates, IsEmpty}
-use Rattle.std.proofs.lemmas.Grind.{common_steps}
 use Rattle.std.specs.Ordering.{int_eq}
 use Rattle.std.proofs.lemmas.Bool.Decides.{Decides-and, Decides-eqb, Decides-int_eq}
 use Rattle.std.proofs.lemmas.Int.{ints}
 use Rattle.std.proofs.lemmas.List.{drop_more}
-use Rattle.std.proofs.lemmas.Nat.Bits.{bit_at-lt}
+use Rattle.track_word.proofs.LetterBits.{bit_cases}
 use Rattle.letter_diagram.specs.declared.diagrams.Shape.{Shape}
 use Rattle.letter_diagram.specs.Diagram.{map_at, top_track, chosen, Grows}
 use Rattle.auto_core.specs.declared.sums.Span.{Span}
@@ -67,9 +66,6 @@ IsSumRow-leaf shapes weights span track sum node state end few known map top sta
     all-dropped : (weights : List ℤ) → drop (length weights) weights ≡ []
     all-dropped [] = refl
     all-dropped (w ∷ weights) = all-dropped weights
-
-bit_cases : (letter track : ℕ) → (bit_at letter track ≡ 0) ⊎ (bit_at letter track ≡ 1)
-bit_cases letter track = let l = bit_at-lt letter track in grind (arith, common_steps, l)
 
 pub IsSumRow-test : (shapes : List Shape) (weights : List ℤ) (span : Span) (track : ℕ) (sum weight : ℤ) (low high node : ℕ) → track < length weights
     → weight ≡ get_or weights track (pos 0) → node < length shapes → track ≤ top_track shapes node
