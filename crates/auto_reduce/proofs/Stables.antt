@@ -86,7 +86,9 @@ module _ (shapes : List Shape) (first row state : ℕ) (pairs : List (ℕ × ℕ
   PairsKeep = (number before after : ℕ) → slice_get pairs number ≡ Some (before, after) → before ≡ state → after ≡ state
 
   -- the pairs of the values of both are kept just where the maps are
-  pub Keeps-pairs : (after : List Shape) (node : ℕ) → ((letter : ℕ) → slice_get pairs (map_at after node letter) ≡ Some (map_at shapes first letter, map_at shapes row letter)) → PairsKeep → Keeps shapes first row state
+  pub Keeps-pairs : (after : List Shape) (node : ℕ)
+      → ((letter : ℕ) → slice_get pairs (map_at after node letter) ≡ Some (map_at shapes first letter, map_at shapes row letter)) → PairsKeep
+      → Keeps shapes first row state
   Keeps-pairs after node map kept letter leads = kept (map_at after node letter) _ _ (map letter) leads
 
   pub pairs-Keep : AreAnswers shapes 0 pairs first row → Keeps shapes first row state → PairsKeep
@@ -124,5 +126,6 @@ IsKept-leaves a shapes first leaves are leads kept letter below =
     subst (IsKept a) (p.2 ∙ leads letter below) (kept p.0 p.1)
 
 -- a leaf is below the bound of all values
-pub leaf_within : (shapes : List Shape) (first bound : ℕ) (leaves : List ℕ) → AreLeaves shapes first leaves → ((letter : ℕ) → map_at shapes first letter < bound) → (k : ℕ) → k < length leaves → get_or leaves k 0 < bound
+pub leaf_within : (shapes : List Shape) (first bound : ℕ) (leaves : List ℕ) → AreLeaves shapes first leaves
+    → ((letter : ℕ) → map_at shapes first letter < bound) → (k : ℕ) → k < length leaves → get_or leaves k 0 < bound
 leaf_within shapes first bound leaves are below k within = let g = are.given k within in subst (λ v. v < bound) g.1 (below g.0)

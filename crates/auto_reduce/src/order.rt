@@ -55,7 +55,7 @@ impl Order {
         ensures adds { OnOk result (AddsAll self.old self.new states.now) }
         ensures different { AllPairs (λ x y. x ≢ y) self.new }
     {
-        let _ = &self.seen;
+        let _ = &self.seen; // for its invariant
         for state in states {
             self.add(*state)?;
         }

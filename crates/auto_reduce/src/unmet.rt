@@ -1,12 +1,11 @@
 //! The canonical states to which a row leads and that were not met before it.
 ghost use Rattle.std.specs.Prelude.{[], ◌∷◌, ◌++◌, ◌≡◌, ◌≢◌, ◌<◌, ◌⊎◌, ℕ, true, false, length, slice_index_or, slice_set, IfOk, OnOk, Contains, AllPairs};
 ghost use Rattle.letter_diagram.specs.Diagram.{map_at, top_track, Grows};
-ghost use Rattle.auto_refine.specs.Leading.{entry_at};
-ghost use Rattle.auto_reduce.specs.Unmet.{AddsRow, IsMetLeaf, IsPruned, RemembersPruned, AreDone, AreDoneWith, AreDoneBut, Finds};
+ghost use Rattle.auto_reduce.specs.Unmet.{entry_at, AddsRow, IsMetLeaf, IsPruned, RemembersPruned, AreDone, AreDoneWith, AreDoneBut, Finds};
 
 use crate::order::Order;
 use auto_refine::{RoundMemo, lead_nodes};
-use letter_diagram::{Diagrams, Node, Shape};
+use letter_diagram::{Diagrams, Memo, Node, Shape};
 use std::alloc::{AllocError, Global};
 use std::marker::Model;
 
@@ -27,8 +26,7 @@ impl Model for Done {
 impl Done {
     /// None of so many nodes is done.
     pub fn new(alloc: Global, nodes: usize) -> Result<Self, AllocError>
-        ensures none { IfOk result (λ done. (node : ℕ) → slice_index_or done node false ≡ false) }
-        ensures len { IfOk result (λ done. length done ≡ nodes) }
+        ensures { IfOk result (λ done. (node : ℕ) → slice_index_or done node false ≡ false) }
     {
         Ok(Done {
             nodes: vec![in alloc; false; nodes]?,
@@ -168,8 +166,8 @@ fn pruned(
     if done.has(node) {
         return Ok(met);
     }
-    if let Some(known) = memo.get(node) {
-        return Ok(known);
+    if let Some(made) = memo.answer(node) {
+        return Ok(made);
     }
     let made = match shape {
         Shape::Leaf(state) => pruned_leaf(order, met, to, canon[state as usize])?,
@@ -179,7 +177,7 @@ fn pruned(
             to.node(track, low, high)?
         }
     };
-    memo.insert(node, made)?;
+    memo.remember(node, made)?;
     if to.same_map(made, met) {
         done.add(node);
     }
@@ -235,7 +233,7 @@ pub fn add_row(
     ensures different { OnOk result (AllPairs (λ j k. j ≢ k) order.new) }
     ensures done { OnOk result (AreDone from.now canon.now order.new done.new) }
 {
-    let _ = order.as_slice();
+    let _ = order.as_slice(); // for its invariant
     passed.clear();
     let unmet = unmet_states(from, row, canon, order, Unmet::Nothing, done, passed)?;
     match unmet {

@@ -1,8 +1,7 @@
 use Rattle.std.proofs.Common.{◌≡◌, ◌<◌, get_or, length, [], arith, ap, sym, refl, ◌+◌}
 use Rattle.std.proofs.lemmas.Option.{get_or_from_slice_get}
 use Rattle.auto_core.specs.Automaton.{first_state, next_state}
-use Rattle.auto_refine.specs.Leading.{entry_at}
-use Rattle.auto_reduce.specs.Unmet.{AddsRow}
+use Rattle.auto_reduce.specs.Unmet.{entry_at, AddsRow}
 use Rattle.auto_reduce.proofs.Leads.{leads-first, leads-row, order-first, order-next, order_known, order_few}
 use Rattle.auto_reduce.proofs.Numberings.{IsNumberedTo-row, IsNumberedTo-none, order-closed, led-next}
 use Rattle.auto_reduce.proofs.Unmets.{AreDone-none}
@@ -20,9 +19,10 @@ loop-place-init c =
     let adds : AddsRow row [] order = rw (c.diagrams.ensures.shapes, c.first_node.ensures.is) at c.in_ok-order.ensures.adds in
     record {
       order_to = order-first a canon c.requires row leads order adds apart;
-      numbered = IsNumberedTo-row a canon row 0 (first_state a) [] order leads adds apart (IsNumberedTo-none a canon) (omega arith) (λ letter. refl) (λ row letter none below. absurd (omega (arith, none)));
+      numbered = IsNumberedTo-row a canon row 0 (first_state a) [] order leads adds apart (IsNumberedTo-none a canon) (omega arith) (λ letter. refl)
+          (λ row letter none below. absurd (omega (arith, none)));
       within = omega arith;
-      done = AreDone-none a.shapes canon order c.in_ok-done.done c.in_ok-done.ensures.none;
+      done = AreDone-none a.shapes canon order c.in_ok-done.done c.in_ok-done.ensures;
     }
 
 pub row_node-row-requires : goal.row_node-row-requires
@@ -61,7 +61,8 @@ loop-place-preserved c =
     let longer = adds.longer in
     record {
       order_to = order-next a canon c.requires row old new place state leads o here refl adds apart;
-      numbered = IsNumberedTo-row a canon row (place + 1) (next_state a state) old new leads adds apart c.loop-place.invariant.numbered (omega (arith, here)) (λ letter. led-next a canon old place letter) (order-closed a canon old place o);
+      numbered = IsNumberedTo-row a canon row (place + 1) (next_state a state) old new leads adds apart c.loop-place.invariant.numbered
+          (omega (arith, here)) (λ letter. led-next a canon old place letter) (order-closed a canon old place o);
       within = omega (arith, here, longer);
       done = rw c.diagrams-in-loop-place.ensures.shapes at c.in_ok-add_row.ensures.done;
     }

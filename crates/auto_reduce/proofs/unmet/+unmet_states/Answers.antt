@@ -1,6 +1,5 @@
 use Rattle.std.proofs.Common.{arith, ℕ}
-use Rattle.auto_refine.specs.Leading.{entry_at}
-use Rattle.auto_reduce.specs.Unmet.{Finds, AreDoneWith, AreDoneBut}
+use Rattle.auto_reduce.specs.Unmet.{entry_at, Finds, AreDoneWith, AreDoneBut}
 use Rattle.auto_reduce.proofs.Unmets.{Finds-leaf, Finds-test, AreDoneWith-kept, AreDoneWith-note, AreDoneBut-note}
 use Rattle.auto_reduce.proofs.unmet.+unmet_states.Goals as goal
 use Rattle.auto_reduce.proofs.unmet.+unmet_states.Goals.{in-Leaf, in-Test+in_ok-low-in-Test+in_ok-unmet-in-Test}
@@ -13,8 +12,13 @@ bounds-canon-state t c =
 pub unmet_states-requires : goal.unmet_states-requires
 unmet_states-requires t c =
     let before = c.in-Test.ensures.fits.low_before in
-    let known = c.requires.known in
-    (omega (arith, before, c.decreases), (omega (arith, before, known), ((λ letter. let v = (c.in-Test.ensures.children letter).0 in rw (← v.1) (c.requires.leaves v.0)), (c.requires.done, c.requires.passed))))
+    let known = c.requires.known in (
+      omega (arith, before, c.decreases),
+      (
+        omega (arith, before, known),
+        ((λ letter. let v = (c.in-Test.ensures.children letter).0 in rw (← v.1) (c.requires.leaves v.0)), (c.requires.done, c.requires.passed)),
+      ),
+    )
 
 pub unmet_states-requires-in-Test : goal.unmet_states-requires-in-Test
 unmet_states-requires-in-Test t c =
@@ -27,7 +31,8 @@ finds : (t : ℕ) (c : goal.After-add t) → Finds c.args.order.now c.args.found
 finds t c = elim c.match-shape.branch [
   | in-Leaf w ↦ rw w.unmet-is (Finds-leaf c.args.from.now c.args.canon.now c.args.order.now c.args.found _ c.args.node w.in-Leaf.state w.in-Leaf.ensures.at w.with_state-unmet.ensures)
   | in-Test+in_ok-low-in-Test+in_ok-unmet-in-Test w ↦ rw w.unmet-is (
-      Finds-test c.args.from.now c.args.canon.now c.args.order.now c.args.found _ _ c.args.node w.in-Test.track w.in-Test.low w.in-Test.high w.in-Test.ensures.at w.in-Test.ensures.children w.in_ok-low-in-Test.ensures.finds w.in_ok-unmet-in-Test.ensures.finds)
+      Finds-test c.args.from.now c.args.canon.now c.args.order.now c.args.found _ _ c.args.node w.in-Test.track w.in-Test.low w.in-Test.high
+      w.in-Test.ensures.at w.in-Test.ensures.children w.in_ok-low-in-Test.ensures.finds w.in_ok-unmet-in-Test.ensures.finds)
 ]
 
 done : (t : ℕ) (c : goal.After-add t) → AreDoneWith c.args.from.now c.args.canon.now c.args.order.now c.match-shape.unmet c.match-shape.done
@@ -46,5 +51,6 @@ pub returns : goal.returns
 returns t c = record {
   finds = finds t c;
   done = AreDoneWith-note c.args.from.now c.args.canon.now c.args.order.now c.args.found c.match-shape.unmet c.match-shape.done c.add.new.self c.args.node (done t c) c.add.ensures (finds t c);
-  passed = rw c.in_ok-push.ensures.items (AreDoneBut-note c.args.from.now c.args.canon.now c.args.order.now c.match-shape.passed.items c.match-shape.done c.add.new.self c.args.node (passed t c) c.add.ensures);
+  passed = rw c.in_ok-push.ensures.items (AreDoneBut-note c.args.from.now c.args.canon.now c.args.order.now c.match-shape.passed.items
+      c.match-shape.done c.add.new.self c.args.node (passed t c) c.add.ensures);
 }
