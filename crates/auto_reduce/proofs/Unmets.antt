@@ -10,7 +10,7 @@ use Rattle.letter_diagram.specs.Leaves.{AreLeaves}
 use Rattle.letter_diagram.specs.NodeMemo.{answer_of}
 use Rattle.letter_diagram.specs.Carried.{Learns}
 use Rattle.auto_reduce.specs.Quotient.{AddsAll}
-use Rattle.auto_reduce.specs.Unmet.{entry_at, AddsRow, IsMetLeaf, IsPruned, RemembersPruned, AreDone, IsFound, Finds, AreDoneWith, AreDoneBut}
+use Rattle.auto_reduce.specs.Unmet.{entry_at, AddsRow, IsMetLeaf, IsPruned, RemembersPruned, StandsFor, AreDone, IsFound, Finds, AreDoneWith, AreDoneBut}
 use Rattle.auto_reduce.specs.declared.unmet.Unmet.{Unmet}
 use Rattle.auto_reduce.specs.declared.unmet.Unmet.TheVariants.{Nothing, One, Several}
 use Rattle.std.proofs.lemmas.List.Elements.{Contains-push, Contains-append_left}
@@ -21,10 +21,6 @@ use Rattle.auto_reduce.proofs.Quotients.{different_places}
 entry-either : (table : List ℕ) (b : Bool) (v w : ℕ) → get_or table (if b then v else w) 0 ≡ (if b then get_or table v 0 else get_or table w 0)
 entry-either table true v w = refl
 entry-either table false v w = refl
-
--- equal values, or values of a list
-abbrev pub StandsFor : List ℕ → ℕ → ℕ → Type 0
-StandsFor met v w = (v ≡ w) ⊎ (Contains met v × Contains met w)
 
 pub IsMetLeaf-grows : (old new : List Shape) (met : List ℕ) (leaf : ℕ) → Grows old new → IsMetLeaf old met leaf → IsMetLeaf new met leaf
 IsMetLeaf-grows old new met leaf grows is =

@@ -25,10 +25,14 @@ pub record IsMetLeaf (shapes : List Shape) (met : List ℕ) (leaf : ℕ) : Type 
   pub top : top_track shapes leaf ≡ 20
   pub is_met : (letter : ℕ) → Contains met (map_at shapes leaf letter)
 
+-- equal values, or values of a list
+abbrev pub StandsFor : List ℕ → ℕ → ℕ → Type 0
+StandsFor met v w = (v ≡ w) ⊎ (Contains met v × Contains met w)
+
 -- r has the map that a has among other shapes, led to canonical states, but for values of a list, which may stand for one another
 pub record IsPruned (from shapes : List Shape) (canon met : List ℕ) (a r : ℕ) : Type 0 where
   pub known : r < length shapes
-  pub map : (letter : ℕ) → (map_at shapes r letter ≡ entry_at canon from a letter) ⊎ (Contains met (map_at shapes r letter) × Contains met (entry_at canon from a letter))
+  pub map : (letter : ℕ) → StandsFor met (map_at shapes r letter) (entry_at canon from a letter)
   pub top : top_track from a ≤ top_track shapes r
 
 pub record RemembersPruned (from shapes : List Shape) (canon met : List ℕ) (memo : List (Option ℕ)) : Type 0 where

@@ -22,6 +22,7 @@ impl Model for Signatures {
 }
 
 impl Signatures {
+    /// No signature.
     pub fn new(alloc: Global) -> Self
         ensures { result ≡ [] }
     {

@@ -1,4 +1,4 @@
-use Rattle.std.proofs.Common.{rules, arith, ◌≡◌, ◌∙◌, ap, sym, subst, length}
+use Rattle.std.proofs.Common.{arith, ◌∙◌, ap, sym, subst, length}
 use Rattle.auto_reduce.specs.Quotient.{ArePlaces, IsQuotientBy}
 use Rattle.auto_reduce.proofs.Leads.{order_within, order_few, order_some}
 use Rattle.auto_reduce.proofs.Quotients.{all_known, all_in_table, AreRows-made, IsQuotientBy-made}
