@@ -1,5 +1,5 @@
 //! The automaton over one state of each class.
-ghost use Rattle.std.specs.Prelude.{◌≡◌, ◌≤◌, ◌<◌, ◌+◌, ◌^◌, ◌≢◌, ◌↔◌, List, ℕ, IfOk, length, All, AllPairs};
+ghost use Rattle.std.specs.Prelude.{◌≡◌, ◌≤◌, ◌<◌, ◌+◌, ◌^◌, ◌≢◌, ◌↔◌, List, ℕ, IfOk, false, length, slice_index_or, All, AllPairs};
 ghost use Rattle.track_word.specs.Word.{IsWord};
 ghost use Rattle.auto_core.specs.Automaton.{Accepts, IsAutomaton};
 ghost use Rattle.auto_core.specs.Reduced.{IsReduced};
@@ -30,7 +30,7 @@ fn breadth_first(
         from: a.diagrams(),
         canon,
     };
-    let mut order = first_met(alloc, &rows, a.first_node(), kept)?;
+    let mut order = first_met(alloc, &rows, a.first_node(), &mut kept.memo)?;
     let mut place = 0;
     while place < order.as_slice().len() {
         let row = a.row_node(order.as_slice()[place]);

@@ -279,17 +279,16 @@ pub fn first_met(
     alloc: Global,
     rows: &Rows,
     row: Node,
-    kept: &mut Kept,
+    memo: &mut RoundMemo,
 ) -> Result<Order, AllocError>
     requires known { row < length rows.now.from.now }
     requires leaves { (letter : ℕ) → map_at rows.now.from.now row letter < length rows.now.canon.now }
     ensures adds { IfOk result (AddsRow (entry_at rows.now.canon.now rows.now.from.now row) []) }
     ensures different { IfOk result (AllPairs (λ j k. j ≢ k)) }
-    ensures done { kept.new.done ≡ kept.old.done }
 {
     let mut order = Order::new(alloc);
     let mut to = Diagrams::new(alloc);
-    let led = lead_nodes(rows.from, &[row], rows.canon, &mut to, &mut kept.memo)?;
+    let led = lead_nodes(rows.from, &[row], rows.canon, &mut to, memo)?;
     let leaves = to.leaves(led[0])?;
     order.add_all(leaves.as_slice())?;
     Ok(order)

@@ -1,4 +1,4 @@
-use Rattle.std.proofs.Common.{◌≡◌, ◌<◌, ℕ, get_or, length, [], false, arith, ap, sym, refl, subst, ◌+◌}
+use Rattle.std.proofs.Common.{◌≡◌, ◌<◌, get_or, length, [], arith, ap, sym, refl, ◌+◌}
 use Rattle.std.proofs.lemmas.Option.{get_or_from_slice_get}
 use Rattle.auto_core.specs.Automaton.{first_state, next_state}
 use Rattle.auto_reduce.specs.Unmet.{entry_at, AddsRow}
@@ -22,7 +22,7 @@ loop-place-init c =
       numbered = IsNumberedTo-row a canon row 0 (first_state a) [] order leads adds apart (IsNumberedTo-none a canon) (omega arith) (λ letter. refl)
           (λ row letter none below. absurd (omega (arith, none)));
       within = omega arith;
-      done = AreDone-none a.shapes canon order c.first_met.new.kept.done (subst (λ done. (node : ℕ) → get_or done node false ≡ false) (sym c.first_met.ensures.done) c.requires.done);
+      done = AreDone-none a.shapes canon order c.args.kept.now.done c.requires.done;
     }
 
 pub row_node-row-requires : goal.row_node-row-requires
