@@ -26,11 +26,9 @@ fn breadth_first(
     ensures order { IfOk result (λ order. IsOrder a.now canon.now order) }
     ensures numbered { IfOk result (λ order. IsNumberedTo a.now canon.now order (length order + 1)) }
 {
-    let rows = Rows {
-        from: a.diagrams(),
-        canon,
-    };
-    let mut order = first_met(alloc, &rows, a.first_node(), &mut kept.memo)?;
+    let from = a.diagrams();
+    let mut order = first_met(alloc, from, a.first_node(), canon, &mut kept.memo)?;
+    let rows = Rows { from, canon };
     let mut place = 0;
     while place < order.as_slice().len() {
         let row = a.row_node(order.as_slice()[place]);

@@ -277,18 +277,19 @@ pub fn add_row(
 /// The canonical states to which the first row leads, by the least letters that lead to them.
 pub fn first_met(
     alloc: Global,
-    rows: &Rows,
+    from: &Diagrams,
     row: Node,
+    canon: &[u32],
     memo: &mut RoundMemo,
 ) -> Result<Order, AllocError>
-    requires known { row < length rows.now.from.now }
-    requires leaves { (letter : ℕ) → map_at rows.now.from.now row letter < length rows.now.canon.now }
-    ensures adds { IfOk result (AddsRow (entry_at rows.now.canon.now rows.now.from.now row) []) }
+    requires known { row < length from.now }
+    requires leaves { (letter : ℕ) → map_at from.now row letter < length canon.now }
+    ensures adds { IfOk result (AddsRow (entry_at canon.now from.now row) []) }
     ensures different { IfOk result (AllPairs (λ j k. j ≢ k)) }
 {
     let mut order = Order::new(alloc);
     let mut to = Diagrams::new(alloc);
-    let led = lead_nodes(rows.from, &[row], rows.canon, &mut to, memo)?;
+    let led = lead_nodes(from, &[row], canon, &mut to, memo)?;
     let leaves = to.leaves(led[0])?;
     order.add_all(leaves.as_slice())?;
     Ok(order)

@@ -12,8 +12,8 @@ returns-clause-adds c =
     let nodes = c.in_ok-led.led.items in
     let leaves = c.in_ok-leaves.leaves.items in
     let added = rw (c.new-order.ensures, c.as_slice.ensures.value) at c.in_ok-add_all.ensures.adds in
-    let led : IsLedFrom c.args.rows.now.from.now shapes c.args.rows.now.canon.now c.args.row (get_or nodes 0 0) = c.in_ok-led.ensures.led.each 0 (omega arith) in
+    let led : IsLedFrom c.args.from.now shapes c.args.canon.now c.args.row (get_or nodes 0 0) = c.in_ok-led.ensures.led.each 0 (omega arith) in
     let size = c.in_ok-led.ensures.led.size in
     let node = get_or_read nodes 0 c.index.result.now (omega (arith, size)) c.index.ensures 0 in
     let are_leaves = subst (λ n. AreLeaves shapes n leaves) node c.in_ok-leaves.ensures in
-    AddsRow-first shapes (entry_at c.args.rows.now.canon.now c.args.rows.now.from.now c.args.row) (get_or nodes 0 0) c.add_all.new.self leaves led.map are_leaves added c.add_all.ensures.different
+    AddsRow-first shapes (entry_at c.args.canon.now c.args.from.now c.args.row) (get_or nodes 0 0) c.add_all.new.self leaves led.map are_leaves added c.add_all.ensures.different
