@@ -13,7 +13,7 @@ use Rattle.auto_core.specs.Automaton.{Automaton, IsAutomaton, width, first_state
 use Rattle.auto_core.specs.Reduced.{IsReduced}
 use Rattle.auto_core.specs.Integers.{DecidesIntegers}
 use Rattle.auto_walk.proofs.WalkWords.{map_at-low}
-use Rattle.auto_reduce.specs.Stable.{Keeps, ArePairsKept}
+use Rattle.auto_reduce.specs.Stable.{Keeps}
 use Rattle.auto_refine.proofs.States.{first_within, next_within}
 use Rattle.auto_reduce.proofs.Orders.{place_in}
 use Rattle.auto_reduce.proofs.Flags.{same_flag}
@@ -79,13 +79,16 @@ DecidesIntegers-words m a tracks same = (
     }
 
 module _ (shapes : List Shape) (first row state : ℕ) (pairs : List (ℕ × ℕ)) where
+  abbrev PairsKeep : Type 0
+  PairsKeep = (number before after : ℕ) → slice_get pairs number ≡ Some (before, after) → before ≡ state → after ≡ state
+
   -- the pairs of the values of both are kept just where the maps are
   pub Keeps-pairs : (after : List Shape) (node : ℕ)
-      → ((letter : ℕ) → slice_get pairs (map_at after node letter) ≡ Some (map_at shapes first letter, map_at shapes row letter)) → ArePairsKept pairs state
+      → ((letter : ℕ) → slice_get pairs (map_at after node letter) ≡ Some (map_at shapes first letter, map_at shapes row letter)) → PairsKeep
       → Keeps shapes first row state
   Keeps-pairs after node map kept letter leads = kept (map_at after node letter) _ _ (map letter) leads
 
-  pub pairs-Keep : AreAnswers shapes 0 pairs first row → Keeps shapes first row state → ArePairsKept pairs state
+  pub pairs-Keep : AreAnswers shapes 0 pairs first row → Keeps shapes first row state → PairsKeep
   pairs-Keep are kept number before after at is =
       let answer = are.answer number (omega arith) (slice_get_within pairs number _ at) in
       let both = same_Some _ _ (sym at ∙ answer.1) in

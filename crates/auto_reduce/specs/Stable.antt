@@ -1,12 +1,8 @@
 -- States that stay where the first letter is read once more.
-use Rattle.std.specs.Prelude.{◌≡◌, ℕ, List, slice_get, Some}
+use Rattle.std.specs.Prelude.{◌≡◌, ℕ, List}
 use Rattle.letter_diagram.specs.declared.diagrams.Shape.{Shape}
 use Rattle.letter_diagram.specs.Diagram.{map_at}
 
 -- a row gives a state wherever the first row does
 abbrev pub Keeps : List Shape → ℕ → ℕ → ℕ → Type 0
 Keeps shapes first row state = (letter : ℕ) → map_at shapes first letter ≡ state → map_at shapes row letter ≡ state
-
--- no pair leaves a state
-abbrev pub ArePairsKept : List (ℕ × ℕ) → ℕ → Type 0
-ArePairsKept pairs state = (number before after : ℕ) → slice_get pairs number ≡ Some (before, after) → before ≡ state → after ≡ state

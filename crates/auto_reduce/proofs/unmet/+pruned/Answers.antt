@@ -9,8 +9,8 @@ use Rattle.auto_reduce.proofs.unmet.+pruned.Goals.{in-Leaf+in_ok-made-in-Leaf, i
 pub returns-in-Some-clause-pruned : goal.returns-in-Some-clause-pruned
 returns-in-Some-clause-pruned t c = c.requires.remembered.pruned _ _ (sym c.in-Some.ensures)
 
-pub bounds-rows-canon-state : goal.bounds-rows-canon-state
-bounds-rows-canon-state t c =
+pub bounds-rows-state : goal.bounds-rows-state
+bounds-rows-state t c =
     let at = subst (IsAt c.args.rows.now.from.now c.args.node) c.in-Leaf.is c.shape-shape.ensures.at in
     let m = at.map 0 in
     rw (← m) (c.requires.leaves 0)
@@ -66,7 +66,12 @@ returns-clause-remembered t c =
       | in-Test+in_ok-low-in-Test+in_ok-high-in-Test+in_ok-made-in-Test w ↦ rw (w.to-is, w.kept-is)
           (RemembersPruned-grows _ _ _ _ _ _ w.in_ok-made-in-Test.ensures.grows w.in_ok-high-in-Test.ensures.remembered)
     ] in
-    RemembersPruned-learns _ _ _ _ _ _ _ _ before c.in_ok-remember.ensures (made t c)
+    let learnt : RemembersPruned c.args.rows.now.from.now c.match-shape.to c.args.rows.now.canon.now c.args.met.now.order.now c.remember.new.self =
+    RemembersPruned-learns _ _ _ _ _ _ _ _ before c.in_ok-remember.ensures (made t c) in
+    elim c.if-same_map.branch [
+      | then-same_map w ↦ rw w.kept-is learnt
+      | else-same_map w ↦ rw w.kept-is learnt
+    ]
 
 before_done : (t : ℕ) (c : goal.Joined-same_map t) → AreDone c.args.rows.now.from.now c.args.rows.now.canon.now c.args.met.now.order.now c.match-shape.kept.done
 before_done t c = elim c.match-shape.branch [
@@ -74,7 +79,7 @@ before_done t c = elim c.match-shape.branch [
   | in-Test+in_ok-low-in-Test+in_ok-high-in-Test+in_ok-made-in-Test w ↦ rw w.kept-is w.in_ok-high-in-Test.ensures.done
 ]
 
-grows : (t : ℕ) (c : goal.Joined-same_map t) → IsMetLeaf c.match-shape.to c.args.met.now.order.now c.args.met
+grows : (t : ℕ) (c : goal.Joined-same_map t) → IsMetLeaf c.match-shape.to c.args.met.now.order.now c.args.met.now.leaf
 grows t c = elim c.match-shape.branch [
   | in-Leaf+in_ok-made-in-Leaf w ↦ rw w.to-is (IsMetLeaf-grows _ _ _ _ w.in_ok-made-in-Leaf.ensures.grows c.requires.met)
   | in-Test+in_ok-low-in-Test+in_ok-high-in-Test+in_ok-made-in-Test w ↦ rw w.to-is (

@@ -4,8 +4,8 @@ use Rattle.auto_reduce.proofs.Unmets.{Finds-leaf, Finds-test, AreDoneWith-kept, 
 use Rattle.auto_reduce.proofs.unmet.+unmet_states.Goals as goal
 use Rattle.auto_reduce.proofs.unmet.+unmet_states.Goals.{in-Leaf, in-Test+in_ok-low-in-Test+in_ok-unmet-in-Test}
 
-pub bounds-rows-canon-state : goal.bounds-rows-canon-state
-bounds-rows-canon-state t c =
+pub bounds-rows-state : goal.bounds-rows-state
+bounds-rows-state t c =
     let m = c.in-Leaf.ensures.at.map 0 in
     rw (← m) (c.requires.leaves 0)
 
