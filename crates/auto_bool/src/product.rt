@@ -12,6 +12,7 @@ use crate::both::Both;
 use crate::connective::Connective;
 use auto_core::Auto;
 use auto_walk::{Grown, walked};
+use limits::Budget;
 use std::alloc::Global;
 
 /// The automaton over the pairs of states that words lead to.
@@ -20,10 +21,9 @@ pub fn walk_pairs(
     a: &Auto,
     b: &Auto,
     connective: Connective,
-    budget: u32,
+    budget: Budget,
 ) -> Result<Auto, Grown>
     requires tracks { length (with_vars a.now.tracks b.now.tracks) ≤ 20 }
-    requires budget { budget ≤ 200000 }
     ensures ok { IfOk result (IsWalked (both_walker a.now b.now connective)) }
     ensures within { OnOk result (¬ MoreThan (both_walker a.now b.now connective) budget) }
     ensures over { result ≡ Err Grown.Over → MoreThan (both_walker a.now b.now connective) budget }
@@ -40,12 +40,11 @@ fn product(
     a: &Auto,
     b: &Auto,
     connective: Connective,
-    budget: u32,
+    budget: Budget,
 ) -> Result<Auto, Grown>
     requires a_reduced { IsReduced a.now }
     requires b_reduced { IsReduced b.now }
     requires tracks { length (with_vars a.now.tracks b.now.tracks) ≤ 20 }
-    requires budget { budget ≤ 200000 }
     ensures ok { IfOk result (IsWalked (both_walker a.now b.now connective)) }
     ensures within { OnOk result (¬ BothSpreadExceeds a.now.tracks b.now.tracks (Accepts a.now) (Accepts b.now) budget) }
     ensures over { result ≡ Err Grown.Over → BothSpreadExceeds a.now.tracks b.now.tracks (Accepts a.now) (Accepts b.now) budget }
@@ -56,11 +55,10 @@ fn product(
 /// The automaton of the words over the tracks of both that both accept, each word read on the argument's own tracks.
 /// Its states are the pairs of states that words lead to (Rabin and Scott 1959); some of them may accept the same suffixes.
 /// `Over` where they are more than the budget. Costs the pairs of nodes that are met over all rows together.
-pub fn meet(alloc: Global, a: &Auto, b: &Auto, budget: u32) -> Result<Auto, Grown>
+pub fn meet(alloc: Global, a: &Auto, b: &Auto, budget: Budget) -> Result<Auto, Grown>
     requires a_reduced { IsReduced a.now }
     requires b_reduced { IsReduced b.now }
     requires tracks { length (with_vars a.now.tracks b.now.tracks) ≤ 20 }
-    requires budget { (1 ≤ budget) × (budget ≤ 200000) }
     ensures tracks { IfOk result (λ m. m.tracks ≡ with_vars a.now.tracks b.now.tracks) }
     ensures words { IfOk result (λ m. (word : List ℕ) → IsWord (length m.tracks) word → Accepts m word ↔ (Accepts a.now (part_of m.tracks a.now.tracks word) × Accepts b.now (part_of m.tracks b.now.tracks word))) }
     ensures reached { IfOk result (λ m. (state : ℕ) → state < length m.accept → IsReachedState m state) }
@@ -73,11 +71,10 @@ pub fn meet(alloc: Global, a: &Auto, b: &Auto, budget: u32) -> Result<Auto, Grow
 
 /// The automaton of the words over the tracks of both that one of them accepts at least, each word read on the argument's own
 /// tracks. Otherwise as `meet`.
-pub fn join(alloc: Global, a: &Auto, b: &Auto, budget: u32) -> Result<Auto, Grown>
+pub fn join(alloc: Global, a: &Auto, b: &Auto, budget: Budget) -> Result<Auto, Grown>
     requires a_reduced { IsReduced a.now }
     requires b_reduced { IsReduced b.now }
     requires tracks { length (with_vars a.now.tracks b.now.tracks) ≤ 20 }
-    requires budget { (1 ≤ budget) × (budget ≤ 200000) }
     ensures tracks { IfOk result (λ m. m.tracks ≡ with_vars a.now.tracks b.now.tracks) }
     ensures words { IfOk result (λ m. (word : List ℕ) → IsWord (length m.tracks) word → Accepts m word ↔ (Accepts a.now (part_of m.tracks a.now.tracks word) ⊎ Accepts b.now (part_of m.tracks b.now.tracks word))) }
     ensures reached { IfOk result (λ m. (state : ℕ) → state < length m.accept → IsReachedState m state) }

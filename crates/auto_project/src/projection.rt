@@ -9,6 +9,7 @@ ghost use Rattle.auto_core.specs.Spread.{IsLift, ExSpreadExceeds};
 use crate::subsets::Subsets;
 use auto_core::Auto;
 use auto_walk::{Grown, walked};
+use limits::Budget;
 use std::alloc::Global;
 use track_word::Var;
 
@@ -16,9 +17,8 @@ use track_word::Var;
 /// (a value may need more letters than the word has). A variable that is no track is allowed.
 /// Its states are the sets of states to which the lifts of words lead (Rabin and Scott 1959); some of them may accept the same
 /// suffixes. `Over` where they are more than the budget.
-pub fn forget(alloc: Global, a: &Auto, var: Var, budget: u32) -> Result<Auto, Grown>
+pub fn forget(alloc: Global, a: &Auto, var: Var, budget: Budget) -> Result<Auto, Grown>
     requires reduced { IsReduced a.now }
-    requires budget { (1 ≤ budget) × (budget ≤ 200000) }
     ensures tracks { IfOk result (λ m. m.tracks ≡ without_var var a.now.tracks) }
     ensures words { IfOk result (λ m. (word : List ℕ) → IsWord (length m.tracks) word → Accepts m word ↔ ((lift : List ℕ) × IsLift m.tracks a.now.tracks word lift × Accepts a.now lift)) }
     ensures within { OnOk result (¬ ExSpreadExceeds var a.now.tracks (Accepts a.now) budget) }

@@ -8,10 +8,11 @@ use crate::grown::Grown;
 use crate::walk::Walk;
 use auto_core::Auto;
 use letter_diagram::Node;
+use limits::Budget;
 use std::alloc::{AllocError, Global};
 
 /// The first row, unless more places than the budget are numbered by it.
-fn first_row<W: Walk>(walk: &mut W, budget: u32) -> Result<Node, Grown>
+fn first_row<W: Walk>(walk: &mut W, budget: Budget) -> Result<Node, Grown>
     requires { W.places walk.old ≡ [] }
     ensures walker { W.walker walk.new ≡ W.walker walk.old }
     ensures numbered { OnOk result (AreNumbered (W.walker walk.old) (W.places walk.new)) }
@@ -20,18 +21,17 @@ fn first_row<W: Walk>(walk: &mut W, budget: u32) -> Result<Node, Grown>
     ensures over { result ≡ Err Grown.Over → MoreThan (W.walker walk.old) budget }
 {
     let node = walk.first_row()?;
-    if walk.count() > budget as usize {
+    if walk.count() > budget.states() as usize {
         return Err(Grown::Over);
     }
     Ok(node)
 }
 
 /// The row of a numbered place, unless more places than the budget are numbered by it.
-fn next_row<W: Walk>(walk: &mut W, number: u32, budget: u32) -> Result<Node, Grown>
+fn next_row<W: Walk>(walk: &mut W, number: u32, budget: Budget) -> Result<Node, Grown>
     requires numbered { AreNumbered (W.walker walk.old) (W.places walk.old) }
     requires known { number < length (W.places walk.old) }
     requires room { length (W.places walk.old) ≤ budget }
-    requires budget { budget < 2 ^ 31 }
     ensures walker { W.walker walk.new ≡ W.walker walk.old }
     ensures kept { Extends (W.places walk.old) (W.places walk.new) }
     ensures grows { Grows (W.shapes walk.old) (W.shapes walk.new) }
@@ -41,17 +41,16 @@ fn next_row<W: Walk>(walk: &mut W, number: u32, budget: u32) -> Result<Node, Gro
     ensures over { result ≡ Err Grown.Over → MoreThan (W.walker walk.old) budget }
 {
     let node = walk.next_row(number)?;
-    if walk.count() > budget as usize {
+    if walk.count() > budget.states() as usize {
         return Err(Grown::Over);
     }
     Ok(node)
 }
 
 /// The rows of the places that are numbered, and of all that these lead to.
-fn all_rows<W: Walk>(alloc: Global, walk: &mut W, budget: u32) -> Result<Vec<Node>, Grown>
+fn all_rows<W: Walk>(alloc: Global, walk: &mut W, budget: Budget) -> Result<Vec<Node>, Grown>
     requires numbered { AreNumbered (W.walker walk.old) (W.places walk.old) }
     requires room { length (W.places walk.old) ≤ budget }
-    requires budget { budget < 2 ^ 31 }
     ensures walker { W.walker walk.new ≡ W.walker walk.old }
     ensures kept { Extends (W.places walk.old) (W.places walk.new) }
     ensures grows { Grows (W.shapes walk.old) (W.shapes walk.new) }
@@ -85,9 +84,8 @@ fn flags<W: Walk>(alloc: Global, walk: &W) -> Result<Vec<bool>, AllocError>
 }
 
 /// The automaton whose states are the places to which words lead, or `Over` where they are more than the budget.
-pub fn walked<W: Walk>(alloc: Global, walk: W, budget: u32) -> Result<Auto, Grown>
+pub fn walked<W: Walk>(alloc: Global, walk: W, budget: Budget) -> Result<Auto, Grown>
     requires fresh { W.places walk ≡ [] }
-    requires budget { budget < 2 ^ 31 }
     ensures ok { IfOk result (IsWalked (W.walker walk)) }
     ensures within { OnOk result (¬ MoreThan (W.walker walk) budget) }
     ensures over { result ≡ Err Grown.Over → MoreThan (W.walker walk) budget }

@@ -14,6 +14,7 @@ use crate::grown::Grown;
 use crate::walk::Walk;
 use auto_core::Auto;
 use letter_diagram::{Diagrams, Node, PairsError, Sets};
+use limits::Budget;
 use std::alloc::{AllocError, Global};
 use track_word::Var;
 use track_word::laws::repeating_first_letter_keeps_values;
@@ -150,10 +151,9 @@ pub fn residue(
     var: Var,
     modulus: u32,
     residue: u32,
-    budget: u32,
+    budget: Budget,
 ) -> Result<Auto, Grown>
     requires modulus { 0 < modulus }
-    requires budget { budget < 2 ^ 31 }
     ensures tracks { IfOk result (λ a. a.tracks ≡ var ∷ []) }
     ensures words { IfOk result (λ a. (word : List ℕ) → IsWord 1 word → Accepts a word ↔ ResidueHolds var modulus residue word) }
     ensures integers { IfOk result (λ a. DecidesIntegers a) }

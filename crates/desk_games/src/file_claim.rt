@@ -6,7 +6,6 @@ ghost use Rattle.desk_base.specs.Files.{Go};
 ghost use Rattle.strategy_file.specs.Claims.{claim_of};
 ghost use Rattle.strategy_file.specs.Fitting.{HasFile};
 ghost use Rattle.desk_games.specs.FileClaim.{Fetches, IsFetched, OnFiles, TellsChecked, TellsRead, no_claim_line, no_claim_status};
-ghost use Rattle.desk_words.specs.Order.{IsBudget};
 ghost use Rattle.desk_report.specs.Outcome.{Writes};
 
 use chess_text::line_buffer::LineBuffer;
@@ -14,6 +13,7 @@ use claim_check::{CheckError, check};
 use claim_plan::RuleAt;
 use desk_base::{FetchError, Shelf, Sink};
 use desk_report::{Status, budget_line, byte_line, cut_line, extra_line, not_kept_line, refuse};
+use limits::Budget;
 use std::alloc::Global;
 use strategy_file::{ByteWhy, Claim, FileError, read_file};
 use winning_sets::{Solved, StepName};
@@ -105,10 +105,9 @@ pub fn refuse_file<K: Sink>(sink: &mut K, why: NoClaim) -> Status
 pub fn fetch_claim<H: Shelf>(
     alloc: Global,
     name: &str,
-    budget: u32,
+    budget: Budget,
     shelf: &mut H,
 ) -> Result<Solved, NoClaim>
-    requires { IsBudget budget }
     ensures fetches { OnFiles (H.files shelf.old) (λ files. Fetches budget name.now files result) }
     ensures same { Go (H.files shelf.old) (H.files shelf.new) (λ before after. after ≡ before) }
     ensures failed { IsErrOf result NoClaim.Fault → HasRisen (H.faults shelf.old) (H.faults shelf.new) }
@@ -147,9 +146,8 @@ fn read_claim(alloc: Global, bytes: Vec<u8>) -> Result<Claim, NoClaim>
 }
 
 /// The claim with its sets, once it is known to keep all rules.
-fn check_claim(alloc: Global, claim: Claim, budget: u32) -> Result<Solved, NoClaim>
+fn check_claim(alloc: Global, claim: Claim, budget: Budget) -> Result<Solved, NoClaim>
     requires claim { HasFile (claim_of claim) }
-    requires budget { IsBudget budget }
     ensures checks { TellsChecked (claim_of claim) budget result }
 {
     match check(alloc, claim, budget) {

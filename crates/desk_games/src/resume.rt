@@ -6,7 +6,6 @@ ghost use Rattle.game_rules.specs.Game.{Value};
 ghost use Rattle.winning_sets.specs.Claimed.{claim_of};
 ghost use Rattle.winning_sets.specs.declared.origin.Origin.TheVariants as origin;
 ghost use Rattle.desk_games.specs.FileClaim.{OnFiles};
-ghost use Rattle.desk_words.specs.Order.{IsBudget};
 ghost use Rattle.desk_report.specs.ByLines.{EndsByLines};
 ghost use Rattle.desk_report.specs.Outcome.{NeverMisses, of_streams, seen_of};
 ghost use Rattle.desk_games.specs.Resume.{GameReports, LacksBefore, ResumeEnds};
@@ -30,7 +29,6 @@ pub fn resume<S: Source, K: Sink, H: Shelf>(
     sink: &mut K,
     shelf: &mut H,
 ) -> Status
-    requires { IsBudget file.now.budget }
     ensures ends { OnFiles (H.files shelf.old) (λ files. (pending : List ℕ) ×
         ResumeEnds file.now.budget file.now.name.now files result pending
         (seen_of (S.left source.old) (K.written sink.old) (H.files shelf.old) (S.faults source.old) (K.faults sink.old) (H.faults shelf.old))

@@ -25,6 +25,7 @@ use crate::plain::{is_plain, steps_of};
 use crate::steps::{comparison, membership, value_of};
 use crate::table::SetTable;
 use auto_core::Auto;
+use limits::Budget;
 use lin_formula::Formula;
 use std::alloc::Global;
 
@@ -35,11 +36,10 @@ pub fn compile(
     alloc: Global,
     f: &Formula,
     sets: &SetTable,
-    budget: u32,
+    budget: Budget,
 ) -> Result<Auto, CompileError>
     requires compilable { IsCompilable (tree_of f.now) sets.now }
     requires few_steps { length (steps (tree_of f.now)) < 2 ^ 31 }
-    requires budget { (1 ≤ budget) × (budget ≤ 200000) }
     ensures reduced { IfOk result IsReduced }
     ensures decides { IfOk result (λ a. Decides a (tree_of f.now) (members (tables sets.now))) }
     ensures integers { IfOk result DecidesIntegers }

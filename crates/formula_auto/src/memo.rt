@@ -7,6 +7,7 @@ ghost use Rattle.formula_auto.specs.PartOf.{IsPart};
 
 use crate::part::Part;
 use auto_core::Auto;
+use limits::Budget;
 use lin_formula::{Formula, copy, same};
 use std::alloc::{AllocError, Global};
 use std::marker::Model;
@@ -22,7 +23,7 @@ pub struct Entry {
 /// It is searched from its start, formula by formula.
 #[derive(Drop)]
 pub struct Memo {
-    budget: u32,
+    budget: Budget,
     entries: Vec<Entry>,
     found: u64,
 }
@@ -45,8 +46,7 @@ impl Model for Memo {
 
 impl Memo {
     /// A memo without entries. Each formula that it compiles has this budget of states for a step.
-    pub fn new(alloc: Global, budget: u32) -> Memo
-        requires { (1 ≤ budget) × (budget ≤ 200000) }
+    pub fn new(alloc: Global, budget: Budget) -> Memo
         ensures budget { result.budget ≡ budget }
         ensures entries { result.entries ≡ [] }
         ensures found { result.found ≡ 0 }
@@ -74,10 +74,8 @@ impl Memo {
     }
 
     /// The greatest number of states that a step may need.
-    pub fn budget(&self) -> u32
+    pub fn budget(&self) -> Budget
         ensures is { result ≡ self.now.budget }
-        ensures low { 1 ≤ result }
-        ensures high { result ≤ 200000 }
         ensures valid { IsMemo self.now }
     {
         self.budget

@@ -21,6 +21,7 @@ use auto_core::Auto;
 use auto_project::forget;
 use auto_reduce::reduce;
 use auto_walk::Grown;
+use limits::Budget;
 use std::alloc::{AllocError, Global};
 use track_word::{Rel, Var};
 
@@ -82,13 +83,12 @@ pub fn joined(
     connective: Connective,
     a: &Auto,
     b: &Auto,
-    budget: u32,
+    budget: Budget,
     step: u32,
 ) -> Result<Auto, CompileError>
     requires a_reduced { IsReduced a.now }
     requires b_reduced { IsReduced b.now }
     requires tracks { length (with_vars a.now.tracks b.now.tracks) ≤ 20 }
-    requires budget { (1 ≤ budget) × (budget ≤ 200000) }
     ensures reduced { IfOk result IsReduced }
     ensures decides { IfOk result (λ c. (f g : Tree) (e : ℕ → SetOf) → Decides a.now f (members e) → Decides b.now g (members e) → Decides c (connect connective f g) (members e)) }
     ensures within { IfOk result (λ c. ¬ BothSpreadExceeds a.now.tracks b.now.tracks (Accepts a.now) (Accepts b.now) budget) }
@@ -106,12 +106,11 @@ fn product(
     connective: Connective,
     a: &Auto,
     b: &Auto,
-    budget: u32,
+    budget: Budget,
 ) -> Result<Auto, Grown>
     requires a_reduced { IsReduced a.now }
     requires b_reduced { IsReduced b.now }
     requires tracks { length (with_vars a.now.tracks b.now.tracks) ≤ 20 }
-    requires budget { (1 ≤ budget) × (budget ≤ 200000) }
     ensures decides { IfOk result (λ c. (f g : Tree) (e : ℕ → SetOf) → Decides a.now f (members e) → Decides b.now g (members e) → Decides c (connect connective f g) (members e)) }
     ensures within { OnOk result (¬ BothSpreadExceeds a.now.tracks b.now.tracks (Accepts a.now) (Accepts b.now) budget) }
     ensures over { result ≡ Err Grown.Over → BothSpreadExceeds a.now.tracks b.now.tracks (Accepts a.now) (Accepts b.now) budget }
@@ -126,11 +125,10 @@ pub fn projection(
     alloc: Global,
     var: Var,
     a: &Auto,
-    budget: u32,
+    budget: Budget,
     step: u32,
 ) -> Result<Auto, CompileError>
     requires reduced { IsReduced a.now }
-    requires budget { (1 ≤ budget) × (budget ≤ 200000) }
     ensures reduced { IfOk result IsReduced }
     ensures decides { IfOk result (λ c. (f : Tree) (e : ℕ → SetOf) → Decides a.now f (members e) → Decides c (tree.Ex var f) (members e)) }
     ensures within { IfOk result (λ c. ¬ ExSpreadExceeds var a.now.tracks (Accepts a.now) budget) }

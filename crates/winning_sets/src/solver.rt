@@ -15,6 +15,7 @@ use crate::solved::Solved;
 use crate::turns::{last_ply, side_at};
 use auto_core::Auto;
 use chess_game::{Position, Side};
+use limits::Budget;
 use mask_sets::place_of_mask;
 use mate_plan::{Bench, LevelNames, PartName, Reaching, Work, point_level, reach_level};
 use rule_formula::masks;
@@ -54,10 +55,9 @@ impl Model for Solver {
 
 impl Solver {
     /// A solver of a position with two to eight men. A step may need so many states.
-    pub fn new(alloc: Global, p: &Position, winner: Side, budget: u32) -> Solver
+    pub fn new(alloc: Global, p: &Position, winner: Side, budget: Budget) -> Solver
         requires sound { Sound p.now }
         requires men { length p.now.men ≤ 8 }
-        requires budget { (1 ≤ budget) × (budget ≤ 200000) }
         ensures { result ≡ record { position = p.now; winner = winner; budget = budget; reach = [] } }
     {
         Solver {
@@ -279,12 +279,11 @@ pub fn solve(
     p: &Position,
     winner: Side,
     moves: u8,
-    budget: u32,
+    budget: Budget,
 ) -> Result<Solved, SolveError>
     requires sound { Sound p.now }
     requires men { length p.now.men ≤ 8 }
     requires moves { moves ≤ 20 }
-    requires budget { (1 ≤ budget) × (budget ≤ 200000) }
     ensures game { IfOk result (IsOf p.now winner moves) }
     ensures kept { IfOk result (λ s. AreKept winner p.now moves (kept_at s)) }
     ensures reached { IfOk result (λ s. AreReachedTo p.now (last_of winner p.now.turn moves) (reach_at s)) }
