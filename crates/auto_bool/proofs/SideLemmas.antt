@@ -1,13 +1,10 @@
 -- Rows that are read over more tracks.
-use Rattle.std.proofs.Common.{◌≡◌, ℕ, suc, ◌<◌, ◌≤◌, ◌+◌, ◌*◌, ◌^◌, List, ◌∷◌, length, map, get_or, slice_get, Some, arith, sym, ap, ◌∙◌, subst}
-use Rattle.std.specs.List.{All}
-use Rattle.std.proofs.lemmas.List.{length-map}
-use Rattle.std.proofs.lemmas.List.Elements.{All-cons, All-weaker}
+use Rattle.std.proofs.Common.{◌≡◌, ℕ, suc, ◌<◌, ◌+◌, ◌*◌, ◌^◌, List, ◌∷◌, length, map, get_or, slice_get, Some, arith, sym, ap, ◌∙◌, subst}
 use Rattle.std.proofs.lemmas.Option.{slice_get-get_or, slice_get_within, get_or_from_slice_get}
 use Rattle.track_word.specs.declared.tracks.Var.{Var}
 use Rattle.track_word.specs.Tracks.{place, restrict}
 use Rattle.letter_diagram.specs.declared.diagrams.Shape.{Shape}
-use Rattle.letter_diagram.specs.Diagram.{map_at, LooksBelow, Grows}
+use Rattle.letter_diagram.specs.Diagram.{map_at, Grows}
 use Rattle.letter_diagram.specs.Relabelled.{relabelled}
 use Rattle.letter_diagram.specs.Carried.{IsCarried}
 use Rattle.letter_diagram.specs.Listed.{EachAnswers}
@@ -32,13 +29,6 @@ IsSide-kept old new all a nodes grows s = record {
   first = λ node at. Reads-kept old new (length all) node (λ letter. first_state a (restrict all a.tracks letter)) grows (s.first node at);
   rows = λ state node at. Reads-kept old new (length all) node (λ letter. next_state a state (restrict all a.tracks letter)) grows (s.rows state node at);
 }
-
--- what the nodes of an automaton know
-pub all_known : (a : Automaton) → IsOverNodes a → All (λ node. node < length a.shapes) (a.first_node ∷ a.row_nodes)
-all_known a over = All-cons (λ node. node < length a.shapes) a.first_node a.row_nodes over.nodes.first_known over.nodes.rows_known
-
-pub places-small : (all some : List Var) → length all ≤ 20 → AreAmong all some → All (λ track. track < 20) (map (place all) some)
-places-small all some few among = All-weaker (λ track. track < length all) (λ track. track < 20) (λ track h. omega arith) (map (place all) some) among.within
 
 module _ (a : Automaton) (valid : IsAutomaton a) (over : IsOverNodes a) where
   first-map : (letter : ℕ) → letter < width a → map_at a.shapes a.first_node letter ≡ first_state a letter

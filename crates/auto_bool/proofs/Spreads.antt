@@ -1,4 +1,4 @@
--- In reduced automata words are alike exactly where they lead to the same states.
+-- Words that lead to one pair of states are alike, and in reduced automata no others are.
 use Rattle.std.proofs.Common.{◌≡◌, ◌≢◌, ℕ, List, [], ◌∷◌, map, refl, sym, ◌∙◌, arith}
 use Rattle.track_word.specs.Tracks.{with_vars, restrict, part_of}
 use Rattle.auto_core.specs.Automaton.{Automaton, IsAutomaton, state_of, Accepts}
@@ -20,6 +20,25 @@ first_of_two p q r s e = cc
 second_of_two : (p q r s : ℕ) → p ∷ q ∷ [] ≡ r ∷ s ∷ [] → q ≡ s
 second_of_two p q r s e = cc
 
+-- words that lead to one pair are alike, whatever the automata
+module _ (a b : Automaton) (connective : Connective) where
+  pub MoreThan-from_spread : (budget : ℕ) → BothSpreadExceeds a.tracks b.tracks (Accepts a) (Accepts b) budget → MoreThan (both_walker a b connective) budget
+  MoreThan-from_spread budget more = record {
+    words = more.words;
+    count = more.count;
+    are_words = more.are_words;
+    apart = λ i j d less within e.
+        let v = (more.are_words i d (omega arith)).nonempty in
+        let w = (more.are_words j d within).nonempty in
+        let all = with_vars a.tracks b.tracks in
+        let same = sym (place_of-pair (with_vars a.tracks b.tracks) a b connective _ v) ∙ e ∙ place_of-pair (with_vars a.tracks b.tracks) a b connective _ w in
+        more.apart i j d less within (record {
+          left = same_residual a _ _ (not_nil-map (restrict (with_vars a.tracks b.tracks) a.tracks) _ v) (not_nil-map (restrict (with_vars a.tracks b.tracks) a.tracks) _ w) (first_of_two _ _ _ _ same);
+          right = same_residual b _ _ (not_nil-map (restrict (with_vars a.tracks b.tracks) b.tracks) _ v) (not_nil-map (restrict (with_vars a.tracks b.tracks) b.tracks) _ w) (second_of_two _ _ _ _ same);
+        });
+  }
+
+-- words that are alike in reduced automata lead to one pair
 module _ (a b : Automaton) (connective : Connective) (a_valid : IsAutomaton a) (b_valid : IsAutomaton b) (a_reduced : IsReduced a) (b_reduced : IsReduced b) where
   same_place : (v w : List ℕ) → v ≢ [] → w ≢ [] → AlikeInBoth (with_vars a.tracks b.tracks) a.tracks b.tracks (Accepts a) (Accepts b) v w
       → place_of (both_walker a b connective) v ≡ place_of (both_walker a b connective) w
@@ -41,20 +60,4 @@ module _ (a b : Automaton) (connective : Connective) (a_valid : IsAutomaton a) (
         let v = (more.are_words i d (omega arith)).nonempty in
         let w = (more.are_words j d within).nonempty in
         more.apart i j d less within (same_place _ _ v w alike);
-  }
-
-  pub MoreThan-from_spread : (budget : ℕ) → BothSpreadExceeds a.tracks b.tracks (Accepts a) (Accepts b) budget → MoreThan (both_walker a b connective) budget
-  MoreThan-from_spread budget more = record {
-    words = more.words;
-    count = more.count;
-    are_words = more.are_words;
-    apart = λ i j d less within e.
-        let v = (more.are_words i d (omega arith)).nonempty in
-        let w = (more.are_words j d within).nonempty in
-        let all = with_vars a.tracks b.tracks in
-        let same = sym (place_of-pair (with_vars a.tracks b.tracks) a b connective _ v) ∙ e ∙ place_of-pair (with_vars a.tracks b.tracks) a b connective _ w in
-        more.apart i j d less within (record {
-          left = same_residual a _ _ (not_nil-map (restrict (with_vars a.tracks b.tracks) a.tracks) _ v) (not_nil-map (restrict (with_vars a.tracks b.tracks) a.tracks) _ w) (first_of_two _ _ _ _ same);
-          right = same_residual b _ _ (not_nil-map (restrict (with_vars a.tracks b.tracks) b.tracks) _ v) (not_nil-map (restrict (with_vars a.tracks b.tracks) b.tracks) _ w) (second_of_two _ _ _ _ same);
-        });
   }

@@ -1,13 +1,10 @@
 -- Tracks of two lists together, and letters over them.
-use Rattle.std.proofs.Common.{◌≡◌, ℕ, zero, suc, ◌<◌, ◌≤◌, ◌+◌, ◌*◌, ◌^◌, List, [], ◌∷◌, ◌++◌, length, map, take, drop, get_or, arith, refl, sym, ap, ◌∙◌, subst, inl, inr, ◌⊎◌, eq-eqb}
+use Rattle.std.proofs.Common.{◌≡◌, ℕ, zero, suc, ◌<◌, ◌≤◌, ◌+◌, ◌*◌, List, [], ◌∷◌, length, map, get_or, arith, refl, sym, ap, ◌∙◌, subst, inl, inr, ◌⊎◌, eq-eqb}
 use Rattle.std.specs.List.{All}
 use Rattle.std.specs.Int.{bit_at}
 use Rattle.std.proofs.lemmas.Grind.{common_steps}
 use Rattle.std.proofs.lemmas.Bool.Decides.{nat_tests}
 use Rattle.std.proofs.lemmas.List.Elements.{All-nil, All-cons, All-head, All-tail, All-map}
-use Rattle.std.proofs.lemmas.List.{length-map}
-use Rattle.std.proofs.lemmas.Option.{slice_get-get_or}
-use Rattle.auto_walk.proofs.WalkLemmas.{map-take_more}
 use Rattle.track_word.specs.declared.tracks.Var.{Var}
 use Rattle.track_word.specs.Tracks.{IsAscending, with_var, with_vars, place, restrict}
 use Rattle.auto_bool.specs.Sides.{AreAmong}
@@ -24,26 +21,6 @@ after-is x y ys h = grind (arith, common_steps, nat_tests)
 
 order : (a b : ℕ) → (a < b) ⊎ ((a ≡ b) ⊎ (b < a))
 order a b = grind arith
-
--- a track that goes to a place is there afterwards, between the tracks before and after
-pub with_var-insert : (x : Var) (ys : List Var) (at : ℕ) → at ≤ length ys → ((k : ℕ) → k < at → (get_or ys k x).0 < x.0) → (at < length ys → x.0 < (get_or ys at x).0)
-    → with_var x ys ≡ take at ys ++ x ∷ drop at ys
-with_var-insert x [] zero within before after = refl
-with_var-insert x [] (suc at) within before after = absurd (omega arith)
-with_var-insert x (y ∷ ys) zero within before after = before-is x y ys (after (omega arith))
-with_var-insert x (y ∷ ys) (suc at) within before after =
-    after-is x y ys (before 0 (omega arith))
-    ∙ ap (λ zs. y ∷ zs) (with_var-insert x ys at (omega arith) (λ k h. before (suc k) (omega arith)) (λ h. after (omega arith)))
-
-pub with_var-there : (x : Var) (ys : List Var) (at : ℕ) → at < length ys → ((k : ℕ) → k < at → (get_or ys k x).0 < x.0) → x.0 ≡ (get_or ys at x).0 → with_var x ys ≡ ys
-with_var-there x [] at within before same = absurd (omega arith)
-with_var-there x (y ∷ ys) zero within before same = at-is x y ys same
-with_var-there x (y ∷ ys) (suc at) within before same =
-    after-is x y ys (before 0 (omega arith)) ∙ ap (λ zs. y ∷ zs) (with_var-there x ys at (omega arith) (λ k h. before (suc k) (omega arith)) same)
-
-pub with_var-last : (x : Var) (ys : List Var) → ((k : ℕ) → k < length ys → (get_or ys k x).0 < x.0) → with_var x ys ≡ ys ++ x ∷ []
-with_var-last x [] before = refl
-with_var-last x (y ∷ ys) before = after-is x y ys (before 0 (omega arith)) ∙ ap (λ zs. y ∷ zs) (with_var-last x ys (λ k h. before (suc k) (omega arith)))
 
 -- ascending tracks from a bound on
 Rising : ℕ → List Var → Type 0
@@ -150,17 +127,3 @@ restrict-agree all (v ∷ vs) a b within agree =
 
 pub restrict-same : (all some : List Var) (a b : ℕ) → AreAmong all some → ((k : ℕ) → k < length all → bit_at a k ≡ bit_at b k) → restrict all some a ≡ restrict all some b
 restrict-same all some a b among agree = restrict-agree all some a b among.within agree
-
-get_or-places : (all some : List Var) (i : ℕ) (d : Var) → i < length some → get_or (map (place all) some) i (place all d) ≡ place all (get_or some i d)
-get_or-places all [] i d h = absurd (omega arith)
-get_or-places all (v ∷ vs) zero d h = refl
-get_or-places all (v ∷ vs) (suc i) d h = get_or-places all vs i d (omega arith)
-
-pub place-at : (all some : List Var) (i : ℕ) (d : Var) → AreAmong all some → i < length some → place all (get_or some i d) < length all
-place-at all some i d among h =
-    subst (λ n. n < length all) (get_or-places all some i d h) (among.within i (place all d) (let l = length-map some (place all) in omega (arith, l, h)))
-
-pub places-more : (all some : List Var) (places : List ℕ) (i n : ℕ) (d : Var) → i < length some → places ≡ map (place all) (take i some) → n ≡ place all (get_or some i d)
-    → places ++ n ∷ [] ≡ map (place all) (take (i + 1) some)
-places-more all some places i n d h so_far next =
-    ap (λ l. l ++ n ∷ []) so_far ∙ ap (λ m. map (place all) (take i some) ++ m ∷ []) next ∙ sym (map-take_more (place all) some i (get_or some i d) (slice_get-get_or some i d h))

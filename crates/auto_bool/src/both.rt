@@ -7,12 +7,20 @@ ghost use Rattle.auto_bool.specs.Sides.{IsSide};
 
 use crate::connective::Connective;
 use crate::side::side;
-use crate::tracks::both_tracks;
 use auto_core::Auto;
 use auto_walk::Walk;
 use letter_diagram::{Diagrams, Node, Pairs, Product};
 use std::alloc::{AllocError, Global};
-use track_word::Var;
+use track_word::{Var, insert_tracks};
+
+/// The tracks of both lists, ascending as those of the second.
+fn both_tracks(alloc: Global, left: &[Var], right: &[Var]) -> Result<Vec<Var>, AllocError>
+    ensures { IfOk result (λ tracks. tracks.items ≡ with_vars left.now right.now) }
+{
+    let mut tracks = right.to_vec(alloc)?;
+    insert_tracks(&mut tracks, left)?;
+    Ok(tracks)
+}
 
 /// Two automata, with their rows as nodes over the tracks of both. The pairs of states are the pairs of the product.
 #[derive(Drop)]

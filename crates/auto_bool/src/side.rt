@@ -3,11 +3,10 @@ ghost use Rattle.std.specs.Prelude.{◌≤◌, length, IfOk};
 ghost use Rattle.letter_diagram.specs.Diagram.{Grows};
 ghost use Rattle.auto_bool.specs.Sides.{IsSide, AreAmong};
 
-use crate::tracks::places_of;
 use auto_core::Auto;
 use letter_diagram::{Diagrams, Node};
 use std::alloc::{AllocError, Global};
-use track_word::Var;
+use track_word::{Var, places_of};
 
 /// Nodes in `diagrams` that give the rows of an automaton over more tracks: that of the first row, then those of the states.
 pub fn side(

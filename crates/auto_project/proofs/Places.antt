@@ -11,13 +11,13 @@ use Rattle.std.proofs.lemmas.Nat.{mod_below, pow_pos}
 use Rattle.track_word.specs.declared.tracks.Var.{Var}
 use Rattle.track_word.specs.Word.{IsWord}
 use Rattle.track_word.specs.Tracks.{without_var}
+use Rattle.track_word.proofs.LetterBits.{low_bits}
 use Rattle.letter_diagram.specs.declared.diagrams.Shape.{Shape}
 use Rattle.letter_diagram.specs.Diagram.{map_at, Grows}
 use Rattle.letter_diagram.specs.Sets.{SetsKept}
 use Rattle.letter_diagram.specs.Merged.{HasSets}
 use Rattle.letter_diagram.proofs.Mergings.{HasSets-grows}
 use Rattle.auto_core.specs.Automaton.{Automaton, IsAutomaton, first_state, next_state}
-use Rattle.auto_core.proofs.RowLemmas.{low_bits}
 use Rattle.auto_walk.specs.Walker.{Walker, place_of, IsReached, AreTracks}
 use Rattle.auto_walk.specs.Rows.{AreNumbered, IsRow}
 use Rattle.auto_walk.proofs.WalkLemmas.{All-at, one_place}

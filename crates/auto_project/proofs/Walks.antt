@@ -79,6 +79,39 @@ module _ (a : Automaton) (x : Var) (shapes : List Shape) (sets : List (List ℕ)
           let c = (place-lifts word (state_of a lift) here).1 (record { lift = lift; is = l; leads = refl }) in
           (walked.words word here).1 (any-to (is_final a) (place_of (set_walker a (without_var x a.tracks) shapes sets first) word) (state_of a lift) c accepted)
 
+  -- words that lead to one set are alike, whatever the automaton
+  into_other : (v w : List ℕ) → IsWord (length (without_var x a.tracks)) v → IsWord (length (without_var x a.tracks)) w
+      → place_of (set_walker a (without_var x a.tracks) shapes sets first) v ≡ place_of (set_walker a (without_var x a.tracks) shapes sets first) w
+      → LiftsInto (without_var x a.tracks) a.tracks (Accepts a) v w
+  into_other v w is_v is_w e lift is =
+      let c = (place-lifts v (state_of a lift) is_v).1 (record { lift = lift; is = is; leads = refl }) in
+      let l = (place-lifts w (state_of a lift) is_w).0 (subst (λ p. Contains p (state_of a lift)) e c) in
+      (l.lift, l.is, same_residual a lift l.lift is.is_word.nonempty l.is.is_word.nonempty (sym l.leads))
+
+  pub MoreThan-from_spread : (budget : ℕ) → ExSpreadExceeds x a.tracks (Accepts a) budget → MoreThan (set_walker a (without_var x a.tracks) shapes sets first) budget
+  MoreThan-from_spread budget more = record {
+    words = more.words;
+    count = more.count;
+    are_words = more.are_words;
+    apart = λ i j d less within e.
+        let v = more.are_words i d (omega arith) in
+        let w = more.are_words j d within in
+        more.apart i j d less within (record { forth = into_other _ _ v w e; back = into_other _ _ w v (sym e) });
+  }
+
+  -- what was made by a walk that is this one
+  module _ {E : Type 0} (w : Walker) (same : w ≡ set_walker a (without_var x a.tracks) shapes sets first) (r : Result Automaton E) where
+    pub tracks-if : IfOk r (IsWalked w) → IfOk r (λ m. m.tracks ≡ without_var x a.tracks)
+    tracks-if = IfOk-weaker r (IsWalked w) (λ m. m.tracks ≡ without_var x a.tracks) (λ m walked. (subst (λ v. IsWalked v m) same walked).tracks)
+
+    pub words-if : IfOk r (IsWalked w) → IfOk r (λ m. (word : List ℕ) → IsWord (length m.tracks) word → Accepts m word ↔ ((lift : List ℕ) × IsLift m.tracks a.tracks word lift × Accepts a lift))
+    words-if = IfOk-weaker r (IsWalked w) (λ m. (word : List ℕ) → IsWord (length m.tracks) word → Accepts m word ↔ ((lift : List ℕ) × IsLift m.tracks a.tracks word lift × Accepts a lift))
+        (λ m walked. accepts-lifts m (subst (λ v. IsWalked v m) same walked))
+
+    pub within-if : (budget : ℕ) → OnOk r (MoreThan w budget → ⊥) → OnOk r (ExSpreadExceeds x a.tracks (Accepts a) budget → ⊥)
+    within-if budget = on_ok_weaker r (λ few spread. few (subst (λ v. MoreThan v budget) (sym same) (MoreThan-from_spread budget spread)))
+
+  -- words that are alike in a reduced automaton lead to one set
   module _ (reduced : IsReduced a) where
     within_place : (v w : List ℕ) → IsWord (length (without_var x a.tracks)) v → IsWord (length (without_var x a.tracks)) w → LiftsInto (without_var x a.tracks) a.tracks (Accepts a) v w
         → (t : ℕ) → Contains (place_of (set_walker a (without_var x a.tracks) shapes sets first) v) t → Contains (place_of (set_walker a (without_var x a.tracks) shapes sets first) w) t
@@ -93,14 +126,6 @@ module _ (a : Automaton) (x : Var) (shapes : List Shape) (sets : List (List ℕ)
     same_place v w is_v is_w alike =
         same_sets _ _ (place-increasing v is_v.nonempty) (place-increasing w is_w.nonempty) (within_place v w is_v is_w alike.forth) (within_place w v is_w is_v alike.back)
 
-    into_other : (v w : List ℕ) → IsWord (length (without_var x a.tracks)) v → IsWord (length (without_var x a.tracks)) w
-        → place_of (set_walker a (without_var x a.tracks) shapes sets first) v ≡ place_of (set_walker a (without_var x a.tracks) shapes sets first) w
-        → LiftsInto (without_var x a.tracks) a.tracks (Accepts a) v w
-    into_other v w is_v is_w e lift is =
-        let c = (place-lifts v (state_of a lift) is_v).1 (record { lift = lift; is = is; leads = refl }) in
-        let l = (place-lifts w (state_of a lift) is_w).0 (subst (λ p. Contains p (state_of a lift)) e c) in
-        (l.lift, l.is, same_residual a lift l.lift is.is_word.nonempty l.is.is_word.nonempty (sym l.leads))
-
     pub ExSpreadExceeds-from : (budget : ℕ) → MoreThan (set_walker a (without_var x a.tracks) shapes sets first) budget → ExSpreadExceeds x a.tracks (Accepts a) budget
     ExSpreadExceeds-from budget more = record {
       words = more.words;
@@ -109,29 +134,6 @@ module _ (a : Automaton) (x : Var) (shapes : List Shape) (sets : List (List ℕ)
       apart = λ i j d less within alike.
           more.apart i j d less within (same_place _ _ (more.are_words i d (omega arith)) (more.are_words j d within) alike);
     }
-
-    pub MoreThan-from_spread : (budget : ℕ) → ExSpreadExceeds x a.tracks (Accepts a) budget → MoreThan (set_walker a (without_var x a.tracks) shapes sets first) budget
-    MoreThan-from_spread budget more = record {
-      words = more.words;
-      count = more.count;
-      are_words = more.are_words;
-      apart = λ i j d less within e.
-          let v = more.are_words i d (omega arith) in
-          let w = more.are_words j d within in
-          more.apart i j d less within (record { forth = into_other _ _ v w e; back = into_other _ _ w v (sym e) });
-    }
-
-    -- what was made by a walk that is this one
-    module _ {E : Type 0} (w : Walker) (same : w ≡ set_walker a (without_var x a.tracks) shapes sets first) (r : Result Automaton E) where
-      pub tracks-if : IfOk r (IsWalked w) → IfOk r (λ m. m.tracks ≡ without_var x a.tracks)
-      tracks-if = IfOk-weaker r (IsWalked w) (λ m. m.tracks ≡ without_var x a.tracks) (λ m walked. (subst (λ v. IsWalked v m) same walked).tracks)
-
-      pub words-if : IfOk r (IsWalked w) → IfOk r (λ m. (word : List ℕ) → IsWord (length m.tracks) word → Accepts m word ↔ ((lift : List ℕ) × IsLift m.tracks a.tracks word lift × Accepts a lift))
-      words-if = IfOk-weaker r (IsWalked w) (λ m. (word : List ℕ) → IsWord (length m.tracks) word → Accepts m word ↔ ((lift : List ℕ) × IsLift m.tracks a.tracks word lift × Accepts a lift))
-          (λ m walked. accepts-lifts m (subst (λ v. IsWalked v m) same walked))
-
-      pub within-if : (budget : ℕ) → OnOk r (MoreThan w budget → ⊥) → OnOk r (ExSpreadExceeds x a.tracks (Accepts a) budget → ⊥)
-      within-if budget = on_ok_weaker r (λ few spread. few (subst (λ v. MoreThan v budget) (sym same) (MoreThan-from_spread budget spread)))
 
     pub over-from : (w : Walker) → w ≡ set_walker a (without_var x a.tracks) shapes sets first → (budget : ℕ) → MoreThan w budget → ExSpreadExceeds x a.tracks (Accepts a) budget
     over-from w same budget more = ExSpreadExceeds-from budget (subst (λ v. MoreThan v budget) same more)

@@ -3,12 +3,11 @@ use Rattle.std.proofs.Common.{◌≡◌, ◌≢◌, ◌⊎◌, ◌↔◌, ℕ, �
 use Rattle.std.specs.List.{All}
 use Rattle.std.specs.Int.{bit_at}
 use Rattle.std.proofs.lemmas.Bool.{cases_eq, cases_lt}
-use Rattle.std.proofs.lemmas.Grind.{common_steps}
 use Rattle.std.proofs.lemmas.List.Elements.{All-from_get_or}
-use Rattle.std.proofs.lemmas.Nat.Bits.{bit_at-lt}
 use Rattle.std.proofs.lemmas.Option.{slice_get-get_or, slice_get_within, get_or_from_slice_get}
 use Rattle.track_word.specs.declared.tracks.Var.{Var}
 use Rattle.track_word.specs.Tracks.{without_var, place, restrict}
+use Rattle.track_word.proofs.LetterBits.{bit_cases}
 use Rattle.letter_diagram.specs.declared.diagrams.Shape.{Shape}
 use Rattle.letter_diagram.specs.Diagram.{map_at, Grows}
 use Rattle.letter_diagram.specs.Sets.{set_at, SetsKept}
@@ -83,9 +82,6 @@ module _ (a : Automaton) (x : Var) (valid : IsAutomaton a) where
     pub longer : ℕ
     pub is : ReadsAs a.tracks (without_var x a.tracks) letter longer
     pub leads : value longer ≡ state
-
-  bit_cases : (letter k : ℕ) → (bit_at letter k ≡ 0) ⊎ (bit_at letter k ≡ 1)
-  bit_cases letter k = let l = bit_at-lt letter k in grind (arith, common_steps, l)
 
   -- both letters that differ from a letter in a track alone
   with-off : (letter track : ℕ) → (other : ℕ) × IsWithBit other letter track 0

@@ -9,11 +9,10 @@ ghost use Rattle.auto_project.specs.SetMaps.{AreSingletons, HasWideRows, HasSetR
 
 use crate::join::uniter;
 use crate::sets::singletons;
-use crate::tracks::{places_of, tracks_without};
 use auto_core::Auto;
 use letter_diagram::{Diagrams, Merger, Node, Sets};
 use std::alloc::{AllocError, Global};
-use track_word::Var;
+use track_word::{Var, places_of};
 
 /// Nodes that lead letters to states: the first row, and a row for each state.
 #[derive(Drop)]

@@ -14,12 +14,20 @@ use crate::closure::Rows;
 use crate::join::united;
 use crate::placing::Places;
 use crate::rows::{SetRows, set_rows};
-use crate::tracks::tracks_without;
 use auto_core::Auto;
 use auto_walk::Walk;
 use letter_diagram::{Diagrams, Merger, Node, Sets};
 use std::alloc::{AllocError, Global};
-use track_word::Var;
+use track_word::{Var, remove_track};
+
+/// The tracks but one.
+fn tracks_without(alloc: Global, tracks: &[Var], var: Var) -> Result<Vec<Var>, AllocError>
+    ensures { IfOk result (λ left. left.items ≡ without_var var tracks.now) }
+{
+    let mut left = tracks.to_vec(alloc)?;
+    remove_track(&mut left, var);
+    Ok(left)
+}
 
 /// The rows of some states.
 fn rows_of(alloc: Global, rows: &[Node], set: &[u32]) -> Result<Vec<Node>, AllocError>

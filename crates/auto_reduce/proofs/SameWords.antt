@@ -120,7 +120,8 @@ module _ (a b : Automaton) (is_a : IsAutomaton a) (is_b : IsAutomaton b) (over_a
 
   brought_narrow : (place : ℕ) → place < length (nodes_of a) → LooksBelow shapes (get_or brought place 0) (length a.tracks)
   brought_narrow place within =
-      let n = subst (λ t. LooksBelow b.shapes (get_or (nodes_of b) place 0) (length t)) (sym tracks) (All-get_or (λ node. LooksBelow b.shapes node (length b.tracks)) (nodes_of b) place 0 (omega (arith, sizes, within)) (nodes_narrow b over_b)) in
+      let n = subst (λ t. LooksBelow b.shapes (get_or (nodes_of b) place 0) (length t)) (sym tracks)
+      (All-get_or (λ node. LooksBelow b.shapes node (length b.tracks)) (nodes_of b) place 0 (omega (arith, sizes, within)) (nodes_narrow b over_b)) in
       record { same = λ x y agree. brought_map place x within ∙ n.same x y agree ∙ sym (brought_map place y within) }
 
   pub HaveEqualTables-maps : HaveEqualMaps shapes (nodes_of a) brought → HaveEqualTables a b
@@ -130,7 +131,8 @@ module _ (a b : Automaton) (is_a : IsAutomaton a) (is_b : IsAutomaton b) (over_a
         let size_b = is_b.first_size in
         let w = same_width a b tracks in
         ext_get_or 0 a.first b.first (omega (arith, size_a, size_b, w)) (λ letter within. same_entry zero letter (omega arith) (omega (arith, within, size_a)));
-    next = next_ext a b is_a is_b (same_width a b tracks) (ap length flags) (λ state letter within below. same_entry (suc state) letter (let s = nodes_size a over_a in omega (arith, s, within)) below);
+    next = next_ext a b is_a is_b (same_width a b tracks) (ap length flags)
+        (λ state letter within below. same_entry (suc state) letter (let s = nodes_size a over_a in omega (arith, s, within)) below);
     accept = flags;
   }
     where

@@ -13,6 +13,7 @@ use Rattle.auto_core.specs.Automaton.{Automaton, IsAutomaton, width, first_state
 use Rattle.auto_core.specs.Reduced.{IsReduced}
 use Rattle.auto_core.specs.Integers.{DecidesIntegers}
 use Rattle.auto_walk.proofs.WalkWords.{map_at-low}
+use Rattle.auto_reduce.specs.Stable.{Keeps}
 use Rattle.auto_refine.proofs.States.{first_within, next_within}
 use Rattle.auto_reduce.proofs.Orders.{place_in}
 use Rattle.auto_reduce.proofs.Flags.{same_flag}
@@ -77,16 +78,14 @@ DecidesIntegers-words m a tracks same = (
       letters = All-cons (λ l. l < 2 ^ tracks) sign (sign ∷ letters) (All-head (λ l. l < 2 ^ tracks) sign letters is.letters) is.letters;
     }
 
--- a row that gives a state wherever the first row does
-abbrev pub Keeps : List Shape → ℕ → ℕ → ℕ → Type 0
-Keeps shapes first row state = (letter : ℕ) → map_at shapes first letter ≡ state → map_at shapes row letter ≡ state
-
 module _ (shapes : List Shape) (first row state : ℕ) (pairs : List (ℕ × ℕ)) where
   abbrev PairsKeep : Type 0
   PairsKeep = (number before after : ℕ) → slice_get pairs number ≡ Some (before, after) → before ≡ state → after ≡ state
 
   -- the pairs of the values of both are kept just where the maps are
-  pub Keeps-pairs : (after : List Shape) (node : ℕ) → ((letter : ℕ) → slice_get pairs (map_at after node letter) ≡ Some (map_at shapes first letter, map_at shapes row letter)) → PairsKeep → Keeps shapes first row state
+  pub Keeps-pairs : (after : List Shape) (node : ℕ)
+      → ((letter : ℕ) → slice_get pairs (map_at after node letter) ≡ Some (map_at shapes first letter, map_at shapes row letter)) → PairsKeep
+      → Keeps shapes first row state
   Keeps-pairs after node map kept letter leads = kept (map_at after node letter) _ _ (map letter) leads
 
   pub pairs-Keep : AreAnswers shapes 0 pairs first row → Keeps shapes first row state → PairsKeep
@@ -124,5 +123,6 @@ IsKept-leaves a shapes first leaves are leads kept letter below =
     subst (IsKept a) (p.2 ∙ leads letter below) (kept p.0 p.1)
 
 -- a leaf is below the bound of all values
-pub leaf_within : (shapes : List Shape) (first bound : ℕ) (leaves : List ℕ) → AreLeaves shapes first leaves → ((letter : ℕ) → map_at shapes first letter < bound) → (k : ℕ) → k < length leaves → get_or leaves k 0 < bound
+pub leaf_within : (shapes : List Shape) (first bound : ℕ) (leaves : List ℕ) → AreLeaves shapes first leaves
+    → ((letter : ℕ) → map_at shapes first letter < bound) → (k : ℕ) → k < length leaves → get_or leaves k 0 < bound
 leaf_within shapes first bound leaves are below k within = let g = are.given k within in subst (λ v. v < bound) g.1 (below g.0)

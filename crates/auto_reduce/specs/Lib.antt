@@ -9,3 +9,4 @@ pub mod Quotient
 pub mod Unmet
 pub mod Numbering
 pub mod Tables
+pub mod Stable

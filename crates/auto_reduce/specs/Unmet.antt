@@ -3,9 +3,12 @@ use Rattle.std.specs.Prelude.{◌≡◌, ◌⊎◌, ℕ, ◌<◌, ◌≤◌, Boo
 use Rattle.letter_diagram.specs.declared.diagrams.Shape.{Shape}
 use Rattle.letter_diagram.specs.Diagram.{map_at, top_track}
 use Rattle.letter_diagram.specs.NodeMemo.{answer_of}
-use Rattle.auto_refine.specs.Leading.{entry_at}
 use Rattle.auto_reduce.specs.declared.unmet.Unmet.{Unmet}
 use Rattle.auto_reduce.specs.declared.unmet.Unmet.TheVariants.{Nothing, One, Several}
+
+-- the entry of a table at the value of a node's map
+abbrev pub entry_at : List ℕ → List Shape → ℕ → ℕ → ℕ
+entry_at table shapes node letter = slice_index table (map_at shapes node letter)
 
 -- an order goes on by the values of a row that it did not have, by the least letters that lead to them
 pub record AddsRow (row : ℕ → ℕ) (old new : List ℕ) : Type 0 where
@@ -22,10 +25,14 @@ pub record IsMetLeaf (shapes : List Shape) (met : List ℕ) (leaf : ℕ) : Type 
   pub top : top_track shapes leaf ≡ 20
   pub is_met : (letter : ℕ) → Contains met (map_at shapes leaf letter)
 
+-- equal values, or values of a list
+abbrev pub StandsFor : List ℕ → ℕ → ℕ → Type 0
+StandsFor met v w = (v ≡ w) ⊎ (Contains met v × Contains met w)
+
 -- r has the map that a has among other shapes, led to canonical states, but for values of a list, which may stand for one another
 pub record IsPruned (from shapes : List Shape) (canon met : List ℕ) (a r : ℕ) : Type 0 where
   pub known : r < length shapes
-  pub map : (letter : ℕ) → (map_at shapes r letter ≡ entry_at canon from a letter) ⊎ (Contains met (map_at shapes r letter) × Contains met (entry_at canon from a letter))
+  pub map : (letter : ℕ) → StandsFor met (map_at shapes r letter) (entry_at canon from a letter)
   pub top : top_track from a ≤ top_track shapes r
 
 pub record RemembersPruned (from shapes : List Shape) (canon met : List ℕ) (memo : List (Option ℕ)) : Type 0 where

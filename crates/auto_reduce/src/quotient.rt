@@ -1,5 +1,5 @@
 //! The automaton over one state of each class.
-ghost use Rattle.std.specs.Prelude.{◌≡◌, ◌≤◌, ◌<◌, ◌+◌, ◌^◌, ◌≢◌, ◌↔◌, List, ℕ, IfOk, length, All, AllPairs};
+ghost use Rattle.std.specs.Prelude.{◌≡◌, ◌≤◌, ◌<◌, ◌+◌, ◌^◌, ◌≢◌, ◌↔◌, List, ℕ, IfOk, false, length, slice_index_or, All, AllPairs};
 ghost use Rattle.track_word.specs.Word.{IsWord};
 ghost use Rattle.auto_core.specs.Automaton.{Accepts, IsAutomaton};
 ghost use Rattle.auto_core.specs.Reduced.{IsReduced};
@@ -8,7 +8,7 @@ ghost use Rattle.auto_reduce.specs.Numbering.{IsNumberedTo, IsNumberedBreadthFir
 
 use crate::canonical::canonical;
 use crate::order::Order;
-use crate::unmet::{Done, add_row, first_met};
+use crate::unmet::{Kept, Rows, add_row, first_met};
 use auto_core::Auto;
 use auto_refine::{RoundMemo, lead_nodes, picked};
 use letter_diagram::{Diagrams, Node};
@@ -19,28 +19,20 @@ fn breadth_first(
     alloc: Global,
     a: &Auto,
     canon: &[u32],
-    memo: &mut RoundMemo,
+    kept: &mut Kept,
 ) -> Result<Order, AllocError>
-    requires { IsCanonical a.now canon.now }
+    requires canonical { IsCanonical a.now canon.now }
+    requires done { (node : ℕ) → slice_index_or kept.old.done node false ≡ false }
     ensures order { IfOk result (λ order. IsOrder a.now canon.now order) }
     ensures numbered { IfOk result (λ order. IsNumberedTo a.now canon.now order (length order + 1)) }
 {
-    let mut order = first_met(alloc, a.diagrams(), a.first_node(), canon, memo)?;
-    let mut done = Done::new(alloc, a.diagrams().len())?;
-    let mut passed = Vec::new(alloc);
+    let from = a.diagrams();
+    let mut order = first_met(alloc, from, a.first_node(), canon, &mut kept.memo)?;
+    let rows = Rows { from, canon };
     let mut place = 0;
     while place < order.as_slice().len() {
         let row = a.row_node(order.as_slice()[place]);
-        add_row(
-            alloc,
-            a.diagrams(),
-            row,
-            canon,
-            &mut order,
-            &mut done,
-            &mut passed,
-            memo,
-        )?;
+        add_row(alloc, &rows, row, &mut order, kept)?;
         place += 1;
     }
     Ok(order)
@@ -194,8 +186,8 @@ fn quotient(alloc: Global, a: &Auto) -> Result<Auto, AllocError>
     ensures { IfOk result (IsQuotient a.now) }
 {
     let canon = canonical(alloc, a)?;
-    let mut memo = RoundMemo::new(alloc, a.diagrams().len())?;
-    let order = breadth_first(alloc, a, canon.as_slice(), &mut memo)?;
-    let m = over_places(alloc, a, canon.as_slice(), order.as_slice(), &mut memo)?;
+    let mut kept = Kept::new(alloc, a.diagrams().len())?;
+    let order = breadth_first(alloc, a, canon.as_slice(), &mut kept)?;
+    let m = over_places(alloc, a, canon.as_slice(), order.as_slice(), &mut kept.memo)?;
     Ok(m)
 }

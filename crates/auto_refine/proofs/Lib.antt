@@ -1,5 +1,4 @@
 pub mod States
-pub mod Leadings
 pub mod Standing
 pub mod Listings
 pub mod Splits

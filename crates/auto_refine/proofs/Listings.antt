@@ -32,7 +32,8 @@ module _ (lists : List (List ℕ)) (class state : ℕ) (within : class < length 
 
   put_keeps : (c x : ℕ) → Contains (get_or lists c []) x → Contains (get_or (set lists class more) c []) x
   put_keeps c x there = elim (cases_eq c class) [
-    | inl e ↦ subst (λ k. Contains (get_or (set lists class more) k []) x) (sym e) (subst (λ list. Contains list x) (sym here) (Contains-append_left (get_or lists class []) (state ∷ []) x (subst (λ k. Contains (get_or lists k []) x) e there)))
+    | inl e ↦ subst (λ k. Contains (get_or (set lists class more) k []) x) (sym e) (subst (λ list. Contains list x) (sym here)
+        (Contains-append_left (get_or lists class []) (state ∷ []) x (subst (λ k. Contains (get_or lists k []) x) e there)))
     | inr other ↦ subst (λ list. Contains list x) (sym (get_or-set_other lists class c more [] other)) there
   ]
 
@@ -41,11 +42,13 @@ module _ (lists : List (List ℕ)) (class state : ℕ) (within : class < length 
 
   put_only : (c x : ℕ) → Contains (get_or (set lists class more) c []) x → Contains (get_or lists c []) x ⊎ (state ≡ x)
   put_only c x there = elim (cases_eq c class) [
-    | inl e ↦ subst (λ k. Contains (get_or lists k []) x ⊎ (state ≡ x)) (sym e) (Contains-push_cases (get_or lists class []) state x (subst (λ list. Contains list x) here (subst (λ k. Contains (get_or (set lists class more) k []) x) e there)))
+    | inl e ↦ subst (λ k. Contains (get_or lists k []) x ⊎ (state ≡ x)) (sym e) (Contains-push_cases (get_or lists class []) state x
+        (subst (λ list. Contains list x) here (subst (λ k. Contains (get_or (set lists class more) k []) x) e there)))
     | inr other ↦ inl (subst (λ list. Contains list x) (get_or-set_other lists class c more [] other) there)
   ]
 
-pub AreListedTo-put : (old : List (List ℕ)) (states classes : List ℕ) (new next : List (List ℕ)) (turn class state : ℕ) → AreListedTo old states classes new turn → turn < length states → class < length new
+pub AreListedTo-put : (old : List (List ℕ)) (states classes : List ℕ) (new next : List (List ℕ)) (turn class state : ℕ)
+    → AreListedTo old states classes new turn → turn < length states → class < length new
     → class ≡ get_or classes turn 0 → state ≡ get_or states turn 0 → next ≡ set new class (get_or new class [] ++ state ∷ []) → AreListedTo old states classes next (turn + 1)
 AreListedTo-put old states classes new next turn class state t within inside class_is state_is is = record {
   size = ap length is ∙ length-set new class (get_or new class [] ++ state ∷ []) ∙ t.size;
@@ -55,7 +58,8 @@ AreListedTo-put old states classes new next turn class state t within inside cla
     | inr past ↦
         let same : turn ≡ k = omega (arith, less, past) in
         subst (λ n. Contains (get_or next (get_or classes n 0) []) (get_or states n 0)) same
-        (subst (λ c. Contains (get_or next c []) (get_or states turn 0)) class_is (subst (λ s. Contains (get_or next class []) s) state_is (subst (λ lists. Contains (get_or lists class []) state) (sym is) (put_there new class state inside))))
+        (subst (λ c. Contains (get_or next c []) (get_or states turn 0)) class_is (subst (λ s. Contains (get_or next class []) s) state_is
+        (subst (λ lists. Contains (get_or lists class []) state) (sym is) (put_there new class state inside))))
   ];
   only = λ c x there. elim (put_only new class state inside c x (subst (λ lists. Contains (get_or lists c []) x) is there)) [
     | inl before ↦ t.only c x before
@@ -63,7 +67,8 @@ AreListedTo-put old states classes new next turn class state t within inside cla
   ];
 }
 
-pub AreListed-to : (old : List (List ℕ)) (states classes : List ℕ) (new : List (List ℕ)) (turns : ℕ) → turns ≡ length states → AreListedTo old states classes new turns → AreListed old states classes new
+pub AreListed-to : (old : List (List ℕ)) (states classes : List ℕ) (new : List (List ℕ)) (turns : ℕ) → turns ≡ length states
+    → AreListedTo old states classes new turns → AreListed old states classes new
 AreListed-to old states classes new turns end t = record { size = t.size; kept = t.kept; added = λ turn less. t.added turn (omega (arith, less, end)); only = t.only }
 
 -- all states in the lists of their classes, which were empty
@@ -86,7 +91,8 @@ IsListing-first classes count representatives states lists members size each l =
 }
 
 -- ---- lists that are pruned
-pub ArePruned-set : (classes : List ℕ) (lists : List (List ℕ)) (class : ℕ) (was kept : List ℕ) → class < length lists → get_or lists class [] ≡ was → ((state : ℕ) → Contains kept state → Contains was state)
+pub ArePruned-set : (classes : List ℕ) (lists : List (List ℕ)) (class : ℕ) (was kept : List ℕ) → class < length lists → get_or lists class [] ≡ was
+    → ((state : ℕ) → Contains kept state → Contains was state)
     → ((state : ℕ) → Contains was state → get_or classes state 0 ≡ class → Contains kept state) → ArePruned classes lists (set lists class kept)
 ArePruned-set classes lists class was kept inside was_is fewer stays = record {
   size = length-set lists class kept;
@@ -104,7 +110,8 @@ ArePruned-set classes lists class was kept inside was_is fewer stays = record {
   ];
 }
 
-pub IsListing-pruned : (classes : List ℕ) (count : ℕ) (representatives : List ℕ) (lists pruned : List (List ℕ)) → IsListing classes count representatives lists → ArePruned classes lists pruned → IsListing classes count representatives pruned
+pub IsListing-pruned : (classes : List ℕ) (count : ℕ) (representatives : List ℕ) (lists pruned : List (List ℕ))
+    → IsListing classes count representatives lists → ArePruned classes lists pruned → IsListing classes count representatives pruned
 IsListing-pruned classes count representatives lists pruned l p = record {
   members = l.members;
   size = p.size ∙ l.size;
@@ -129,7 +136,8 @@ module _ (size : ℕ) (classes : List ℕ) (count : ℕ) (representatives : List
 
   pub AreCandidatesTo-list : (list : List ℕ) → get_or lists class [] ≡ list → AreCandidatesTo classes representatives stale (found ++ list) (turn + 1)
   AreCandidatesTo-list list list_is = record {
-    within = All-append (λ s. s < length classes) found list t.within (All-from_get_or (λ s. s < length classes) list 0 (λ i inside. l.within class (get_or list i 0) (subst (λ all. Contains all (get_or list i 0)) (sym list_is) (Contains-get_or list i 0 inside))));
+    within = All-append (λ s. s < length classes) found list t.within (All-from_get_or (λ s. s < length classes) list 0 (λ i inside. l.within class
+        (get_or list i 0) (subst (λ all. Contains all (get_or list i 0)) (sym list_is) (Contains-get_or list i 0 inside))));
     each = λ k less. elim (cases_lt k turn) [
       | inl before ↦ Contains-append_left found list _ (t.each k before)
       | inr past ↦
@@ -151,7 +159,8 @@ module _ (size : ℕ) (classes : List ℕ) (count : ℕ) (representatives : List
     within = All-push (λ s. s < length classes) found state t.within known;
     each = λ k less. elim (cases_lt k turn) [
       | inl before ↦ Contains-append_left found (state ∷ []) _ (t.each k before)
-      | inr past ↦ let same : turn ≡ k = omega (arith, less, past) in subst (λ n. Contains (found ++ state ∷ []) (get_or stale n 0)) same (subst (λ s. Contains (found ++ state ∷ []) s) state_is (Contains-push found state))
+      | inr past ↦ let same : turn ≡ k = omega (arith, less, past) in subst (λ n. Contains (found ++ state ∷ []) (get_or stale n 0)) same
+          (subst (λ s. Contains (found ++ state ∷ []) s) state_is (Contains-push found state))
     ];
     led = λ k less s within is. elim (cases_lt k turn) [
       | inl before ↦ Contains-append_left found (state ∷ []) s (t.led k before s within is)
@@ -170,7 +179,9 @@ AreCandidates-to classes representatives stale found t = record {
 }
 
 -- the same states, some of them less often
-pub AreCandidates-once : (classes representatives stale found once : List ℕ) → AreCandidates classes representatives stale found → All (λ state. state < length classes) once → ((state : ℕ) → Contains found state → Contains once state) → AreCandidates classes representatives stale once
+pub AreCandidates-once : (classes representatives stale found once : List ℕ) → AreCandidates classes representatives stale found
+    → All (λ state. state < length classes) once → ((state : ℕ) → Contains found state → Contains once state)
+    → AreCandidates classes representatives stale once
 AreCandidates-once classes representatives stale found once c within all = record {
   within = within;
   each = λ state there. all state (c.each state there);

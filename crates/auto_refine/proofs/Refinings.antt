@@ -17,7 +17,8 @@ use Rattle.auto_refine.proofs.Counting.{decided}
 use Rattle.auto_refine.proofs.Splits.{none}
 
 -- what leads to classes leads to those of a finer partition where no next state moved
-pub led_to_finer : (a : Automaton) → IsAutomaton a → (shapes : List Shape) (old new moved led : List ℕ) → AreLedRows a shapes old led → length new ≡ length a.accept → IsFiner old new → KeepsOthers old new moved
+pub led_to_finer : (a : Automaton) → IsAutomaton a → (shapes : List Shape) (old new moved led : List ℕ) → AreLedRows a shapes old led
+    → length new ≡ length a.accept → IsFiner old new → KeepsOthers old new moved
     → (state : ℕ) → state < length a.accept → IsShared new state → ¬ LeadsInto a moved state → IsLed a new shapes (get_or led state 0) (next_state a state)
 led_to_finer a is shapes old new moved led l size finer others state within shared apart =
     let in_new : state < length new = omega (arith, within, size) in
@@ -67,7 +68,8 @@ IsRefined-stale a r moved stale f s = IsRefined-fewer a r (LeadsInto a moved) (C
 
 -- where no state moved, states of one class lead to one class
 rows_respected : (a : Automaton) (r : Refining) → IsRefined a r (LeadsInto a []) → (j k letter : ℕ) → j < length a.accept → k < length a.accept → letter < width a
-    → get_or r.partition.classes.items j 0 ≡ get_or r.partition.classes.items k 0 → get_or r.partition.classes.items (next_state a j letter) 0 ≡ get_or r.partition.classes.items (next_state a k letter) 0
+    → get_or r.partition.classes.items j 0 ≡ get_or r.partition.classes.items k 0 → get_or r.partition.classes.items (next_state a j letter)
+    0 ≡ get_or r.partition.classes.items (next_state a k letter) 0
 rows_respected a r f j k letter jw kw below same = elim (cases_eq j k) [
   | inl e ↦ ap (λ n. get_or r.partition.classes.items (next_state a n letter) 0) e
   | inr other ↦

@@ -23,7 +23,8 @@ use Rattle.auto_refine.proofs.Counting.{length_le-below}
 
 -- ---- a round
 -- a row that is led to classes leads letters to the classes of the next states
-pub IsLed-from : (a : Automaton) (shapes : List Shape) (rows classes : List ℕ) (state led : ℕ) → AreRowNodes a rows → state < length a.accept → IsLedFrom a.shapes shapes classes (get_or rows state 0) led → IsLed a classes shapes led (next_state a state)
+pub IsLed-from : (a : Automaton) (shapes : List Shape) (rows classes : List ℕ) (state led : ℕ) → AreRowNodes a rows → state < length a.accept
+    → IsLedFrom a.shapes shapes classes (get_or rows state 0) led → IsLed a classes shapes led (next_state a state)
 IsLed-from a shapes rows classes state led r within m =
     let narrow = All-get_or (λ node. LooksBelow a.shapes node (length a.tracks)) rows state 0 (omega (arith, r.size, within)) r.narrow in
     record {
@@ -37,7 +38,8 @@ module _ (a : Automaton) (shapes : List Shape) (is : IsDiagram shapes) (start le
   same_node : (j k : ℕ) → IsLed a start shapes (get_or led j 0) (next_state a j) → IsLed a start shapes (get_or led k 0) (next_state a k)
       → ((letter : ℕ) → letter < width a → get_or start (next_state a j letter) 0 ≡ get_or start (next_state a k letter) 0) → get_or led j 0 ≡ get_or led k 0
   same_node j k jl kl same =
-      node-from_map shapes is _ _ jl.known kl.known (map_at-narrow shapes _ _ (length a.tracks) jl.narrow kl.narrow (λ letter below. jl.leads letter below ∙ same letter below ∙ sym (kl.leads letter below)))
+      node-from_map shapes is _ _ jl.known kl.known (map_at-narrow shapes _ _ (length a.tracks) jl.narrow kl.narrow
+      (λ letter below. jl.leads letter below ∙ same letter below ∙ sym (kl.leads letter below)))
 
   pub IsRound-split : (classes : List ℕ) (count : ℕ) → IsSplit start led classes count → IsRound a start classes count
   IsRound-split classes count s = record {
@@ -76,7 +78,8 @@ module _ (size : ℕ) (f : List ℕ) (c : ℕ) (h : IsPartition size f c) where
       record {
         list = rest.list ++ rep.state ∷ [];
         count = length_push rest.list rep.state ∙ omega (arith, rest.count);
-        distinct = all_pairs_push (λ x y. x ≢ y) rest.list rep.state rest.distinct (λ k e kw same. let is = rest.reps k e kw in let value = ap (λ x. get_or f x 0) same in let bad : ⊥ = omega (arith, is.below, value, rep.has) in bad);
+        distinct = all_pairs_push (λ x y. x ≢ y) rest.list rep.state rest.distinct (λ k e kw same. let is = rest.reps k e kw in let value = ap
+            (λ x. get_or f x 0) same in let bad : ⊥ = omega (arith, is.below, value, rep.has) in bad);
         reps = All-push (IsRep (suc n)) rest.list rep.state (All-weaker (IsRep n) (IsRep (suc n)) (λ x is. record { within = is.within; below = omega (arith, is.below) }) rest.list rest.reps)
             (record { within = omega (arith, rep.within, h.states); below = omega (arith, rep.has) });
       }

@@ -46,7 +46,8 @@ AreMoves-none classes representatives nodes count signatures states numbers firs
     }
 
 -- a state of each signature: so there are at most as many as states
-pub signatures_few : (classes representatives nodes : List ℕ) (count : ℕ) (signatures : List (ℕ × ℕ)) (states numbers firsts : List ℕ) → AreMoves classes representatives nodes count signatures states numbers firsts → length signatures ≤ length classes
+pub signatures_few : (classes representatives nodes : List ℕ) (count : ℕ) (signatures : List (ℕ × ℕ)) (states numbers firsts : List ℕ)
+    → AreMoves classes representatives nodes count signatures states numbers firsts → length signatures ≤ length classes
 signatures_few classes representatives nodes count signatures states numbers firsts m =
     let size = m.firsts_size in
     let most = length_le-below firsts (length classes) distinct (All-from_get_or (λ state. state < length classes) firsts 0 (λ place inside. (m.first place (omega (arith, inside, size))).within)) in
@@ -62,7 +63,8 @@ signatures_few classes representatives nodes count signatures states numbers fir
         omega (arith, place, less)
 
 -- a state that moves has a signature
-pub signatures_some : (classes representatives nodes : List ℕ) (count : ℕ) (signatures : List (ℕ × ℕ)) (states numbers firsts : List ℕ) → AreMoves classes representatives nodes count signatures states numbers firsts
+pub signatures_some : (classes representatives nodes : List ℕ) (count : ℕ) (signatures : List (ℕ × ℕ)) (states numbers firsts : List ℕ)
+    → AreMoves classes representatives nodes count signatures states numbers firsts
     → 0 < length states → 0 < length signatures
 signatures_some classes representatives nodes count signatures states numbers firsts m some =
     let inside = slice_get_within signatures _ _ (m.each 0 some).is in
@@ -109,7 +111,8 @@ module _ (classes representatives nodes : List ℕ) (count : ℕ) (old new : Lis
       }
 
   -- of a new signature
-  pub AreMoves-first : (number : ℕ) → number ≡ count + place → Numbers old new (class, node) → length firsts < length new → AreMoves classes representatives nodes count new (states ++ state ∷ []) (numbers ++ number ∷ []) (firsts ++ state ∷ [])
+  pub AreMoves-first : (number : ℕ) → number ≡ count + place → Numbers old new (class, node) → length firsts < length new
+      → AreMoves classes representatives nodes count new (states ++ state ∷ []) (numbers ++ number ∷ []) (firsts ++ state ∷ [])
   AreMoves-first number is changed fresh = elim changed [
     | inl unchanged ↦ let l = ap length unchanged in let size = m.firsts_size in absurd (omega (arith, l, fresh, size))
     | inr more ↦
@@ -143,7 +146,8 @@ all_moved classes representatives nodes stale candidates states s c moved state 
       ]
     ]
 
-module _ (classes representatives nodes : List ℕ) (count : ℕ) (signatures : List (ℕ × ℕ)) (states numbers firsts : List ℕ) (m : AreMoves classes representatives nodes count signatures states numbers firsts) where
+module _ (classes representatives nodes : List ℕ) (count : ℕ) (signatures : List (ℕ × ℕ)) (states numbers firsts : List ℕ)
+    (m : AreMoves classes representatives nodes count signatures states numbers firsts) where
   pub moved_within : All (λ state. state < length classes) states
   moved_within = All-from_get_or (λ state. state < length classes) states 0 (λ turn inside. (m.each turn inside).within)
 
@@ -180,7 +184,8 @@ module _ (size : ℕ) (current nodes own : List ℕ) (count : ℕ) (signatures :
   turned : (j : ℕ) → j < length current → Contains states j → IsMove current own nodes count signatures j (get_or classes j 0)
   turned j within there =
       let w = put.put j within there in
-      subst (λ n. IsMove current own nodes count signatures j n) (sym (w.value_is 0)) (subst (λ s. IsMove current own nodes count signatures s (get_or numbers w.turn 0)) w.place_is (m.each w.turn w.within))
+      subst (λ n. IsMove current own nodes count signatures j n) (sym (w.value_is 0))
+      (subst (λ s. IsMove current own nodes count signatures s (get_or numbers w.turn 0)) w.place_is (m.each w.turn w.within))
 
   stays : (j : ℕ) → j < length current → IsOwn j → get_or classes j 0 ≡ get_or current j 0
   stays j within is = elim (decided _ (is_member-Decides Decides-eqb states j)) [
@@ -219,7 +224,8 @@ module _ (size : ℕ) (current nodes own : List ℕ) (count : ℕ) (signatures :
       let same_size = put.size in
       record {
         size = length-append own firsts ∙ omega (arith, own_size, firsts_size);
-        within = All-append (λ state. state < length classes) own firsts (All-weaker (λ state. state < length current) (λ state. state < length classes) (λ state less. omega (arith, less, same_size)) own members.within)
+        within = All-append (λ state. state < length classes) own firsts (All-weaker (λ state. state < length current)
+            (λ state. state < length classes) (λ state less. omega (arith, less, same_size)) own members.within)
             (All-from_get_or (λ state. state < length classes) firsts 0 (λ place inside. let within = (m.first place (omega (arith, inside, firsts_size))).within in omega (arith, within, same_size)));
         has = λ class within. elim (cases_lt class count) [
           | inl old ↦ rw (get_or_append_left own firsts 0 class (omega (arith, old, own_size))) (keeps_own class old)
@@ -230,7 +236,12 @@ module _ (size : ℕ) (current nodes own : List ℕ) (count : ℕ) (signatures :
   attained : (class : ℕ) → class < count + length signatures → IsAttained classes class
   attained class within =
       let all = AreMembers-moved in
-      record { state = get_or (own ++ firsts) class 0; within = All-get_or (λ state. state < length classes) (own ++ firsts) class 0 (let s = all.size in omega (arith, s, within)) all.within; has = all.has class within }
+      record {
+        state = get_or (own ++ firsts) class 0;
+        within = All-get_or (λ state. state < length classes) (own ++ firsts) class 0
+            (let s = all.size in omega (arith, s, within)) all.within;
+        has = all.has class within;
+      }
 
   -- a state with the chosen node is not in the class of one with another node
   never : (j k : ℕ) → j < length current → k < length current → IsOwn j → (IsOwn k → ⊥) → get_or classes j 0 ≡ get_or classes k 0 → ⊥
@@ -296,7 +307,8 @@ module _ (size : ℕ) (current nodes own : List ℕ) (count : ℕ) (signatures :
     was_list : (class state : ℕ) → Contains (get_or (lists ++ replicate (length firsts) []) class []) state → Contains (get_or lists class []) state
     was_list class state there = elim (cases_lt class (length lists)) [
       | inl old ↦ subst (λ list. Contains list state) (get_or_append_left lists (replicate (length firsts) []) [] class old) there
-      | inr new ↦ absurd (none state (subst (λ list. Contains list state) (get_or-append_right lists (replicate (length firsts) []) (length lists) class [] refl new ∙ empty [] (length firsts) (class - length lists)) there))
+      | inr new ↦ absurd (none state (subst (λ list. Contains list state) (get_or-append_right lists (replicate (length firsts) []) (length lists)
+          class [] refl new ∙ empty [] (length firsts) (class - length lists)) there))
     ]
 
     pub IsListing-moved : IsListing classes (count + length signatures) (own ++ firsts) more
@@ -316,7 +328,8 @@ module _ (size : ℕ) (current nodes own : List ℕ) (count : ℕ) (signatures :
               elim (decided _ (is_member-Decides Decides-eqb states state)) [
                 | inl there ↦
                     let w = put.put state within there in
-                    subst (λ class. Contains (get_or more class []) state) (sym (w.value_is 0)) (subst (λ s. Contains (get_or more (get_or numbers w.turn 0) []) s) w.place_is (added.added w.turn w.within))
+                    subst (λ class. Contains (get_or more class []) state) (sym (w.value_is 0))
+                    (subst (λ s. Contains (get_or more (get_or numbers w.turn 0) []) s) w.place_is (added.added w.turn w.within))
                 | inr absent ↦
                     let old = put.kept state within absent 0 in
                     let class : get_or current state 0 < length lists = let k = known state within in omega (arith, k, lists_size) in

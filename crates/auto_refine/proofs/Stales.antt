@@ -18,7 +18,8 @@ use Rattle.auto_refine.proofs.Rounds.{IsLed-from}
 
 -- ---- states whose rows are to be led again
 -- two states stand in the list of a class that a state shares
-pub shared_listed : (classes : List ℕ) (count : ℕ) (representatives : List ℕ) (lists : List (List ℕ)) (state : ℕ) → IsListing classes count representatives lists → state < length classes → IsShared classes state
+pub shared_listed : (classes : List ℕ) (count : ℕ) (representatives : List ℕ) (lists : List (List ℕ)) (state : ℕ)
+    → IsListing classes count representatives lists → state < length classes → IsShared classes state
     → 1 < length (get_or lists (get_or classes state 0) [])
 shared_listed classes count representatives lists state l within h =
     let list = get_or lists (get_or classes state 0) [] in
@@ -40,7 +41,8 @@ IsSorted-push lists classes stale found turn state is before k less more = elim 
   | inr past ↦ let same : turn ≡ k = omega (arith, less, past) in subst (Contains (stale ++ state ∷ [])) (is ∙ ap (λ n. get_or found n 0) same) (Contains-push stale state)
 ]
 
-pub IsSorted-skip : (lists : List (List ℕ)) (classes stale found : List ℕ) (turn state : ℕ) → state ≡ get_or found turn 0 → (1 < length (get_or lists (get_or classes state 0) []) → ⊥) → ((k : ℕ) → k < turn → IsSorted lists classes stale (get_or found k 0))
+pub IsSorted-skip : (lists : List (List ℕ)) (classes stale found : List ℕ) (turn state : ℕ) → state ≡ get_or found turn 0
+    → (1 < length (get_or lists (get_or classes state 0) []) → ⊥) → ((k : ℕ) → k < turn → IsSorted lists classes stale (get_or found k 0))
     → (k : ℕ) → k < turn + 1 → IsSorted lists classes stale (get_or found k 0)
 IsSorted-skip lists classes stale found turn state is alone before k less more = elim (cases_lt k turn) [
   | inl low ↦ before k low more
@@ -49,7 +51,8 @@ IsSorted-skip lists classes stale found turn state is alone before k less more =
       absurd (alone (subst (λ s. 1 < length (get_or lists (get_or classes s 0) [])) (ap (λ n. get_or found n 0) same ∙ sym is) more))
 ]
 
-pub sorted_all : (found stale classes : List ℕ) (count : ℕ) (representatives : List ℕ) (lists : List (List ℕ)) → IsListing classes count representatives lists → All (λ state. state < length classes) found
+pub sorted_all : (found stale classes : List ℕ) (count : ℕ) (representatives : List ℕ) (lists : List (List ℕ))
+    → IsListing classes count representatives lists → All (λ state. state < length classes) found
     → ((turn : ℕ) → turn < length found → IsSorted lists classes stale (get_or found turn 0)) → (state : ℕ) → Contains found state → IsShared classes state → Contains stale state
 sorted_all found stale classes count representatives lists l within sorted state there alike =
     let is : get_or found there.0 0 ≡ state = get_or_default found there.0 0 state there.1 ∙ there.2 in
@@ -63,7 +66,8 @@ IsPutTo {A} old places values new turns place =
     ((turn : ℕ) × (turn < turns) × (get_or places turn 0 ≡ place) × ((d : A) → get_or new place d ≡ get_or values turn d))
     ⊎ (((turn : ℕ) → turn < turns → get_or places turn 0 ≢ place) × ((d : A) → get_or new place d ≡ get_or old place d))
 
-pub IsPutTo-set : {A : Type 0} (old : List A) (places : List ℕ) (values list : List A) (turns at : ℕ) (value : A) (place : ℕ) → at < length list → at ≡ get_or places turns 0 → ((d : A) → value ≡ get_or values turns d)
+pub IsPutTo-set : {A : Type 0} (old : List A) (places : List ℕ) (values list : List A) (turns at : ℕ) (value : A) (place : ℕ) → at < length list
+    → at ≡ get_or places turns 0 → ((d : A) → value ≡ get_or values turns d)
     → IsPutTo old places values list turns place → IsPutTo old places values (set list at value) (turns + 1) place
 IsPutTo-set old places values list turns at value place within at_is value_is before = elim (cases_eq place at) [
   | inl e ↦ inl (turns, omega arith, sym at_is ∙ sym e, λ d. ap (λ k. get_or (set list at value) k d) e ∙ get_or-set_same list at value d within ∙ value_is d)
@@ -81,7 +85,8 @@ IsPutTo-set old places values list turns at value place within at_is value_is be
       ]
 ]
 
-pub IsPut-from : {A : Type 0} (old : List A) (places : List ℕ) (values new : List A) → length new ≡ length old → ((place : ℕ) → place < length old → IsPutTo old places values new (length places) place) → IsPut old places values new
+pub IsPut-from : {A : Type 0} (old : List A) (places : List ℕ) (values new : List A) → length new ≡ length old
+    → ((place : ℕ) → place < length old → IsPutTo old places values new (length places) place) → IsPut old places values new
 IsPut-from old places values new size to = record {
   size = size;
   put = λ place within there. elim (to place within) [
@@ -101,7 +106,8 @@ All-picked P rows order picked p within all = All-from_get_or P picked 0 (λ i i
     subst P (sym (p.at i here)) (All-get_or P rows (get_or order i 0) 0 (All-get_or (λ state. state < length rows) order i 0 here within) all))
 
 pub AreLedAgain-from : (a : Automaton) (shapes : List Shape) (rows picked nodes states classes old new : List ℕ) → AreRowNodes a rows → length old ≡ length a.accept
-    → ArePicked rows states picked → EachAnswers (IsLedFrom a.shapes shapes classes) picked nodes → IsPut old states nodes new → All (λ state. state < length a.accept) states → AreLedAgain a shapes states classes old new
+    → ArePicked rows states picked → EachAnswers (IsLedFrom a.shapes shapes classes) picked nodes → IsPut old states nodes new
+    → All (λ state. state < length a.accept) states → AreLedAgain a shapes states classes old new
 AreLedAgain-from a shapes rows picked nodes states classes old new r size p m put within = record {
   size = put.size;
   led = λ state known there.
@@ -114,7 +120,8 @@ AreLedAgain-from a shapes rows picked nodes states classes old new r size p m pu
 }
 
 -- nodes that lead to classes, for the first time
-pub AreLedRows-first : (a : Automaton) (shapes : List Shape) (rows classes led : List ℕ) → AreRowNodes a rows → length classes ≡ length a.accept → EachAnswers (IsLedFrom a.shapes shapes classes) rows led → AreLedRows a shapes classes led
+pub AreLedRows-first : (a : Automaton) (shapes : List Shape) (rows classes led : List ℕ) → AreRowNodes a rows → length classes ≡ length a.accept
+    → EachAnswers (IsLedFrom a.shapes shapes classes) rows led → AreLedRows a shapes classes led
 AreLedRows-first a shapes rows classes led r size m = record {
   classes_size = size;
   size = m.size ∙ r.size;
@@ -122,7 +129,8 @@ AreLedRows-first a shapes rows classes led r size m = record {
 }
 
 -- states whose nodes were kept are as settled as they were
-pub AreSettled-follow : (a : Automaton) (shapes : List Shape) (classes : List ℕ) (count : ℕ) (representatives stale led next : List ℕ) → length classes ≡ length a.accept → All (λ class. class < count) classes → AreMembers classes count representatives
+pub AreSettled-follow : (a : Automaton) (shapes : List Shape) (classes : List ℕ) (count : ℕ) (representatives stale led next : List ℕ)
+    → length classes ≡ length a.accept → All (λ class. class < count) classes → AreMembers classes count representatives
     → AreSettled classes representatives led [] → AreLedAgain a shapes stale classes led next → AreSettled classes representatives next stale
 AreSettled-follow a shapes classes count representatives stale led next size within m s again = record {
   at = λ state known fresh too.
@@ -134,7 +142,9 @@ AreSettled-follow a shapes classes count representatives stale led next size wit
 }
 
 -- where all states are stale, none has to be settled
-pub AreSettled-first : (classes representatives nodes stale : List ℕ) (size : ℕ) → length classes ≡ size → length stale ≡ size → ((state : ℕ) → state < size → get_or stale state 0 ≡ state) → AreSettled classes representatives nodes stale
+pub AreSettled-first : (classes representatives nodes stale : List ℕ) (size : ℕ) → length classes ≡ size → length stale ≡ size
+    → ((state : ℕ) → state < size → get_or stale state 0 ≡ state) → AreSettled classes representatives nodes stale
 AreSettled-first classes representatives nodes stale size classes_size stale_size each = record {
-  at = λ state within fresh _. absurd (fresh (subst (Contains stale) (each state (omega (arith, within, classes_size))) (Contains-get_or stale state 0 (omega (arith, within, classes_size, stale_size)))));
+  at = λ state within fresh _. absurd (fresh (subst (Contains stale) (each state (omega (arith, within, classes_size)))
+      (Contains-get_or stale state 0 (omega (arith, within, classes_size, stale_size)))));
 }

@@ -2,6 +2,7 @@
 use Rattle.std.specs.Prelude.{◌≡◌, ◌≢◌, ℕ, ◌<◌, List, length, All, slice_index}
 use Rattle.auto_core.specs.Automaton.{Automaton, IsAutomaton, width, next_state, is_final}
 use Rattle.auto_core.specs.Reduced.{ToldApart}
+use Rattle.auto_refine.specs.declared.classes.Partition.{Partition}
 
 -- a state of a class
 pub record IsAttained (classes : List ℕ) (class : ℕ) : Type 0 where
@@ -14,6 +15,10 @@ pub record IsPartition (size : ℕ) (classes : List ℕ) (count : ℕ) : Type 0 
   pub states : length classes ≡ size
   pub within : All (λ class. class < count) classes
   pub attained : (class : ℕ) → class < count → IsAttained classes class
+
+-- a partition of the states that it has classes for
+abbrev pub AreClasses : Partition → Type 0
+AreClasses p = IsPartition (length p.classes.items) p.classes.items p.count
 
 -- a state of each class
 pub record AreMembers (classes : List ℕ) (count : ℕ) (members : List ℕ) : Type 0 where

@@ -1,6 +1,11 @@
 -- States that move to new classes, and the partition after they moved.
-use Rattle.std.specs.Prelude.{◌≡◌, ◌≢◌, ◌↔◌, ℕ, ◌<◌, ◌≤◌, ◌+◌, ◌-◌, List, length, All, AllPairs, Contains, slice_get, slice_index, Some}
+use Rattle.std.specs.Prelude.{◌≡◌, ◌≢◌, ◌↔◌, ℕ, ◌<◌, ◌≤◌, ◌+◌, ◌-◌, ◌++◌, List, [], length, replicate, All, AllPairs, Contains, slice_get, slice_index, Some}
 use Rattle.auto_refine.specs.Coarsest.{IsPartition}
+use Rattle.auto_refine.specs.Listing.{AreListed, lists_of}
+use Rattle.auto_refine.specs.Put.{IsPut}
+use Rattle.auto_refine.specs.declared.classes.Partition.{Partition}
+use Rattle.auto_refine.specs.declared.listing.Listing.{Listing}
+use Rattle.auto_refine.specs.declared.moves.Moves.{Moves}
 
 -- the node of the state that stands for the class of a state
 abbrev pub chosen_node : List ℕ → List ℕ → List ℕ → ℕ → ℕ
@@ -17,10 +22,14 @@ pub record AreCandidates (classes representatives stale candidates : List ℕ) :
   pub each : (state : ℕ) → Contains stale state → Contains candidates state
   pub led : (state : ℕ) → state < length classes → Contains stale (slice_index representatives (slice_index classes state)) → Contains candidates state
 
+-- a state whose node is not that of the one that stands for its class
+abbrev pub IsOther : List ℕ → List ℕ → List ℕ → ℕ → Type 0
+IsOther classes representatives nodes state = slice_index nodes state ≢ chosen_node classes representatives nodes state
+
 -- the number, after all classes, of the signature of a state whose node is not that of the one that stands for its class
 pub record IsMove (classes representatives nodes : List ℕ) (count : ℕ) (signatures : List (ℕ × ℕ)) (state number : ℕ) : Type 0 where
   pub within : state < length classes
-  pub other : slice_index nodes state ≢ chosen_node classes representatives nodes state
+  pub other : IsOther classes representatives nodes state
   pub least : count ≤ number
   pub is : slice_get signatures (number - count) ≡ Some (slice_index classes state, slice_index nodes state)
 
@@ -31,6 +40,22 @@ pub record AreMoves (classes representatives nodes : List ℕ) (count : ℕ) (si
   pub each : (turn : ℕ) → turn < length states → IsMove classes representatives nodes count signatures (slice_index states turn) (slice_index numbers turn)
   pub firsts_size : length firsts ≡ length signatures
   pub first : (place : ℕ) → place < length signatures → IsMove classes representatives nodes count signatures (slice_index firsts place) (count + place)
+
+-- the moves that are found in a partition
+abbrev pub AreFound : Partition → List ℕ → List ℕ → Moves → Type 0
+AreFound p representatives nodes m = AreMoves p.classes.items representatives nodes p.count m.signatures m.states.items m.numbers.items m.firsts.items
+
+-- what moves make of a partition and its lists: each signature is a class, and one of its states stands for it
+pub record AreMoved (m : Moves) (old new : Partition) (was listing : Listing) : Type 0 where
+  pub classes : IsPut old.classes.items m.states.items m.numbers.items new.classes.items
+  pub count : new.count ≡ old.count + length m.firsts.items
+  pub representatives : listing.representatives.items ≡ was.representatives.items ++ m.firsts.items
+  pub lists : AreListed (lists_of was.lists.items ++ replicate (length m.firsts.items) []) m.states.items m.numbers.items (lists_of listing.lists.items)
+
+-- no class is lost, and there are more where some states moved
+pub record CountGrows (old new : ℕ) (moved : List ℕ) : Type 0 where
+  pub kept : old ≤ new
+  pub grown : 0 < length moved → old < new
 
 -- the other states have the classes that they had
 pub record KeepsOthers (old new moved : List ℕ) : Type 0 where

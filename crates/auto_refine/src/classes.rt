@@ -1,6 +1,6 @@
 //! Partitions of the states into numbered classes.
 ghost use Rattle.std.specs.Prelude.{◌<◌, ◌^◌, length, IfOk};
-ghost use Rattle.auto_refine.specs.Coarsest.{AreMembers, IsPartition};
+ghost use Rattle.auto_refine.specs.Coarsest.{AreClasses, AreMembers};
 
 use std::alloc::{AllocError, Global};
 
@@ -13,7 +13,7 @@ pub struct Partition {
 
 /// A state of each class: the first, to which short words lead. The states that are told apart from it are mostly fewer than the others.
 pub fn members(alloc: Global, partition: &Partition) -> Result<Vec<u32>, AllocError>
-    requires partition { IsPartition (length partition.now.classes.items) partition.now.classes.items partition.now.count }
+    requires partition { AreClasses partition.now }
     requires few { length partition.now.classes.items < 2 ^ 31 }
     ensures { IfOk result (λ members. AreMembers partition.now.classes.items partition.now.count members.items) }
 {

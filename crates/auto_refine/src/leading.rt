@@ -1,12 +1,45 @@
 //! Nodes of one `Diagrams` with the maps of nodes of another, led through a table.
-ghost use Rattle.std.specs.Prelude.{◌<◌, ℕ, All, length, IfOk, OnOk};
+ghost use Rattle.std.specs.Prelude.{◌<◌, ℕ, All, Some, length, slice_index, IfOk};
 ghost use Rattle.letter_diagram.specs.Diagram.{map_at, Grows};
 ghost use Rattle.letter_diagram.specs.Listed.{EachAnswers};
-ghost use Rattle.auto_refine.specs.Leading.{IsLedFrom, RemembersLed};
+ghost use Rattle.auto_refine.specs.Leading.{IsLedFrom};
 
 use crate::round_memo::RoundMemo;
-use letter_diagram::{Diagrams, Node, Shape};
+use letter_diagram::{Carry, Diagrams, Node, Shape, carried_all};
 use std::alloc::AllocError;
+
+/// Carries nodes of another `Diagrams` to the entries of a table at their values.
+#[derive(Drop)]
+struct ByTable<'a> {
+    from: &'a Diagrams,
+    table: &'a [u32],
+}
+
+impl<'a> Carry for ByTable<'a> {
+    ghost carrier = { λ s. record { from = Some s.from.now; letters = λ letter. letter; values = slice_index s.table.now; tracks = 20 } };
+
+    ghost can = { λ s value. value < length s.table.now };
+
+    fn shape(&self, _to: &Diagrams, node: Node) -> Shape {
+        self.from.shape(node)
+    }
+
+    fn leaf(&self, to: &mut Diagrams, value: u32) -> Result<Node, AllocError> {
+        let node = to.leaf(self.table[value as usize])?;
+        Ok(node)
+    }
+
+    fn test(
+        &self,
+        to: &mut Diagrams,
+        track: u8,
+        low: Node,
+        high: Node,
+    ) -> Result<Node, AllocError> {
+        let node = to.node(track, low, high)?;
+        Ok(node)
+    }
+}
 
 /// For each of several nodes of `from`, in their order, the node in `to` that gives the entry of `table` at each of its values.
 /// What they share is done once. `memo` serves one call after another, for which it has room for each node of `from`.
@@ -24,40 +57,6 @@ pub fn lead_nodes(
     ensures grows { Grows to.old to.new }
 {
     memo.clear();
-    let mut answers = Vec::with_capacity(to.alloc(), nodes.len())?;
-    for node in nodes {
-        let answer = led(from, *node, table, to, memo)?;
-        answers.push(answer)?;
-    }
-    Ok(answers)
-}
-
-/// The same for one node, with the answers that are known so far.
-fn led(
-    from: &Diagrams,
-    node: Node,
-    table: &[u32],
-    to: &mut Diagrams,
-    memo: &mut RoundMemo,
-) -> Result<Node, AllocError>
-    requires known { node < length from.now }
-    requires leaves { (letter : ℕ) → map_at from.now node letter < length table.now }
-    requires remembered { RemembersLed from.now to.old table.now memo.old }
-    ensures led { IfOk result (λ made. IsLedFrom from.now to.new table.now node made) }
-    ensures remembered { OnOk result (RemembersLed from.now to.new table.now memo.new) }
-    ensures grows { Grows to.old to.new }
-{
-    if let Some(known) = memo.get(node) {
-        return Ok(known);
-    }
-    let made = match from.shape(node) {
-        Shape::Leaf(value) => to.leaf(table[value as usize])?,
-        Shape::Test { track, low, high } => {
-            let low = led(from, low, table, to, memo)?;
-            let high = led(from, high, table, to, memo)?;
-            to.node(track, low, high)?
-        }
-    };
-    memo.insert(node, made)?;
-    Ok(made)
+    let led = carried_all(&ByTable { from, table }, nodes, to, memo)?;
+    Ok(led)
 }

@@ -1,7 +1,7 @@
 //! For each class a list in which all its states are, kept while states move to new classes.
-ghost use Rattle.std.specs.Prelude.{◌≡◌, ◌<◌, ◌^◌, ◌+◌, ◌++◌, [], ℕ, All, Contains, length, map, replicate, slice_index, slice_index_or, IfOk, OnOk, vec_len};
-ghost use Rattle.auto_refine.specs.Coarsest.{IsPartition};
-ghost use Rattle.auto_refine.specs.Listing.{IsListing, IsPutInto, AreListed, ArePruned};
+ghost use Rattle.std.specs.Prelude.{◌≡◌, ◌<◌, ◌^◌, ◌+◌, ◌++◌, [], ℕ, All, length, replicate, slice_index, IfOk, OnOk, vec_len};
+ghost use Rattle.auto_refine.specs.Coarsest.{AreClasses};
+ghost use Rattle.auto_refine.specs.Listing.{AreBelow, AreLists, AreListed, ArePruned, AreStillIn, IsPutInto, lists_of};
 
 use crate::classes::{Partition, members};
 use std::alloc::{AllocError, Global};
@@ -29,7 +29,7 @@ pub fn all_states(alloc: Global, count: usize) -> Result<Vec<u32>, AllocError>
 
 /// Adds some empty lists.
 pub fn add_lists(alloc: Global, lists: &mut Vec<Vec<u32>>, more: usize) -> Result<(), AllocError>
-    ensures { OnOk result (map (λ list. list.items) lists.new.items ≡ map (λ list. list.items) lists.old.items ++ replicate more []) }
+    ensures { OnOk result (lists_of lists.new.items ≡ lists_of lists.old.items ++ replicate more []) }
 {
     for _ in 0..more {
         lists.push(Vec::new(alloc))?;
@@ -40,7 +40,7 @@ pub fn add_lists(alloc: Global, lists: &mut Vec<Vec<u32>>, more: usize) -> Resul
 /// Puts a state into the list of a class.
 fn list(lists: &mut Vec<Vec<u32>>, class: usize, state: u32) -> Result<(), AllocError>
     requires { class < vec_len lists.old }
-    ensures lists { OnOk result (IsPutInto (map (λ list. list.items) lists.old.items) class state (map (λ list. list.items) lists.new.items)) }
+    ensures lists { OnOk result (IsPutInto (lists_of lists.old.items) class state (lists_of lists.new.items)) }
     ensures size { OnOk result (vec_len lists.new ≡ vec_len lists.old) }
 {
     lists[class].push(state)?;
@@ -55,7 +55,7 @@ pub fn list_each(
 ) -> Result<(), AllocError>
     requires within { All (λ class. class < vec_len lists.old) classes.now }
     requires same { length classes.now ≡ length states.now }
-    ensures { OnOk result (AreListed (map (λ list. list.items) lists.old.items) states.now classes.now (map (λ list. list.items) lists.new.items)) }
+    ensures { OnOk result (AreListed (lists_of lists.old.items) states.now classes.now (lists_of lists.new.items)) }
 {
     for turn in 0..states.len() {
         list(lists, classes[turn] as usize, states[turn])?;
@@ -65,9 +65,9 @@ pub fn list_each(
 
 /// The states of each class of a partition, and one of them that stands for it.
 pub fn list_states(alloc: Global, partition: &Partition) -> Result<Listing, AllocError>
-    requires partition { IsPartition (length partition.now.classes.items) partition.now.classes.items partition.now.count }
+    requires partition { AreClasses partition.now }
     requires few { length partition.now.classes.items < 2 ^ 31 }
-    ensures { IfOk result (λ listing. IsListing partition.now.classes.items partition.now.count listing.representatives.items (map (λ list. list.items) listing.lists.items)) }
+    ensures { IfOk result (λ listing. AreLists partition.now listing.representatives.items listing.lists.items) }
 {
     let representatives = members(alloc, partition)?;
     let states = all_states(alloc, partition.classes.len())?;
@@ -88,8 +88,7 @@ fn still_in(
     states: &[u32],
 ) -> Result<Vec<u32>, AllocError>
     requires { All (λ state. state < length partition.now.classes.items) states.now }
-    ensures fewer { IfOk result (λ kept. (state : ℕ) → Contains kept.items state → Contains states.now state) }
-    ensures kept { IfOk result (λ kept. (state : ℕ) → Contains states.now state → slice_index partition.now.classes.items state ≡ class → Contains kept.items state) }
+    ensures { IfOk result (λ kept. AreStillIn partition.now.classes.items class states.now kept.items) }
 {
     let mut kept = Vec::new(alloc);
     for state in states {
@@ -109,8 +108,8 @@ pub fn prune(
     lists: &mut Vec<Vec<u32>>,
 ) -> Result<(), AllocError>
     requires class { class < vec_len lists.old }
-    requires within { (listed state : ℕ) → Contains (slice_index_or (map (λ list. list.items) lists.old.items) listed []) state → state < length partition.now.classes.items }
-    ensures pruned { OnOk result (ArePruned partition.now.classes.items (map (λ list. list.items) lists.old.items) (map (λ list. list.items) lists.new.items)) }
+    requires within { AreBelow (lists_of lists.old.items) (length partition.now.classes.items) }
+    ensures pruned { OnOk result (ArePruned partition.now.classes.items (lists_of lists.old.items) (lists_of lists.new.items)) }
     ensures size { OnOk result (vec_len lists.new ≡ vec_len lists.old) }
 {
     let kept = still_in(alloc, partition, class, lists[class as usize].as_slice())?;

@@ -1,8 +1,8 @@
 //! States that move to new classes, as their nodes differ from those of the states that stand for their classes.
-ghost use Rattle.std.specs.Prelude.{◌≡◌, ◌≢◌, ◌<◌, ◌^◌, ◌+◌, ◌++◌, [], ℕ, All, Contains, length, map, slice_index, IfOk, OnOk};
-ghost use Rattle.auto_refine.specs.Coarsest.{IsPartition};
-ghost use Rattle.auto_refine.specs.Listing.{IsListing};
-ghost use Rattle.auto_refine.specs.Moves.{AreCandidates, AreMoves, chosen_node};
+ghost use Rattle.std.specs.Prelude.{◌<◌, ◌^◌, ◌+◌, ℕ, All, Contains, length, IfOk, OnOk};
+ghost use Rattle.auto_refine.specs.Coarsest.{AreClasses, IsPartition};
+ghost use Rattle.auto_refine.specs.Listing.{AreLists};
+ghost use Rattle.auto_refine.specs.Moves.{AreCandidates, AreFound, IsOther};
 
 use crate::classes::Partition;
 use crate::listing::{Listing, prune};
@@ -44,11 +44,11 @@ fn with_repeats(
     lists: &mut Vec<Vec<u32>>,
     stale: &[u32],
 ) -> Result<Vec<u32>, AllocError>
-    requires partition { IsPartition (length partition.now.classes.items) partition.now.classes.items partition.now.count }
-    requires listing { IsListing partition.now.classes.items partition.now.count representatives.now (map (λ list. list.items) lists.old.items) }
+    requires partition { AreClasses partition.now }
+    requires listing { AreLists partition.now representatives.now lists.old.items }
     requires stale { All (λ state. state < length partition.now.classes.items) stale.now }
     ensures candidates { IfOk result (λ found. AreCandidates partition.now.classes.items representatives.now stale.now found.items) }
-    ensures listing { OnOk result (IsListing partition.now.classes.items partition.now.count representatives.now (map (λ list. list.items) lists.new.items)) }
+    ensures listing { OnOk result (AreLists partition.now representatives.now lists.new.items) }
 {
     let mut found = Vec::with_capacity(alloc, stale.len())?;
     for state in stale {
@@ -72,11 +72,11 @@ pub fn candidates(
     lists: &mut Vec<Vec<u32>>,
     stale: &[u32],
 ) -> Result<Vec<u32>, AllocError>
-    requires partition { IsPartition (length partition.now.classes.items) partition.now.classes.items partition.now.count }
-    requires listing { IsListing partition.now.classes.items partition.now.count representatives.now (map (λ list. list.items) lists.old.items) }
+    requires partition { AreClasses partition.now }
+    requires listing { AreLists partition.now representatives.now lists.old.items }
     requires stale { All (λ state. state < length partition.now.classes.items) stale.now }
     ensures candidates { IfOk result (λ found. AreCandidates partition.now.classes.items representatives.now stale.now found.items) }
-    ensures listing { OnOk result (IsListing partition.now.classes.items partition.now.count representatives.now (map (λ list. list.items) lists.new.items)) }
+    ensures listing { OnOk result (AreLists partition.now representatives.now lists.new.items) }
 {
     let found = with_repeats(alloc, partition, representatives, lists, stale)?;
     let once = each_once(alloc, partition.classes.len(), found.as_slice())?;
@@ -92,13 +92,14 @@ fn sort_state(
     moves: &mut Moves,
 ) -> Result<(), AllocError>
     requires partition { IsPartition (length nodes.now) partition.now.classes.items partition.now.count }
-    requires listing { IsListing partition.now.classes.items partition.now.count listing.now.representatives.items (map (λ list. list.items) listing.now.lists.items) }
+    requires listing { AreLists partition.now listing.now.representatives.items listing.now.lists.items }
     requires few { length nodes.now < 2 ^ 31 }
     requires within { state < length nodes.now }
-    requires moves { AreMoves partition.now.classes.items listing.now.representatives.items nodes.now partition.now.count moves.old.signatures moves.old.states.items moves.old.numbers.items moves.old.firsts.items }
-    ensures moves { OnOk result (AreMoves partition.now.classes.items listing.now.representatives.items nodes.now partition.now.count moves.new.signatures moves.new.states.items moves.new.numbers.items moves.new.firsts.items) }
+    requires moves { AreFound partition.now listing.now.representatives.items nodes.now moves.old }
+    ensures moves { OnOk result (AreFound partition.now listing.now.representatives.items nodes.now moves.new) }
     ensures kept { OnOk result ((other : ℕ) → Contains moves.old.states.items other → Contains moves.new.states.items other) }
-    ensures moved { OnOk result (slice_index nodes.now state ≢ chosen_node partition.now.classes.items listing.now.representatives.items nodes.now state → Contains moves.new.states.items state) }
+    ensures moved { OnOk result (IsOther partition.now.classes.items listing.now.representatives.items nodes.now state
+        → Contains moves.new.states.items state) }
 {
     let class = partition.classes[state as usize];
     let node = nodes[state as usize];
@@ -124,12 +125,12 @@ pub fn find_moves(
     candidates: &[u32],
 ) -> Result<Moves, AllocError>
     requires partition { IsPartition (length nodes.now) partition.now.classes.items partition.now.count }
-    requires listing { IsListing partition.now.classes.items partition.now.count listing.now.representatives.items (map (λ list. list.items) listing.now.lists.items) }
+    requires listing { AreLists partition.now listing.now.representatives.items listing.now.lists.items }
     requires few { length nodes.now < 2 ^ 31 }
     requires within { All (λ state. state < length nodes.now) candidates.now }
-    ensures moves { IfOk result (λ moves. AreMoves partition.now.classes.items listing.now.representatives.items nodes.now partition.now.count moves.signatures moves.states.items moves.numbers.items moves.firsts.items) }
+    ensures moves { IfOk result (λ moves. AreFound partition.now listing.now.representatives.items nodes.now moves) }
     ensures moved { IfOk result (λ moves. (state : ℕ) → Contains candidates.now state
-        → slice_index nodes.now state ≢ chosen_node partition.now.classes.items listing.now.representatives.items nodes.now state → Contains moves.states.items state) }
+        → IsOther partition.now.classes.items listing.now.representatives.items nodes.now state → Contains moves.states.items state) }
 {
     let mut moves = Moves {
         signatures: Signatures::new(alloc),

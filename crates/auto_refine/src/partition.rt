@@ -1,11 +1,10 @@
 //! The coarsest partition of the states that keeps flags and next states apart.
-ghost use Rattle.std.specs.Prelude.{◌≡◌, ◌<◌, ◌≤◌, ◌^◌, ◌+◌, ◌++◌, [], All, Contains, length, map, replicate, IfOk, OnOk};
+ghost use Rattle.std.specs.Prelude.{◌≡◌, ◌<◌, ◌^◌, ◌+◌, [], All, Contains, length, IfOk, OnOk};
 ghost use Rattle.auto_core.specs.Automaton.{IsAutomaton};
 ghost use Rattle.auto_refine.specs.Coarsest.{IsPartition, IsCoarsest};
-ghost use Rattle.auto_refine.specs.Listing.{IsListing, AreListed};
-ghost use Rattle.auto_refine.specs.Moves.{IsSplit, AreSettled, KeepsOthers};
-ghost use Rattle.auto_refine.specs.Put.{IsPut};
-ghost use Rattle.auto_refine.specs.Refining.{IsLedTo, LeadsInto, IsRefined, IsFlag, IsSound};
+ghost use Rattle.auto_refine.specs.Listing.{AreLists};
+ghost use Rattle.auto_refine.specs.Moves.{IsSplit, AreMoved, AreSettled, CountGrows, KeepsOthers};
+ghost use Rattle.auto_refine.specs.Refining.{IsLedTo, IsSettled, LeadsInto, IsRefined, IsFlag, IsSound};
 
 use crate::classes::Partition;
 use crate::listing::{Listing, add_lists, all_states, list_each, list_states};
@@ -30,10 +29,7 @@ fn move_states(
     requires numbers { All (λ number. number < partition.old.count + length moves.now.firsts.items) moves.now.numbers.items }
     requires lists { length listing.old.lists.items ≡ partition.old.count }
     requires few { partition.old.count + length moves.now.firsts.items < 2 ^ 32 }
-    ensures classes { OnOk result (IsPut partition.old.classes.items moves.now.states.items moves.now.numbers.items partition.new.classes.items) }
-    ensures count { OnOk result (partition.new.count ≡ partition.old.count + length moves.now.firsts.items) }
-    ensures representatives { OnOk result (listing.new.representatives.items ≡ listing.old.representatives.items ++ moves.now.firsts.items) }
-    ensures lists { OnOk result (AreListed (map (λ list. list.items) listing.old.lists.items ++ replicate (length moves.now.firsts.items) []) moves.now.states.items moves.now.numbers.items (map (λ list. list.items) listing.new.lists.items)) }
+    ensures { OnOk result (AreMoved moves.now partition.old partition.new listing.old listing.new) }
 {
     put(
         partition.classes.as_mut_slice(),
@@ -63,14 +59,13 @@ fn split(
     listing: &mut Listing,
 ) -> Result<Vec<u32>, AllocError>
     requires partition { IsPartition (length nodes.now) partition.old.classes.items partition.old.count }
-    requires listing { IsListing partition.old.classes.items partition.old.count listing.old.representatives.items (map (λ list. list.items) listing.old.lists.items) }
+    requires listing { AreLists partition.old listing.old.representatives.items listing.old.lists.items }
     requires stale { All (λ state. state < length nodes.now) stale.now }
     requires settled { AreSettled partition.old.classes.items listing.old.representatives.items nodes.now stale.now }
     requires few { length nodes.now < 2 ^ 31 }
     ensures split { OnOk result (IsSplit partition.old.classes.items nodes.now partition.new.classes.items partition.new.count) }
-    ensures grown { IfOk result (λ moved. 0 < length moved.items → partition.old.count < partition.new.count) }
-    ensures kept { OnOk result (partition.old.count ≤ partition.new.count) }
-    ensures listing { OnOk result (IsListing partition.new.classes.items partition.new.count listing.new.representatives.items (map (λ list. list.items) listing.new.lists.items)) }
+    ensures count { IfOk result (λ moved. CountGrows partition.old.count partition.new.count moved.items) }
+    ensures listing { OnOk result (AreLists partition.new listing.new.representatives.items listing.new.lists.items) }
     ensures settled { OnOk result (AreSettled partition.new.classes.items listing.new.representatives.items nodes.now []) }
     ensures within { IfOk result (λ moved. All (λ state. state < length nodes.now) moved.items) }
     ensures moved { IfOk result (λ moved. KeepsOthers partition.old.classes.items partition.new.classes.items moved.items) }
@@ -150,13 +145,12 @@ fn start(alloc: Global, a: &Auto) -> Result<Refining, AllocError>
 fn round(a: &Auto, refining: &mut Refining, stale: &[u32]) -> Result<Vec<u32>, AllocError>
     requires led { IsLedTo a.now refining.old }
     requires stale { All (λ state. state < length a.now.accept) stale.now }
-    requires settled { AreSettled refining.old.partition.classes.items refining.old.listing.representatives.items refining.old.led.items stale.now }
+    requires settled { IsSettled refining.old stale.now }
     ensures refined { IfOk result (λ moved. IsRefined a.now refining.new (LeadsInto a.now moved.items)) }
     ensures within { IfOk result (λ moved. All (λ state. state < length a.now.accept) moved.items) }
-    ensures grown { IfOk result (λ moved. 0 < length moved.items → refining.old.partition.count < refining.new.partition.count) }
-    ensures kept { OnOk result (refining.old.partition.count ≤ refining.new.partition.count) }
+    ensures count { IfOk result (λ moved. CountGrows refining.old.partition.count refining.new.partition.count moved.items) }
 {
-    let _ = a.states();
+    let _ = a.states(); // for its invariant
     let moved = split(
         refining.diagrams.alloc(),
         refining.led.as_slice(),
@@ -173,8 +167,7 @@ fn next_round(a: &Auto, refining: &mut Refining, stale: &[u32]) -> Result<Vec<u3
     requires stale { All (λ state. state < length a.now.accept) stale.now }
     ensures refined { IfOk result (λ moved. IsRefined a.now refining.new (LeadsInto a.now moved.items)) }
     ensures within { IfOk result (λ moved. All (λ state. state < length a.now.accept) moved.items) }
-    ensures grown { IfOk result (λ moved. 0 < length moved.items → refining.old.partition.count < refining.new.partition.count) }
-    ensures kept { OnOk result (refining.old.partition.count ≤ refining.new.partition.count) }
+    ensures count { IfOk result (λ moved. CountGrows refining.old.partition.count refining.new.partition.count moved.items) }
 {
     lead_again(
         &mut refining.diagrams,

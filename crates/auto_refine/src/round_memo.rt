@@ -1,8 +1,8 @@
 //! Answers for nodes that serve one round of a refinement after another, and one row of a numbering after another.
-ghost use Rattle.std.specs.Prelude.{◌≡◌, ℕ, None, IfOk, OnOk};
-ghost use Rattle.letter_diagram.specs.NodeMemo.{answer_of, Remembers};
+ghost use Rattle.std.specs.Prelude.{◌≡◌, ℕ, None, IfOk};
+ghost use Rattle.letter_diagram.specs.NodeMemo.{answer_of};
 
-use letter_diagram::{Node, NodeMemo};
+use letter_diagram::{Memo, Node, NodeMemo};
 use std::alloc::{AllocError, Global};
 use std::marker::Model;
 
@@ -36,22 +36,6 @@ impl RoundMemo {
         })
     }
 
-    /// The answer for a node.
-    pub fn get(&self, node: Node) -> Option<Node>
-        ensures { result ≡ answer_of self.now node }
-    {
-        self.answers.get(node)
-    }
-
-    /// A node past those that the memo has room for is not remembered.
-    pub fn insert(&mut self, node: Node, answer: Node) -> Result<(), AllocError>
-        ensures { OnOk result (Remembers self.old self.new node answer) }
-    {
-        self.answered.push(node)?;
-        self.answers.insert(node, answer);
-        Ok(())
-    }
-
     /// Forgets all answers.
     pub fn clear(&mut self)
         ensures none { (node : ℕ) → answer_of self.new node ≡ None }
@@ -60,5 +44,20 @@ impl RoundMemo {
             self.answers.remove(*node);
         }
         self.answered.clear();
+    }
+}
+
+/// A node past those that the memo has room for is not remembered.
+impl Memo for RoundMemo {
+    ghost answers = { answer_of };
+
+    fn answer(&self, node: Node) -> Option<Node> {
+        self.answers.get(node)
+    }
+
+    fn remember(&mut self, node: Node, made: Node) -> Result<(), AllocError> {
+        self.answered.push(node)?;
+        self.answers.insert(node, made);
+        Ok(())
     }
 }

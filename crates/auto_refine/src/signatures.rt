@@ -1,5 +1,5 @@
 //! Signatures of states, numbered in the order in which they were first seen.
-ghost use Rattle.std.specs.Prelude.{◌≡◌, ◌≢◌, ◌≤◌, ◌<◌, ◌^◌, ◌+◌, ◌-◌, [], List, ℕ, length, slice_get, Some, IfOk, OnOk, OnErr, AllPairs};
+ghost use Rattle.std.specs.Prelude.{◌≡◌, ◌≢◌, ◌≤◌, ◌<◌, ◌^◌, ◌+◌, ◌-◌, [], List, ℕ, length, slice_get, Some, IfOk, OnOk, AllPairs};
 ghost use Rattle.letter_diagram.specs.Numbering.{Numbers, PairsKept};
 
 use indexmap::IndexSet;
@@ -22,6 +22,7 @@ impl Model for Signatures {
 }
 
 impl Signatures {
+    /// No signature.
     pub fn new(alloc: Global) -> Self
         ensures { result ≡ [] }
     {
@@ -45,7 +46,6 @@ impl Signatures {
         ensures signatures { OnOk result (Numbers self.old self.new (class, node)) }
         ensures kept { PairsKept self.old self.new }
         ensures room { length self.new ≤ length self.old + 1 }
-        ensures err { OnErr result (self.new ≡ self.old) }
     {
         let (number, _) = self.seen.insert_full((class, node))?;
         Ok(number as u32)

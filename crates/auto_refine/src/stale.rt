@@ -1,8 +1,8 @@
 //! Nodes that lead the rows to the classes of a partition, kept while no state to which a row leads moves to another class.
-ghost use Rattle.std.specs.Prelude.{◌≡◌, ◌<◌, ◌^◌, ℕ, All, Contains, length, map, IfOk, OnOk};
+ghost use Rattle.std.specs.Prelude.{◌≡◌, ◌<◌, ◌^◌, ℕ, All, Contains, length, IfOk, OnOk};
 ghost use Rattle.letter_diagram.specs.Diagram.{Grows};
-ghost use Rattle.auto_refine.specs.Coarsest.{IsPartition};
-ghost use Rattle.auto_refine.specs.Listing.{IsListing};
+ghost use Rattle.auto_refine.specs.Coarsest.{AreClasses, IsPartition};
+ghost use Rattle.auto_refine.specs.Listing.{AreLists};
 ghost use Rattle.auto_ways.specs.RowNodes.{AreRowNodes};
 ghost use Rattle.auto_refine.specs.Led.{AreLedRows, IsShared, AreStale, AreLedAgain};
 ghost use Rattle.auto_ways.specs.Ways.{AreRowWays};
@@ -25,11 +25,12 @@ fn sharing(
     listing: &Listing,
     states: &[u32],
 ) -> Result<Vec<u32>, AllocError>
-    requires partition { IsPartition (length partition.now.classes.items) partition.now.classes.items partition.now.count }
-    requires listing { IsListing partition.now.classes.items partition.now.count listing.now.representatives.items (map (λ list. list.items) listing.now.lists.items) }
+    requires partition { AreClasses partition.now }
+    requires listing { AreLists partition.now listing.now.representatives.items listing.now.lists.items }
     requires within { All (λ state. state < length partition.now.classes.items) states.now }
     ensures within { IfOk result (λ sharing. All (λ state. state < length partition.now.classes.items) sharing.items) }
-    ensures all { IfOk result (λ sharing. (state : ℕ) → Contains states.now state → IsShared partition.now.classes.items state → Contains sharing.items state) }
+    ensures all { IfOk result (λ sharing. (state : ℕ) → Contains states.now state
+        → IsShared partition.now.classes.items state → Contains sharing.items state) }
 {
     let mut sharing = Vec::new(alloc);
     for state in states {
@@ -47,11 +48,12 @@ pub fn sharing_states(
     partition: &Partition,
     listing: &Listing,
 ) -> Result<Vec<u32>, AllocError>
-    requires partition { IsPartition (length partition.now.classes.items) partition.now.classes.items partition.now.count }
+    requires partition { AreClasses partition.now }
     requires few { length partition.now.classes.items < 2 ^ 31 }
-    requires listing { IsListing partition.now.classes.items partition.now.count listing.now.representatives.items (map (λ list. list.items) listing.now.lists.items) }
+    requires listing { AreLists partition.now listing.now.representatives.items listing.now.lists.items }
     ensures within { IfOk result (λ sharing. All (λ state. state < length partition.now.classes.items) sharing.items) }
-    ensures all { IfOk result (λ sharing. (state : ℕ) → state < length partition.now.classes.items → IsShared partition.now.classes.items state → Contains sharing.items state) }
+    ensures all { IfOk result (λ sharing. (state : ℕ) → state < length partition.now.classes.items
+        → IsShared partition.now.classes.items state → Contains sharing.items state) }
 {
     let states = all_states(alloc, partition.classes.len())?;
     let sharing = sharing(alloc, partition, listing, states.as_slice())?;
@@ -69,7 +71,7 @@ pub fn stale_states(
 ) -> Result<Vec<u32>, AllocError>
     requires ways { AreRowWays a.now ways.now }
     requires partition { IsPartition (length a.now.accept) partition.now.classes.items partition.now.count }
-    requires listing { IsListing partition.now.classes.items partition.now.count listing.now.representatives.items (map (λ list. list.items) listing.now.lists.items) }
+    requires listing { AreLists partition.now listing.now.representatives.items listing.now.lists.items }
     requires within { All (λ state. state < length a.now.accept) moved.now }
     ensures { IfOk result (λ stale. AreStale a.now partition.now.classes.items moved.now stale.items) }
 {
@@ -111,8 +113,7 @@ pub fn lead(
 ) -> Result<Vec<Node>, AllocError>
     requires rows { AreRowNodes a.now rows.now }
     requires partition { IsPartition (length a.now.accept) partition.now.classes.items partition.now.count }
-    ensures led { IfOk result (λ led. AreLedRows a.now diagrams.new partition.now.classes.items led.items) }
-    ensures grows { Grows diagrams.old diagrams.new }
+    ensures { IfOk result (λ led. AreLedRows a.now diagrams.new partition.now.classes.items led.items) }
 {
     let led = lead_nodes(
         a.diagrams(),

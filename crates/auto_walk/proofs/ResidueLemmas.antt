@@ -1,14 +1,13 @@
 -- The walk over residues.
-use Rattle.std.proofs.Common.{◌≡◌, ◌↔◌, ◌⊎◌, ℕ, suc, ◌+◌, ◌-◌, ◌*◌, ◌%◌, ◌^◌, ◌<◌, pos, ◌+ℤ◌, ◌-ℤ◌, true, List, [], ◌∷◌, length, get_or, slice_get, Some, nat_eq, if◌then◌else◌, arith, refl, sym, ap, ◌∙◌, subst, inl, inr}
+use Rattle.std.proofs.Common.{◌≡◌, ◌↔◌, ℕ, suc, ◌+◌, ◌-◌, ◌*◌, ◌%◌, ◌^◌, ◌<◌, pos, ◌+ℤ◌, ◌-ℤ◌, true, List, [], ◌∷◌, length, get_or, slice_get, Some, nat_eq, if◌then◌else◌, arith, refl, sym, ap, ◌∙◌, subst, inl, inr}
 use Rattle.std.specs.List.{fold}
 use Rattle.std.specs.Int.{bit_at, int_rem_euclid}
 use Rattle.std.proofs.lemmas.Int.{int_rem_euclid_is}
 use Rattle.std.proofs.lemmas.Grind.{common_steps}
-use Rattle.std.proofs.lemmas.Bool.{cases_eq}
 use Rattle.std.proofs.lemmas.Nat.{pow_pos, pow-add, mul-mod_second}
 use Rattle.std.proofs.Math.Nat.{mod-add-mod, mod-eq_of_lt}
 use Rattle.std.proofs.lemmas.Int.{ints}
-use Rattle.std.proofs.lemmas.Nat.Bits.{bit_at-lt}
+use Rattle.track_word.proofs.LetterBits.{bit_cases}
 use Rattle.track_word.specs.declared.tracks.Var.{Var}
 use Rattle.track_word.specs.Word.{IsWord, val, low_value, RepeatKeepsValues}
 use Rattle.track_word.specs.Tracks.{word_values}
@@ -26,9 +25,6 @@ use Rattle.auto_walk.proofs.WalkLemmas.{one_place}
 -- one of two numbers by the last bit of a letter
 abbrev pub by_bit : ℕ → ℕ → ℕ → ℕ
 by_bit low high letter = if nat_eq (bit_at letter 0) 0 then low else high
-
-last_bit : (letter : ℕ) → (bit_at letter 0 ≡ 0) ⊎ (bit_at letter 0 ≡ 1)
-last_bit letter = let below = bit_at-lt letter 0 in elim (cases_eq (bit_at letter 0) 0) [ inl e ↦ inl e | inr ne ↦ inr (omega (arith, below, ne)) ]
 
 -- a row by one bit, over one track
 pub IsRow-bits : (w : Walker) (shapes : List Shape) (old new : List (List ℕ)) (lead : ℕ → List ℕ) (low high node : ℕ) → length w.tracks ≡ 1
@@ -55,14 +51,14 @@ choice : (low high letter bit : ℕ) → bit_at letter 0 ≡ bit → by_bit low 
 choice low high letter bit e = ap (λ b. if nat_eq b 0 then low else high) e
 
 pub first-by_bit : (modulus letter : ℕ) → bit_at letter 0 * (modulus - 1) ∷ [] ≡ by_bit 0 (modulus - 1) letter ∷ []
-first-by_bit modulus letter = ap (λ n. n ∷ []) (elim (last_bit letter) [
+first-by_bit modulus letter = ap (λ n. n ∷ []) (elim (bit_cases letter 0) [
   | inl e ↦ ap (λ b. b * (modulus - 1)) e ∙ (let none : 0 * (modulus - 1) ≡ 0 = omega arith in none) ∙ sym (choice 0 (modulus - 1) letter 0 e)
   | inr e ↦ ap (λ b. b * (modulus - 1)) e ∙ (let one : 1 * (modulus - 1) ≡ modulus - 1 = omega arith in one) ∙ sym (choice 0 (modulus - 1) letter 1 e)
 ])
 
 pub next-by_bit : (modulus letter low high : ℕ) (place : List ℕ) → low ≡ (2 * get_or place 0 0 + 0) % modulus → high ≡ (2 * get_or place 0 0 + 1) % modulus
     → next_residue modulus place letter ≡ by_bit low high letter ∷ []
-next-by_bit modulus letter low high place l h = ap (λ n. n ∷ []) (elim (last_bit letter) [
+next-by_bit modulus letter low high place l h = ap (λ n. n ∷ []) (elim (bit_cases letter 0) [
   | inl e ↦ ap (λ b. (2 * get_or place 0 0 + b) % modulus) e ∙ sym l ∙ sym (choice low high letter 0 e)
   | inr e ↦ ap (λ b. (2 * get_or place 0 0 + b) % modulus) e ∙ sym h ∙ sym (choice low high letter 1 e)
 ])
@@ -88,7 +84,7 @@ fold-residue modulus (letter ∷ letters) n =
     ap (λ k. fold (next_residue modulus) (k ∷ []) letters) step ∙ fold-residue modulus letters (2 * n + bit_at letter 0) ∙ ap (λ k. k % modulus ∷ []) (spread n (bit_at letter 0) (2 ^ length letters) (2 ^ suc (length letters)) (low_value letters 0) twice)
 
 sign-below : (modulus sign : ℕ) → 0 < modulus → bit_at sign 0 * (modulus - 1) < modulus
-sign-below modulus sign positive = elim (last_bit sign) [
+sign-below modulus sign positive = elim (bit_cases sign 0) [
   | inl e ↦ subst (λ b. b * (modulus - 1) < modulus) (sym e) (omega arith)
   | inr e ↦ subst (λ b. b * (modulus - 1) < modulus) (sym e) (omega arith)
 ]

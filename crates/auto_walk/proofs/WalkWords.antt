@@ -6,17 +6,18 @@ use Rattle.std.proofs.lemmas.List.{length-map}
 use Rattle.std.proofs.lemmas.List.Elements.{All-head, All-tail, All-from_get_or, All-map, All-weaker, All-contains}
 use Rattle.std.proofs.lemmas.Nat.{mod_below, pow_pos}
 use Rattle.std.proofs.lemmas.Option.{slice_get-get_or, slice_get_within, get_or_from_slice_get, same_Some, slice_get-map}
+use Rattle.track_word.proofs.LetterBits.{low_bits}
 use Rattle.track_word.specs.declared.tracks.Var.{Var}
 use Rattle.track_word.specs.Word.{IsWord}
 use Rattle.letter_diagram.specs.declared.diagrams.Shape.{Shape}
 use Rattle.letter_diagram.specs.Diagram.{map_at, LooksBelow, Grows}
+use Rattle.letter_diagram.proofs.Narrow.{LooksBelow-grows}
 use Rattle.auto_core.specs.Automaton.{Automaton, next_state, run, state_of, is_final}
 use Rattle.auto_core.specs.Rows.{row_of, rows_of, dense, AreRows as AreRowsOf}
-use Rattle.auto_core.proofs.RowLemmas.{low_bits, get_or-row_of, next_state-dense}
+use Rattle.auto_core.proofs.RowLemmas.{get_or-row_of, next_state-dense}
 use Rattle.auto_walk.specs.Walker.{Walker, place_of, IsReached, AreTracks, MoreThan, IsWalked}
 use Rattle.auto_walk.specs.Rows.{AreNumbered, IsRow, LeadsOn, AreRows, Extends}
 use Rattle.auto_walk.proofs.WalkLemmas.{length_le-among, All-at, apart_in_map, one_place}
-use Rattle.auto_walk.proofs.RowLemmas.{LooksBelow-kept}
 
 -- a node that looks below a bound gives each letter the value of one of the letters below the bound's power
 pub map_at-low : (shapes : List Shape) (node bound letter : ℕ) → LooksBelow shapes node bound → map_at shapes node letter ≡ map_at shapes node (letter % 2 ^ bound)
@@ -32,7 +33,7 @@ pub IsFirstRow-kept : (w : Walker) (old_shapes shapes : List Shape) (none old ne
     → IsRow w old_shapes none old w.first node → IsFirstRow w shapes new node
 IsFirstRow-kept w old_shapes shapes none old new node grows more row = record {
   known = let k = row.known in let g = grows.longer in omega (arith, k, g);
-  narrow = LooksBelow-kept old_shapes shapes node (length w.tracks) grows row.known row.narrow;
+  narrow = LooksBelow-grows old_shapes shapes node (length w.tracks) row.known grows row.narrow;
   leads = λ letter below. ap (slice_get new) (grows.map node letter row.known) ∙ more.kept _ _ (row.leads letter below);
 }
 

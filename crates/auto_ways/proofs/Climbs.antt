@@ -79,7 +79,8 @@ AddsListed-trans first second third x f s = record {
 pub AreListedBelow-none : (lists : List (SmallVec ℕ)) (bound : ℕ) → All (λ list. list.items ≡ []) lists → AreListedBelow lists bound
 AreListedBelow-none lists bound none = record {
   below = λ k x l.
-      let empty : l.list.items ≡ [] = subst (λ v. v.items ≡ []) (get_or_from_slice_get lists k l.list l.list l.is) (All-get_or (λ list. list.items ≡ []) lists k l.list (slice_get_within lists k l.list l.is) none) in
+      let empty : l.list.items ≡ [] = subst (λ v. v.items ≡ []) (get_or_from_slice_get lists k l.list l.list l.is)
+      (All-get_or (λ list. list.items ≡ []) lists k l.list (slice_get_within lists k l.list l.is) none) in
       let there : Contains [] x = subst (λ xs. Contains xs x) empty l.has in
       let less = there.1 in
       absurd (omega (arith, less));
@@ -95,9 +96,11 @@ AreListedBelow-adds old new bound b adds = record {
 
 -- the list at a place
 pub AreListedBelow-all : (lists : List (SmallVec ℕ)) (bound at : ℕ) (list : SmallVec ℕ) → AreListedBelow lists bound → slice_get lists at ≡ Some list → All (λ x. x < bound) list.items
-AreListedBelow-all lists bound at list b is = All-from_get_or (λ x. x < bound) list.items 0 (λ i inside. b.below at (get_or list.items i 0) (record { list = list; is = is; has = Contains-get_or list.items i 0 inside }))
+AreListedBelow-all lists bound at list b is = All-from_get_or (λ x. x < bound) list.items 0
+    (λ i inside. b.below at (get_or list.items i 0) (record { list = list; is = is; has = Contains-get_or list.items i 0 inside }))
 
-pub IsLinked-adds : (above more_above leaves more_leaves : List (SmallVec ℕ)) (number place : ℕ) (way : Way) → AddsListed above more_above number → AddsListed leaves more_leaves number → IsLinked above leaves place way → IsLinked more_above more_leaves place way
+pub IsLinked-adds : (above more_above leaves more_leaves : List (SmallVec ℕ)) (number place : ℕ) (way : Way) → AddsListed above more_above number
+    → AddsListed leaves more_leaves number → IsLinked above leaves place way → IsLinked more_above more_leaves place way
 IsLinked-adds above more_above leaves more_leaves number place (State state) up down l = down.kept state place l
 IsLinked-adds above more_above leaves more_leaves number place (Both low high) up down l = (up.kept low place l.0, up.kept high place l.1)
 
@@ -129,7 +132,8 @@ MarksMore-trans a b c u v w f s = record {
   work = let x = f.work in let y = s.work in omega (arith, x, y);
 }
 
-pub MarksMore-set : (marks : List Bool) (waiting new : List ℕ) (place : ℕ) → place < length marks → get_or marks place false ≡ false → new ≡ waiting ++ place ∷ [] → MarksMore marks waiting (set marks place true) new
+pub MarksMore-set : (marks : List Bool) (waiting new : List ℕ) (place : ℕ) → place < length marks → get_or marks place false ≡ false
+    → new ≡ waiting ++ place ∷ [] → MarksMore marks waiting (set marks place true) new
 MarksMore-set marks waiting new place known off is = rw is (record {
   size = length-set marks place true;
   kept = λ p on. elim (cases_eq p place) [
@@ -146,8 +150,11 @@ MarksMore-set marks waiting new place known off is = rw is (record {
 })
 
 -- ---- climbing
-pub AreClimbed-step : (above owners : List (SmallVec ℕ)) (marks new : List Bool) (waiting rest more found : List ℕ) (place : ℕ) (next listed : SmallVec ℕ) → AreClimbed above owners marks waiting found → waiting ≡ rest ++ place ∷ []
-    → slice_get above place ≡ Some next → slice_get owners place ≡ Some listed → MarksMore marks rest new more → All (λ p. get_or new p false ≡ true) next.items → AreClimbed above owners new more (found ++ listed.items)
+pub AreClimbed-step : (above owners : List (SmallVec ℕ)) (marks new : List Bool) (waiting rest more found : List ℕ) (place : ℕ)
+    (next listed : SmallVec ℕ)
+    → AreClimbed above owners marks waiting found → waiting ≡ rest ++ place ∷ []
+    → slice_get above place ≡ Some next → slice_get owners place ≡ Some listed → MarksMore marks rest new more
+    → All (λ p. get_or new p false ≡ true) next.items → AreClimbed above owners new more (found ++ listed.items)
 AreClimbed-step above owners marks new waiting rest more found place next listed c popped next_is listed_is m marked = record {
   done = λ p on. elim (m.waits p on) [
     | inr there ↦ inl there
@@ -184,7 +191,8 @@ AreMarks-climbed a w states marks found r started done = record { up = λ place 
       | inr h ↦ (done high h).up place linked.1
     ]
 
-pub found_above : (a : Automaton) (w : Ways) (states : List ℕ) (marks : List Bool) (found : List ℕ) → AreRowWays a w → AreStarted states w.leaves.items marks → AreClimbed w.above.items w.owners.items marks [] found
+pub found_above : (a : Automaton) (w : Ways) (states : List ℕ) (marks : List Bool) (found : List ℕ) → AreRowWays a w
+    → AreStarted states w.leaves.items marks → AreClimbed w.above.items w.owners.items marks [] found
     → (state letter : ℕ) → state < length a.accept → letter < width a → Contains states (next_state a state letter) → Contains found state
 found_above a w states marks found r started c state letter known below there =
     let place = get_or r.rows state 0 in
@@ -206,7 +214,8 @@ found_above a w states marks found r started c state letter known below there =
         absurd (true≢false (sym is ∙ none))
 
 -- ---- state by state
-pub AreStarted-more : (states : List ℕ) (leaves : List (SmallVec ℕ)) (marks new : List Bool) (index : ℕ) (list : SmallVec ℕ) → ((k place : ℕ) → k < index → IsListed leaves (get_or states k 0) place → get_or marks place false ≡ true)
+pub AreStarted-more : (states : List ℕ) (leaves : List (SmallVec ℕ)) (marks new : List Bool) (index : ℕ) (list : SmallVec ℕ)
+    → ((k place : ℕ) → k < index → IsListed leaves (get_or states k 0) place → get_or marks place false ≡ true)
     → ((place : ℕ) → get_or marks place false ≡ true → get_or new place false ≡ true) → slice_get leaves (get_or states index 0) ≡ Some list → All (λ place. get_or new place false ≡ true) list.items
     → (k place : ℕ) → k < index + 1 → IsListed leaves (get_or states k 0) place → get_or new place false ≡ true
 AreStarted-more states leaves marks new index list before kept is marked k place less l = elim (cases_lt k index) [
@@ -216,27 +225,32 @@ AreStarted-more states leaves marks new index list before kept is marked k place
       All-contains (λ p. get_or new p false ≡ true) list.items place marked (listed_in leaves (get_or states index 0) place list is (subst (λ i. IsListed leaves (get_or states i 0) place) same l))
 ]
 
-pub AreStarted-from : (states : List ℕ) (leaves : List (SmallVec ℕ)) (marks : List Bool) → ((k place : ℕ) → k < length states → IsListed leaves (get_or states k 0) place → get_or marks place false ≡ true) → AreStarted states leaves marks
+pub AreStarted-from : (states : List ℕ) (leaves : List (SmallVec ℕ)) (marks : List Bool)
+    → ((k place : ℕ) → k < length states → IsListed leaves (get_or states k 0) place → get_or marks place false ≡ true)
+    → AreStarted states leaves marks
 AreStarted-from states leaves marks each = record {
   marked = λ state place there l.
       let here = get_or_read states there.0 state there.1 (sym there.2) 0 in
       each there.0 place there.1 (subst (λ s. IsListed leaves s place) here l);
 }
 
-pub AreStarted-kept : (states : List ℕ) (leaves : List (SmallVec ℕ)) (marks new : List Bool) → ((place : ℕ) → get_or marks place false ≡ true → get_or new place false ≡ true) → AreStarted states leaves marks → AreStarted states leaves new
+pub AreStarted-kept : (states : List ℕ) (leaves : List (SmallVec ℕ)) (marks new : List Bool)
+    → ((place : ℕ) → get_or marks place false ≡ true → get_or new place false ≡ true) → AreStarted states leaves marks → AreStarted states leaves new
 AreStarted-kept states leaves marks new kept s = record { marked = λ state place there l. kept place (s.marked state place there l) }
 
 -- the last of what waits, and the rest
 pub All-last : (bound place : ℕ) (waiting rest : List ℕ) → waiting ≡ rest ++ place ∷ [] → All (λ p. p < bound) waiting → place < bound
 All-last bound place waiting rest is all = All-contains (λ p. p < bound) waiting place all (subst (λ xs. Contains xs place) (sym is) (Contains-push rest place))
 
-pub All-waits : (bound place : ℕ) (marks new : List Bool) (waiting rest more : List ℕ) → length marks ≡ bound → waiting ≡ rest ++ place ∷ [] → All (λ p. p < bound) waiting → MarksMore marks rest new more → All (λ p. p < bound) more
+pub All-waits : (bound place : ℕ) (marks new : List Bool) (waiting rest more : List ℕ) → length marks ≡ bound → waiting ≡ rest ++ place ∷ []
+    → All (λ p. p < bound) waiting → MarksMore marks rest new more → All (λ p. p < bound) more
 All-waits bound place marks new waiting rest more size is all m = subst (λ n. All (λ p. p < n) more) size (m.within (subst (λ n. All (λ p. p < n) rest) (sym size)
     (All-from_get_or (λ p. p < bound) rest 0 (λ i inside. All-contains (λ p. p < bound) waiting (get_or rest i 0) all
     (subst (λ xs. Contains xs (get_or rest i 0)) (sym is) (Contains-append_left rest (place ∷ []) (get_or rest i 0) (Contains-get_or rest i 0 inside)))))))
 
 -- ---- place by place
-pub linked_more : (ways : List Way) (above more_above leaves more_leaves : List (SmallVec ℕ)) (index : ℕ) (way : Way) → ((place : ℕ) (w : Way) → place < index → slice_get ways place ≡ Some w → IsLinked above leaves place w)
+pub linked_more : (ways : List Way) (above more_above leaves more_leaves : List (SmallVec ℕ)) (index : ℕ) (way : Way)
+    → ((place : ℕ) (w : Way) → place < index → slice_get ways place ≡ Some w → IsLinked above leaves place w)
     → AddsListed above more_above index → AddsListed leaves more_leaves index → slice_get ways index ≡ Some way → IsLinked more_above more_leaves index way
     → (place : ℕ) (w : Way) → place < index + 1 → slice_get ways place ≡ Some w → IsLinked more_above more_leaves place w
 linked_more ways above more_above leaves more_leaves index way before up down at last place w less is = elim (cases_lt place index) [
@@ -247,6 +261,9 @@ linked_more ways above more_above leaves more_leaves index way before up down at
       subst (λ k. IsLinked more_above more_leaves k w) same (subst (IsLinked more_above more_leaves index) way_same last)
 ]
 
-pub owned_more : (rows : List ℕ) (owners more : List (SmallVec ℕ)) (index : ℕ) → ((state : ℕ) → state < index → IsListed owners (get_or rows state 0) state) → AddsListed owners more index → IsListed more (get_or rows index 0) index
+pub owned_more : (rows : List ℕ) (owners more : List (SmallVec ℕ)) (index : ℕ)
+    → ((state : ℕ) → state < index → IsListed owners (get_or rows state 0) state) → AddsListed owners more index
+    → IsListed more (get_or rows index 0) index
     → (state : ℕ) → state < index + 1 → IsListed more (get_or rows state 0) state
-owned_more rows owners more index before adds last = below_more (λ state. IsListed more (get_or rows state 0) state) index (λ state less. adds.kept (get_or rows state 0) state (before state less)) last
+owned_more rows owners more index before adds last = below_more (λ state. IsListed more (get_or rows state 0) state) index
+    (λ state less. adds.kept (get_or rows state 0) state (before state less)) last

@@ -15,7 +15,8 @@ use Rattle.auto_ways.specs.RowNodes.{AreRowNodes}
 use Rattle.auto_ways.specs.Ways.{FitsAt, mark_of_way, AreWays, AreMarks, KeepsWays, IsPlaced, RemembersPlaced, ArePlacedRows}
 
 -- what holds of each entry of a list holds of each with one more
-pub each_push : {X : Type 0} (P : ℕ → X → Type 0) (xs : List X) (x : X) → ((k : ℕ) (y : X) → slice_get xs k ≡ Some y → P k y) → P (length xs) x → (k : ℕ) (y : X) → slice_get (xs ++ x ∷ []) k ≡ Some y → P k y
+pub each_push : {X : Type 0} (P : ℕ → X → Type 0) (xs : List X) (x : X) → ((k : ℕ) (y : X) → slice_get xs k ≡ Some y → P k y) → P (length xs) x
+    → (k : ℕ) (y : X) → slice_get (xs ++ x ∷ []) k ≡ Some y → P k y
 each_push P xs x before last k y is =
     let within = slice_get_within (xs ++ x ∷ []) k y is in
     let more = length_push xs x in
@@ -80,24 +81,35 @@ either_off : (states : ℕ → Bool) (bit : Bool) (x y : ℕ) → states x ≡ f
 either_off states true x y low high = low
 either_off states false x y low high = high
 
-pub IsPlaced-test : (shapes : List Shape) (ways : List Way) (node track low high l h : ℕ) → IsAt shapes node (Test track low high) → IsPlaced shapes ways low l → IsPlaced shapes ways high h → IsPlaced shapes (ways ++ Both l h ∷ []) node (length ways)
+pub IsPlaced-test : (shapes : List Shape) (ways : List Way) (node track low high l h : ℕ) → IsAt shapes node (Test track low high)
+    → IsPlaced shapes ways low l → IsPlaced shapes ways high h → IsPlaced shapes (ways ++ Both l h ∷ []) node (length ways)
 IsPlaced-test shapes ways node track low high l h at lp hp = record {
   within = let l = length_push ways (Both l h) in omega (arith, l);
   none = λ states marks m off letter.
       let before = AreMarks-before ways (ways ++ Both l h ∷ []) states marks (KeepsWays-push ways (Both l h)) m in
       let both = or_false (get_or marks l false) (get_or marks h false) (off_below (mark_of_way states marks (Both l h)) (m.up (length ways) (Both l h) (last_way ways (Both l h))) off) in
       ap states (at.map letter)
-      ∙ either_off states (nat_eq (bit_at letter track) 0) (map_at shapes low letter) (map_at shapes high letter) (lp.none states marks before both.0 letter) (hp.none states marks before both.1 letter);
+      ∙ either_off states (nat_eq (bit_at letter track) 0) (map_at shapes low letter) (map_at shapes high letter)
+      (lp.none states marks before both.0 letter) (hp.none states marks before both.1 letter);
 }
 
-pub IsPlaced-low : (shapes : List Shape) (first ways : List Way) (node track low high l h : ℕ) → KeepsWays first ways → IsAt shapes node (Test track low high) → IsPlaced shapes first low l → IsPlaced shapes ways high h → IsPlaced shapes (ways ++ Both l h ∷ []) node (length ways)
+pub IsPlaced-low : (shapes : List Shape) (first ways : List Way) (node track low high l h : ℕ) → KeepsWays first ways
+    → IsAt shapes node (Test track low high) → IsPlaced shapes first low l → IsPlaced shapes ways high h
+    → IsPlaced shapes (ways ++ Both l h ∷ []) node (length ways)
 IsPlaced-low shapes first ways node track low high l h kept at lp hp = IsPlaced-test shapes ways node track low high l h at (IsPlaced-grows shapes first ways low l kept lp) hp
 
 -- ---- places that are remembered
-RemembersPlaced-grows : (states : ℕ) (shapes : List Shape) (old new : List Way) (places : List (Option ℕ)) → KeepsWays old new → AreWays states new → RemembersPlaced states shapes old places → RemembersPlaced states shapes new places
-RemembersPlaced-grows states shapes old new places kept fits all = record { size = all.size; fits = fits; placed = λ node place at. IsPlaced-grows shapes old new node place kept (all.placed node place at) }
+RemembersPlaced-grows : (states : ℕ) (shapes : List Shape) (old new : List Way) (places : List (Option ℕ)) → KeepsWays old new → AreWays states new
+    → RemembersPlaced states shapes old places → RemembersPlaced states shapes new places
+RemembersPlaced-grows states shapes old new places kept fits all = record {
+  size = all.size;
+  fits = fits;
+  placed = λ node place at. IsPlaced-grows shapes old new node place kept (all.placed node place at);
+}
 
-RemembersPlaced-set : (states : ℕ) (shapes : List Shape) (ways : List Way) (places : List (Option ℕ)) (node place : ℕ) → RemembersPlaced states shapes ways places → node < length places → IsPlaced shapes ways node place → RemembersPlaced states shapes ways (set places node (Some place))
+RemembersPlaced-set : (states : ℕ) (shapes : List Shape) (ways : List Way) (places : List (Option ℕ)) (node place : ℕ)
+    → RemembersPlaced states shapes ways places → node < length places → IsPlaced shapes ways node place
+    → RemembersPlaced states shapes ways (set places node (Some place))
 RemembersPlaced-set states shapes ways places node place all within is = record {
   size = length-set places node (Some place) ∙ all.size;
   fits = all.fits;
@@ -110,7 +122,8 @@ RemembersPlaced-set states shapes ways places node place all within is = record 
   ];
 }
 
-pub RemembersPlaced-next : (states : ℕ) (shapes : List Shape) (ways new : List Way) (places more : List (Option ℕ)) (way : Way) (node : ℕ) → RemembersPlaced states shapes ways places → FitsAt states (length ways) way → node < length shapes
+pub RemembersPlaced-next : (states : ℕ) (shapes : List Shape) (ways new : List Way) (places more : List (Option ℕ)) (way : Way) (node : ℕ)
+    → RemembersPlaced states shapes ways places → FitsAt states (length ways) way → node < length shapes
     → IsPlaced shapes (ways ++ way ∷ []) node (length ways) → new ≡ ways ++ way ∷ [] → more ≡ set places node (Some (length ways)) → RemembersPlaced states shapes new more
 RemembersPlaced-next states shapes ways new places more way node remembered fits known placed are updates =
     let grown = RemembersPlaced-grows states shapes ways (ways ++ way ∷ []) places (KeepsWays-push ways way) (AreWays-push states ways way remembered.fits fits) remembered in
@@ -118,10 +131,12 @@ RemembersPlaced-next states shapes ways new places more way node remembered fits
     rw (are, updates) (RemembersPlaced-set states shapes (ways ++ way ∷ []) places node (length ways) grown (omega (arith, known, size)) placed)
 
 -- ---- the rows of an automaton
-pub placed_push : (shapes : List Shape) (old new : List Way) (rows places : List ℕ) (index place : ℕ) → KeepsWays old new → length places ≡ index → ((k : ℕ) → k < index → IsPlaced shapes old (get_or rows k 0) (get_or places k 0))
+pub placed_push : (shapes : List Shape) (old new : List Way) (rows places : List ℕ) (index place : ℕ) → KeepsWays old new → length places ≡ index
+    → ((k : ℕ) → k < index → IsPlaced shapes old (get_or rows k 0) (get_or places k 0))
     → IsPlaced shapes new (get_or rows index 0) place → (k : ℕ) → k < index + 1 → IsPlaced shapes new (get_or rows k 0) (get_or (places ++ place ∷ []) k 0)
 placed_push shapes old new rows places index place kept size before last k less = elim (cases_lt k index) [
-  | inl low ↦ subst (IsPlaced shapes new (get_or rows k 0)) (sym (get_or_append_left places (place ∷ []) 0 k (omega (arith, low, size)))) (IsPlaced-grows shapes old new (get_or rows k 0) (get_or places k 0) kept (before k low))
+  | inl low ↦ subst (IsPlaced shapes new (get_or rows k 0)) (sym (get_or_append_left places (place ∷ []) 0 k (omega (arith, low, size))))
+      (IsPlaced-grows shapes old new (get_or rows k 0) (get_or places k 0) kept (before k low))
   | inr past ↦
       let same : index ≡ k = omega (arith, less, past) in
       subst (IsPlaced shapes new (get_or rows k 0)) (sym (get_or_push places place 0 k (size ∙ same))) (subst (λ n. IsPlaced shapes new (get_or rows n 0) place) same last)

@@ -11,5 +11,6 @@ AreRowNodes-own a over = record {
   known = over.nodes.rows_known;
   narrow = over.nodes.rows_narrow;
   within = over.nodes.rows_within;
-  leads = λ state letter known below. sym (ap (λ l. get_or l (state * width a + letter) 0) over.next ∙ get_or-rows_of a.shapes (width a) a.row_nodes state letter 0 (omega (arith, known, over.nodes.rows_size)) below);
+  leads = λ state letter known below. sym (ap (λ l. get_or l (state * width a + letter) 0) over.next ∙ get_or-rows_of a.shapes (width a) a.row_nodes
+      state letter 0 (omega (arith, known, over.nodes.rows_size)) below);
 }

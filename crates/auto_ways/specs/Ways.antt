@@ -111,6 +111,10 @@ pub record MarksMore (old : List Bool) (old_waiting : List ℕ) (new : List Bool
   pub within : All (λ place. place < length old) old_waiting → All (λ place. place < length old) waiting
   pub work : work_left new waiting ≤ work_left old old_waiting
 
+-- what had a mark has one
+abbrev pub KeepsMarks : List Bool → List Bool → Type 0
+KeepsMarks old new = (place : ℕ) → slice_index_or old place false ≡ true → slice_index_or new place false ≡ true
+
 -- the leaves of some states are marked
 pub record AreStarted (states : List ℕ) (leaves : List (SmallVec ℕ)) (marks : List Bool) : Type 0 where
   pub marked : (state place : ℕ) → Contains states state → IsListed leaves state place → slice_index_or marks place false ≡ true
@@ -123,3 +127,12 @@ pub record IsClimbed (above owners : List (SmallVec ℕ)) (marks : List Bool) (f
 -- the marked places that don't wait any more are done
 pub record AreClimbed (above owners : List (SmallVec ℕ)) (marks : List Bool) (waiting found : List ℕ) : Type 0 where
   pub done : (place : ℕ) → slice_index_or marks place false ≡ true → Contains waiting place ⊎ IsClimbed above owners marks found place
+
+-- what is found is below each bound of the owners
+abbrev pub AreOwnersBelow : List (SmallVec ℕ) → List ℕ → Type 0
+AreOwnersBelow owners found = (bound : ℕ) → AreListedBelow owners bound → All (λ state. state < bound) found
+
+-- states of an automaton among which are all that a letter leads to one of some states
+pub record AreLeading (a : Automaton) (states found : List ℕ) : Type 0 where
+  pub within : All (λ state. state < length a.accept) found
+  pub all : (state letter : ℕ) → state < length a.accept → letter < width a → Contains states (next_state a state letter) → Contains found state

@@ -8,6 +8,6 @@ use letter_diagram::Node;
 pub fn row_nodes(a: &Auto) -> &[Node]
     ensures { AreRowNodes a.now result.now }
 {
-    let _ = a.diagrams();
+    let _ = a.diagrams(); // for its invariant
     a.row_nodes()
 }

@@ -2,8 +2,7 @@
 ghost use Rattle.std.specs.Prelude.{◌≡◌, ◌<◌, ◌++◌, ◌∷◌, [], ℕ, true, false, length, All, Contains, slice_index_or, slice_set, Some, IfOk, OnOk};
 ghost use Rattle.letter_diagram.specs.Diagram.{map_at};
 ghost use Rattle.auto_ways.specs.RowNodes.{AreRowNodes};
-ghost use Rattle.auto_ways.specs.Ways.{FitsAt, AreWays, KeepsWays, IsPlaced, RemembersPlaced, ArePlacedRows, AreRowWays, AreWaysUp, AreOwners, IsLinked, AddsListed, AreListedBelow, MarksMore, AreStarted, AreClimbed};
-ghost use Rattle.auto_core.specs.Automaton.{width, next_state};
+ghost use Rattle.auto_ways.specs.Ways.{FitsAt, AreWays, KeepsWays, IsPlaced, RemembersPlaced, ArePlacedRows, AreRowWays, AreWaysUp, AreOwners, IsLinked, AddsListed, AreListedBelow, MarksMore, AreStarted, KeepsMarks, AreClimbed, AreOwnersBelow, AreLeading};
 
 use auto_core::Auto;
 use letter_diagram::{Diagrams, Node, Shape};
@@ -251,8 +250,8 @@ fn climb(
     requires within { All (λ place. place < length marks.old) waiting.items }
     requires waits { (place : ℕ) → slice_index_or marks.old place false ≡ true → Contains waiting.items place }
     ensures climbed { IfOk result (λ found. AreClimbed above.now owners.now marks.new [] found.items) }
-    ensures kept { OnOk result ((place : ℕ) → slice_index_or marks.old place false ≡ true → slice_index_or marks.new place false ≡ true) }
-    ensures within { IfOk result (λ found. (bound : ℕ) → AreListedBelow owners.now bound → All (λ state. state < bound) found.items) }
+    ensures kept { OnOk result (KeepsMarks marks.old marks.new) }
+    ensures within { IfOk result (λ found. AreOwnersBelow owners.now found.items) }
 {
     let mut found = Vec::new(alloc);
     while let Some(place) = waiting.pop() {
@@ -274,8 +273,7 @@ fn climb_from(
     requires states { All (λ state. state < length a.now.accept) states.now }
     requires size { length marks.old ≡ length ways.now.above.items }
     requires off { (place : ℕ) → slice_index_or marks.old place false ≡ false }
-    ensures within { IfOk result (λ found. All (λ state. state < length a.now.accept) found.items) }
-    ensures leads { IfOk result (λ found. (state letter : ℕ) → state < length a.now.accept → letter < width a.now → Contains states.now (next_state a.now state letter) → Contains found.items state) }
+    ensures { IfOk result (λ found. AreLeading a.now states.now found.items) }
 {
     let mut waiting = Vec::new(alloc);
     mark_leaves(states, ways.leaves.as_slice(), marks, &mut waiting)?;
@@ -298,8 +296,7 @@ pub fn leading_to(
 ) -> Result<Vec<u32>, AllocError>
     requires ways { AreRowWays a.now ways.now }
     requires within { All (λ state. state < length a.now.accept) states.now }
-    ensures within { IfOk result (λ found. All (λ state. state < length a.now.accept) found.items) }
-    ensures leads { IfOk result (λ found. (state letter : ℕ) → state < length a.now.accept → letter < width a.now → Contains states.now (next_state a.now state letter) → Contains found.items state) }
+    ensures { IfOk result (λ found. AreLeading a.now states.now found.items) }
 {
     let mut marks = vec![in alloc; false; ways.above.len()]?;
     let found = climb_from(alloc, a, ways, states, marks.as_mut_slice())?;

@@ -1,11 +1,9 @@
 //! Variables, by their letters.
 
+use crate::writing::separate;
 use std::alloc::Global;
 use track_word::Var;
 use trial_rows::{Fields, RowError};
-
-/// How deeply automata may be nested.
-pub const MOST_DEPTH: u8 = 60;
 
 /// The variable of a letter from `a` to `p`.
 fn var_of(field: &str) -> Result<Var, RowError> {
@@ -20,16 +18,20 @@ pub fn var(fields: &mut Fields) -> Result<Var, RowError> {
     var_of(fields.word()?)
 }
 
-/// The variables of a field, parted by commas. The field `-` has none.
-pub fn vars(alloc: Global, field: &str) -> Result<Vec<Var>, RowError> {
-    let mut list = Vec::new(alloc);
-    if field == "-" {
-        return Ok(list);
+/// The variables of the next field, parted by commas. The field `-` has none.
+pub fn vars(alloc: Global, fields: &mut Fields) -> Result<Vec<Var>, RowError> {
+    match fields.word()? {
+        "-" => Ok(Vec::new(alloc)),
+        letters => vars_of(alloc, letters),
     }
-    for part in field.split(',') {
-        list.push(var_of(part)?)?;
+}
+
+fn vars_of(alloc: Global, letters: &str) -> Result<Vec<Var>, RowError> {
+    let mut vars = Vec::new(alloc);
+    for letter in letters.split(',') {
+        vars.push(var_of(letter)?)?;
     }
-    Ok(list)
+    Ok(vars)
 }
 
 /// Writes the letter of a variable.
@@ -47,9 +49,7 @@ pub fn write_vars(out: &mut String, vars: &[Var]) -> Result<(), RowError> {
         out.push('-')?;
     }
     for (place, var) in vars.iter().enumerate() {
-        if place > 0 {
-            out.push(',')?;
-        }
+        separate(out, place, ',')?;
         write_var(out, *var)?;
     }
     Ok(())

@@ -1,18 +1,24 @@
-//! The program `automaton_trials`: reads a script of rows from the standard input, makes the automata that each row spells, and writes what
-//! the calls of the libraries answer of them. `docs/CALLS.md` says how rows are written.
+//! The program `automaton_trials`: reads a script of rows from the standard input, makes the automata or formulas that each row spells, and
+//! writes what the calls of the libraries answer of them. `docs/CALLS.md` says how rows are written.
 #![tactic(auto)]
 
 mod answers;
+mod formulas;
+mod integer_set;
 mod letters;
+mod members;
 mod rays;
 mod reduced_auto;
 mod spelling;
+mod table_text;
 mod tables;
+mod writing;
 
 use answers::write_answer;
+use formulas::write_memo;
 use rays::write_rays;
 use reduced_auto::ReducedAuto;
-use spelling::{Reader, automaton};
+use spelling::{Reader, whole};
 use std::alloc::Global;
 use std::process::ExitCode;
 use trial_rows::{Fields, Named, RowError, Rows, answer_script};
@@ -30,8 +36,7 @@ fn name_automaton(
     fields: &mut Fields,
 ) -> Result<(), RowError> {
     let name = fields.word()?;
-    let set = automaton(Reader::new(alloc, named), fields)?;
-    fields.end()?;
+    let set = whole(Reader::new(alloc, named), fields)?;
     named.put(alloc, name, set)
 }
 
@@ -47,10 +52,11 @@ impl Rows for Automata {
             return name_automaton(alloc, &mut self.named, fields);
         }
         let reader = Reader::new(alloc, &self.named);
-        if kind == "rays" {
-            return write_rays(reader, fields, out);
+        match kind {
+            "rays" => write_rays(reader, fields, out),
+            "memo" => write_memo(alloc, fields, out),
+            _ => write_answer(reader, kind, fields, out),
         }
-        write_answer(reader, kind, fields, out)
     }
 }
 

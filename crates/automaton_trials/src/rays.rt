@@ -1,14 +1,17 @@
 //! Rows that search along rays.
 
-ghost use Rattle.std.specs.Prelude.{◌≡◌, ◌≤◌, IsTrue, length};
+ghost use Rattle.std.specs.Prelude.{◌≡◌, ◌≤◌, IfOk, IsTrue, length};
 ghost use Rattle.auto_core.specs.Integers.{DecidesIntegers};
 ghost use Rattle.auto_search.specs.Way.{IsWay};
 
+use crate::integer_set::IntegerSet;
 use crate::spelling::{Reader, automaton};
+use crate::writing::separate;
 use auto_core::Auto;
-use auto_reduce::sign_stable;
 use auto_search::{Few, Search, Way};
 use std::alloc::Global;
+use std::num::ParseIntError;
+use std::str::FromStr;
 use trial_rows::{Fields, RowError, number, numbers};
 
 /// The greatest distance that may be asked for.
@@ -34,35 +37,44 @@ fn is_way(way: &Way) -> bool
     way.dy >= -2 && way.dy <= 2
 }
 
-/// A ray as it is spelled: the tuple at distance 0, the places of the tracks that it moves on, and what a step adds there.
+/// A ray as it is spelled: the tuple at distance 0, the places of the two tracks that it moves on, and what a step adds there.
 #[derive(Drop)]
 struct Spelled {
     fixed: Vec<i64>,
-    tracks: Vec<u8>,
-    slopes: Vec<i8>,
+    tracks: (u8, u8),
+    slopes: (i8, i8),
 }
 
 impl Spelled {
     fn read(alloc: Global, fields: &mut Fields) -> Result<Self, RowError> {
+        let fixed = fields.word()?;
+        let tracks = pair(fields)?;
+        let slopes = pair(fields)?;
+        let fixed = numbers(alloc, fixed)?;
         Ok(Spelled {
-            fixed: numbers(alloc, fields.word()?)?,
-            tracks: numbers(alloc, fields.word()?)?,
-            slopes: numbers(alloc, fields.word()?)?,
+            fixed,
+            tracks,
+            slopes,
         })
     }
 
-    fn way(&self) -> Result<Way<'_>, RowError> {
-        match (self.tracks.as_slice(), self.slopes.as_slice()) {
-            ([x_track, y_track], [dx, dy]) => Ok(Way {
-                fixed: self.fixed.as_slice(),
-                x_track: *x_track,
-                y_track: *y_track,
-                dx: *dx,
-                dy: *dy,
-            }),
-            _ => Err(RowError::Word),
+    fn way(&self) -> Way<'_> {
+        Way {
+            fixed: self.fixed.as_slice(),
+            x_track: self.tracks.0,
+            y_track: self.tracks.1,
+            dx: self.slopes.0,
+            dy: self.slopes.1,
         }
     }
+}
+
+/// The two numbers of the next field.
+fn pair<T: FromStr<Err = ParseIntError> + Drop>(fields: &mut Fields) -> Result<(T, T), RowError> {
+    let Some((first, second)) = fields.word()?.split_once(',') else {
+        return Err(RowError::Word);
+    };
+    Ok((number(first)?, number(second)?))
 }
 
 /// Writes how many there are.
@@ -75,30 +87,34 @@ fn write_few(out: &mut String, few: Few) -> Result<(), RowError> {
     Ok(())
 }
 
+/// Writes the least distance, where there is one.
+fn write_least(out: &mut String, least: Option<u128>) -> Result<(), RowError> {
+    match least {
+        Some(distance) => write!(out, "{distance}")?,
+        None => out.push_str("none")?,
+    }
+    Ok(())
+}
+
 /// The least distance of those that the next fields bound.
-fn ask_least(
+fn least(
     search: &mut Search,
     a: &Auto,
     way: &Way,
     fields: &mut Fields,
-    out: &mut String,
-) -> Result<(), RowError>
+) -> Result<Option<u128>, RowError>
     requires decides { DecidesIntegers a.now }
     requires room { length a.now.accept ≤ search.old }
     requires count { length way.now.fixed.now ≡ length a.now.tracks }
     requires way { IsWay way.now }
     ensures kept { search.new ≡ search.old }
 {
-    let near = number::<u128>(fields.word()?)?;
-    let far = number::<u128>(fields.word()?)?;
+    let near = number(fields.word()?)?;
+    let far = number(fields.word()?)?;
     if far > MOST_DISTANCE {
         return Err(RowError::Condition);
     }
-    match search.least_on_ray(a, way, near, far) {
-        Some(distance) => write!(out, "{distance}")?,
-        None => out.push_str("none")?,
-    }
-    Ok(())
+    Ok(search.least_on_ray(a, way, near, far))
 }
 
 /// The next question about a set: `least FIXED TRACKS SLOPES NEAR FAR` or `count FIXED TRACKS SLOPES`.
@@ -115,12 +131,12 @@ fn ask(
 {
     let question = fields.word()?;
     let spelled = Spelled::read(alloc, fields)?;
-    let way = spelled.way()?;
+    let way = spelled.way();
     if !is_way(&way) || way.fixed.len() != a.tracks().len() {
         return Err(RowError::Condition);
     }
     match question {
-        "least" => ask_least(search, a, &way, fields, out),
+        "least" => write_least(out, least(search, a, &way, fields)?),
         "count" => write_few(out, search.count_on_ray(a, &way)),
         _ => Err(RowError::Word),
     }
@@ -141,22 +157,39 @@ fn ask_all(
         if fields.is_done() {
             break;
         }
-        if turn > 0 {
-            out.push(' ')?;
-        }
+        separate(out, turn as usize, ' ')?;
         ask(alloc, search, a, fields, out)?;
     }
     fields.end()
 }
 
+/// A search with room for so many states, where the automaton has no more.
+fn reserved(alloc: Global, states: u32, a: &Auto) -> Result<Search, RowError>
+    ensures { IfOk result (λ search. length a.now.accept ≤ search) }
+{
+    if states > MOST_RESERVED || a.states() > states {
+        return Err(RowError::Condition);
+    }
+    Ok(Search::reserve(alloc, states)?)
+}
+
+/// Writes the answers to the questions that are left, by one search with room for so many states.
+fn search_all(
+    alloc: Global,
+    states: u32,
+    a: &Auto,
+    fields: &mut Fields,
+    out: &mut String,
+) -> Result<(), RowError>
+    requires { DecidesIntegers a.now }
+{
+    let mut search = reserved(alloc, states, a)?;
+    ask_all(alloc, &mut search, a, fields, out)
+}
+
 /// `rays STATES A QUESTION ..`: the answers of one search, which has room for so many states.
 pub fn write_rays(reader: Reader, fields: &mut Fields, out: &mut String) -> Result<(), RowError> {
     let states = fields.u32()?;
-    let set = automaton(reader, fields)?;
-    let a = set.auto();
-    if states > MOST_RESERVED || a.states() > states || !sign_stable(reader.alloc, a)? {
-        return Err(RowError::Condition);
-    }
-    let mut search = Search::reserve(reader.alloc, states)?;
-    ask_all(reader.alloc, &mut search, a, fields, out)
+    let set = IntegerSet::of(reader.alloc, automaton(reader, fields)?)?;
+    search_all(reader.alloc, states, set.auto(), fields, out)
 }

@@ -1,6 +1,7 @@
 //! Automata with no state too many.
 
-ghost use Rattle.std.specs.Prelude.{◌≡◌, ◌≤◌, IsTrue, length};
+ghost use Rattle.std.specs.Prelude.{◌≡◌, ◌≤◌, IfOk, IsTrue, length};
+ghost use Rattle.track_word.specs.Atom.{IsAtom};
 ghost use Rattle.track_word.specs.Tracks.{with_vars};
 ghost use Rattle.auto_core.specs.Reduced.{IsReduced};
 
@@ -13,6 +14,13 @@ use std::alloc::Global;
 use std::marker::Model;
 use track_word::{Rel, Var};
 use trial_rows::RowError;
+
+/// What two automata are put together by.
+#[derive(Clone, Copy)]
+pub enum Connective {
+    And,
+    Or,
+}
 
 /// An automaton with no state too many.
 #[derive(Drop)]
@@ -40,7 +48,8 @@ impl ReducedAuto {
     }
 
     pub fn auto(&self) -> &Auto
-        ensures { IsReduced result.now }
+        ensures is { result.now ≡ self.now }
+        ensures reduced { IsReduced result.now }
     {
         &self.auto
     }
@@ -66,6 +75,17 @@ pub fn grown(alloc: Global, answer: Result<Auto, Grown>) -> Result<ReducedAuto, 
     }
 }
 
+/// Refuses a comparison whose parts are not such as may be.
+fn check_atom(alloc: Global, terms: &[(i8, Var)], rel: Rel, bound: i32) -> Result<(), RowError>
+    ensures { IfOk result (λ _. IsAtom terms.now bound) }
+{
+    match lin(alloc, terms, rel, bound) {
+        Ok(_) => Ok(()),
+        Err(LinWhy::Memory) => Err(RowError::Memory),
+        Err(_) => Err(RowError::Condition),
+    }
+}
+
 /// The automaton of a comparison, where its parts are such as may be.
 pub fn comparison(
     alloc: Global,
@@ -73,14 +93,9 @@ pub fn comparison(
     rel: Rel,
     bound: i32,
 ) -> Result<ReducedAuto, RowError> {
-    match lin(alloc, terms, rel, bound) {
-        Ok(_) => {
-            let auto = Auto::lin(alloc, terms, rel, bound)?;
-            reduced(alloc, &auto)
-        }
-        Err(LinWhy::Memory) => Err(RowError::Memory),
-        Err(_) => Err(RowError::Condition),
-    }
+    check_atom(alloc, terms, rel, bound)?;
+    let auto = Auto::lin(alloc, terms, rel, bound)?;
+    reduced(alloc, &auto)
 }
 
 /// How many tracks there are.
@@ -103,9 +118,10 @@ fn are_few_together(a: &Auto, b: &Auto) -> bool
     true
 }
 
-/// The words that both accept.
-pub fn both(
+/// The words that both accept, or one of them at least.
+pub fn joined(
     alloc: Global,
+    connective: Connective,
     a: &ReducedAuto,
     b: &ReducedAuto,
     budget: u32,
@@ -117,24 +133,10 @@ pub fn both(
     if !are_few_together(a, b) {
         return Err(RowError::Condition);
     }
-    grown(alloc, meet(alloc, a, b, budget))
-}
-
-/// The words that one of them accepts at least.
-pub fn either(
-    alloc: Global,
-    a: &ReducedAuto,
-    b: &ReducedAuto,
-    budget: u32,
-) -> Result<ReducedAuto, RowError>
-    requires { (1 ≤ budget) × (budget ≤ 200000) }
-{
-    let a = a.auto();
-    let b = b.auto();
-    if !are_few_together(a, b) {
-        return Err(RowError::Condition);
+    match connective {
+        Connective::And => grown(alloc, meet(alloc, a, b, budget)),
+        Connective::Or => grown(alloc, join(alloc, a, b, budget)),
     }
-    grown(alloc, join(alloc, a, b, budget))
 }
 
 /// The other words.

@@ -1,13 +1,18 @@
 //! The spelling of an automaton: fields in prefix form, as `docs/CALLS.md` has them.
 
-use crate::letters::{MOST_DEPTH, var, vars};
-use crate::reduced_auto::{ReducedAuto, both, comparison, either, grown, others, reduced};
+ghost use Rattle.std.specs.Prelude.{◌<◌, ◌≤◌, IfOk};
+
+use crate::letters::{var, vars};
+use crate::reduced_auto::{Connective, ReducedAuto, comparison, grown, joined, others, reduced};
 use crate::tables::{Tables, tabled};
 use auto_core::Auto;
 use auto_walk::residue;
 use std::alloc::Global;
 use track_word::{Rel, Var};
 use trial_rows::{Fields, Named, RowError, number, numbers};
+
+/// How deeply automata may be nested.
+const MOST_DEPTH: u8 = 60;
 
 /// What an automaton is read from: the automata that were named, and how deeply what is left may be nested.
 #[derive(Clone, Copy)]
@@ -25,21 +30,34 @@ impl<'a> Reader<'a> {
             depth: MOST_DEPTH,
         }
     }
+
+    /// The reader of what is nested in what this one reads.
+    fn inner(self) -> Result<Self, RowError>
+        ensures { IfOk result (λ inner. inner.depth < self.entry.depth) }
+    {
+        if self.depth == 0 {
+            return Err(RowError::Deep);
+        }
+        Ok(Reader {
+            alloc: self.alloc,
+            named: self.named,
+            depth: self.depth - 1,
+        })
+    }
 }
 
 /// What makes one automaton of others.
 #[derive(Clone, Copy)]
 enum Operator {
     Not,
-    Meet,
-    Join,
+    Both(Connective),
 }
 
 fn operator_of(word: &str) -> Option<Operator> {
     match word {
         "not" => Some(Operator::Not),
-        "meet" => Some(Operator::Meet),
-        "join" => Some(Operator::Join),
+        "meet" => Some(Operator::Both(Connective::And)),
+        "join" => Some(Operator::Both(Connective::Or)),
         _ => None,
     }
 }
@@ -66,12 +84,17 @@ fn plain_of(word: &str) -> Result<Plain, RowError> {
     }
 }
 
+/// A coefficient and its variable.
+fn term(fields: &mut Fields) -> Result<(i8, Var), RowError> {
+    let coefficient = number::<i8>(fields.word()?)?;
+    Ok((coefficient, var(fields)?))
+}
+
 /// So many terms of a comparison.
 fn terms(alloc: Global, count: u8, fields: &mut Fields) -> Result<Vec<(i8, Var)>, RowError> {
     let mut terms = Vec::new(alloc);
     for _ in 0..count {
-        let coefficient = number::<i8>(fields.word()?)?;
-        terms.push((coefficient, var(fields)?))?;
+        terms.push(term(fields)?)?;
     }
     Ok(terms)
 }
@@ -117,21 +140,25 @@ fn flags(alloc: Global, field: &str) -> Result<Vec<bool>, RowError> {
     Ok(flags)
 }
 
+/// The states of the next field.
+fn states(alloc: Global, fields: &mut Fields) -> Result<Vec<u32>, RowError> {
+    numbers(alloc, fields.word()?)
+}
+
+/// `VARS FIRST NEXT FLAGS`.
+fn tables(alloc: Global, fields: &mut Fields) -> Result<Tables, RowError> {
+    Ok(Tables {
+        tracks: vars(alloc, fields)?,
+        first: states(alloc, fields)?,
+        next: states(alloc, fields)?,
+        accept: flags(alloc, fields.word()?)?,
+    })
+}
+
 /// `rows VARS FIRST NEXT FLAGS`.
 fn rows(alloc: Global, fields: &mut Fields) -> Result<ReducedAuto, RowError> {
-    let tracks = vars(alloc, fields.word()?)?;
-    let first = numbers::<u32>(alloc, fields.word()?)?;
-    let next = numbers::<u32>(alloc, fields.word()?)?;
-    let accept = flags(alloc, fields.word()?)?;
-    let auto = tabled(
-        alloc,
-        Tables {
-            tracks,
-            first,
-            next,
-            accept,
-        },
-    )?;
+    let tables = tables(alloc, fields)?;
+    let auto = tabled(alloc, tables)?;
     reduced(alloc, &auto)
 }
 
@@ -150,28 +177,54 @@ fn plain_automaton(
 }
 
 /// An automaton, whose text may name earlier ones.
+#[cycle(automaton)]
 pub fn automaton(reader: Reader, fields: &mut Fields) -> Result<ReducedAuto, RowError> {
-    if reader.depth == 0 {
-        return Err(RowError::Deep);
-    }
-    let inner = Reader {
-        alloc: reader.alloc,
-        named: reader.named,
-        depth: reader.depth - 1,
-    };
+    let inner = reader.inner()?;
     let word = fields.word()?;
     match operator_of(word) {
         None => plain_automaton(reader, plain_of(word)?, fields),
-        Some(Operator::Not) => others(reader.alloc, &automaton(inner, fields)?),
-        Some(Operator::Meet) => {
-            let budget = fields.budget()?;
-            let left = automaton(inner, fields)?;
-            both(reader.alloc, &left, &automaton(inner, fields)?, budget)
-        }
-        Some(Operator::Join) => {
-            let budget = fields.budget()?;
-            let left = automaton(inner, fields)?;
-            either(reader.alloc, &left, &automaton(inner, fields)?, budget)
-        }
+        Some(Operator::Not) => negated(inner, fields),
+        Some(Operator::Both(connective)) => both(inner, connective, fields),
     }
+}
+
+/// `not A`, from the second word on.
+#[cycle(automaton)]
+fn negated(inner: Reader, fields: &mut Fields) -> Result<ReducedAuto, RowError> {
+    let set = automaton(inner, fields)?;
+    others(inner.alloc, &set)
+}
+
+/// `meet BUDGET A A` and `join BUDGET A A`, from the second word on.
+#[cycle(automaton)]
+fn both(
+    inner: Reader,
+    connective: Connective,
+    fields: &mut Fields,
+) -> Result<ReducedAuto, RowError> {
+    let budget = fields.budget()?;
+    let left = automaton(inner, fields)?;
+    with_next(inner, connective, &left, budget, fields)
+}
+
+/// An automaton, put together with the one that follows.
+#[cycle(automaton)]
+fn with_next(
+    inner: Reader,
+    connective: Connective,
+    left: &ReducedAuto,
+    budget: u32,
+    fields: &mut Fields,
+) -> Result<ReducedAuto, RowError>
+    requires { (1 ≤ budget) × (budget ≤ 200000) }
+{
+    let right = automaton(inner, fields)?;
+    joined(inner.alloc, connective, left, &right, budget)
+}
+
+/// An automaton that all of the fields spell.
+pub fn whole(reader: Reader, fields: &mut Fields) -> Result<ReducedAuto, RowError> {
+    let set = automaton(reader, fields)?;
+    fields.end()?;
+    Ok(set)
 }

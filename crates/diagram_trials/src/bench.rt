@@ -50,7 +50,7 @@ impl Bench {
 fn known(diagrams: &Diagrams, node: Node) -> Result<Node, RowError>
     ensures { IfOk result (λ known. known < length diagrams.now) }
 {
-    if diagrams.is_node(node) {
+    if node.number() < diagrams.len() {
         Ok(node)
     } else {
         Err(RowError::Condition)

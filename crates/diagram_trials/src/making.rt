@@ -16,28 +16,24 @@ const MOST_NUMBERED: usize = 1000000;
 #[derive(Clone, Copy)]
 pub enum Making {
     Leaf,
-    Bit,
     Node,
     Choose,
     Apply2,
     Merge,
     Map,
     Relabel,
-    Restrict,
 }
 
 /// What the step of this word makes.
 pub fn making_of(word: &str) -> Option<Making> {
     match word {
         "leaf" => Some(Making::Leaf),
-        "bit" => Some(Making::Bit),
         "node" => Some(Making::Node),
         "choose" => Some(Making::Choose),
         "apply2" => Some(Making::Apply2),
         "merge" => Some(Making::Merge),
         "map" => Some(Making::Map),
         "relabel" => Some(Making::Relabel),
-        "restrict" => Some(Making::Restrict),
         _ => None,
     }
 }
@@ -51,14 +47,12 @@ pub fn make(
 ) -> Result<Node, RowError> {
     match making {
         Making::Leaf => leaf(bench, fields),
-        Making::Bit => bit(bench, fields),
         Making::Node => test_node(bench, fields),
         Making::Choose => choice(bench, fields),
         Making::Apply2 => pairs_node(bench, fields),
         Making::Merge => merged(bench, fields),
         Making::Map => mapped(alloc, bench, fields),
         Making::Relabel => relabelled(alloc, bench, fields),
-        Making::Restrict => restricted(bench, fields),
     }
 }
 
@@ -66,12 +60,6 @@ pub fn make(
 fn leaf(bench: &mut Bench, fields: &mut Fields) -> Result<Node, RowError> {
     let value = fields.u32()?;
     Ok(bench.diagrams.leaf(value)?)
-}
-
-/// `bit TRACK`: the bit of the track.
-fn bit(bench: &mut Bench, fields: &mut Fields) -> Result<Node, RowError> {
-    let track = track(fields)?;
-    Ok(bench.diagrams.bit(track)?)
 }
 
 /// `node TRACK LOW HIGH`: both maps look only at later tracks.
@@ -179,15 +167,4 @@ fn relabelled(alloc: Global, bench: &mut Bench, fields: &mut Fields) -> Result<N
         return Err(RowError::Condition);
     }
     relabel(&mut bench.diagrams, node, tracks.as_slice())
-}
-
-/// `restrict TRACK BIT NODE`: the map with this bit on the track.
-fn restricted(bench: &mut Bench, fields: &mut Fields) -> Result<Node, RowError> {
-    let track = track(fields)?;
-    let bit = fields.u8()?;
-    let node = bench.node(fields)?;
-    if bit > 1 {
-        return Err(RowError::Condition);
-    }
-    Ok(bench.diagrams.restrict(node, track, bit)?)
 }

@@ -16,15 +16,16 @@ use Rattle.lin_formula.specs.declared.formula.Formula.{Formula}
 use Rattle.lin_formula.specs.SetOf.{SetOf, members}
 use Rattle.formula_auto.specs.Compiled.{IsCompiled, IsCompileError}
 use Rattle.formula_auto.specs.PlainParts.{is_plain, plain_within, plain_parts}
-use Rattle.formula_auto.specs.Recalled.{is_recalled, recalled_within}
+use Rattle.formula_auto.specs.Recalled.{is_recalled, recalled_within, recalled_parts}
 use Rattle.formula_auto.specs.MemoState.{MemoState, IsEntry, IsMemo, IsEntryAt, known, counted, with_entry, IsMemoAfter}
 use Rattle.formula_auto.specs.Remembered.{IsStopped}
+use Rattle.formula_auto.specs.declared.course.Course.{Course}
 use Rattle.formula_auto.specs.declared.course.Recall.{Recall}
 use Rattle.formula_auto.specs.declared.course.Recall.TheVariants.{Plain, Nothing}
 use Rattle.formula_auto.specs.declared.errors.CompileError.{CompileError}
 use Rattle.formula_auto.specs.declared.errors.CompileError.TheVariants.{Over, Memory}
 use Rattle.formula_auto.proofs.NoSets.{Decides-no_set, steps-no_set, FirstOver-no_set, FirstOver-number}
-use Rattle.formula_auto.proofs.PlainLemmas.{plain_later, plain_whole, within-zero, within-all, recalled-zero, after-none}
+use Rattle.formula_auto.proofs.PlainLemmas.{plain_later, plain_whole, within-zero, within-all, recalled-zero}
 
 and_left : (a b : Bool) → (a && b) ≡ true → a ≡ true
 and_left true b h = refl
@@ -80,7 +81,7 @@ module _ (f : Tree) (e : ℕ → SetOf) (before budget : ℕ) (a : Automaton) wh
   }
 
 -- what is looked up of a formula that is looked up itself
-pub recalled-itself : (r : Recall) (f : Tree) → is_recalled r f ≡ true → recalled_within r f (length (steps f)) ≡ f ∷ []
+pub recalled-itself : (r : Recall) (f : Tree) → is_recalled r f ≡ true → recalled_parts r f ≡ f ∷ []
 recalled-itself Plain f h = plain-itself f h
 recalled-itself Nothing f h = absurd (cc)
 
@@ -97,28 +98,29 @@ pub recalled-stepless : (r : Recall) (f : Tree) (n : ℕ) → steps f ≡ [] →
 recalled-stepless Plain f n none = stepless f n none
 recalled-stepless Nothing f n none = refl
 
-module _ (r : Recall) (f : Tree) (before : ℕ) where
+module _ {course : Course} {f : Tree} {old new : MemoState} where
   -- memory ran out before a step of the formula
-  pub stopped-memory : (old new : MemoState) → IsMemoAfter old new [] → IsStopped old new f before r Memory
-  stopped-memory old new after = record {
+  pub stopped-memory : IsMemoAfter old new [] → IsStopped f course old new Memory
+  stopped-memory after = record {
     done = 0;
     few = omega arith;
     number = λ step over. cc;
-    after = subst (IsMemoAfter old new) (sym (recalled-zero r f)) after;
+    after = subst (IsMemoAfter old new) (sym (recalled-zero course.recall f)) after;
   }
 
   -- it was to be entered, and nothing of its parts was looked up
-  pub stopped-inside : (e : ℕ → SetOf) (old new : MemoState) (why : CompileError) → is_recalled r f ≡ true → IsCompileError f e before old.budget why → IsStopped old new f before Nothing why → IsStopped old new f before r why
-  stopped-inside e old new (Over step) recalled error h =
-      let number = FirstOver-number (steps f) (members e) old.budget (before + 1) step error in
+  pub stopped-inside : (e : ℕ → SetOf) (why : CompileError) → is_recalled course.recall f ≡ true → IsCompileError f e course.before old.budget why
+      → IsStopped f (record course { recall = Nothing }) old new why → IsStopped f course old new why
+  stopped-inside e (Over step) recalled error h =
+      let number = FirstOver-number (steps f) (members e) old.budget (course.before + 1) step error in
       let at = h.number step refl in
       record {
         done = h.done;
         few = h.few;
         number = h.number;
-        after = subst (IsMemoAfter old new) (sym (recalled-later r f h.done recalled (omega (arith, number, at)))) h.after;
+        after = subst (IsMemoAfter old new) (sym (recalled-later course.recall f h.done recalled (omega (arith, number, at)))) h.after;
       }
-  stopped-inside e old new Memory recalled error h = stopped-memory old new h.after
+  stopped-inside e Memory recalled error h = stopped-memory h.after
 
 -- a formula that is known
 pub after-known : (m : MemoState) (f : Tree) → Contains (known m) f → IsMemoAfter m (record m { found = counted m.found }) (f ∷ [])

@@ -7,11 +7,11 @@ ghost use Rattle.lin_formula.specs.TreeOf.{tree_of};
 ghost use Rattle.lin_formula.specs.SetOf.{tables, members};
 ghost use Rattle.formula_auto.specs.Step.{FirstOver};
 ghost use Rattle.formula_auto.specs.Decides.{Decides};
-ghost use Rattle.formula_auto.specs.Connected.{connect};
-ghost use Rattle.formula_auto.specs.Compiled.{IsCompilable, IsCompileError};
+ghost use Rattle.formula_auto.specs.Connected.{connected};
+ghost use Rattle.formula_auto.specs.Compiled.{IsCompilable, IsCompiled, IsCompileError};
 ghost use Rattle.formula_auto.specs.Ready.{IsReady};
 ghost use Rattle.formula_auto.specs.PlainParts.{plain_parts};
-ghost use Rattle.formula_auto.specs.Recalled.{is_recalled};
+ghost use Rattle.formula_auto.specs.Recalled.{is_recalled, recalled_parts, start};
 ghost use Rattle.formula_auto.specs.MemoState.{IsMemoAfter, IsMemoStopped, known};
 ghost use Rattle.formula_auto.specs.Remembered.{IsInterrupted};
 ghost use Rattle.formula_auto.specs.PartOf.{IsRememberedPart};
@@ -22,7 +22,7 @@ use crate::errors::CompileError;
 use crate::memo::Memo;
 use crate::part::{Part, Remembered};
 use crate::plain::{is_plain, steps_of};
-use crate::steps::{comparison, membership, value_of};
+use crate::steps::{comparison, complement, joined, membership, projection, value_of};
 use crate::table::SetTable;
 use auto_core::Auto;
 use limits::Budget;
@@ -47,13 +47,7 @@ pub fn compile(
     ensures over { IfErr result (IsCompileError (tree_of f.now) (tables sets.now) 0 budget) }
 {
     let mut memo = Memo::new(alloc, budget);
-    let course = Course {
-        sets,
-        before: 0,
-        recall: Recall::Nothing,
-    };
-    let made = memo.compiled(alloc, f, course)?;
-    Ok(memo.taken(made.part)?)
+    memo.whole(alloc, f, sets, Recall::Nothing)
 }
 
 /// Whether the formula itself is to be looked up.
@@ -86,32 +80,45 @@ impl Memo {
         ensures after { OnOk result (IsMemoAfter self.old self.new (plain_parts (tree_of f.now))) }
         ensures stopped { IfErr result (IsMemoStopped self.old self.new (tree_of f.now)) }
     {
-        let course = Course {
-            sets,
-            before: 0,
-            recall: Recall::Plain,
-        };
-        let made = self.compiled(alloc, f, course)?;
+        self.whole(alloc, f, sets, Recall::Plain)
+    }
+
+    /// The automaton of a whole formula, to keep.
+    fn whole(
+        &mut self,
+        alloc: Global,
+        f: &Formula,
+        sets: &SetTable,
+        recall: Recall,
+    ) -> Result<Auto, CompileError>
+        requires compilable { IsCompilable (tree_of f.now) sets.now }
+        requires few_steps { length (steps (tree_of f.now)) < 2 ^ 31 }
+        ensures compiled { IfOk result (IsCompiled (tree_of f.now) (tables sets.now) 0 self.old.budget) }
+        ensures after { OnOk result (IsMemoAfter self.old self.new (recalled_parts recall (tree_of f.now))) }
+        ensures err { IfErr result (IsInterrupted (tree_of f.now) (tables sets.now) (start recall) self.old self.new) }
+    {
+        let made = self.compiled(alloc, f, sets, Course { before: 0, recall })?;
         Ok(self.taken(made.part)?)
     }
 
     /// The automaton of a part of a formula.
     #[cycle(compiled)]
-    pub(crate) fn compiled(
+    fn compiled(
         &mut self,
         alloc: Global,
         f: &Formula,
+        sets: &SetTable,
         course: Course,
     ) -> Result<Remembered, CompileError>
-        requires ready { IsReady (tree_of f.now) course.sets.now }
+        requires ready { IsReady (tree_of f.now) sets.now }
         requires room { course.before + length (steps (tree_of f.now)) < 2 ^ 32 }
-        ensures ok { IfOk result (λ m. IsRememberedPart (tree_of f.now) (tables course.entry.sets.now) course.entry.before course.entry.recall self.old self.new m.part m.done) }
-        ensures err { IfErr result (IsInterrupted (tree_of f.now) (tables course.entry.sets.now) course.entry.before course.entry.recall self.old self.new) }
+        ensures ok { IfOk result (IsRememberedPart (tree_of f.now) (tables sets.now) course self.old self.new) }
+        ensures err { IfErr result (IsInterrupted (tree_of f.now) (tables sets.now) course self.old self.new) }
     {
         if is_looked_up(f, course.recall) {
-            return self.recalled(alloc, f, course);
+            return self.recalled(alloc, f, sets, course);
         }
-        self.from_parts(alloc, f, course)
+        self.from_parts(alloc, f, sets, course)
     }
 
     /// The automaton of a plain formula: lent by the table, or made and entered.
@@ -120,13 +127,14 @@ impl Memo {
         &mut self,
         alloc: Global,
         f: &Formula,
+        sets: &SetTable,
         course: Course,
     ) -> Result<Remembered, CompileError>
         requires recalled { is_recalled course.recall (tree_of f.now) ≡ true }
-        requires ready { IsReady (tree_of f.now) course.sets.now }
+        requires ready { IsReady (tree_of f.now) sets.now }
         requires room { course.before + length (steps (tree_of f.now)) < 2 ^ 32 }
-        ensures ok { IfOk result (λ m. IsRememberedPart (tree_of f.now) (tables course.entry.sets.now) course.entry.before course.entry.recall self.old self.new m.part m.done) }
-        ensures err { IfErr result (IsInterrupted (tree_of f.now) (tables course.entry.sets.now) course.entry.before course.entry.recall self.old self.new) }
+        ensures ok { IfOk result (IsRememberedPart (tree_of f.now) (tables sets.now) course self.old self.new) }
+        ensures err { IfErr result (IsInterrupted (tree_of f.now) (tables sets.now) course self.old self.new) }
     {
         match self.find(f) {
             Some(place) => {
@@ -136,7 +144,7 @@ impl Memo {
                     done: course.before + steps_of(f),
                 })
             }
-            None => self.entered(alloc, f, course),
+            None => self.entered(alloc, f, sets, course),
         }
     }
 
@@ -146,21 +154,21 @@ impl Memo {
         &mut self,
         alloc: Global,
         f: &Formula,
+        sets: &SetTable,
         course: Course,
     ) -> Result<Remembered, CompileError>
         requires recalled { is_recalled course.recall (tree_of f.now) ≡ true }
         requires unknown { ¬ Contains (known self.old) (tree_of f.now) }
-        requires ready { IsReady (tree_of f.now) course.sets.now }
+        requires ready { IsReady (tree_of f.now) sets.now }
         requires room { course.before + length (steps (tree_of f.now)) < 2 ^ 32 }
-        ensures ok { IfOk result (λ m. IsRememberedPart (tree_of f.now) (tables course.entry.sets.now) course.entry.before course.entry.recall self.old self.new m.part m.done) }
-        ensures err { IfErr result (IsInterrupted (tree_of f.now) (tables course.entry.sets.now) course.entry.before course.entry.recall self.old self.new) }
+        ensures ok { IfOk result (IsRememberedPart (tree_of f.now) (tables sets.now) course self.old self.new) }
+        ensures err { IfErr result (IsInterrupted (tree_of f.now) (tables sets.now) course self.old self.new) }
     {
         let alone = Course {
-            sets: course.sets,
-            before: course.before,
             recall: Recall::Nothing,
+            ..course
         };
-        let made = self.from_parts(alloc, f, alone)?;
+        let made = self.from_parts(alloc, f, sets, alone)?;
         let auto = self.taken(made.part)?;
         let part = self.enter(alloc, f, auto)?;
         Ok(Remembered {
@@ -175,79 +183,62 @@ impl Memo {
         &mut self,
         alloc: Global,
         f: &Formula,
+        sets: &SetTable,
         course: Course,
     ) -> Result<Remembered, CompileError>
         requires not_recalled { is_recalled course.recall (tree_of f.now) ≡ false }
-        requires ready { IsReady (tree_of f.now) course.sets.now }
+        requires ready { IsReady (tree_of f.now) sets.now }
         requires room { course.before + length (steps (tree_of f.now)) < 2 ^ 32 }
-        ensures ok { IfOk result (λ m. IsRememberedPart (tree_of f.now) (tables course.entry.sets.now) course.entry.before course.entry.recall self.old self.new m.part m.done) }
-        ensures err { IfErr result (IsInterrupted (tree_of f.now) (tables course.entry.sets.now) course.entry.before course.entry.recall self.old self.new) }
+        ensures ok { IfOk result (IsRememberedPart (tree_of f.now) (tables sets.now) course self.old self.new) }
+        ensures err { IfErr result (IsInterrupted (tree_of f.now) (tables sets.now) course self.old self.new) }
     {
         match f {
             Formula::Lin { terms, rel, bound } => {
                 let auto = comparison(alloc, terms.as_slice(), *rel, *bound)?;
-                Ok(Remembered {
-                    part: Part::Fresh(auto),
-                    done: course.before,
-                })
+                Ok(Remembered::fresh(auto, course.before))
             }
             Formula::Value { var, value } => {
                 let auto = value_of(alloc, *var, *value)?;
-                Ok(Remembered {
-                    part: Part::Fresh(auto),
-                    done: course.before,
-                })
+                Ok(Remembered::fresh(auto, course.before))
             }
-            Formula::Among { set, vars } => match course.sets.get(*set) {
-                Some(a) => {
-                    let auto = membership(alloc, a, vars.as_slice())?;
-                    Ok(Remembered {
-                        part: Part::Fresh(auto),
-                        done: course.before,
-                    })
+            Formula::Among { set, vars } => match sets.get(*set) {
+                Some(set) => {
+                    let auto = membership(alloc, set, vars.as_slice())?;
+                    Ok(Remembered::fresh(auto, course.before))
                 }
                 None => unreachable!(),
             },
             Formula::Not(g) => {
-                let inner = self.compiled(alloc, g, course)?;
-                let auto = self.not(alloc, &inner.part)?;
-                Ok(Remembered {
-                    part: Part::Fresh(auto),
-                    done: inner.done,
-                })
+                let inner = self.compiled(alloc, g, sets, course)?;
+                let auto = complement(alloc, self.automaton(&inner.part))?;
+                Ok(Remembered::fresh(auto, inner.done))
             }
             Formula::And(left, right) => {
                 let connective = Connective::And;
-                self.both(
-                    alloc,
-                    Pair {
-                        connective,
-                        left,
-                        right,
-                    },
-                    course,
-                )
+                let pair = Pair {
+                    connective,
+                    left,
+                    right,
+                };
+                self.both(alloc, pair, sets, course)
             }
             Formula::Or(left, right) => {
                 let connective = Connective::Or;
-                self.both(
-                    alloc,
-                    Pair {
-                        connective,
-                        left,
-                        right,
-                    },
-                    course,
-                )
+                let pair = Pair {
+                    connective,
+                    left,
+                    right,
+                };
+                self.both(alloc, pair, sets, course)
             }
             Formula::Ex { var, body } => {
-                let inner = self.compiled(alloc, body, course)?;
+                let inner = self.compiled(alloc, body, sets, course)?;
                 let step = inner.done + 1;
-                let auto = self.some(alloc, *var, &inner.part, step)?;
-                Ok(Remembered {
-                    part: Part::Fresh(auto),
-                    done: step,
-                })
+                let auto = self.automaton(&inner.part);
+                match projection(alloc, *var, auto, self.budget()) {
+                    Ok(auto) => Ok(Remembered::fresh(auto, step)),
+                    Err(why) => Err(CompileError::at(step, why)),
+                }
             }
         }
     }
@@ -258,26 +249,26 @@ impl Memo {
         &mut self,
         alloc: Global,
         pair: Pair,
+        sets: &SetTable,
         course: Course,
     ) -> Result<Remembered, CompileError>
-        requires not_recalled { is_recalled course.recall (connect pair.connective (tree_of pair.left.now) (tree_of pair.right.now)) ≡ false }
-        requires ready { IsReady (connect pair.connective (tree_of pair.left.now) (tree_of pair.right.now)) course.sets.now }
-        requires room { course.before + length (steps (connect pair.connective (tree_of pair.left.now) (tree_of pair.right.now))) < 2 ^ 32 }
-        ensures ok { IfOk result (λ m. IsRememberedPart (connect pair.entry.connective (tree_of pair.entry.left.now) (tree_of pair.entry.right.now)) (tables course.entry.sets.now) course.entry.before course.entry.recall self.old self.new m.part m.done) }
-        ensures err { IfErr result (IsInterrupted (connect pair.entry.connective (tree_of pair.entry.left.now) (tree_of pair.entry.right.now)) (tables course.entry.sets.now) course.entry.before course.entry.recall self.old self.new) }
+        requires not_recalled { is_recalled course.recall (connected pair) ≡ false }
+        requires ready { IsReady (connected pair) sets.now }
+        requires room { course.before + length (steps (connected pair)) < 2 ^ 32 }
+        ensures ok { IfOk result (IsRememberedPart (connected pair.entry) (tables sets.now) course self.old self.new) }
+        ensures err { IfErr result (IsInterrupted (connected pair.entry) (tables sets.now) course self.old self.new) }
     {
-        let left = self.compiled(alloc, pair.left, course)?;
+        let left = self.compiled(alloc, pair.left, sets, course)?;
         let after_left = Course {
-            sets: course.sets,
             before: left.done,
-            recall: course.recall,
+            ..course
         };
-        let right = self.compiled(alloc, pair.right, after_left)?;
+        let right = self.compiled(alloc, pair.right, sets, after_left)?;
         let step = right.done + 1;
-        let auto = self.joined(alloc, pair.connective, &left.part, &right.part, step)?;
-        Ok(Remembered {
-            part: Part::Fresh(auto),
-            done: step,
-        })
+        let (a, b) = self.automata(&left.part, &right.part);
+        match joined(alloc, pair.connective, a, b, self.budget()) {
+            Ok(auto) => Ok(Remembered::fresh(auto, step)),
+            Err(why) => Err(CompileError::at(step, why)),
+        }
     }
 }

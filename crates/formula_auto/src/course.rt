@@ -1,19 +1,17 @@
 //! What compiling a part of a formula goes by.
-use crate::table::SetTable;
 
-/// What of a formula is looked up in a memo, and entered there.
+/// What of a part is looked up in the memo, and entered there.
 #[derive(Clone, Copy)]
 pub enum Recall {
     /// Its greatest plain subformulas.
     Plain,
-    /// Nothing: it is part of a plain formula that is being made, or no memo is kept.
+    /// Nothing: no memo is kept, or the part is of a plain formula that is being made.
     Nothing,
 }
 
-/// The sets that the formula may name, the number of steps before the part, and what of the part is looked up.
+/// Where in its formula a part stands: the number of steps before it, and what of it is looked up.
 #[derive(Clone, Copy)]
-pub struct Course<'a> {
-    pub sets: &'a SetTable,
+pub struct Course {
     pub before: u32,
     pub recall: Recall,
 }

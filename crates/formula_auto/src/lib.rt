@@ -8,7 +8,6 @@ mod connective;
 mod course;
 mod errors;
 mod memo;
-mod of_parts;
 mod part;
 mod plain;
 mod steps;

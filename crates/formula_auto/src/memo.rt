@@ -94,16 +94,24 @@ impl Memo {
     }
 
     /// The automaton of a part, lent.
-    #[tactic(auto, using(crate::proofs::PartLemmas::one_automaton))]
     pub(crate) fn automaton<'a>(&'a self, part: &'a Part) -> &'a Auto
         requires { (a : Automaton) × IsPart self.now part.now a }
-        ensures has { IsPart self.now part.now result.now }
-        ensures only { (a : Automaton) → IsPart self.now part.now a → a ≡ result.now }
+        ensures { IsPart self.now part.now result.now }
     {
         match part {
             Part::Fresh(auto) => auto,
             Part::Kept(place) => &self.entries[*place].auto,
         }
+    }
+
+    /// The automata of two parts, lent.
+    pub(crate) fn automata<'a>(&'a self, left: &'a Part, right: &'a Part) -> (&'a Auto, &'a Auto)
+        requires left { (a : Automaton) × IsPart self.now left.now a }
+        requires right { (a : Automaton) × IsPart self.now right.now a }
+        ensures left { IsPart self.now left.now result.0.now }
+        ensures right { IsPart self.now right.now result.1.now }
+    {
+        (self.automaton(left), self.automaton(right))
     }
 
     /// The automaton of a part, to keep.

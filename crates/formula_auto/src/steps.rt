@@ -1,21 +1,15 @@
 //! One node of a formula each: the automaton of it, with no state too many, from the automata of its parts.
-ghost use Rattle.std.specs.Prelude.{◌≡◌, ◌≢◌, ◌↔◌, ◌⊎◌, ◌≤◌, ℕ, List, length, AllPairs, IsTrue, IfOk, IfErr, OnOk};
+ghost use Rattle.std.specs.Prelude.{◌≡◌, ◌≢◌, ◌↔◌, ◌≤◌, ℕ, length, AllPairs, IsTrue, IfOk, OnOk, Err};
 ghost use Rattle.track_word.specs.Tracks.{with_vars};
 ghost use Rattle.track_word.specs.Atom.{IsAtom};
-ghost use Rattle.auto_core.specs.Automaton.{Accepts};
 ghost use Rattle.auto_core.specs.Integers.{DecidesIntegers};
 ghost use Rattle.auto_core.specs.Reduced.{IsReduced};
-ghost use Rattle.auto_core.specs.Spread.{BothSpreadExceeds, ExSpreadExceeds};
 ghost use Rattle.lin_formula.specs.Tree as tree;
-ghost use Rattle.lin_formula.specs.Tree.{Tree};
 ghost use Rattle.lin_formula.specs.SetOf.{SetOf, members};
-ghost use Rattle.lin_formula.specs.SetOf as set_of;
 ghost use Rattle.formula_auto.specs.Decides.{Decides};
-ghost use Rattle.formula_auto.specs.Connected.{connect};
-ghost use Rattle.formula_auto.specs.StepError.{IsStepError};
+ghost use Rattle.formula_auto.specs.Nodes.{DecidesAmong, DecidesSame, DecidesNot, DecidesEx, DecidesBoth, BothExceed, ExExceeds};
 
 use crate::connective::Connective;
-use crate::errors::CompileError;
 use auto_bool::{join, meet, not};
 use auto_core::Auto;
 use auto_project::forget;
@@ -53,7 +47,7 @@ pub fn membership(alloc: Global, set: &Auto, vars: &[Var]) -> Result<Auto, Alloc
     requires integers { DecidesIntegers set.now }
     requires reduced { IsReduced set.now }
     ensures reduced { IfOk result IsReduced }
-    ensures decides { IfOk result (λ a. (e : ℕ → SetOf) (number : ℕ) → e number ≡ set_of.Table set.now → Decides a (tree.Among number vars.now) (members e)) }
+    ensures decides { IfOk result (DecidesAmong set.now vars.now) }
 {
     let _ = set.tracks();
     let a = set.rename(alloc, vars)?;
@@ -78,27 +72,24 @@ fn are_distinct(vars: &[Var]) -> bool
     }
 }
 
+/// And or Or.
 pub fn joined(
     alloc: Global,
     connective: Connective,
     a: &Auto,
     b: &Auto,
     budget: Budget,
-    step: u32,
-) -> Result<Auto, CompileError>
+) -> Result<Auto, Grown>
     requires a_reduced { IsReduced a.now }
     requires b_reduced { IsReduced b.now }
     requires tracks { length (with_vars a.now.tracks b.now.tracks) ≤ 20 }
     ensures reduced { IfOk result IsReduced }
-    ensures decides { IfOk result (λ c. (f g : Tree) (e : ℕ → SetOf) → Decides a.now f (members e) → Decides b.now g (members e) → Decides c (connect connective f g) (members e)) }
-    ensures within { IfOk result (λ c. ¬ BothSpreadExceeds a.now.tracks b.now.tracks (Accepts a.now) (Accepts b.now) budget) }
-    ensures over { IfErr result (IsStepError step (BothSpreadExceeds a.now.tracks b.now.tracks (Accepts a.now) (Accepts b.now) budget)) }
+    ensures decides { IfOk result (DecidesBoth connective a.now b.now) }
+    ensures within { OnOk result (¬ BothExceed a.now b.now budget) }
+    ensures over { result ≡ Err Grown.Over → BothExceed a.now b.now budget }
 {
-    match product(alloc, connective, a, b, budget) {
-        Ok(c) => reduced(alloc, &c),
-        Err(Grown::Over) => Err(CompileError::Over { step }),
-        Err(Grown::Memory) => Err(CompileError::Memory),
-    }
+    let c = product(alloc, connective, a, b, budget)?;
+    Ok(reduced(alloc, &c)?)
 }
 
 fn product(
@@ -111,9 +102,9 @@ fn product(
     requires a_reduced { IsReduced a.now }
     requires b_reduced { IsReduced b.now }
     requires tracks { length (with_vars a.now.tracks b.now.tracks) ≤ 20 }
-    ensures decides { IfOk result (λ c. (f g : Tree) (e : ℕ → SetOf) → Decides a.now f (members e) → Decides b.now g (members e) → Decides c (connect connective f g) (members e)) }
-    ensures within { OnOk result (¬ BothSpreadExceeds a.now.tracks b.now.tracks (Accepts a.now) (Accepts b.now) budget) }
-    ensures over { result ≡ Err Grown.Over → BothSpreadExceeds a.now.tracks b.now.tracks (Accepts a.now) (Accepts b.now) budget }
+    ensures decides { IfOk result (DecidesBoth connective a.now b.now) }
+    ensures within { OnOk result (¬ BothExceed a.now b.now budget) }
+    ensures over { result ≡ Err Grown.Over → BothExceed a.now b.now budget }
 {
     match connective {
         Connective::And => meet(alloc, a, b, budget),
@@ -121,46 +112,31 @@ fn product(
     }
 }
 
-pub fn projection(
-    alloc: Global,
-    var: Var,
-    a: &Auto,
-    budget: Budget,
-    step: u32,
-) -> Result<Auto, CompileError>
+/// Ex.
+pub fn projection(alloc: Global, var: Var, a: &Auto, budget: Budget) -> Result<Auto, Grown>
     requires reduced { IsReduced a.now }
     ensures reduced { IfOk result IsReduced }
-    ensures decides { IfOk result (λ c. (f : Tree) (e : ℕ → SetOf) → Decides a.now f (members e) → Decides c (tree.Ex var f) (members e)) }
-    ensures within { IfOk result (λ c. ¬ ExSpreadExceeds var a.now.tracks (Accepts a.now) budget) }
-    ensures over { IfErr result (IsStepError step (ExSpreadExceeds var a.now.tracks (Accepts a.now) budget)) }
+    ensures decides { IfOk result (DecidesEx var a.now) }
+    ensures within { OnOk result (¬ ExExceeds var a.now budget) }
+    ensures over { result ≡ Err Grown.Over → ExExceeds var a.now budget }
 {
-    match forget(alloc, a, var, budget) {
-        Ok(c) => reduced(alloc, &c),
-        Err(Grown::Over) => Err(CompileError::Over { step }),
-        Err(Grown::Memory) => Err(CompileError::Memory),
-    }
+    let c = forget(alloc, a, var, budget)?;
+    Ok(reduced(alloc, &c)?)
 }
 
-pub fn complement(alloc: Global, a: &Auto) -> Result<Auto, CompileError>
+/// Not.
+pub fn complement(alloc: Global, a: &Auto) -> Result<Auto, AllocError>
     requires { IsReduced a.now }
     ensures reduced { IfOk result IsReduced }
-    ensures decides { IfOk result (λ c. (f : Tree) (e : ℕ → SetOf) → Decides a.now f (members e) → Decides c (tree.Not f) (members e)) }
-    ensures over { IfErr result (λ why. why ≡ CompileError.Memory) }
+    ensures decides { IfOk result (DecidesNot a.now) }
 {
-    match not(alloc, a) {
-        Ok(c) => Ok(c),
-        Err(_) => Err(CompileError::Memory),
-    }
+    not(alloc, a)
 }
 
 /// The same words, with no state too many.
-fn reduced(alloc: Global, a: &Auto) -> Result<Auto, CompileError>
+fn reduced(alloc: Global, a: &Auto) -> Result<Auto, AllocError>
     ensures reduced { IfOk result IsReduced }
-    ensures decides { IfOk result (λ c. (f : Tree) (e : ℕ → SetOf) → Decides a.now f (members e) → Decides c f (members e)) }
-    ensures over { IfErr result (λ why. why ≡ CompileError.Memory) }
+    ensures decides { IfOk result (DecidesSame a.now) }
 {
-    match reduce(alloc, a) {
-        Ok(c) => Ok(c),
-        Err(_) => Err(CompileError::Memory),
-    }
+    reduce(alloc, a)
 }

@@ -5,6 +5,7 @@ use Rattle.game_rules.specs.declared.men.Side.{Side}
 use Rattle.game_rules.specs.declared.men.Man.{Man}
 use Rattle.game_rules.specs.declared.men.Square.{Square}
 use Rattle.game_rules.specs.Game.{HasOneKing, IsApart, Position, Sound, StandsOn, other}
+use Rattle.rule_formula.proofs.StockLemmas.{fits_placed, fits_unique, fits_values}
 use Rattle.track_word.specs.Tracks.{Values, values_at}
 use Rattle.lin_formula.specs.Tree.{Tree, free_vars}
 use Rattle.lin_formula.specs.Holds.{Holds}
@@ -19,9 +20,9 @@ use Rattle.rule_formula.specs.Options.{options_of}
 use Rattle.rule_formula.specs.Placed.{HoldsApart, IsLiveIn, is_live, placed, stock_man, tuple_of, without}
 use Rattle.rule_formula.specs.Seats.{squares}
 use Rattle.rule_formula.specs.Trees.{bear_of, image_of, point_of, pre_of, safe_of, tracks_of}
-use Rattle.rule_formula.proofs.BearLemmas.{stock_number}
+use Rattle.rule_formula.proofs.BearLemmas.{stock_has, stock_number}
 use Rattle.rule_formula.proofs.BearingTheorem.{alike_man, alike_ray, bearings_are, checks_are}
-use Rattle.rule_formula.proofs.FitLemmas.{AreAlike, alike_back, alike_of, fits_placed, fits_unique, fits_values, mask_tells, placed_values, tuple_placed, values_of, squares_values}
+use Rattle.rule_formula.proofs.FitLemmas.{AreAlike, alike_back, alike_of, mask_tells, placed_values, tuple_placed, values_of, squares_values}
 use Rattle.rule_formula.proofs.GameTheorem.{Arrives, arrives, fits_mask, live_by_mask, prey_live, sound_fits, target_mask}
 use Rattle.rule_formula.proofs.LawTheorem.{self_placed, square_stands, squares_of, steps_by_options}
 use Rattle.rule_formula.proofs.ListTheorem.{options_are}
@@ -31,7 +32,6 @@ use Rattle.rule_formula.proofs.PlacedLemmas.{stock_man-men}
 use Rattle.rule_formula.proofs.PairTheorem.{pairs_are, pairs_mean}
 use Rattle.rule_formula.proofs.PointTheorem.{point_means}
 use Rattle.rule_formula.proofs.PointTracks.{place_there, point_tracks}
-use Rattle.rule_formula.proofs.FormulaLemmas.{stock_there}
 use Rattle.rule_formula.proofs.MaskLemmas.{without_is}
 use Rattle.rule_formula.proofs.SweptLemmas.{placed_same}
 use Rattle.rule_formula.proofs.TracksTheorem.{bear_tracks, image_tracks, pre_tracks, safe_tracks, tracks_alike, tracks_twice}
@@ -153,7 +153,8 @@ image_from p game m o w a e tuple holds h =
     let r : Position = placed p.men (without (is_live m) o.taken) (other side) (squares h.values) in
     let (q, fits, mask, same_tuple) = holds (tuple_of q_at) member in
     let same : q ≡ q_at = placed_is p side m q f fits mask same_tuple in
-    let tuple_is : tuple_of r ≡ tuple = sym (tuple_placed p.men (without (is_live m) o.taken) (other side) h.values) ∙ ap (λ vars. values_at vars h.values) (sym (image_tracks p.men m o a game.few w)) ∙ h.is_tuple in
+    let tuple_is : tuple_of r ≡ tuple =
+    sym (tuple_placed p.men (without (is_live m) o.taken) (other side) h.values) ∙ ap (λ vars. values_at vars h.values) (sym (image_tracks p.men m o a game.few w)) ∙ h.is_tuple in
     (q, r, fits, mask, subst (λ x. TakesOption o x r) (sym same) takes, subst (λ x. Member (e a) (tuple_of x)) (sym same) member, tuple_is)
 
 image_into : (p : Position) → IsGame p → (m : ℕ) (o : Opt) (w : IsOptionOf p.men m o) (a : ℕ) (e : ℕ → SetOf) (tuple : List ℤ) → HoldsFitting p w.man.side m (e a) → IsImageOf p w.man.side m o (e a) tuple → Member (Where (image_of p.men m o a) e) tuple
@@ -245,10 +246,12 @@ bearings_mean p m b w =
     record {
       bear_tracks = λ a. bear_tracks p.men m b.man b.ray b.king a w;
       bear = λ a e side q fits mask.
-          subst (λ n. IsBearer p.men n b.man b.ray b.king → Member (Where (bear_of p.men n b.man b.ray b.king a) e) (tuple_of q) ↔ (Member (e a) (tuple_of q) × BearsOnKing b q)) mask (bear_here p side q b fits a e) w;
+          subst (λ n. IsBearer p.men n b.man b.ray b.king → Member (Where (bear_of p.men n b.man b.ray b.king a) e) (tuple_of q) ↔ (Member (e a) (tuple_of q) × BearsOnKing b q)) mask
+          (bear_here p side q b fits a e) w;
       safe_tracks = λ a. safe_tracks p.men m b.man b.ray b.king a w;
       safe = λ a e side q fits mask.
-          subst (λ n. IsBearer p.men n b.man b.ray b.king → Member (Where (safe_of p.men n b.man b.ray b.king a) e) (tuple_of q) ↔ (Member (e a) (tuple_of q) × (¬ BearsOnKing b q))) mask (safe_here p side q b fits a e) w;
+          subst (λ n. IsBearer p.men n b.man b.ray b.king → Member (Where (safe_of p.men n b.man b.ray b.king a) e) (tuple_of q) ↔ (Member (e a) (tuple_of q) × (¬ BearsOnKing b q))) mask
+          (safe_here p side q b fits a e) w;
       safe_within = λ a e tuple h.
           subst (Member (e a)) (ap (λ vars. values_at vars h.values) (sym (safe_tracks p.men m b.man b.ray b.king a w)) ∙ h.is_tuple) h.holds.0;
     }
@@ -258,7 +261,7 @@ placed_point : (p : Position) (v : Values) → ((k : ℕ) (m : Man) (z : Square)
 placed_point p v h =
     placed_same p.men (is_live (mask_of p)) p.turn (squares v) (squares_of p)
     (λ k low high on.
-    let (m, is) = stock_there p.men k low high in
+    let (m, is) = stock_has p.men k low high in
     let (z, stands) = place_there m (live_by_mask p k m (sym (stock_man-men p k) ∙ is) on) in
     h k m z is stands ∙ sym (square_stands p k m z is stands))
     ∙ self_placed p (mask_of p) (mask_tells p)
@@ -274,7 +277,9 @@ point_is p t e tuple is =
           let v = valued p.men live p.turn (squares_of p) p (self_placed p (mask_of p) (mask_tells p)) in
           record {
             values = values_of (squares_of p);
-            is_tuple = ap (λ vars. values_at vars (values_of (squares_of p))) tracks ∙ tuple_placed p.men live p.turn (values_of (squares_of p)) ∙ ap tuple_of (placed_values p.men live p.turn (squares_of p) ∙ self_placed p (mask_of p) (mask_tells p)) ∙ sym same;
+            is_tuple =
+                ap (λ vars. values_at vars (values_of (squares_of p))) tracks ∙ tuple_placed p.men live p.turn (values_of (squares_of p))
+                ∙ ap tuple_of (placed_values p.men live p.turn (squares_of p) ∙ self_placed p (mask_of p) (mask_tells p)) ∙ sym same;
             holds = (point_means p.men t is (members e) (values_of (squares_of p))).1
                 (λ k m z is_man stands. squares_values (squares_of p) k (stock_number p.men k m is_man).low ∙ square_stands p k m z is_man stands);
           },

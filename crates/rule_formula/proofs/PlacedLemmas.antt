@@ -1,7 +1,7 @@
 -- The men of a position that is placed.
-use Rattle.std.proofs.Common.{◌≡◌, ◌↔◌, ℕ, zero, suc, ◌+◌, Bool, true, false, List, [], ◌∷◌, length, get_or, Some, None, refl, subst, ap, ◌∙◌, arith}
+use Rattle.std.proofs.Common.{◌≡◌, ◌↔◌, ℕ, zero, suc, ◌+◌, Bool, true, false, List, [], ◌∷◌, length, get_or, Some, None, refl, subst, ap, arith}
 use Rattle.std.specs.Prelude.{if◌then◌else◌, slice_get}
-use Rattle.std.specs.List.{All, Any}
+use Rattle.std.specs.List.{All}
 use Rattle.std.proofs.lemmas.Option.{get_or_from_slice_get, slice_get_within, slice_get-get_or}
 use Rattle.game_rules.specs.declared.men.Side.{Side}
 use Rattle.game_rules.specs.declared.men.Man.{Man}
@@ -65,13 +65,6 @@ all_men p P = (
   all_at p P h zero m is = absurd (cc)
   all_at p P h (suc k) m is =
       subst P (get_or_from_slice_get p.men k m m is) (h k m (slice_get_within p.men k m is))
-
-pub any_man : (p : Position) (P : Man → Type 0) (k : ℕ) (m : Man) → man_at p k ≡ Some m → P m → Any P p.men
-any_man p P zero m is h = absurd (cc)
-any_man p P (suc k) m is h = (k, m, slice_get_within p.men k m is, get_or_from_slice_get p.men k m m is, h)
-
-pub from_any : (p : Position) (P : Man → Type 0) → Any P p.men → (k : ℕ) × (m : Man) × (man_at p k ≡ Some m) × P m
-from_any p P h = (suc h.0, h.1, slice_get-get_or p.men h.0 h.1 h.2 ∙ ap (λ (m : Man). Some m) h.3, h.4)
 
 -- a man of a position, by the position or by its men
 pub stock_man-men : (p : Position) (k : ℕ) → stock_man p.men k ≡ man_at p k

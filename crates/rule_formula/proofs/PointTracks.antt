@@ -5,6 +5,7 @@ use Rattle.game_rules.specs.declared.men.Place.{Place}
 use Rattle.game_rules.specs.declared.men.Place.TheVariants.{Gone, At}
 use Rattle.game_rules.specs.declared.men.Square.{Square}
 use Rattle.game_rules.specs.Game.{Position, StandsOn, place_square}
+use Rattle.rule_formula.proofs.BearLemmas.{stock_has}
 use Rattle.track_word.specs.declared.tracks.Var.{Var}
 use Rattle.lin_formula.specs.Tree.{Tree, free_vars}
 use Rattle.lin_formula.specs.Free.{IsFree}
@@ -13,7 +14,6 @@ use Rattle.rule_formula.specs.Fits.{mask_of}
 use Rattle.rule_formula.specs.Placed.{is_live, stock_man}
 use Rattle.rule_formula.specs.Seats.{own}
 use Rattle.rule_formula.specs.Trees.{man_square, point_of, point_to, tracks_of, with_square}
-use Rattle.rule_formula.proofs.FormulaLemmas.{stock_there}
 use Rattle.rule_formula.proofs.GameTheorem.{live_by_mask, live_in_mask}
 use Rattle.rule_formula.proofs.MoveLemmas.{same_number}
 use Rattle.rule_formula.proofs.PlacedLemmas.{stock_man-men}
@@ -74,7 +74,7 @@ point_tells p k low high = (
       let (m, is, stands) = from_square (stock_man p.men k) z e in
       live_in_mask p k m (sym (stock_man-men p k) ∙ is) (no_square m.place z stands),
   λ on.
-      let (m, is) = stock_there p.men k low high in
+      let (m, is) = stock_has p.men k low high in
       let (z, stands) = place_there m (live_by_mask p k m (sym (stock_man-men p k) ∙ is) on) in
       (z, ap man_square is ∙ stands),
 )

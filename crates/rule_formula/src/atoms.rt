@@ -4,7 +4,8 @@ ghost use Rattle.std.specs.Prelude.{◌≡◌, ◌≢◌, ◌≤ℤ◌, IfOk, []
 ghost use Rattle.track_word.specs.Atom.{IsAtom};
 ghost use Rattle.lin_formula.specs.TreeOf.{tree_of};
 ghost use Rattle.rule_formula.specs.Seats.{IsSeat};
-ghost use Rattle.rule_formula.specs.Trees.{AreApart, IsCounted, IsDrawn, ahead as ahead_tree, falling as falling_tree, rising as rising_tree, difference as difference_tree, line as line_tree, on as on_tree, ordered as ordered_tree, past};
+ghost use Rattle.rule_formula.specs.Trees.{AreApart, IsCounted, IsDrawn, ahead as ahead_tree, falling as falling_tree, rising as rising_tree, difference as difference_tree, line as line_tree, ordered as ordered_tree, past};
+ghost use Rattle.rule_formula.specs.Ways.{on_way};
 ghost use Rattle.lin_formula.specs.Tree as tree;
 
 use crate::seats::Seat;
@@ -106,6 +107,29 @@ pub(crate) fn line(alloc: Global, ray: Ray, a: Seat, b: Seat) -> Result<Formula,
     }
 }
 
+/// How far one goes towards a square.
+#[derive(Clone, Copy, Debug, PartialEq, Eq)]
+pub(crate) enum Extent {
+    /// Up to the square and onto it.
+    Onto,
+    /// Only up to the square before it.
+    Before,
+}
+
+impl Extent {
+    /// The most by which one may be past the square.
+    fn bound(self) -> i32
+        ensures bound { result ≡ past self }
+        ensures low { negsuc 999 ≤ℤ result }
+        ensures high { result ≤ℤ pos 1000 }
+    {
+        match self {
+            Extent::Onto => 0,
+            Extent::Before => -1,
+        }
+    }
+}
+
 /// x - y in the direction of the step is at most the bound.
 fn ordered(alloc: Global, step: i8, x: Var, y: Var, bound: i32) -> Result<Formula, AllocError>
     requires apart { x.0 ≢ y.0 }
@@ -120,46 +144,22 @@ fn ordered(alloc: Global, step: i8, x: Var, y: Var, bound: i32) -> Result<Formul
     }
 }
 
-/// How far a may be past b in the direction of the ray.
+/// b lies ahead of a in the direction of the ray, or with `Onto` level with a.
 pub(crate) fn ahead(
     alloc: Global,
     ray: Ray,
     a: Seat,
     b: Seat,
-    bound: i32,
+    extent: Extent,
 ) -> Result<Formula, AllocError>
-    requires counted { IsCounted ray.dx ray.dy a b }
-    requires low { negsuc 999 ≤ℤ bound }
-    requires high { bound ≤ℤ pos 1000 }
-    ensures { IfOk result (λ f. tree_of f ≡ ahead_tree ray.dx ray.dy a b bound) }
+    requires { IsCounted ray.dx ray.dy a b }
+    ensures { IfOk result (λ f. tree_of f ≡ ahead_tree ray.dx ray.dy a b extent) }
 {
+    let bound = extent.bound();
     if ray.dx == 0 {
         ordered(alloc, ray.dy, a.y, b.y, bound)
     } else {
         ordered(alloc, ray.dx, a.x, b.x, bound)
-    }
-}
-
-/// How far a way goes.
-#[derive(Clone, Copy, Debug, PartialEq, Eq)]
-pub(crate) enum Extent {
-    /// Onto the square at its end.
-    Onto,
-    /// To the last square before.
-    Before,
-}
-
-impl Extent {
-    /// How far the squares of the way may be past its end.
-    fn bound(self) -> i32
-        ensures bound { result ≡ past self }
-        ensures low { negsuc 999 ≤ℤ result }
-        ensures high { result ≤ℤ pos 1000 }
-    {
-        match self {
-            Extent::Onto => 0,
-            Extent::Before => -1,
-        }
     }
 }
 
@@ -172,20 +172,20 @@ pub(crate) struct Way {
     pub(crate) extent: Extent,
 }
 
-/// The square stands on the way.
+/// The square in the seat is one of the way's. A ray of one step has its end alone, whatever the extent.
 pub(crate) fn on(alloc: Global, way: Way, z: Seat) -> Result<Formula, AllocError>
     requires from { IsSeat way.from }
     requires middle { IsSeat z }
     requires first { AreApart way.from z }
     requires last { AreApart z way.to }
-    ensures { IfOk result (λ f. tree_of f ≡ on_tree way.ray way.from way.to (past way.extent) z) }
+    ensures { IfOk result (λ f. tree_of f ≡ on_way way z) }
 {
     if way.ray.far {
         let line = line(alloc, way.ray, way.from, z)?;
-        let ahead_of_start = ahead(alloc, way.ray, way.from, z, -1)?;
-        let started = both(alloc, line, ahead_of_start)?;
-        let bound = way.extent.bound();
-        both(alloc, started, ahead(alloc, way.ray, z, way.to, bound)?)
+        let after_start = ahead(alloc, way.ray, way.from, z, Extent::Before)?;
+        let started = both(alloc, line, after_start)?;
+        let up_to_end = ahead(alloc, way.ray, z, way.to, way.extent)?;
+        both(alloc, started, up_to_end)
     } else {
         let across = difference(alloc, z.x, way.to.x, Rel::Eq, 0)?;
         both(alloc, across, difference(alloc, z.y, way.to.y, Rel::Eq, 0)?)

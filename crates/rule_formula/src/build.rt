@@ -70,14 +70,14 @@ fn image_inside(
     };
     let among = among_seats(alloc, count, mask, 0, seats, source)?;
     let along = and_ray(alloc, among, ray, from, to)?;
-    let extent = Extent::Onto;
+    let way = Way {
+        ray,
+        from,
+        to,
+        extent: Extent::Onto,
+    };
     let path = Path {
-        way: Way {
-            ray,
-            from,
-            to,
-            extent,
-        },
+        way,
         first: i,
         second: t,
     };
@@ -162,14 +162,14 @@ fn pre_inside(
     let to = new_seat(ray, i, t);
     let among = among_both(alloc, count, mask, i, ray, t, source, target)?;
     let along = and_ray(alloc, among, ray, from, to)?;
-    let extent = Extent::Onto;
+    let way = Way {
+        ray,
+        from,
+        to,
+        extent: Extent::Onto,
+    };
     let path = Path {
-        way: Way {
-            ray,
-            from,
-            to,
-            extent,
-        },
+        way,
         first: i,
         second: t,
     };
@@ -230,14 +230,14 @@ pub(crate) fn bear(
     if !ray.far {
         return Ok(along);
     }
-    let extent = Extent::Before;
+    let way = Way {
+        ray,
+        from,
+        to,
+        extent: Extent::Before,
+    };
     let path = Path {
-        way: Way {
-            ray,
-            from,
-            to,
-            extent,
-        },
+        way,
         first: k,
         second: g,
     };

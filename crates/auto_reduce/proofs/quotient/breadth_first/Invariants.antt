@@ -9,7 +9,7 @@ invariant-loop-place l = record {
   order_to : IsOrderTo l.a l.canon l.order l.place;
   numbered : IsNumberedTo l.a l.canon l.order (l.place + 1);
   within : l.place ≤ length l.order;
-  done : AreDone l.a.shapes l.canon l.order l.done;
+  done : AreDone l.a.shapes l.canon l.order l.kept.done;
 }
 
 abbrev pub decreases-loop-place : goal.decreases-loop-place

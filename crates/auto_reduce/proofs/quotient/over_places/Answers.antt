@@ -1,4 +1,4 @@
-use Rattle.std.proofs.Common.{rules, arith, ◌≡◌, ◌∙◌, ap, sym, subst, length}
+use Rattle.std.proofs.Common.{arith, ◌∙◌, ap, sym, subst, length}
 use Rattle.auto_reduce.specs.Quotient.{ArePlaces, IsQuotientBy}
 use Rattle.auto_reduce.proofs.Leads.{order_within, order_few, order_some}
 use Rattle.auto_reduce.proofs.Quotients.{all_known, all_in_table, AreRows-made, IsQuotientBy-made}
@@ -25,14 +25,16 @@ lead_nodes-requires-clause-known c =
     let nodes = c.in_ok-nodes.ensures in
     let p : ArePlaces c.args.canon.now c.args.order.now (length c.args.a.now.accept) c.in_ok-table.table.items = rw c.states-states.ensures.states at c.in_ok-table.ensures in
     rw (c.diagrams-from.ensures.shapes, c.as_slice.ensures.value, nodes.is)
-    (all_known c.args.a.now c.args.canon.now c.args.order.now p.numbers c.in_ok-table.table.items nodes.picked c.diagrams-from.ensures.nodes c.requires.canonical c.requires.order p.are_numbers p.are_class_numbers nodes.are_picked)
+    (all_known c.args.a.now c.args.canon.now c.args.order.now p.numbers c.in_ok-table.table.items nodes.picked c.diagrams-from.ensures.nodes
+    c.requires.canonical c.requires.order p.are_numbers p.are_class_numbers nodes.are_picked)
 
 pub lead_nodes-requires-clause-leaves : goal.lead_nodes-requires-clause-leaves
 lead_nodes-requires-clause-leaves c =
     let nodes = c.in_ok-nodes.ensures in
     let p : ArePlaces c.args.canon.now c.args.order.now (length c.args.a.now.accept) c.in_ok-table.table.items = rw c.states-states.ensures.states at c.in_ok-table.ensures in
     rw (c.diagrams-from.ensures.shapes, c.as_slice.ensures.value, c.as_slice-2.ensures.value, nodes.is)
-    (all_in_table c.args.a.now c.args.canon.now c.args.order.now p.numbers c.in_ok-table.table.items nodes.picked c.diagrams-from.ensures.nodes c.requires.canonical c.requires.order p.are_numbers p.are_class_numbers nodes.are_picked)
+    (all_in_table c.args.a.now c.args.canon.now c.args.order.now p.numbers c.in_ok-table.table.items nodes.picked c.diagrams-from.ensures.nodes
+    c.requires.canonical c.requires.order p.are_numbers p.are_class_numbers nodes.are_picked)
 
 pub over_rows-requires-clause-order : goal.over_rows-requires-clause-order
 over_rows-requires-clause-order c = order_within c.args.a.now c.args.canon.now c.requires.canonical _ _ c.requires.order

@@ -6,5 +6,6 @@ abbrev pub invariant-loop-state : goal.invariant-loop-state
 invariant-loop-state l = record {
   size : vec_len l.members ≡ l.partition.count;
   within : All (λ state. state < length l.partition.classes.items) l.members.items;
-  has : (k : ℕ) → l.state ≤ k → k < length l.partition.classes.items → get_or l.partition.classes.items (get_or l.members.items (get_or l.partition.classes.items k 0) 0) 0 ≡ get_or l.partition.classes.items k 0;
+  has : (k : ℕ) → l.state ≤ k → k < length l.partition.classes.items → get_or l.partition.classes.items
+      (get_or l.members.items (get_or l.partition.classes.items k 0) 0) 0 ≡ get_or l.partition.classes.items k 0;
 }

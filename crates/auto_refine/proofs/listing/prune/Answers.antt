@@ -1,4 +1,4 @@
-use Rattle.std.proofs.Common.{rules, arith, ◌≡◌, ◌<◌, ◌∙◌, ℕ, [], List, Vec, Global, length, map, get_or, sym, subst}
+use Rattle.std.proofs.Common.{rules, arith, ◌<◌, ◌∙◌, ℕ, [], List, Vec, Global, length, map, get_or, sym, subst}
 use Rattle.std.specs.List.{Contains}
 use Rattle.std.proofs.lemmas.List.{length-map, map-set}
 use Rattle.std.proofs.lemmas.List.Elements.{All-from_get_or, Contains-get_or}
@@ -14,7 +14,8 @@ still_in-requires c =
     let was = c.as_slice.result.now in
     let inside : class < length lists = search rules in
     let list_is = list_read f lists class c.index.result.now [] inside c.index.ensures ∙ sym c.as_slice.ensures.value in
-    All-from_get_or (λ state. state < length c.args.partition.now.classes.items) was 0 (λ k less. c.requires.within class (get_or was k 0) (subst (λ list. Contains list (get_or was k 0)) (sym list_is) (Contains-get_or was k 0 less)))
+    All-from_get_or (λ state. state < length c.args.partition.now.classes.items) was 0
+    (λ k less. c.requires.within class (get_or was k 0) (subst (λ list. Contains list (get_or was k 0)) (sym list_is) (Contains-get_or was k 0 less)))
 
 pub returns-clause-pruned : goal.returns-clause-pruned
 returns-clause-pruned c =
@@ -26,4 +27,5 @@ returns-clause-pruned c =
     let list_is = list_read f lists class c.index.result.now [] inside c.index.ensures ∙ sym c.as_slice.ensures.value in
     let mapped = length-map lists f in
     let kept = c.in_ok-kept.ensures in
-    subst (ArePruned classes (map f lists)) (sym (map-set f lists class c.in_ok-kept.kept)) (ArePruned-set classes (map f lists) class c.as_slice.result.now c.in_ok-kept.kept.items (omega (arith, inside, mapped)) list_is kept.fewer kept.kept)
+    subst (ArePruned classes (map f lists)) (sym (map-set f lists class c.in_ok-kept.kept)) (ArePruned-set classes (map f lists) class
+    c.as_slice.result.now c.in_ok-kept.kept.items (omega (arith, inside, mapped)) list_is kept.fewer kept.stays)

@@ -36,10 +36,16 @@ loop-state-preserved c =
       })
     ]
 
-pub returns-clause-kept : goal.returns-clause-kept
-returns-clause-kept c = λ state there has.
+pub returns : goal.returns
+returns c =
     let states = c.args.states.now in
     let end = c.loop-state.auto.state-index-end in
-    let less = there.1 in
-    let is = get_or_default states there.0 0 state there.1 ∙ there.2 in
-    subst (Contains c.loop-state.kept.items) is (c.loop-state.invariant.stays there.0 (omega (arith, less, end, c.loop-state-test.false)) (ap (λ s. get_or c.args.partition.now.classes.items s 0) is ∙ has))
+    let kept = c.loop-state.kept.items in
+    record {
+      fewer = c.loop-state.invariant.fewer;
+      stays = λ state there has.
+          let less = there.1 in
+          let is = get_or_default states there.0 0 state there.1 ∙ there.2 in
+          let class = ap (λ s. get_or c.args.partition.now.classes.items s 0) is ∙ has in
+          subst (Contains kept) is (c.loop-state.invariant.stays there.0 (omega (arith, less, end, c.loop-state-test.false)) class);
+    }

@@ -17,7 +17,8 @@ loop-state-preserved c =
         | inl before ↦ c.in_ok-sort_state.ensures.kept _ (c.loop-state.invariant.moved turn before other)
         | inr past ↦
             let same : c.loop-state.state-index ≡ turn = omega (arith, less, past) in
-            subst (λ n. get_or nodes (get_or candidates n 0) 0 ≢ chosen_node classes representatives nodes (get_or candidates n 0) → Contains c.sort_state.new.moves.states.items (get_or candidates n 0)) same
+            subst (λ n. get_or nodes (get_or candidates n 0) 0 ≢ chosen_node classes representatives nodes (get_or candidates n 0) → Contains
+            c.sort_state.new.moves.states.items (get_or candidates n 0)) same
             c.in_ok-sort_state.ensures.moved other
       ];
     }
@@ -31,4 +32,5 @@ returns-clause-moved c = λ state there other.
     let end = c.loop-state.auto.state-index-end in
     let less = there.1 in
     let is : get_or candidates there.0 0 ≡ state = get_or_default candidates there.0 0 state there.1 ∙ there.2 in
-    subst (λ s. get_or nodes s 0 ≢ chosen_node classes representatives nodes s → Contains c.loop-state.moves.states.items s) is (c.loop-state.invariant.moved there.0 (omega (arith, less, end, c.loop-state-test.false))) other
+    subst (λ s. get_or nodes s 0 ≢ chosen_node classes representatives nodes s → Contains c.loop-state.moves.states.items s) is
+    (c.loop-state.invariant.moved there.0 (omega (arith, less, end, c.loop-state-test.false))) other

@@ -52,16 +52,19 @@ returns-clause-moves c =
     let class_inside : class < length representatives = omega (arith, class_is, class_below, members_size) in
     let stands_is = get_or_read representatives class stands class_inside c.index.ensures 0 in
     let stands_below = All-get_or (λ s. s < length classes) representatives class 0 class_inside c.requires.listing.members.within in
-    let own_is : own ≡ chosen_node classes representatives nodes state = get_or_read nodes stands own (omega (arith, stands_is, stands_below, states)) c.index-nodes-index.is 0 ∙ ap (λ s. get_or nodes s 0) stands_is ∙ ap (λ n. get_or nodes (get_or representatives n 0) 0) class_is in
+    let own_is : own ≡ chosen_node classes representatives nodes state = get_or_read nodes stands own (omega (arith, stands_is, stands_below, states))
+    c.index-nodes-index.is 0 ∙ ap (λ s. get_or nodes s 0) stands_is ∙ ap (λ n. get_or nodes (get_or representatives n 0) 0) class_is in
     let node_is = get_or_read nodes state node within c.index-nodes-state.is 0 in
     let other : node ≢ own = search rules in
     rw (c.in_ok-push-2.ensures.items, c.in_ok-push-3.ensures.items) (elim c.if-len.branch [
       | then-len+in_ok-push w ↦
           let fresh : length moves.firsts.items < length new = search rules in
-          rw (w.moves-is, w.in_ok-push.ensures.items) (AreMoves-first classes representatives nodes count moves.signatures new moves.states.items moves.numbers.items moves.firsts.items c.requires.moves c.add.ensures.kept c.len-2.ensures.unrepeated
+          rw (w.moves-is, w.in_ok-push.ensures.items) (AreMoves-first classes representatives nodes count moves.signatures new moves.states.items
+          moves.numbers.items moves.firsts.items c.requires.moves c.add.ensures.kept c.len-2.ensures.unrepeated
           state place class node own inside class_is node_is own_is other c.in_ok-place.ensures.number number refl c.in_ok-place.ensures.signatures fresh)
       | else-len w ↦
           let full : length new ≤ length moves.firsts.items = search rules in
-          rw w.moves-is (AreMoves-again classes representatives nodes count moves.signatures new moves.states.items moves.numbers.items moves.firsts.items c.requires.moves c.add.ensures.kept c.len-2.ensures.unrepeated
+          rw w.moves-is (AreMoves-again classes representatives nodes count moves.signatures new moves.states.items moves.numbers.items
+          moves.firsts.items c.requires.moves c.add.ensures.kept c.len-2.ensures.unrepeated
           state place class node own inside class_is node_is own_is other c.in_ok-place.ensures.number number refl full)
     ])

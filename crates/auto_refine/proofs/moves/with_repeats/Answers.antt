@@ -33,7 +33,8 @@ loop-state-preserved c =
           rw (w.found-is, w.lists-is, w.in_ok-extend_from_slice.ensures.items) (record {
             size = kept;
             listing = listing;
-            to = AreCandidatesTo-list (length classes) classes count representatives (map f pruned) listing c.requires.partition stale found turn state class before.to refl known class_is w.as_slice.result.now list_is;
+            to = AreCandidatesTo-list (length classes) classes count representatives (map f pruned) listing c.requires.partition stale found turn
+                state class before.to refl known class_is w.as_slice.result.now list_is;
           })
       | else-representatives-class+in_ok-push w ↦
           let other : get_or representatives class 0 ≢ state = w.if-representatives-class.false in

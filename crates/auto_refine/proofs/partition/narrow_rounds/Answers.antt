@@ -18,5 +18,6 @@ pub loop-alloc-smaller : goal.loop-alloc-smaller
 loop-alloc-smaller c =
     let round = c.in_ok-moved.ensures in
     let some : 0 < length c.loop-alloc.moved.items = search rules in
-    fewer_left (length c.args.a.now.accept) c.loop-alloc.refining.partition.count c.next_round.new.refining.partition.count (length c.loop-alloc.moved.items) (length c.in_ok-moved.moved.items) some round.kept
-    (count_le-size _ _ _ round.refined.sound.partition) round.grown
+    fewer_left (length c.args.a.now.accept) c.loop-alloc.refining.partition.count c.next_round.new.refining.partition.count
+    (length c.loop-alloc.moved.items) (length c.in_ok-moved.moved.items) some round.count.kept
+    (count_le-size _ _ _ round.refined.sound.partition) round.count.grown

@@ -38,7 +38,8 @@ round-requires-clause-settled c =
     let next = c.lead_again.new.led in
     let stale = c.args.stale.now in
     let again = rw (c.as_slice.ensures.value, c.as_mut_slice.ensures.value) at c.in_ok-lead_again.ensures.led in
-    let kept = AreSettled-follow a c.lead_again.new.diagrams classes old.partition.count representatives stale led next f.sound.partition.states f.sound.partition.within f.listing.members f.settled again in
+    let kept = AreSettled-follow a c.lead_again.new.diagrams classes old.partition.count representatives stale led next f.sound.partition.states
+    f.sound.partition.within f.listing.members f.settled again in
     let len : length led ≡ old.led.len = search rules in
     let whole = take_whole old.led.len next (drop (length next) led) (again.size ∙ len) in
     subst (λ nodes. AreSettled classes representatives nodes stale) (sym whole) kept

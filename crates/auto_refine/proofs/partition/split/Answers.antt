@@ -37,17 +37,22 @@ returns-clause-split c =
     let current = c.args.partition.now.classes.items in
     let own = c.args.listing.now.representatives.items in
     let moves = c.in_ok-moves.moves in
-    let all = all_moved current own c.args.nodes.now c.args.stale.now c.in_ok-found.found.items moves.states.items c.requires.settled (rw c.as_slice.ensures.value at c.in_ok-found.ensures.candidates) (rw c.as_slice-2.ensures.value at c.in_ok-moves.ensures.moved) in
+    let all = all_moved current own c.args.nodes.now c.args.stale.now c.in_ok-found.found.items moves.states.items c.requires.settled
+    (rw c.as_slice.ensures.value at c.in_ok-found.ensures.candidates) (rw c.as_slice-2.ensures.value at c.in_ok-moves.ensures.moved) in
     let total : c.move_states.new.partition.count ≡ c.args.partition.now.count + length moves.signatures = c.in_ok-move_states.ensures.count ∙ ap (λ n. c.args.partition.now.count + n) m.firsts_size in
     subst (IsSplit current c.args.nodes.now c.move_states.new.partition.classes.items) (sym total)
-    (IsSplit-moved _ current c.args.nodes.now own c.args.partition.now.count moves.signatures moves.states.items moves.numbers.items moves.firsts.items _ c.requires.partition c.requires.listing.members m c.in_ok-move_states.ensures.classes all)
+    (IsSplit-moved _ current c.args.nodes.now own c.args.partition.now.count moves.signatures moves.states.items moves.numbers.items
+    moves.firsts.items _ c.requires.partition c.requires.listing.members m c.in_ok-move_states.ensures.classes all)
 
-pub returns-clause-grown : goal.returns-clause-grown
-returns-clause-grown c = λ some.
+pub returns-clause-count : goal.returns-clause-count
+returns-clause-count c =
     let m = c.in_ok-moves.ensures.moves in
-    let more = signatures_some _ _ _ _ _ _ _ _ m some in
     let size = m.firsts_size in
-    omega (arith, more, size, c.in_ok-move_states.ensures.count)
+    let total = c.in_ok-move_states.ensures.count in
+    record {
+      kept = omega (arith, total);
+      grown = λ some. let more = signatures_some _ _ _ _ _ _ _ _ m some in omega (arith, more, size, total);
+    }
 
 pub returns-clause-listing : goal.returns-clause-listing
 returns-clause-listing c =
@@ -56,12 +61,15 @@ returns-clause-listing c =
     let current = c.args.partition.now.classes.items in
     let own = c.args.listing.now.representatives.items in
     let moves = c.in_ok-moves.moves in
-    let all = all_moved current own c.args.nodes.now c.args.stale.now c.in_ok-found.found.items moves.states.items c.requires.settled (rw c.as_slice.ensures.value at c.in_ok-found.ensures.candidates) (rw c.as_slice-2.ensures.value at c.in_ok-moves.ensures.moved) in
+    let all = all_moved current own c.args.nodes.now c.args.stale.now c.in_ok-found.found.items moves.states.items c.requires.settled
+    (rw c.as_slice.ensures.value at c.in_ok-found.ensures.candidates) (rw c.as_slice-2.ensures.value at c.in_ok-moves.ensures.moved) in
     let total : c.move_states.new.partition.count ≡ c.args.partition.now.count + length moves.signatures = c.in_ok-move_states.ensures.count ∙ ap (λ n. c.args.partition.now.count + n) m.firsts_size in
-    let listing = IsListing-moved _ current c.args.nodes.now own c.args.partition.now.count moves.signatures moves.states.items moves.numbers.items moves.firsts.items _ c.requires.partition c.requires.listing.members m c.in_ok-move_states.ensures.classes all
+    let listing = IsListing-moved _ current c.args.nodes.now own c.args.partition.now.count moves.signatures moves.states.items moves.numbers.items
+    moves.firsts.items _ c.requires.partition c.requires.listing.members m c.in_ok-move_states.ensures.classes all
     (map f c.candidates.new.lists.items) (map f c.move_states.new.listing.lists.items) (rw c.as_slice.ensures.value at c.in_ok-found.ensures.listing) c.in_ok-move_states.ensures.lists in
     subst (λ n. IsListing c.move_states.new.partition.classes.items n c.move_states.new.listing.representatives.items (map f c.move_states.new.listing.lists.items)) (sym total)
-    (subst (λ r. IsListing c.move_states.new.partition.classes.items (c.args.partition.now.count + length moves.signatures) r (map f c.move_states.new.listing.lists.items)) (sym c.in_ok-move_states.ensures.representatives) listing)
+    (subst (λ r. IsListing c.move_states.new.partition.classes.items (c.args.partition.now.count + length moves.signatures) r
+    (map f c.move_states.new.listing.lists.items)) (sym c.in_ok-move_states.ensures.representatives) listing)
 
 pub returns-clause-settled : goal.returns-clause-settled
 returns-clause-settled c =
@@ -69,8 +77,11 @@ returns-clause-settled c =
     let current = c.args.partition.now.classes.items in
     let own = c.args.listing.now.representatives.items in
     let moves = c.in_ok-moves.moves in
-    let all = all_moved current own c.args.nodes.now c.args.stale.now c.in_ok-found.found.items moves.states.items c.requires.settled (rw c.as_slice.ensures.value at c.in_ok-found.ensures.candidates) (rw c.as_slice-2.ensures.value at c.in_ok-moves.ensures.moved) in
-    rw c.in_ok-move_states.ensures.representatives (AreSettled-moved _ current c.args.nodes.now own c.args.partition.now.count moves.signatures moves.states.items moves.numbers.items moves.firsts.items _ c.requires.partition c.requires.listing.members m c.in_ok-move_states.ensures.classes all)
+    let all = all_moved current own c.args.nodes.now c.args.stale.now c.in_ok-found.found.items moves.states.items c.requires.settled
+    (rw c.as_slice.ensures.value at c.in_ok-found.ensures.candidates) (rw c.as_slice-2.ensures.value at c.in_ok-moves.ensures.moved) in
+    rw c.in_ok-move_states.ensures.representatives (AreSettled-moved _ current c.args.nodes.now own c.args.partition.now.count moves.signatures
+    moves.states.items moves.numbers.items moves.firsts.items _ c.requires.partition c.requires.listing.members m c.in_ok-move_states.ensures.classes
+    all)
 
 pub returns-clause-within : goal.returns-clause-within
 returns-clause-within c =

@@ -33,5 +33,6 @@ loop-alloc-smaller c =
     let round = c.in_ok-moved-2.ensures in
     let len : length c.loop-alloc.moved.items ≡ c.loop-alloc.moved.len = search rules in
     let some : 0 < length c.loop-alloc.moved.items = omega (arith, len, c.len-in-loop-alloc.ensures, c.loop-alloc-test.true) in
-    fewer_left (length c.args.a.now.accept) c.loop-alloc.refining.partition.count c.next_round.new.refining.partition.count (length c.loop-alloc.moved.items) (length c.in_ok-moved-2.moved.items) some round.kept
-    (count_le-size _ _ _ round.refined.sound.partition) round.grown
+    fewer_left (length c.args.a.now.accept) c.loop-alloc.refining.partition.count c.next_round.new.refining.partition.count
+    (length c.loop-alloc.moved.items) (length c.in_ok-moved-2.moved.items) some round.count.kept
+    (count_le-size _ _ _ round.refined.sound.partition) round.count.grown

@@ -25,7 +25,8 @@ loop-place-preserved c =
       leaves_size = e.leaves.size ∙ before.leaves_size;
       above_below = AreListedBelow-adds c.loop-place.above c.link.new.above place before.above_below e.above;
       leaves_below = AreListedBelow-adds c.loop-place.leaves c.link.new.leaves place before.leaves_below e.leaves;
-      linked = linked_more ways c.loop-place.above c.link.new.above c.loop-place.leaves c.link.new.leaves place (get_or ways place (State 0)) before.linked e.above e.leaves (slice_get-get_or ways place (State 0) c.loop-place-test.true) e.linked;
+      linked = linked_more ways c.loop-place.above c.link.new.above c.loop-place.leaves c.link.new.leaves place (get_or ways place (State 0))
+          before.linked e.above e.leaves (slice_get-get_or ways place (State 0) c.loop-place-test.true) e.linked;
     }
 
 pub returns : goal.returns

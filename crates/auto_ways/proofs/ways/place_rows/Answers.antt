@@ -13,7 +13,8 @@ place_of-requires-clause-leaves c =
     let rows = c.args.rows.now in
     let index = c.loop-node.node-index in
     let node = get_or_read rows index c.node-item.result c.loop-node-test.true c.node-item.is 0 in
-    rw (c.diagrams-in-loop-node.ensures.shapes, c.states.ensures.states, node) (All-get_or (λ n. (letter : ℕ) → map_at c.args.a.now.shapes n letter < length c.args.a.now.accept) rows index 0 c.loop-node-test.true c.requires.rows.within)
+    rw (c.diagrams-in-loop-node.ensures.shapes, c.states.ensures.states, node) (All-get_or
+    (λ n. (letter : ℕ) → map_at c.args.a.now.shapes n letter < length c.args.a.now.accept) rows index 0 c.loop-node-test.true c.requires.rows.within)
 
 pub loop-node-preserved : goal.loop-node-preserved
 loop-node-preserved c =
@@ -30,7 +31,8 @@ loop-node-preserved c =
     record {
       size = grind (arith, common_steps);
       remembered = rw (← same, take-append_seam c.place_of.new.places (drop (length c.place_of.new.places) c.loop-node.places.items)) remembered;
-      placed = rw c.in_ok-push.ensures.items (placed_push shapes c.loop-node.ways.items c.place_of.new.ways.items rows c.loop-node.found.items index c.in_ok-place.place c.in_ok-place.ensures.kept size before.placed
+      placed = rw c.in_ok-push.ensures.items (placed_push shapes c.loop-node.ways.items c.place_of.new.ways.items rows c.loop-node.found.items index
+          c.in_ok-place.place c.in_ok-place.ensures.kept size before.placed
           (subst (λ n. IsPlaced shapes c.place_of.new.ways.items n c.in_ok-place.place) node placed));
     }
 
@@ -38,4 +40,5 @@ pub returns : goal.returns
 returns c =
     let size : length c.loop-node.found.items ≡ c.loop-node.node-index = search rules in
     let end : c.loop-node.node-index ≡ length c.args.rows.now = (let to = c.loop-node.auto.node-index-end in omega (arith, to, c.loop-node-test.false)) in
-    ArePlacedRows-from c.args.a.now c.args.rows.now c.loop-node.ways.items c.loop-node.found.items c.requires.rows c.loop-node.invariant.remembered.fits (omega (arith, size, end)) (λ k less. c.loop-node.invariant.placed k (omega (arith, less, end)))
+    ArePlacedRows-from c.args.a.now c.args.rows.now c.loop-node.ways.items c.loop-node.found.items c.requires.rows
+    c.loop-node.invariant.remembered.fits (omega (arith, size, end)) (λ k less. c.loop-node.invariant.placed k (omega (arith, less, end)))

@@ -130,3 +130,27 @@ returns-clause-answers t c =
     let not_here = c.if-own-track.false in
     AreMerged-sides _ _ c.top-own.ensures.diagram _ _ _ c.args.track _ c.top-own.result _ _ (omega (arith, not_above, not_here)) c.in_ok-low.ensures.grows c.in_ok-low.ensures.sets c.in_ok-high.ensures.sets
     c.split-low.ensures.sides c.requires.source c.in_ok-low.ensures.answers c.in_ok-high.ensures.answers
+
+pub returns-in_err-high-clause-grows : goal.returns-in_err-high-clause-grows
+returns-in_err-high-clause-grows t c = Grows-trans _ _ _ c.in_ok-low.ensures.grows c.in_err-high.ensures.grows
+
+pub returns-in_err-high-clause-sets : goal.returns-in_err-high-clause-sets
+returns-in_err-high-clause-sets t c = SetsKept-trans _ _ _ c.in_ok-low.ensures.sets c.in_err-high.ensures.sets
+
+pub returns-in_err-node-2-clause-grows : goal.returns-in_err-node-2-clause-grows
+returns-in_err-node-2-clause-grows t c = Grows-trans _ _ _ (Grows-trans _ _ _ c.in_ok-low.ensures.grows c.in_ok-high.ensures.grows) c.in_err-node-2.ensures.grows
+
+pub returns-in_err-node-2-clause-sets : goal.returns-in_err-node-2-clause-sets
+returns-in_err-node-2-clause-sets t c = SetsKept-trans _ _ _ c.in_ok-low.ensures.sets c.in_ok-high.ensures.sets
+
+pub returns-in_err-insert-2-clause-grows : goal.returns-in_err-insert-2-clause-grows
+returns-in_err-insert-2-clause-grows t c = Grows-trans _ _ _ (Grows-trans _ _ _ c.in_ok-low.ensures.grows c.in_ok-high.ensures.grows) c.in_ok-node-2.ensures.grows
+
+pub returns-in_err-insert-2-clause-sets : goal.returns-in_err-insert-2-clause-sets
+returns-in_err-insert-2-clause-sets t c = SetsKept-trans _ _ _ c.in_ok-low.ensures.sets c.in_ok-high.ensures.sets
+
+pub returns-clause-grows : goal.returns-clause-grows
+returns-clause-grows t c = Grows-trans _ _ _ (Grows-trans _ _ _ c.in_ok-low.ensures.grows c.in_ok-high.ensures.grows) c.in_ok-node-2.ensures.grows
+
+pub returns-clause-sets : goal.returns-clause-sets
+returns-clause-sets t c = SetsKept-trans _ _ _ c.in_ok-low.ensures.sets c.in_ok-high.ensures.sets

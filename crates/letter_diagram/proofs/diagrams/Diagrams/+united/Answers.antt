@@ -120,3 +120,45 @@ pub united-returns-then-eq-clause-united : goal.united-returns-then-eq-clause-un
 united-returns-then-eq-clause-united t c =
     let equal : c.args.a ≡ c.args.b = search rules in
     IsUnited-same _ c.top.ensures.diagram _ _ _ equal c.requires.a_sets
+
+pub united_sides-returns-in_err-high-clause-grows : goal.united_sides-returns-in_err-high-clause-grows
+united_sides-returns-in_err-high-clause-grows t c = Grows-trans _ _ _ c.in_ok-low.ensures.grows c.in_err-high.ensures.grows
+
+pub united_sides-returns-in_err-high-clause-sets : goal.united_sides-returns-in_err-high-clause-sets
+united_sides-returns-in_err-high-clause-sets t c = SetsKept-trans _ _ _ c.in_ok-low.ensures.sets c.in_err-high.ensures.sets
+
+pub united_sides-returns-in_err-node-clause-grows : goal.united_sides-returns-in_err-node-clause-grows
+united_sides-returns-in_err-node-clause-grows t c = Grows-trans _ _ _ (Grows-trans _ _ _ c.in_ok-low.ensures.grows c.in_ok-high.ensures.grows) c.in_err-node.ensures.grows
+
+pub united_sides-returns-in_err-node-clause-sets : goal.united_sides-returns-in_err-node-clause-sets
+united_sides-returns-in_err-node-clause-sets t c = SetsKept-trans _ _ _ c.in_ok-low.ensures.sets c.in_ok-high.ensures.sets
+
+pub united_sides-returns-clause-grows : goal.united_sides-returns-clause-grows
+united_sides-returns-clause-grows t c = Grows-trans _ _ _ (Grows-trans _ _ _ c.in_ok-low.ensures.grows c.in_ok-high.ensures.grows) c.in_ok-node.ensures.grows
+
+pub united_sides-returns-clause-sets : goal.united_sides-returns-clause-sets
+united_sides-returns-clause-sets t c = SetsKept-trans _ _ _ c.in_ok-low.ensures.sets c.in_ok-high.ensures.sets
+
+pub united-returns-clause-grows : goal.united-returns-clause-grows
+united-returns-clause-grows t c = elim c.if-track-eq20.branch [
+  | united-then-track-eq20+in_ok-node w ↦ rw w.self-is w.in_ok-node.ensures.grows
+  | united-else-track-eq20+in_ok-node-2 w ↦ rw w.self-is w.in_ok-node-2.ensures.grows
+]
+
+pub united-returns-clause-sets : goal.united-returns-clause-sets
+united-returns-clause-sets t c = elim c.if-track-eq20.branch [
+  | united-then-track-eq20+in_ok-node w ↦ rw w.sets-is w.in_ok-node.ensures.sets
+  | united-else-track-eq20+in_ok-node-2 w ↦ rw w.sets-is w.in_ok-node-2.ensures.sets
+]
+
+pub united-returns-in_err-insert-clause-grows : goal.united-returns-in_err-insert-clause-grows
+united-returns-in_err-insert-clause-grows t c = elim c.if-track-eq20.branch [
+  | united-then-track-eq20+in_ok-node w ↦ rw w.self-is w.in_ok-node.ensures.grows
+  | united-else-track-eq20+in_ok-node-2 w ↦ rw w.self-is w.in_ok-node-2.ensures.grows
+]
+
+pub united-returns-in_err-insert-clause-sets : goal.united-returns-in_err-insert-clause-sets
+united-returns-in_err-insert-clause-sets t c = elim c.if-track-eq20.branch [
+  | united-then-track-eq20+in_ok-node w ↦ rw w.sets-is w.in_ok-node.ensures.sets
+  | united-else-track-eq20+in_ok-node-2 w ↦ rw w.sets-is w.in_ok-node-2.ensures.sets
+]

@@ -1,0 +1,9 @@
+use Rattle.lin_formula.specs.TreeOf.{tree_of}
+use Rattle.arith_desk.proofs.TruthLemmas.{compilable, few_steps}
+use Rattle.automaton_trials.proofs.formulas.compiled.Goals as goal
+
+pub compile-requires-clause-compilable : goal.compile-requires-clause-compilable
+compile-requires-clause-compilable c = compilable (tree_of c.args.f.now) c.new-sets.result c.requires
+
+pub compile-requires-clause-few_steps : goal.compile-requires-clause-few_steps
+compile-requires-clause-few_steps c = few_steps (tree_of c.args.f.now) c.requires
