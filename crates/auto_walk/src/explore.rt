@@ -91,6 +91,7 @@ pub fn walked<W: Walk>(alloc: Global, walk: W, budget: Budget) -> Result<Auto, G
     ensures over { result ≡ Err Grown.Over → MoreThan (W.walker walk) budget }
 {
     let mut walk = walk;
+    let _ = budget.states(); // for its invariant
     let first = first_row(&mut walk, budget)?;
     let rows = all_rows(alloc, &mut walk, budget)?;
     let accept = flags(alloc, &walk)?;

@@ -13,7 +13,7 @@ from_diagrams-requires g c =
     let copied : c.in_ok-tracks.tracks.items ≡ c.tracks.result.now = search rules in
     let same = copied ∙ c.tracks.ensures.tracks ∙ walker in
     let valid = subst AreTracks walker c.tracks.ensures.valid in
-    let small : length (g.W.Walk.places c.all_rows.new.walk) < 2 ^ 31 = omega (arith, next.room, c.requires.budget) in
+    let small : length (g.W.Walk.places c.all_rows.new.walk) < 2 ^ 31 = omega (arith, next.room, c.states.ensures.within.1) in
     rw (same, c.into_diagrams.ensures) (AreRows-closed _ _ _ _ _ _ closed valid small)
 
 pub returns-clause-ok : goal.returns-clause-ok
@@ -26,7 +26,7 @@ returns-clause-ok g c =
     let copied : c.in_ok-tracks.tracks.items ≡ c.tracks.result.now = search rules in
     let same = copied ∙ c.tracks.ensures.tracks ∙ walker in
     let valid = subst AreTracks walker c.tracks.ensures.valid in
-    let small : length (g.W.Walk.places c.all_rows.new.walk) < 2 ^ 31 = omega (arith, next.room, c.requires.budget) in
+    let small : length (g.W.Walk.places c.all_rows.new.walk) < 2 ^ 31 = omega (arith, next.room, c.states.ensures.within.1) in
     let made = c.from_diagrams.ensures in
     let dense = is_dense _ _ _ _ _ _ made.tracks made.first made.next made.accept made.shapes made.first_node made.row_nodes in
     rw (dense, same, c.into_diagrams.ensures) (IsWalked-closed _ _ _ _ _ _ closed valid small)
@@ -39,5 +39,5 @@ returns-clause-within g c =
     let closed = closed-rows _ _ _ _ _ _ _ _ _ _ _ first.walker next.walker first.row next.numbered next.kept next.grows next.rows size c.in_ok-accept.ensures in
     let walker = ap (λ (w : Walker). w.tracks) (next.walker ∙ first.walker) in
     let valid = subst AreTracks walker c.tracks.ensures.valid in
-    let small : length (g.W.Walk.places c.all_rows.new.walk) < 2 ^ 31 = omega (arith, next.room, c.requires.budget) in
+    let small : length (g.W.Walk.places c.all_rows.new.walk) < 2 ^ 31 = omega (arith, next.room, c.states.ensures.within.1) in
     not_MoreThan _ _ _ _ _ _ closed valid small _ next.room
