@@ -87,6 +87,7 @@ fn flags<W: Walk>(alloc: Global, walk: &W) -> Result<Vec<bool>, AllocError>
 pub fn walked<W: Walk>(alloc: Global, walk: W, budget: Budget) -> Result<Auto, Grown>
     requires fresh { W.places walk ≡ [] }
     ensures ok { IfOk result (IsWalked (W.walker walk)) }
+    ensures few { IfOk result (λ m. length m.accept ≤ budget) }
     ensures within { OnOk result (¬ MoreThan (W.walker walk) budget) }
     ensures over { result ≡ Err Grown.Over → MoreThan (W.walker walk) budget }
 {

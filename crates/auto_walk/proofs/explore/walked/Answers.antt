@@ -1,3 +1,4 @@
+use Rattle.std.proofs.lemmas.List.{length-map}
 use Rattle.std.proofs.Common.{rules, ◌≡◌, ◌<◌, ◌^◌, length, ◌∙◌, ap, subst, arith}
 use Rattle.auto_walk.specs.Walker.{Walker, AreTracks}
 use Rattle.auto_walk.proofs.WalkWords.{closed-rows, is_dense, AreRows-closed, IsWalked-closed, not_MoreThan}
@@ -41,3 +42,8 @@ returns-clause-within g c =
     let valid = subst AreTracks walker c.tracks.ensures.valid in
     let small : length (g.W.Walk.places c.all_rows.new.walk) < 2 ^ 31 = omega (arith, next.room, c.states.ensures.within.1) in
     not_MoreThan _ _ _ _ _ _ closed valid small _ next.room
+
+pub returns-clause-few : goal.returns-clause-few
+returns-clause-few g c =
+    let flags = ap length (c.from_diagrams.ensures.accept ∙ c.in_ok-accept.ensures) ∙ length-map _ _ in
+    omega (arith, flags, c.in_ok-rows.ensures.room)
