@@ -3,4 +3,3 @@ pub mod SideLemmas
 pub mod PairLemmas
 pub mod Spreads
 pub mod Complements
-pub mod Sizes

@@ -2,7 +2,6 @@ use Rattle.std.proofs.Common.{IfOk, OnOk, subst}
 use Rattle.std.proofs.lemmas.Result.{on_ok_weaker}
 use Rattle.auto_walk.specs.Walker.{IsWalked, MoreThan}
 use Rattle.auto_bool.proofs.PairLemmas.{walker-same}
-use Rattle.auto_bool.proofs.Sizes.{few_states-if}
 use Rattle.auto_bool.proofs.Spreads.{BothSpreadExceeds-from, MoreThan-from_spread}
 use Rattle.auto_bool.proofs.product.product.Goals as goal
 
@@ -11,9 +10,6 @@ returns-clause-ok c =
     let made = c.in_ok-both.ensures in
     let same = walker-same _ _ _ _ _ _ _ made.left made.right made.connective made.tracks in
     subst (λ w. IfOk c.walked.result (IsWalked w)) same c.walked.ensures.ok
-
-pub returns-clause-few : goal.returns-clause-few
-returns-clause-few c = few_states-if _ c.walked.result c.args.budget c.walked.ensures.ok c.walked.ensures.within
 
 pub returns-clause-within : goal.returns-clause-within
 returns-clause-within c =

@@ -3,7 +3,6 @@ use Rattle.std.proofs.lemmas.Result.{IfOk-weaker}
 use Rattle.auto_core.specs.Automaton.{Automaton}
 use Rattle.auto_core.specs.Reduced.{IsReachedState}
 use Rattle.auto_walk.specs.Walker.{Walker, IsWalked}
-use Rattle.auto_bool.proofs.Sizes.{few_states-if}
 use Rattle.auto_project.proofs.Walks.{tracks-if, words-if, within-if, over-from, walker-at}
 use Rattle.auto_project.proofs.projection.projected.Goals as goal
 
@@ -22,9 +21,6 @@ returns-clause-reached c = reached-if _ c.walked.result c.walked.ensures.ok
   where
     reached-if : {E : Type 0} (w : Walker) (r : Result Automaton E) → IfOk r (IsWalked w) → IfOk r (λ m. (state : ℕ) → state < length m.accept → IsReachedState m state)
     reached-if w r = IfOk-weaker r (IsWalked w) (λ m. (state : ℕ) → state < length m.accept → IsReachedState m state) (λ m walked. walked.reached)
-
-pub returns-clause-few : goal.returns-clause-few
-returns-clause-few c = few_states-if _ c.walked.result c.args.budget c.walked.ensures.ok c.walked.ensures.within
 
 pub returns-clause-within : goal.returns-clause-within
 returns-clause-within c =
