@@ -10,7 +10,7 @@ use Rattle.track_word.specs.Word.{IsWord}
 use Rattle.letter_diagram.specs.declared.diagrams.Shape.{Shape}
 use Rattle.letter_diagram.specs.Diagram.{map_at}
 use Rattle.auto_core.specs.Rows.{AreRows}
-use Rattle.auto_walk.proofs.States.{state_within, run_within}
+use Rattle.auto_core.proofs.States.{state_within, run_within}
 
 turned : (b : Bool) → IsTrue (not b) ↔ (IsTrue b → ⊥)
 turned true = (λ e h. true≢false (sym e), λ h. absurd (h refl))
@@ -74,7 +74,8 @@ module _ (a n : Automaton) (same : HasRowsOf a n) where
         }
 
 -- flags don't matter to rows, as long as there are as many
-pub AreRows-flags : (tracks : List Var) (shapes : List Shape) (first : ℕ) (rows : List ℕ) (old new : List Bool) → length new ≡ length old → AreRows tracks shapes first rows old → AreRows tracks shapes first rows new
+pub AreRows-flags : (tracks : List Var) (shapes : List Shape) (first : ℕ) (rows : List ℕ) (old new : List Bool) → length new ≡ length old → AreRows tracks shapes first rows old
+    → AreRows tracks shapes first rows new
 AreRows-flags tracks shapes first rows old new size are = record {
   ascending = are.ascending;
   few_tracks = are.few_tracks;

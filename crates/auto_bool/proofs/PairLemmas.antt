@@ -21,7 +21,7 @@ use Rattle.auto_bool.specs.declared.connective.Connective.{Connective}
 use Rattle.auto_bool.specs.declared.connective.Connective.TheVariants.{And, Or}
 use Rattle.auto_bool.specs.Both.{combined, place_of_pair, walker_over, both_walker}
 use Rattle.auto_bool.specs.Sides.{Reads}
-use Rattle.auto_walk.proofs.States.{state_within}
+use Rattle.auto_core.proofs.States.{state_within}
 
 pub get_pair : (pairs : List (ℕ × ℕ)) (number : ℕ) (pair : ℕ × ℕ) → slice_get pairs number ≡ Some pair → slice_get (map place_of_pair pairs) number ≡ Some (place_of_pair pair)
 get_pair pairs number pair at = slice_get-map place_of_pair pairs number ∙ ap (option_map place_of_pair) at
@@ -43,11 +43,20 @@ different-places pairs h i j d less within =
     let size = length-map pairs place_of_pair in
     let inside : j < length pairs = omega (arith, size, within) in
     let below : i < length pairs = omega arith in
-    let at = λ (k : ℕ) (l : k < length pairs). get_or_from_slice_get (map place_of_pair pairs) k (place_of_pair (get_or pairs k (0, 0))) d (get_pair pairs k (get_or pairs k (0, 0)) (slice_get-get_or pairs k (0, 0) l)) in
+    let at =
+    λ (k : ℕ) (l : k < length pairs). get_or_from_slice_get (map place_of_pair pairs) k (place_of_pair (get_or pairs k (0, 0))) d
+    (get_pair pairs k (get_or pairs k (0, 0)) (slice_get-get_or pairs k (0, 0) l)) in
     λ e. h i j (0, 0) less inside (same_pair _ _ (sym (at i below) ∙ e ∙ at j inside))
 
+pub first_of_two : (p q r s : ℕ) → p ∷ q ∷ [] ≡ r ∷ s ∷ [] → p ≡ r
+first_of_two p q r s e = cc
+
+pub second_of_two : (p q r s : ℕ) → p ∷ q ∷ [] ≡ r ∷ s ∷ [] → q ≡ s
+second_of_two p q r s e = cc
+
 module _ (tracks : List Var) (a b : Automaton) (connective : Connective) where
-  fold-pair : (letters : List ℕ) (p q : ℕ) → fold (walker_over tracks a b connective).next (p ∷ q ∷ []) letters ≡ run a p (map (restrict tracks a.tracks) letters) ∷ run b q (map (restrict tracks b.tracks) letters) ∷ []
+  fold-pair : (letters : List ℕ) (p q : ℕ)
+      → fold (walker_over tracks a b connective).next (p ∷ q ∷ []) letters ≡ run a p (map (restrict tracks a.tracks) letters) ∷ run b q (map (restrict tracks b.tracks) letters) ∷ []
   fold-pair [] p q = refl
   fold-pair (letter ∷ letters) p q = fold-pair letters (next_state a p (restrict tracks a.tracks letter)) (next_state b q (restrict tracks b.tracks letter))
 
@@ -60,13 +69,8 @@ module _ (tracks : List Var) (a b : Automaton) (connective : Connective) where
     pub left_known : left < length a.accept
     pub right_known : right < length b.accept
 
-  first_of_two : (p q r s : ℕ) → p ∷ q ∷ [] ≡ r ∷ s ∷ [] → p ≡ r
-  first_of_two p q r s e = cc
-
-  second_of_two : (p q r s : ℕ) → p ∷ q ∷ [] ≡ r ∷ s ∷ [] → q ≡ s
-  second_of_two p q r s e = cc
-
-  pub states_at : (pairs : List (ℕ × ℕ)) (number left right : ℕ) → IsAutomaton a → IsAutomaton b → slice_get pairs number ≡ Some (left, right) → AreNumbered (walker_over tracks a b connective) (map place_of_pair pairs) → (left < length a.accept) × (right < length b.accept)
+  pub states_at : (pairs : List (ℕ × ℕ)) (number left right : ℕ) → IsAutomaton a → IsAutomaton b → slice_get pairs number ≡ Some (left, right)
+      → AreNumbered (walker_over tracks a b connective) (map place_of_pair pairs) → (left < length a.accept) × (right < length b.accept)
   states_at pairs number left right a_valid b_valid at numbered =
       let r = All-at (IsReached (walker_over tracks a b connective)) (map place_of_pair pairs) number (left ∷ right ∷ []) (get_pair pairs number (left, right) at) numbered.reached in
       let e = sym (place_of-pair r.word r.is_word.nonempty) ∙ r.leads in (
@@ -76,7 +80,8 @@ module _ (tracks : List Var) (a b : Automaton) (connective : Connective) where
 
 -- the row of the pairs of two rows
 pub IsRow-paired : (w : Walker) (old_shapes shapes : List Shape) (old_pairs pairs : List (ℕ × ℕ)) (lead : ℕ → List ℕ) (left right node : ℕ) (left_value right_value : ℕ → ℕ)
-    → Reads old_shapes (length w.tracks) left left_value → Reads old_shapes (length w.tracks) right right_value → ((letter : ℕ) → lead letter ≡ left_value letter ∷ right_value letter ∷ []) → node < length shapes
+    → Reads old_shapes (length w.tracks) left left_value → Reads old_shapes (length w.tracks) right right_value
+    → ((letter : ℕ) → lead letter ≡ left_value letter ∷ right_value letter ∷ []) → node < length shapes
     → ((letter : ℕ) → slice_get pairs (map_at shapes node letter) ≡ Some (map_at old_shapes left letter, map_at old_shapes right letter))
     → AreAnswers old_shapes (length old_pairs) pairs left right → AllPairs (λ p q. p ≢ q) pairs
     → IsRow w shapes (map place_of_pair old_pairs) (map place_of_pair pairs) lead node
@@ -85,12 +90,15 @@ IsRow-paired w old_shapes shapes old_pairs pairs lead left right node left_value
     let places = map place_of_pair pairs in
     let at = λ (letter : ℕ). get_pair pairs (map_at shapes node letter) (map_at old_shapes left letter, map_at old_shapes right letter) (maps letter) in
     let value = λ (letter : ℕ) (below : letter < 2 ^ length w.tracks).
-    let both : map_at old_shapes left letter ∷ map_at old_shapes right letter ∷ [] ≡ left_value letter ∷ right_value letter ∷ [] = λ i. l.reads letter below i ∷ r.reads letter below i ∷ [] in both ∙ sym (leads_to letter) in
+    let both : map_at old_shapes left letter ∷ map_at old_shapes right letter ∷ [] ≡ left_value letter ∷ right_value letter ∷ [] =
+    λ i. l.reads letter below i ∷ r.reads letter below i ∷ [] in
+    both ∙ sym (leads_to letter) in
     record {
       known = known;
       narrow = record {
         same = λ x y agree.
-            let both : map_at old_shapes left x ∷ map_at old_shapes right x ∷ [] ≡ map_at old_shapes left y ∷ map_at old_shapes right y ∷ [] = λ i. l.narrow.same x y agree i ∷ r.narrow.same x y agree i ∷ [] in
+            let both : map_at old_shapes left x ∷ map_at old_shapes right x ∷ [] ≡ map_at old_shapes left y ∷ map_at old_shapes right y ∷ [] =
+            λ i. l.narrow.same x y agree i ∷ r.narrow.same x y agree i ∷ [] in
             one_place (map place_of_pair pairs) apart _ _ _ (at x) (at y ∙ ap Some (sym both));
       };
       leads = λ letter below. at letter ∙ ap Some (value letter below);
@@ -103,7 +111,9 @@ IsRow-paired w old_shapes shapes old_pairs pairs lead left right node left_value
           let below : answer.0 % 2 ^ length w.tracks < 2 ^ length w.tracks = mod_below answer.0 (2 ^ length w.tracks) (pow_pos (length w.tracks)) in
           let left_low = map_at-low old_shapes left (length w.tracks) answer.0 l.narrow in
           let right_low = map_at-low old_shapes right (length w.tracks) answer.0 r.narrow in
-          let both : map_at old_shapes left answer.0 ∷ map_at old_shapes right answer.0 ∷ [] ≡ map_at old_shapes left (answer.0 % 2 ^ length w.tracks) ∷ map_at old_shapes right (answer.0 % 2 ^ length w.tracks) ∷ [] = λ i. left_low i ∷ right_low i ∷ [] in
+          let both : map_at old_shapes left answer.0 ∷ map_at old_shapes right answer.0 ∷ [] ≡ map_at old_shapes left (answer.0 % 2 ^ length w.tracks)
+          ∷ map_at old_shapes right (answer.0 % 2 ^ length w.tracks) ∷ [] =
+          λ i. left_low i ∷ right_low i ∷ [] in
           record {
             letter = answer.0 % 2 ^ length w.tracks;
             below = below;
@@ -128,33 +138,42 @@ module _ (a b m : Automaton) where
       let is_all = subst (λ t. IsWord (length t) word) walked.tracks is in
       let flag = ap (both_walker a b connective).final (place_of-pair (with_vars a.tracks b.tracks) a b connective word is.nonempty) in
       let words = walked.words word is_all in
-      let here : IsTrue ((both_walker a b connective).final (place_of (both_walker a b connective) word)) ↔ IsTrue (combined connective (is_final a (state_of a (part_of (with_vars a.tracks b.tracks) a.tracks word))) (is_final b (state_of b (part_of (with_vars a.tracks b.tracks) b.tracks word)))) =
+      let here : IsTrue ((both_walker a b connective).final (place_of (both_walker a b connective) word))
+      ↔ IsTrue
+      (combined connective (is_final a (state_of a (part_of (with_vars a.tracks b.tracks) a.tracks word)))
+      (is_final b (state_of b (part_of (with_vars a.tracks b.tracks) b.tracks word)))) =
       (λ h. sym flag ∙ h, λ h. flag ∙ h) in
       subst (λ t. Accepts m word ↔ IsTrue (combined connective (is_final a (state_of a (part_of t a.tracks word))) (is_final b (state_of b (part_of t b.tracks word))))) (sym walked.tracks)
       (λ h. here.0 (words.0 h), λ h. words.1 (here.1 h))
 
-  pub accepts-both : IsWalked (both_walker a b And) m → (word : List ℕ) → IsWord (length m.tracks) word → Accepts m word ↔ (Accepts a (part_of m.tracks a.tracks word) × Accepts b (part_of m.tracks b.tracks word))
+  pub accepts-both : IsWalked (both_walker a b And) m → (word : List ℕ) → IsWord (length m.tracks) word
+      → Accepts m word ↔ (Accepts a (part_of m.tracks a.tracks word) × Accepts b (part_of m.tracks b.tracks word))
   accepts-both walked word is =
       let one = accepts-combined And walked word is in
       let two = both_true (is_final a (state_of a (part_of m.tracks a.tracks word))) (is_final b (state_of b (part_of m.tracks b.tracks word))) in
       (λ h. two.0 (one.0 h), λ h. one.1 (two.1 h))
 
-  pub accepts-one : IsWalked (both_walker a b Or) m → (word : List ℕ) → IsWord (length m.tracks) word → Accepts m word ↔ (Accepts a (part_of m.tracks a.tracks word) ⊎ Accepts b (part_of m.tracks b.tracks word))
+  pub accepts-one : IsWalked (both_walker a b Or) m → (word : List ℕ) → IsWord (length m.tracks) word
+      → Accepts m word ↔ (Accepts a (part_of m.tracks a.tracks word) ⊎ Accepts b (part_of m.tracks b.tracks word))
   accepts-one walked word is =
       let one = accepts-combined Or walked word is in
       let two = one_true (is_final a (state_of a (part_of m.tracks a.tracks word))) (is_final b (state_of b (part_of m.tracks b.tracks word))) in
       (λ h. two.0 (one.0 h), λ h. one.1 (two.1 h))
 
 -- the states of a numbered pair, however the pairs are listed
-pub states_in : (tracks : List Var) (a b : Automaton) (connective : Connective) (pairs listed : List (ℕ × ℕ)) (number : ℕ) → IsAutomaton a → IsAutomaton b → listed ≡ pairs → number < length (map place_of_pair pairs)
+pub states_in : (tracks : List Var) (a b : Automaton) (connective : Connective) (pairs listed : List (ℕ × ℕ)) (number : ℕ) → IsAutomaton a → IsAutomaton b → listed ≡ pairs
+    → number < length (map place_of_pair pairs)
     → AreNumbered (walker_over tracks a b connective) (map place_of_pair pairs) → ((get_or listed number (0, 0)).0 < length a.accept) × ((get_or listed number (0, 0)).1 < length b.accept)
 states_in tracks a b connective pairs listed number a_valid b_valid same known numbered =
     let within : number < length pairs = let l = length-map pairs place_of_pair in omega (arith, l, known) in
     let at = slice_get-get_or pairs number (0, 0) within in
-    let found = states_at tracks a b connective pairs number (get_or pairs number (0, 0)).0 (get_or pairs number (0, 0)).1 a_valid b_valid at numbered in
-    (subst (λ (l : List (ℕ × ℕ)). (get_or {A = ℕ × ℕ} l number (0, 0)).0 < length a.accept) (sym same) found.0, subst (λ (l : List (ℕ × ℕ)). (get_or {A = ℕ × ℕ} l number (0, 0)).1 < length b.accept) (sym same) found.1)
+    let found = states_at tracks a b connective pairs number (get_or pairs number (0, 0)).0 (get_or pairs number (0, 0)).1 a_valid b_valid at numbered in (
+      subst (λ (l : List (ℕ × ℕ)). (get_or {A = ℕ × ℕ} l number (0, 0)).0 < length a.accept) (sym same) found.0,
+      subst (λ (l : List (ℕ × ℕ)). (get_or {A = ℕ × ℕ} l number (0, 0)).1 < length b.accept) (sym same) found.1,
+    )
 
-pub place_in : (pairs listed : List (ℕ × ℕ)) (number : ℕ) → listed ≡ pairs → number < length (map place_of_pair pairs) → slice_get (map place_of_pair pairs) number ≡ Some (place_of_pair (get_or listed number (0, 0)))
+pub place_in : (pairs listed : List (ℕ × ℕ)) (number : ℕ) → listed ≡ pairs → number < length (map place_of_pair pairs)
+    → slice_get (map place_of_pair pairs) number ≡ Some (place_of_pair (get_or listed number (0, 0)))
 place_in pairs listed number same known =
     let within : number < length pairs = let l = length-map pairs place_of_pair in omega (arith, l, known) in
     get_pair pairs number (get_or pairs number (0, 0)) (slice_get-get_or pairs number (0, 0) within) ∙ ap (λ (l : List (ℕ × ℕ)). Some (place_of_pair (get_or l number (0, 0)))) (sym same)

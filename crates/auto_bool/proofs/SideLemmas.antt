@@ -1,20 +1,18 @@
 -- Rows that are read over more tracks.
-use Rattle.std.proofs.Common.{◌≡◌, ℕ, suc, ◌<◌, ◌≤◌, ◌+◌, ◌*◌, ◌^◌, List, ◌∷◌, length, map, get_or, slice_get, Some, arith, sym, ap, ◌∙◌, subst}
-use Rattle.std.specs.List.{All}
-use Rattle.std.proofs.lemmas.List.{length-map}
-use Rattle.std.proofs.lemmas.List.Elements.{All-cons, All-weaker}
+use Rattle.std.proofs.Common.{◌≡◌, ℕ, suc, ◌<◌, ◌+◌, ◌*◌, ◌^◌, List, ◌∷◌, length, map, get_or, slice_get, Some, arith, sym, ap, ◌∙◌, subst}
 use Rattle.std.proofs.lemmas.Option.{slice_get-get_or, slice_get_within, get_or_from_slice_get}
 use Rattle.track_word.specs.declared.tracks.Var.{Var}
 use Rattle.track_word.specs.Tracks.{place, restrict}
 use Rattle.letter_diagram.specs.declared.diagrams.Shape.{Shape}
-use Rattle.letter_diagram.specs.Diagram.{map_at, LooksBelow, Grows}
-use Rattle.letter_diagram.specs.BroughtRelabelled.{IsBroughtRelabelled}
+use Rattle.letter_diagram.specs.Diagram.{map_at, Grows}
+use Rattle.letter_diagram.specs.Relabelled.{relabelled}
+use Rattle.letter_diagram.specs.Carried.{IsCarried}
 use Rattle.letter_diagram.specs.Listed.{EachAnswers}
 use Rattle.auto_core.specs.Automaton.{Automaton, IsAutomaton, width, first_state, next_state}
 use Rattle.auto_core.specs.Rows.{IsOverNodes}
 use Rattle.auto_core.proofs.RowLemmas.{get_or-row_of, get_or-rows_of}
 use Rattle.auto_bool.specs.Sides.{Reads, IsSide, AreAmong}
-use Rattle.auto_walk.proofs.Restricted.{relabelled-places, restrict-below, all_narrow}
+use Rattle.auto_core.proofs.Restricted.{relabelled-places, restrict-below}
 use Rattle.auto_bool.proofs.TrackLemmas.{restrict-same}
 
 pub Reads-kept : (old new : List Shape) (tracks node : ℕ) (value : ℕ → ℕ) → Grows old new → Reads old tracks node value → Reads new tracks node value
@@ -32,13 +30,6 @@ IsSide-kept old new all a nodes grows s = record {
   rows = λ state node at. Reads-kept old new (length all) node (λ letter. next_state a state (restrict all a.tracks letter)) grows (s.rows state node at);
 }
 
--- what the nodes of an automaton know
-pub all_known : (a : Automaton) → IsOverNodes a → All (λ node. node < length a.shapes) (a.first_node ∷ a.row_nodes)
-all_known a over = All-cons (λ node. node < length a.shapes) a.first_node a.row_nodes over.nodes.first_known over.nodes.rows_known
-
-pub places-small : (all some : List Var) → length all ≤ 20 → AreAmong all some → All (λ track. track < 20) (map (place all) some)
-places-small all some few among = All-weaker (λ track. track < length all) (λ track. track < 20) (λ track h. omega arith) (map (place all) some) among.within
-
 module _ (a : Automaton) (valid : IsAutomaton a) (over : IsOverNodes a) where
   first-map : (letter : ℕ) → letter < width a → map_at a.shapes a.first_node letter ≡ first_state a letter
   first-map letter below = sym (ap (λ l. get_or l letter 0) over.first ∙ get_or-row_of a.shapes (2 ^ length a.tracks) a.first_node letter below)
@@ -46,7 +37,9 @@ module _ (a : Automaton) (valid : IsAutomaton a) (over : IsOverNodes a) where
   row-map : (state letter : ℕ) → state < length a.row_nodes → letter < width a → map_at a.shapes (get_or a.row_nodes state 0) letter ≡ next_state a state letter
   row-map state letter known below = sym (ap (λ l. get_or l (state * width a + letter) 0) over.next ∙ get_or-rows_of a.shapes (2 ^ length a.tracks) a.row_nodes state letter 0 known below)
 
-  module _ (all : List Var) (shapes : List Shape) (nodes : List ℕ) (among : AreAmong all a.tracks) (brought : EachAnswers (IsBroughtRelabelled a.shapes shapes (map (place all) a.tracks)) (a.first_node ∷ a.row_nodes) nodes) where
+  module _ (all : List Var) (shapes : List Shape) (nodes : List ℕ) (among : AreAmong all a.tracks)
+      (brought : EachAnswers (IsCarried a.shapes shapes (relabelled (map (place all) a.tracks)) (λ value. value)) (a.first_node ∷ a.row_nodes)
+      nodes) where
     reads-at : (i node : ℕ) (value : ℕ → ℕ) → slice_get nodes i ≡ Some node → ((letter : ℕ) → letter < width a → map_at a.shapes (get_or (a.first_node ∷ a.row_nodes) i 0) letter ≡ value letter)
         → Reads shapes (length all) node (λ letter. value (restrict all a.tracks letter))
     reads-at i node value at says =
@@ -54,7 +47,9 @@ module _ (a : Automaton) (valid : IsAutomaton a) (over : IsOverNodes a) where
         let here = get_or_from_slice_get nodes i node 0 at in
         let size = brought.size in
         let b = brought.each i (omega (arith, size, within)) in
-        let maps = λ (letter : ℕ). ap (λ n. map_at shapes n letter) (sym here) ∙ b.map letter ∙ ap (map_at a.shapes (get_or (a.first_node ∷ a.row_nodes) i 0)) (relabelled-places all a.tracks letter) in
+        let maps =
+        λ (letter : ℕ). ap (λ n. map_at shapes n letter) (sym here) ∙ b.map letter
+        ∙ ap (map_at a.shapes (get_or (a.first_node ∷ a.row_nodes) i 0)) (relabelled-places all a.tracks letter) in
         record {
           known = subst (λ n. n < length shapes) here b.known;
           narrow = record { same = λ x y agree. maps x ∙ ap (map_at a.shapes (get_or (a.first_node ∷ a.row_nodes) i 0)) (restrict-same all a.tracks x y among agree) ∙ sym (maps y) };
@@ -78,7 +73,8 @@ module _ (a : Automaton) (valid : IsAutomaton a) (over : IsOverNodes a) where
         }
 
 -- nodes that are read from a side
-pub first-reads : (shapes : List Shape) (all : List Var) (a : Automaton) (nodes : List ℕ) (node : ℕ) → IsSide shapes all a nodes → node ≡ get_or nodes 0 node → Reads shapes (length all) node (λ letter. first_state a (restrict all a.tracks letter))
+pub first-reads : (shapes : List Shape) (all : List Var) (a : Automaton) (nodes : List ℕ) (node : ℕ) → IsSide shapes all a nodes → node ≡ get_or nodes 0 node
+    → Reads shapes (length all) node (λ letter. first_state a (restrict all a.tracks letter))
 first-reads shapes all a nodes node s is = s.first node (slice_get-get_or nodes 0 node (let size = s.size in omega (arith, size)) ∙ ap Some (sym is))
 
 pub row-reads : (shapes : List Shape) (all : List Var) (a : Automaton) (nodes : List ℕ) (state node : ℕ) → IsSide shapes all a nodes → state < length a.accept → node ≡ get_or nodes (state + 1) node

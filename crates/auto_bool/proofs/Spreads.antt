@@ -1,78 +1,21 @@
--- In reduced automata words are alike exactly where they lead to the same states.
-use Rattle.std.proofs.Common.{◌≡◌, ◌≢◌, ◌↔◌, ℕ, Bool, true, false, IsTrue, List, [], ◌∷◌, ◌++◌, length, map, refl, sym, ap, ◌∙◌, inl, inr, arith}
-use Rattle.std.proofs.lemmas.Bool.{cases_eq}
-use Rattle.std.proofs.lemmas.List.Sums.{fold-append}
+-- Words that lead to one pair of states are alike, and in reduced automata no others are. Crates above cite these lemmas.
+use Rattle.std.proofs.Common.{◌≡◌, ◌≢◌, ℕ, List, [], ◌∷◌, map, refl, sym, ◌∙◌, arith}
 use Rattle.track_word.specs.Tracks.{with_vars, restrict, part_of}
-use Rattle.auto_core.specs.Automaton.{Automaton, IsAutomaton, first_state, next_state, run, state_of, is_final, Accepts}
+use Rattle.auto_core.specs.Automaton.{Automaton, IsAutomaton, state_of, Accepts}
 use Rattle.auto_core.specs.Reduced.{IsReduced}
-use Rattle.auto_core.specs.Spread.{SameResidual, AlikeInBoth, BothSpreadExceeds}
+use Rattle.auto_core.specs.Spread.{AlikeInBoth, BothSpreadExceeds}
 use Rattle.auto_walk.specs.Walker.{place_of, MoreThan}
 use Rattle.auto_bool.specs.declared.connective.Connective.{Connective}
 use Rattle.auto_bool.specs.Both.{both_walker}
-use Rattle.auto_walk.proofs.States.{state_within}
-use Rattle.auto_bool.proofs.PairLemmas.{place_of-pair}
+use Rattle.auto_core.proofs.States.{same_state, same_residual}
+use Rattle.auto_bool.proofs.PairLemmas.{place_of-pair, first_of_two, second_of_two}
 
-state_of-append : (a : Automaton) (word letters : List ℕ) → word ≢ [] → state_of a (word ++ letters) ≡ run a (state_of a word) letters
-state_of-append a [] letters nonempty = absurd (nonempty refl)
-state_of-append a (sign ∷ word) letters nonempty = fold-append (next_state a) (first_state a sign) word letters
-
-same_flag : (b c : Bool) → IsTrue b ↔ IsTrue c → b ≡ c
-same_flag true true h = refl
-same_flag true false h = sym (h.0 refl)
-same_flag false true h = h.1 refl
-same_flag false false h = refl
-
--- words with one residual lead to one state
-same_state : (a : Automaton) → IsAutomaton a → IsReduced a → (v w : List ℕ) → v ≢ [] → w ≢ [] → SameResidual (length a.tracks) (Accepts a) v w → state_of a v ≡ state_of a w
-same_state a is reduced v w v_some w_some h =
-    elim (cases_eq (state_of a v) (state_of a w)) [
-      | inl same ↦ same
-      | inr other ↦
-          let apart = reduced.apart (state_of a v) (state_of a w) (state_within a is v) (state_within a is w) other in
-          let flags = same_flag _ _ (h.same apart.letters apart.are_letters) in
-          absurd (apart.differ (ap (is_final a) (sym (state_of-append a v apart.letters v_some)) ∙ flags ∙ ap (is_final a) (state_of-append a w apart.letters w_some)))
-    ]
-
--- words that lead to one state have one residual
-same_residual : (a : Automaton) (v w : List ℕ) → v ≢ [] → w ≢ [] → state_of a v ≡ state_of a w → SameResidual (length a.tracks) (Accepts a) v w
-same_residual a v w v_some w_some e = record {
-  same = λ letters h.
-      let both : state_of a (v ++ letters) ≡ state_of a (w ++ letters) = state_of-append a v letters v_some ∙ ap (λ s. run a s letters) e ∙ sym (state_of-append a w letters w_some) in
-      (λ p. ap (is_final a) (sym both) ∙ p, λ p. ap (is_final a) both ∙ p);
-}
-
-not_nil-map : (f : ℕ → ℕ) (word : List ℕ) → word ≢ [] → map f word ≢ []
+pub not_nil-map : (f : ℕ → ℕ) (word : List ℕ) → word ≢ [] → map f word ≢ []
 not_nil-map f [] h e = h refl
 not_nil-map f (x ∷ xs) h e = cc
 
-first_of_two : (p q r s : ℕ) → p ∷ q ∷ [] ≡ r ∷ s ∷ [] → p ≡ r
-first_of_two p q r s e = cc
-
-second_of_two : (p q r s : ℕ) → p ∷ q ∷ [] ≡ r ∷ s ∷ [] → q ≡ s
-second_of_two p q r s e = cc
-
-module _ (a b : Automaton) (connective : Connective) (a_valid : IsAutomaton a) (b_valid : IsAutomaton b) (a_reduced : IsReduced a) (b_reduced : IsReduced b) where
-  same_place : (v w : List ℕ) → v ≢ [] → w ≢ [] → AlikeInBoth (with_vars a.tracks b.tracks) a.tracks b.tracks (Accepts a) (Accepts b) v w → place_of (both_walker a b connective) v ≡ place_of (both_walker a b connective) w
-  same_place v w v_some w_some alike =
-      let all = with_vars a.tracks b.tracks in
-      let on_a = restrict (with_vars a.tracks b.tracks) a.tracks in
-      let on_b = restrict (with_vars a.tracks b.tracks) b.tracks in
-      let l = same_state a a_valid a_reduced _ _ (not_nil-map (restrict (with_vars a.tracks b.tracks) a.tracks) v v_some) (not_nil-map (restrict (with_vars a.tracks b.tracks) a.tracks) w w_some) alike.left in
-      let r = same_state b b_valid b_reduced _ _ (not_nil-map (restrict (with_vars a.tracks b.tracks) b.tracks) v v_some) (not_nil-map (restrict (with_vars a.tracks b.tracks) b.tracks) w w_some) alike.right in
-      let both : state_of a (part_of (with_vars a.tracks b.tracks) a.tracks v) ∷ state_of b (part_of (with_vars a.tracks b.tracks) b.tracks v) ∷ [] ≡ state_of a (part_of (with_vars a.tracks b.tracks) a.tracks w) ∷ state_of b (part_of (with_vars a.tracks b.tracks) b.tracks w) ∷ [] = λ i. l i ∷ r i ∷ [] in
-      place_of-pair (with_vars a.tracks b.tracks) a b connective v v_some ∙ both ∙ sym (place_of-pair (with_vars a.tracks b.tracks) a b connective w w_some)
-
-  pub BothSpreadExceeds-from : (budget : ℕ) → MoreThan (both_walker a b connective) budget → BothSpreadExceeds a.tracks b.tracks (Accepts a) (Accepts b) budget
-  BothSpreadExceeds-from budget more = record {
-    words = more.words;
-    count = more.count;
-    are_words = more.are_words;
-    apart = λ i j d less within alike.
-        let v = (more.are_words i d (omega arith)).nonempty in
-        let w = (more.are_words j d within).nonempty in
-        more.apart i j d less within (same_place _ _ v w alike);
-  }
-
+-- words that lead to one pair are alike, whatever the automata
+module _ (a b : Automaton) (connective : Connective) where
   pub MoreThan-from_spread : (budget : ℕ) → BothSpreadExceeds a.tracks b.tracks (Accepts a) (Accepts b) budget → MoreThan (both_walker a b connective) budget
   MoreThan-from_spread budget more = record {
     words = more.words;
@@ -84,7 +27,41 @@ module _ (a b : Automaton) (connective : Connective) (a_valid : IsAutomaton a) (
         let all = with_vars a.tracks b.tracks in
         let same = sym (place_of-pair (with_vars a.tracks b.tracks) a b connective _ v) ∙ e ∙ place_of-pair (with_vars a.tracks b.tracks) a b connective _ w in
         more.apart i j d less within (record {
-          left = same_residual a _ _ (not_nil-map (restrict (with_vars a.tracks b.tracks) a.tracks) _ v) (not_nil-map (restrict (with_vars a.tracks b.tracks) a.tracks) _ w) (first_of_two _ _ _ _ same);
-          right = same_residual b _ _ (not_nil-map (restrict (with_vars a.tracks b.tracks) b.tracks) _ v) (not_nil-map (restrict (with_vars a.tracks b.tracks) b.tracks) _ w) (second_of_two _ _ _ _ same);
+          left =
+              same_residual a _ _ (not_nil-map (restrict (with_vars a.tracks b.tracks) a.tracks) _ v)
+              (not_nil-map (restrict (with_vars a.tracks b.tracks) a.tracks) _ w) (first_of_two _ _ _ _ same);
+          right =
+              same_residual b _ _ (not_nil-map (restrict (with_vars a.tracks b.tracks) b.tracks) _ v)
+              (not_nil-map (restrict (with_vars a.tracks b.tracks) b.tracks) _ w) (second_of_two _ _ _ _ same);
         });
+  }
+
+-- words that are alike in reduced automata lead to one pair
+module _ (a b : Automaton) (connective : Connective) (a_valid : IsAutomaton a) (b_valid : IsAutomaton b) (a_reduced : IsReduced a) (b_reduced : IsReduced b) where
+  same_place : (v w : List ℕ) → v ≢ [] → w ≢ [] → AlikeInBoth (with_vars a.tracks b.tracks) a.tracks b.tracks (Accepts a) (Accepts b) v w
+      → place_of (both_walker a b connective) v ≡ place_of (both_walker a b connective) w
+  same_place v w v_some w_some alike =
+      let all = with_vars a.tracks b.tracks in
+      let on_a = restrict (with_vars a.tracks b.tracks) a.tracks in
+      let on_b = restrict (with_vars a.tracks b.tracks) b.tracks in
+      let l =
+      same_state a a_valid a_reduced _ _ (not_nil-map (restrict (with_vars a.tracks b.tracks) a.tracks) v v_some)
+      (not_nil-map (restrict (with_vars a.tracks b.tracks) a.tracks) w w_some) alike.left in
+      let r =
+      same_state b b_valid b_reduced _ _ (not_nil-map (restrict (with_vars a.tracks b.tracks) b.tracks) v v_some)
+      (not_nil-map (restrict (with_vars a.tracks b.tracks) b.tracks) w w_some) alike.right in
+      let both : state_of a (part_of (with_vars a.tracks b.tracks) a.tracks v) ∷ state_of b (part_of (with_vars a.tracks b.tracks) b.tracks v)
+      ∷ [] ≡ state_of a (part_of (with_vars a.tracks b.tracks) a.tracks w) ∷ state_of b (part_of (with_vars a.tracks b.tracks) b.tracks w) ∷ [] =
+      λ i. l i ∷ r i ∷ [] in
+      place_of-pair (with_vars a.tracks b.tracks) a b connective v v_some ∙ both ∙ sym (place_of-pair (with_vars a.tracks b.tracks) a b connective w w_some)
+
+  pub BothSpreadExceeds-from : (budget : ℕ) → MoreThan (both_walker a b connective) budget → BothSpreadExceeds a.tracks b.tracks (Accepts a) (Accepts b) budget
+  BothSpreadExceeds-from budget more = record {
+    words = more.words;
+    count = more.count;
+    are_words = more.are_words;
+    apart = λ i j d less within alike.
+        let v = (more.are_words i d (omega arith)).nonempty in
+        let w = (more.are_words j d within).nonempty in
+        more.apart i j d less within (same_place _ _ v w alike);
   }

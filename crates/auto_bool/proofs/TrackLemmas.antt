@@ -1,13 +1,11 @@
 -- Tracks of two lists together, and letters over them.
-use Rattle.std.proofs.Common.{◌≡◌, ℕ, zero, suc, ◌<◌, ◌≤◌, ◌+◌, ◌*◌, ◌^◌, List, [], ◌∷◌, ◌++◌, length, map, take, drop, get_or, arith, refl, sym, ap, ◌∙◌, subst, inl, inr, ◌⊎◌, eq-eqb}
+use Rattle.std.proofs.Common.{◌≡◌, ℕ, zero, suc, ◌<◌, ◌≤◌, ◌+◌, ◌*◌, List, [], ◌∷◌, length, map, get_or, arith, refl, sym, ap, ◌∙◌, subst, inl, inr, ◌⊎◌, eq-eqb}
 use Rattle.std.specs.List.{All}
 use Rattle.std.specs.Int.{bit_at}
 use Rattle.std.proofs.lemmas.Grind.{common_steps}
 use Rattle.std.proofs.lemmas.Bool.Decides.{nat_tests}
 use Rattle.std.proofs.lemmas.List.Elements.{All-nil, All-cons, All-head, All-tail, All-map}
-use Rattle.std.proofs.lemmas.List.{length-map}
-use Rattle.std.proofs.lemmas.Option.{slice_get-get_or}
-use Rattle.auto_walk.proofs.WalkLemmas.{map-take_more}
+use Rattle.std.proofs.lemmas.Bool.{cases_order}
 use Rattle.track_word.specs.declared.tracks.Var.{Var}
 use Rattle.track_word.specs.Tracks.{IsAscending, with_var, with_vars, place, restrict}
 use Rattle.auto_bool.specs.Sides.{AreAmong}
@@ -22,28 +20,6 @@ at-is x y ys h = grind (arith, common_steps, nat_tests)
 after-is : (x y : Var) (ys : List Var) → y.0 < x.0 → with_var x (y ∷ ys) ≡ y ∷ with_var x ys
 after-is x y ys h = grind (arith, common_steps, nat_tests)
 
-order : (a b : ℕ) → (a < b) ⊎ ((a ≡ b) ⊎ (b < a))
-order a b = grind arith
-
--- a track that goes to a place is there afterwards, between the tracks before and after
-pub with_var-insert : (x : Var) (ys : List Var) (at : ℕ) → at ≤ length ys → ((k : ℕ) → k < at → (get_or ys k x).0 < x.0) → (at < length ys → x.0 < (get_or ys at x).0) → with_var x ys ≡ take at ys ++ x ∷ drop at ys
-with_var-insert x [] zero within before after = refl
-with_var-insert x [] (suc at) within before after = absurd (omega arith)
-with_var-insert x (y ∷ ys) zero within before after = before-is x y ys (after (omega arith))
-with_var-insert x (y ∷ ys) (suc at) within before after =
-    after-is x y ys (before 0 (omega arith))
-    ∙ ap (λ zs. y ∷ zs) (with_var-insert x ys at (omega arith) (λ k h. before (suc k) (omega arith)) (λ h. after (omega arith)))
-
-pub with_var-there : (x : Var) (ys : List Var) (at : ℕ) → at < length ys → ((k : ℕ) → k < at → (get_or ys k x).0 < x.0) → x.0 ≡ (get_or ys at x).0 → with_var x ys ≡ ys
-with_var-there x [] at within before same = absurd (omega arith)
-with_var-there x (y ∷ ys) zero within before same = at-is x y ys same
-with_var-there x (y ∷ ys) (suc at) within before same =
-    after-is x y ys (before 0 (omega arith)) ∙ ap (λ zs. y ∷ zs) (with_var-there x ys at (omega arith) (λ k h. before (suc k) (omega arith)) same)
-
-pub with_var-last : (x : Var) (ys : List Var) → ((k : ℕ) → k < length ys → (get_or ys k x).0 < x.0) → with_var x ys ≡ ys ++ x ∷ []
-with_var-last x [] before = refl
-with_var-last x (y ∷ ys) before = after-is x y ys (before 0 (omega arith)) ∙ ap (λ zs. y ∷ zs) (with_var-last x ys (λ k h. before (suc k) (omega arith)))
-
 -- ascending tracks from a bound on
 Rising : ℕ → List Var → Type 0
 Rising bound [] = Unit {0}
@@ -52,9 +28,9 @@ Rising bound (y ∷ ys) = (bound ≤ y.0) × Rising (y.0 + 1) ys
 rising-with_var : (x : Var) (bound : ℕ) (ys : List Var) → bound ≤ x.0 → Rising bound ys → Rising bound (with_var x ys)
 unfolding Rising
 rising-with_var x bound [] above all = (above, tt)
-rising-with_var x bound (y ∷ ys) above all = elim (order x.0 y.0) [
-  | inl before ↦ subst (Rising bound) (sym (before-is x y ys before)) (above, (omega arith, all.1))
-  | inr (inl at) ↦ subst (Rising bound) (sym (at-is x y ys at)) all
+rising-with_var x bound (y ∷ ys) above all = elim (cases_order x.0 y.0) [
+  | inl at ↦ subst (Rising bound) (sym (at-is x y ys at)) all
+  | inr (inl before) ↦ subst (Rising bound) (sym (before-is x y ys before)) (above, (omega arith, all.1))
   | inr (inr after) ↦ subst (Rising bound) (sym (after-is x y ys after)) (all.0, rising-with_var x (y.0 + 1) ys (omega arith) all.1)
 ]
 
@@ -96,18 +72,18 @@ Has (y ∷ ys) name = (y.0 ≡ name) ⊎ Has ys name
 has-new : (x : Var) (ys : List Var) → Has (with_var x ys) x.0
 unfolding Has
 has-new x [] = inl refl
-has-new x (y ∷ ys) = elim (order x.0 y.0) [
-  | inl before ↦ subst (λ l. Has l x.0) (sym (before-is x y ys before)) (inl refl)
-  | inr (inl at) ↦ subst (λ l. Has l x.0) (sym (at-is x y ys at)) (inl (sym at))
+has-new x (y ∷ ys) = elim (cases_order x.0 y.0) [
+  | inl at ↦ subst (λ l. Has l x.0) (sym (at-is x y ys at)) (inl (sym at))
+  | inr (inl before) ↦ subst (λ l. Has l x.0) (sym (before-is x y ys before)) (inl refl)
   | inr (inr after) ↦ subst (λ l. Has l x.0) (sym (after-is x y ys after)) (inr (has-new x ys))
 ]
 
 has-old : (x : Var) (ys : List Var) (name : ℕ) → Has ys name → Has (with_var x ys) name
 unfolding Has
 has-old x [] name h = absurd h
-has-old x (y ∷ ys) name h = elim (order x.0 y.0) [
-  | inl before ↦ subst (λ l. Has l name) (sym (before-is x y ys before)) (inr h)
-  | inr (inl at) ↦ subst (λ l. Has l name) (sym (at-is x y ys at)) h
+has-old x (y ∷ ys) name h = elim (cases_order x.0 y.0) [
+  | inl at ↦ subst (λ l. Has l name) (sym (at-is x y ys at)) h
+  | inr (inl before) ↦ subst (λ l. Has l name) (sym (before-is x y ys before)) (inr h)
   | inr (inr after) ↦ subst (λ l. Has l name) (sym (after-is x y ys after)) (elim h [ inl here ↦ inl here | inr later ↦ inr (has-old x ys name later) ])
 ]
 
@@ -139,7 +115,8 @@ pub AreAmong-right : (xs ys : List Var) → AreAmong (with_vars xs ys) ys
 AreAmong-right xs ys = record { within = All-map (λ track. track < length (with_vars xs ys)) (place (with_vars xs ys)) ys (all_within (with_vars xs ys) ys (has-right xs ys)) }
 
 -- letters that agree on all tracks agree on some
-restrict-agree : (all some : List Var) (a b : ℕ) → All (λ track. track < length all) (map (place all) some) → ((k : ℕ) → k < length all → bit_at a k ≡ bit_at b k) → restrict all some a ≡ restrict all some b
+restrict-agree : (all some : List Var) (a b : ℕ) → All (λ track. track < length all) (map (place all) some) → ((k : ℕ) → k < length all → bit_at a k ≡ bit_at b k)
+    → restrict all some a ≡ restrict all some b
 restrict-agree all [] a b within agree = refl
 restrict-agree all (v ∷ vs) a b within agree =
     let bit = agree (place all v) (All-head (λ track. track < length all) (place all v) (map (place all) vs) within) in
@@ -148,16 +125,3 @@ restrict-agree all (v ∷ vs) a b within agree =
 
 pub restrict-same : (all some : List Var) (a b : ℕ) → AreAmong all some → ((k : ℕ) → k < length all → bit_at a k ≡ bit_at b k) → restrict all some a ≡ restrict all some b
 restrict-same all some a b among agree = restrict-agree all some a b among.within agree
-
-get_or-places : (all some : List Var) (i : ℕ) (d : Var) → i < length some → get_or (map (place all) some) i (place all d) ≡ place all (get_or some i d)
-get_or-places all [] i d h = absurd (omega arith)
-get_or-places all (v ∷ vs) zero d h = refl
-get_or-places all (v ∷ vs) (suc i) d h = get_or-places all vs i d (omega arith)
-
-pub place-at : (all some : List Var) (i : ℕ) (d : Var) → AreAmong all some → i < length some → place all (get_or some i d) < length all
-place-at all some i d among h =
-    subst (λ n. n < length all) (get_or-places all some i d h) (among.within i (place all d) (let l = length-map some (place all) in omega (arith, l, h)))
-
-pub places-more : (all some : List Var) (places : List ℕ) (i n : ℕ) (d : Var) → i < length some → places ≡ map (place all) (take i some) → n ≡ place all (get_or some i d) → places ++ n ∷ [] ≡ map (place all) (take (i + 1) some)
-places-more all some places i n d h so_far next =
-    ap (λ l. l ++ n ∷ []) so_far ∙ ap (λ m. map (place all) (take i some) ++ m ∷ []) next ∙ sym (map-take_more (place all) some i (get_or some i d) (slice_get-get_or some i d h))

@@ -18,7 +18,8 @@ place_of_pair pair = pair.0 ∷ pair.1 ∷ []
 
 -- the states after a further letter over all tracks, which each automaton reads on its own
 abbrev pub next_pair : Automaton → Automaton → List Var → List ℕ → ℕ → List ℕ
-next_pair a b tracks (left ∷ right ∷ []) letter = next_state a left (restrict tracks a.tracks letter) ∷ next_state b right (restrict tracks b.tracks letter) ∷ []
+next_pair a b tracks (left ∷ right ∷ []) letter =
+    next_state a left (restrict tracks a.tracks letter) ∷ next_state b right (restrict tracks b.tracks letter) ∷ []
 next_pair a b tracks _ letter = []
 
 abbrev pub final_pair : Automaton → Automaton → Connective → List ℕ → Bool
@@ -29,7 +30,8 @@ final_pair a b connective _ = false
 abbrev pub walker_over : List Var → Automaton → Automaton → Connective → Walker
 walker_over tracks a b connective = record {
   tracks = tracks;
-  first = λ letter. first_state a (restrict tracks a.tracks letter) ∷ first_state b (restrict tracks b.tracks letter) ∷ [];
+  first =
+      λ letter. first_state a (restrict tracks a.tracks letter) ∷ first_state b (restrict tracks b.tracks letter) ∷ [];
   next = next_pair a b tracks;
   final = final_pair a b connective;
 }

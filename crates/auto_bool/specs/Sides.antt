@@ -16,8 +16,10 @@ pub record Reads (shapes : List Shape) (tracks node : ℕ) (value : ℕ → ℕ)
 pub record IsSide (shapes : List Shape) (all : List Var) (a : Automaton) (nodes : List ℕ) : Type 0 where
   pub valid : IsAutomaton a
   pub size : length nodes ≡ length a.accept + 1
-  pub first : (node : ℕ) → slice_get nodes 0 ≡ Some node → Reads shapes (length all) node (λ letter. first_state a (restrict all a.tracks letter))
-  pub rows : (state node : ℕ) → slice_get nodes (state + 1) ≡ Some node → Reads shapes (length all) node (λ letter. next_state a state (restrict all a.tracks letter))
+  pub first : (node : ℕ) → slice_get nodes 0 ≡ Some node
+      → Reads shapes (length all) node (λ letter. first_state a (restrict all a.tracks letter))
+  pub rows : (state node : ℕ) → slice_get nodes (state + 1) ≡ Some node
+      → Reads shapes (length all) node (λ letter. next_state a state (restrict all a.tracks letter))
 
 -- each of some tracks is among all
 pub record AreAmong (all some : List Var) : Type 0 where

@@ -7,12 +7,21 @@ ghost use Rattle.auto_bool.specs.Sides.{IsSide};
 
 use crate::connective::Connective;
 use crate::side::side;
-use crate::tracks::both_tracks;
 use auto_core::Auto;
 use auto_walk::Walk;
 use letter_diagram::{Diagrams, Node, Pairs, Product};
+use limits::MOST_TRACKS;
 use std::alloc::{AllocError, Global};
-use track_word::Var;
+use track_word::{Var, insert_tracks};
+
+/// The tracks of both lists, ascending as those of the second.
+fn both_tracks(alloc: Global, left: &[Var], right: &[Var]) -> Result<Vec<Var>, AllocError>
+    ensures { IfOk result (λ tracks. tracks.items ≡ with_vars left.now right.now) }
+{
+    let mut tracks = right.to_vec(alloc)?;
+    insert_tracks(&mut tracks, left)?;
+    Ok(tracks)
+}
 
 /// Two automata, with their rows as nodes over the tracks of both. The pairs of states are the pairs of the product.
 #[derive(Drop)]
@@ -36,7 +45,7 @@ impl<'a> Both<'a> {
         right: &'a Auto,
         connective: Connective,
     ) -> Result<Self, AllocError>
-        requires { length (with_vars left.now.tracks right.now.tracks) ≤ 20 }
+        requires { length (with_vars left.now.tracks right.now.tracks) ≤ MOST_TRACKS }
         ensures left { IfOk result (λ both. both.left.now ≡ left.now) }
         ensures right { IfOk result (λ both. both.right.now ≡ right.now) }
         ensures connective { IfOk result (λ both. both.connective ≡ connective) }
@@ -87,7 +96,7 @@ impl<'a> Walk for Both<'a> {
 
     fn first_row(&mut self) -> Result<Node, AllocError> {
         let node = self.product.apply(self.left_nodes[0], self.right_nodes[0])?;
-        let _ = self.product.pairs().len();
+        let _ = self.product.pairs().len(); // for its invariant
         Ok(node)
     }
 
@@ -96,7 +105,7 @@ impl<'a> Walk for Both<'a> {
         let left_row = self.left_nodes[left as usize + 1];
         let right_row = self.right_nodes[right as usize + 1];
         let node = self.product.apply(left_row, right_row)?;
-        let _ = self.product.pairs().len();
+        let _ = self.product.pairs().len(); // for its invariant
         Ok(node)
     }
 

@@ -15,7 +15,8 @@ pub fn not(alloc: Global, a: &Auto) -> Result<Auto, AllocError>
     ensures first { IfOk result (λ n. n.first ≡ a.now.first) }
     ensures next { IfOk result (λ n. n.next ≡ a.now.next) }
     ensures accept { IfOk result (λ n. n.accept ≡ map not_bool a.now.accept) }
-    ensures words { IfOk result (λ n. (word : List ℕ) → IsWord (length a.now.tracks) word → Accepts n word ↔ (¬ Accepts a.now word)) }
+    ensures words { IfOk result
+        (λ n. (word : List ℕ) → IsWord (length a.now.tracks) word → Accepts n word ↔ (¬ Accepts a.now word)) }
     ensures reduced { IfOk result (λ n. IsReduced a.now → IsReduced n) }
 {
     let tracks = a.tracks().to_vec(alloc)?;
@@ -28,7 +29,7 @@ pub fn not(alloc: Global, a: &Auto) -> Result<Auto, AllocError>
 fn row_nodes(alloc: Global, a: &Auto) -> Result<Vec<Node>, AllocError>
     ensures { IfOk result (λ rows. rows.items ≡ a.now.row_nodes) }
 {
-    let _ = a.diagrams();
+    let _ = a.diagrams(); // for its invariant
     let mut rows = Vec::new(alloc);
     for state in 0..a.states() {
         rows.push(a.row_node(state))?;

@@ -7,7 +7,6 @@ mod complement;
 mod connective;
 mod product;
 mod side;
-mod tracks;
 
 pub use complement::not;
-pub use product::{join, meet};
+pub use product::{join, join_within, meet, meet_within};

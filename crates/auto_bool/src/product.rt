@@ -1,8 +1,8 @@
 //! The product of two automata.
-ghost use Rattle.std.specs.Prelude.{◌≡◌, ◌↔◌, ◌⊎◌, ◌<◌, ◌≤◌, List, ℕ, length, IfOk, OnOk};
+ghost use Rattle.std.specs.Prelude.{◌≡◌, ◌↔◌, ◌⊎◌, ◌<◌, ◌≤◌, ◌^◌, List, ℕ, length, IfOk, OnOk};
 ghost use Rattle.track_word.specs.Word.{IsWord};
 ghost use Rattle.track_word.specs.Tracks.{with_vars, part_of};
-ghost use Rattle.auto_core.specs.Automaton.{Accepts, IsAutomaton};
+ghost use Rattle.auto_core.specs.Automaton.{Accepts};
 ghost use Rattle.auto_core.specs.Reduced.{IsReduced, IsReachedState};
 ghost use Rattle.auto_core.specs.Spread.{BothSpreadExceeds};
 ghost use Rattle.auto_walk.specs.Walker.{IsWalked, MoreThan};
@@ -12,60 +12,49 @@ use crate::both::Both;
 use crate::connective::Connective;
 use auto_core::Auto;
 use auto_walk::{Grown, walked};
+use limits::{Budget, MOST_TRACKS};
 use std::alloc::Global;
 
-// The automaton over the pairs of states that words lead to.
-pub fn walk_pairs(
-    alloc: Global,
-    a: &Auto,
-    b: &Auto,
-    connective: Connective,
-    budget: u32,
-) -> Result<Auto, Grown>
-    requires tracks { length (with_vars a.now.tracks b.now.tracks) ≤ 20 }
-    requires budget { budget ≤ 200000 }
-    ensures ok { IfOk result (IsWalked (both_walker a.now b.now connective)) }
-    ensures within { OnOk result (¬ MoreThan (both_walker a.now b.now connective) budget) }
-    ensures over { result ≡ Err Grown.Over → MoreThan (both_walker a.now b.now connective) budget }
-    ensures a_valid { IsAutomaton a.now }
-    ensures b_valid { IsAutomaton b.now }
-{
-    let both = Both::new(alloc, a, b, connective)?;
-    walked(alloc, both, budget)
-}
-
-// The same for reduced automata, where different pairs are different residuals.
+/// The automaton over the pairs of states that words lead to, or `Over` where they are more than the budget. Words that lead to
+/// one pair have the same residuals; in reduced automata words that lead to different pairs have not.
 fn product(
     alloc: Global,
     a: &Auto,
     b: &Auto,
     connective: Connective,
-    budget: u32,
+    budget: Budget,
 ) -> Result<Auto, Grown>
-    requires a_reduced { IsReduced a.now }
-    requires b_reduced { IsReduced b.now }
-    requires tracks { length (with_vars a.now.tracks b.now.tracks) ≤ 20 }
-    requires budget { budget ≤ 200000 }
+    requires tracks { length (with_vars a.now.tracks b.now.tracks) ≤ MOST_TRACKS }
     ensures ok { IfOk result (IsWalked (both_walker a.now b.now connective)) }
-    ensures within { OnOk result (¬ BothSpreadExceeds a.now.tracks b.now.tracks (Accepts a.now) (Accepts b.now) budget) }
-    ensures over { result ≡ Err Grown.Over → BothSpreadExceeds a.now.tracks b.now.tracks (Accepts a.now) (Accepts b.now) budget }
+    ensures few { IfOk result (λ m. length m.accept ≤ budget) }
+    ensures within { OnOk result
+        (¬ BothSpreadExceeds a.now.tracks b.now.tracks (Accepts a.now) (Accepts b.now) budget) }
+    ensures over { IsReduced a.now → IsReduced b.now → result ≡ Err Grown.Over
+        → BothSpreadExceeds a.now.tracks b.now.tracks (Accepts a.now) (Accepts b.now) budget }
+    ensures many { result ≡ Err Grown.Over → MoreThan (both_walker a.now b.now connective) budget }
 {
-    walk_pairs(alloc, a, b, connective, budget)
+    let both = Both::new(alloc, a, b, connective)?;
+    walked(alloc, both, budget)
 }
 
 /// The automaton of the words over the tracks of both that both accept, each word read on the argument's own tracks.
 /// Its states are the pairs of states that words lead to (Rabin and Scott 1959); some of them may accept the same suffixes.
 /// `Over` where they are more than the budget. Costs the pairs of nodes that are met over all rows together.
-pub fn meet(alloc: Global, a: &Auto, b: &Auto, budget: u32) -> Result<Auto, Grown>
+pub fn meet(alloc: Global, a: &Auto, b: &Auto, budget: Budget) -> Result<Auto, Grown>
     requires a_reduced { IsReduced a.now }
     requires b_reduced { IsReduced b.now }
-    requires tracks { length (with_vars a.now.tracks b.now.tracks) ≤ 20 }
-    requires budget { (1 ≤ budget) × (budget ≤ 200000) }
+    requires tracks { length (with_vars a.now.tracks b.now.tracks) ≤ MOST_TRACKS }
     ensures tracks { IfOk result (λ m. m.tracks ≡ with_vars a.now.tracks b.now.tracks) }
-    ensures words { IfOk result (λ m. (word : List ℕ) → IsWord (length m.tracks) word → Accepts m word ↔ (Accepts a.now (part_of m.tracks a.now.tracks word) × Accepts b.now (part_of m.tracks b.now.tracks word))) }
+    ensures words { IfOk result
+        (λ m. (word : List ℕ) → IsWord (length m.tracks) word
+        → Accepts m word
+        ↔ (Accepts a.now (part_of m.tracks a.now.tracks word)
+        × Accepts b.now (part_of m.tracks b.now.tracks word))) }
     ensures reached { IfOk result (λ m. (state : ℕ) → state < length m.accept → IsReachedState m state) }
-    ensures within { OnOk result (¬ BothSpreadExceeds a.now.tracks b.now.tracks (Accepts a.now) (Accepts b.now) budget) }
-    ensures over { result ≡ Err Grown.Over → BothSpreadExceeds a.now.tracks b.now.tracks (Accepts a.now) (Accepts b.now) budget }
+    ensures within { OnOk result
+        (¬ BothSpreadExceeds a.now.tracks b.now.tracks (Accepts a.now) (Accepts b.now) budget) }
+    ensures over { result ≡ Err Grown.Over
+        → BothSpreadExceeds a.now.tracks b.now.tracks (Accepts a.now) (Accepts b.now) budget }
 {
     let m = product(alloc, a, b, Connective::And, budget)?;
     Ok(m)
@@ -73,17 +62,62 @@ pub fn meet(alloc: Global, a: &Auto, b: &Auto, budget: u32) -> Result<Auto, Grow
 
 /// The automaton of the words over the tracks of both that one of them accepts at least, each word read on the argument's own
 /// tracks. Otherwise as `meet`.
-pub fn join(alloc: Global, a: &Auto, b: &Auto, budget: u32) -> Result<Auto, Grown>
+pub fn join(alloc: Global, a: &Auto, b: &Auto, budget: Budget) -> Result<Auto, Grown>
     requires a_reduced { IsReduced a.now }
     requires b_reduced { IsReduced b.now }
-    requires tracks { length (with_vars a.now.tracks b.now.tracks) ≤ 20 }
-    requires budget { (1 ≤ budget) × (budget ≤ 200000) }
+    requires tracks { length (with_vars a.now.tracks b.now.tracks) ≤ MOST_TRACKS }
     ensures tracks { IfOk result (λ m. m.tracks ≡ with_vars a.now.tracks b.now.tracks) }
-    ensures words { IfOk result (λ m. (word : List ℕ) → IsWord (length m.tracks) word → Accepts m word ↔ (Accepts a.now (part_of m.tracks a.now.tracks word) ⊎ Accepts b.now (part_of m.tracks b.now.tracks word))) }
+    ensures words { IfOk result
+        (λ m. (word : List ℕ) → IsWord (length m.tracks) word
+        → Accepts m word
+        ↔ (Accepts a.now (part_of m.tracks a.now.tracks word)
+        ⊎ Accepts b.now (part_of m.tracks b.now.tracks word))) }
     ensures reached { IfOk result (λ m. (state : ℕ) → state < length m.accept → IsReachedState m state) }
-    ensures within { OnOk result (¬ BothSpreadExceeds a.now.tracks b.now.tracks (Accepts a.now) (Accepts b.now) budget) }
-    ensures over { result ≡ Err Grown.Over → BothSpreadExceeds a.now.tracks b.now.tracks (Accepts a.now) (Accepts b.now) budget }
+    ensures within { OnOk result
+        (¬ BothSpreadExceeds a.now.tracks b.now.tracks (Accepts a.now) (Accepts b.now) budget) }
+    ensures over { result ≡ Err Grown.Over
+        → BothSpreadExceeds a.now.tracks b.now.tracks (Accepts a.now) (Accepts b.now) budget }
 {
     let m = product(alloc, a, b, Connective::Or, budget)?;
     Ok(m)
+}
+
+/// `meet` of any two automata, reduced or not, that is within the budget where the pairs of states that words lead to are.
+/// `Over` where they are more. That says nothing of how many words the step has to tell apart: of the reduced automata for the
+/// same words `meet` may still be within.
+pub fn meet_within(alloc: Global, a: &Auto, b: &Auto, budget: Budget) -> Result<Auto, Grown>
+    requires tracks { length (with_vars a.now.tracks b.now.tracks) ≤ MOST_TRACKS }
+    ensures tracks { IfOk result (λ m. m.tracks ≡ with_vars a.now.tracks b.now.tracks) }
+    ensures words { IfOk result
+        (λ m. (word : List ℕ) → IsWord (length m.tracks) word
+        → Accepts m word
+        ↔ (Accepts a.now (part_of m.tracks a.now.tracks word)
+        × Accepts b.now (part_of m.tracks b.now.tracks word))) }
+    ensures reached { IfOk result (λ m. (state : ℕ) → state < length m.accept → IsReachedState m state) }
+    ensures few { IfOk result (λ m. length m.accept ≤ budget) }
+    ensures within { OnOk result
+        (¬ BothSpreadExceeds a.now.tracks b.now.tracks (Accepts a.now) (Accepts b.now) budget) }
+    ensures over { result ≡ Err Grown.Over → MoreThan (both_walker a.now b.now Connective.And) budget }
+{
+    let both = product(alloc, a, b, Connective::And, budget)?;
+    Ok(both)
+}
+
+/// `join` of any two automata, reduced or not. Otherwise as `meet_within`.
+pub fn join_within(alloc: Global, a: &Auto, b: &Auto, budget: Budget) -> Result<Auto, Grown>
+    requires tracks { length (with_vars a.now.tracks b.now.tracks) ≤ MOST_TRACKS }
+    ensures tracks { IfOk result (λ m. m.tracks ≡ with_vars a.now.tracks b.now.tracks) }
+    ensures words { IfOk result
+        (λ m. (word : List ℕ) → IsWord (length m.tracks) word
+        → Accepts m word
+        ↔ (Accepts a.now (part_of m.tracks a.now.tracks word)
+        ⊎ Accepts b.now (part_of m.tracks b.now.tracks word))) }
+    ensures reached { IfOk result (λ m. (state : ℕ) → state < length m.accept → IsReachedState m state) }
+    ensures few { IfOk result (λ m. length m.accept ≤ budget) }
+    ensures within { OnOk result
+        (¬ BothSpreadExceeds a.now.tracks b.now.tracks (Accepts a.now) (Accepts b.now) budget) }
+    ensures over { result ≡ Err Grown.Over → MoreThan (both_walker a.now b.now Connective.Or) budget }
+{
+    let either = product(alloc, a, b, Connective::Or, budget)?;
+    Ok(either)
 }

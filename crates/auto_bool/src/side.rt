@@ -3,11 +3,11 @@ ghost use Rattle.std.specs.Prelude.{◌≤◌, length, IfOk};
 ghost use Rattle.letter_diagram.specs.Diagram.{Grows};
 ghost use Rattle.auto_bool.specs.Sides.{IsSide, AreAmong};
 
-use crate::tracks::places_of;
 use auto_core::Auto;
 use letter_diagram::{Diagrams, Node};
+use limits::MOST_TRACKS;
 use std::alloc::{AllocError, Global};
-use track_word::Var;
+use track_word::{Var, places_of};
 
 /// Nodes in `diagrams` that give the rows of an automaton over more tracks: that of the first row, then those of the states.
 pub fn side(
@@ -16,7 +16,7 @@ pub fn side(
     all: &[Var],
     a: &Auto,
 ) -> Result<Vec<Node>, AllocError>
-    requires all { length all.now ≤ 20 }
+    requires all { length all.now ≤ MOST_TRACKS }
     requires among { AreAmong all.now a.now.tracks }
     ensures side { IfOk result (λ nodes. IsSide diagrams.new all.now a.now nodes.items) }
     ensures grows { Grows diagrams.old diagrams.new }

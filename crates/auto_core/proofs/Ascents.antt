@@ -59,7 +59,8 @@ pub IsAscending-with_vars : (xs : List Var) → IsAscending (with_vars xs [])
 IsAscending-with_vars xs = IsAscending-rising (with_vars xs []) (Rising-with_vars xs)
 
 -- an earlier track is lower
-earlier : (numbers : List ℕ) → ((k : ℕ) → k + 1 < length numbers → slice_index numbers k < slice_index numbers (k + 1)) → (j n : ℕ) → j < n → n < length numbers → slice_index numbers j < slice_index numbers n
+earlier : (numbers : List ℕ) → ((k : ℕ) → k + 1 < length numbers → slice_index numbers k < slice_index numbers (k + 1)) → (j n : ℕ) → j < n → n < length numbers
+    → slice_index numbers j < slice_index numbers n
 earlier numbers up j zero h l = absurd (omega (arith, h))
 earlier numbers up j (suc n) h l =
     let step = up n (omega (arith, l)) in

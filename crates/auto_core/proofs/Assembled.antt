@@ -42,7 +42,8 @@ loss-small (negsuc n) h = omega (arith, ints, h)
 pub SFits-near : (z : ℤ) → IsNear 0 z → SFits w32 z
 SFits-near z near = let low = near.low in let high = near.high in omega (arith, ints, low, high)
 
-pub AreFlagsOf-push : (rel : Rel) (bound : ℤ) (span : Span) (flags : List Bool) (b : Bool) (state : ℕ) → length flags ≡ state → AreFlagsOf rel bound span flags → IsTrue b ↔ Compares rel (span.low +ℤ pos state) bound → AreFlagsOf rel bound span (flags ++ b ∷ [])
+pub AreFlagsOf-push : (rel : Rel) (bound : ℤ) (span : Span) (flags : List Bool) (b : Bool) (state : ℕ) → length flags ≡ state → AreFlagsOf rel bound span flags
+    → IsTrue b ↔ Compares rel (span.low +ℤ pos state) bound → AreFlagsOf rel bound span (flags ++ b ∷ [])
 AreFlagsOf-push rel bound span flags b state size are is = record {
   tells = λ i h. elim (cases_lt i (length flags)) [
     | inl below ↦ rw (get_or_append_left flags (b ∷ []) false i below) (are.tells i below)
@@ -54,9 +55,14 @@ AreFlagsOf-push rel bound span flags b state size are is = record {
 }
 
 pub AreSumRows-grows : (old new : List Shape) (weights : List ℤ) (span : Span) (nodes : List ℕ) → Grows old new → AreSumRows old weights span nodes → AreSumRows new weights span nodes
-AreSumRows-grows old new weights span nodes grows are = record { rows = λ i h. IsSumRow-grows old new weights span 0 ((span.low +ℤ pos i) +ℤ (span.low +ℤ pos i)) (slice_index nodes i) grows (are.rows i h) }
+AreSumRows-grows old new weights span nodes grows are =
+    record {
+      rows =
+          λ i h. IsSumRow-grows old new weights span 0 ((span.low +ℤ pos i) +ℤ (span.low +ℤ pos i)) (slice_index nodes i) grows (are.rows i h);
+    }
 
-pub AreSumRows-push : (shapes : List Shape) (weights : List ℤ) (span : Span) (nodes : List ℕ) (node state : ℕ) → length nodes ≡ state → AreSumRows shapes weights span nodes → IsSumRow shapes weights span 0 ((span.low +ℤ pos state) +ℤ (span.low +ℤ pos state)) node → AreSumRows shapes weights span (nodes ++ node ∷ [])
+pub AreSumRows-push : (shapes : List Shape) (weights : List ℤ) (span : Span) (nodes : List ℕ) (node state : ℕ) → length nodes ≡ state → AreSumRows shapes weights span nodes
+    → IsSumRow shapes weights span 0 ((span.low +ℤ pos state) +ℤ (span.low +ℤ pos state)) node → AreSumRows shapes weights span (nodes ++ node ∷ [])
 AreSumRows-push shapes weights span nodes node state size are is = record {
   rows = λ i h. elim (cases_lt i (length nodes)) [
     | inl below ↦ rw (get_or_append_left nodes (node ∷ []) 0 i below) (are.rows i below)
@@ -68,7 +74,8 @@ AreSumRows-push shapes weights span nodes node state size are is = record {
 }
 
 -- a row that was made for a number that is twice the state's value
-pub IsSumRow-doubled : (shapes : List Shape) (weights : List ℤ) (span : Span) (state : ℕ) (sum : ℤ) (node : ℕ) → IsNear 0 sum → sum ≡ (span.low +ℤ pos state) +ℤ (span.low +ℤ pos state) → IsSumRow shapes weights span 0 (to_z w32 (of_z w32 sum)) node
+pub IsSumRow-doubled : (shapes : List Shape) (weights : List ℤ) (span : Span) (state : ℕ) (sum : ℤ) (node : ℕ) → IsNear 0 sum
+    → sum ≡ (span.low +ℤ pos state) +ℤ (span.low +ℤ pos state) → IsSumRow shapes weights span 0 (to_z w32 (of_z w32 sum)) node
     → IsSumRow shapes weights span 0 ((span.low +ℤ pos state) +ℤ (span.low +ℤ pos state)) node
 IsSumRow-doubled shapes weights span state sum node near same is = subst (λ s. IsSumRow shapes weights span 0 s node) (to_z-of_z w32 sum (SFits-near sum near) ∙ same) is
 
@@ -99,7 +106,8 @@ IsSpanOf-made weights bound low high b c g l e f = record {
 }
 
 -- the same, as the code computes them
-pub IsSpanOf-cast : (weights : List ℤ) (bound most least low high : ℤ) → SFits w32 bound → negsuc 999 ≤ℤ bound → bound ≤ℤ pos 1000 → sum_by gain weights ≤ 512 → sum_by loss weights ≤ 512 → most ≡ pos (sum_by gain weights) → least ≡ pos (sum_by loss weights)
+pub IsSpanOf-cast : (weights : List ℤ) (bound most least low high : ℤ) → SFits w32 bound → negsuc 999 ≤ℤ bound → bound ≤ℤ pos 1000 → sum_by gain weights ≤ 512
+    → sum_by loss weights ≤ 512 → most ≡ pos (sum_by gain weights) → least ≡ pos (sum_by loss weights)
     → low ≡ int_min (to_z w32 (of_z w32 (to_z w32 (of_z w32 bound) -ℤ pos 1))) (to_z w32 (of_z w32 (pos 0 -ℤ to_z w32 (of_z w32 most))))
     → high ≡ int_max (to_z w32 (of_z w32 (to_z w32 (of_z w32 bound) +ℤ pos 1))) (to_z w32 (of_z w32 least))
     → IsSpanOf weights bound (record { low = to_z w32 (of_z w32 low); high = to_z w32 (of_z w32 high) })
@@ -108,9 +116,11 @@ IsSpanOf-cast weights bound most least low high fits b c g l m n e f =
     let e2 : to_z w32 (of_z w32 (pos 0 -ℤ to_z w32 (of_z w32 most))) ≡ neg_ℤ (pos (sum_by gain weights)) = omega (arith, ints, m, g) in
     let e3 : to_z w32 (of_z w32 (to_z w32 (of_z w32 bound) +ℤ pos 1)) ≡ bound +ℤ pos 1 = omega (arith, ints, fits, b, c) in
     let e4 : to_z w32 (of_z w32 least) ≡ pos (sum_by loss weights) = omega (arith, ints, n, l) in
-    let low_is : low ≡ int_min (bound -ℤ pos 1) (neg_ℤ (pos (sum_by gain weights))) = e ∙ ap (λ z. int_min z (to_z w32 (of_z w32 (pos 0 -ℤ to_z w32 (of_z w32 most))))) e1 ∙ ap (λ z. int_min (bound -ℤ pos 1) z) e2 in
+    let low_is : low ≡ int_min (bound -ℤ pos 1) (neg_ℤ (pos (sum_by gain weights))) =
+    e ∙ ap (λ z. int_min z (to_z w32 (of_z w32 (pos 0 -ℤ to_z w32 (of_z w32 most))))) e1 ∙ ap (λ z. int_min (bound -ℤ pos 1) z) e2 in
     let high_is : high ≡ int_max (bound +ℤ pos 1) (pos (sum_by loss weights)) = f ∙ ap (λ z. int_max z (to_z w32 (of_z w32 least))) e3 ∙ ap (λ z. int_max (bound +ℤ pos 1) z) e4 in
-    IsSpanOf-made weights bound (to_z w32 (of_z w32 low)) (to_z w32 (of_z w32 high)) b c g l (same low (sum_by gain weights) bound b c g low_is ∙ low_is) (same-high high (sum_by loss weights) bound b c l high_is ∙ high_is)
+    IsSpanOf-made weights bound (to_z w32 (of_z w32 low)) (to_z w32 (of_z w32 high)) b c g l
+    (same low (sum_by gain weights) bound b c g low_is ∙ low_is) (same-high high (sum_by loss weights) bound b c l high_is ∙ high_is)
   where
     same : (low : ℤ) (m : ℕ) (bound : ℤ) → negsuc 999 ≤ℤ bound → bound ≤ℤ pos 1000 → m ≤ 512 → low ≡ int_min (bound -ℤ pos 1) (neg_ℤ (pos m)) → to_z w32 (of_z w32 low) ≡ low
     same low m bound b c g e = omega (arith, ints, clamps, b, c, g, e)

@@ -8,12 +8,13 @@ use Rattle.std.proofs.lemmas.Bool.{cases_lt}
 use Rattle.std.proofs.lemmas.List.{ext_get_or, get_or-take, get_or-drop, get_or_append_left, get_or_push, get_or_default}
 use Rattle.std.specs.List.{Contains}
 use Rattle.std.proofs.lemmas.List.Elements.{Contains-get_or}
+use Rattle.track_word.proofs.LetterBits.{low_bits}
 use Rattle.track_word.specs.declared.tracks.Var.{Var}
 use Rattle.letter_diagram.specs.declared.diagrams.Shape.{Shape}
 use Rattle.letter_diagram.specs.Diagram.{map_at, LooksBelow, Grows}
 use Rattle.auto_core.specs.Rows.{row_of, rows_of, AreRows, AreTables}
 use Rattle.auto_core.specs.Dense.{IsRowFrom, AreRowsFrom}
-use Rattle.auto_core.proofs.RowLemmas.{length-row_of, get_or-row_of, length-rows_of, get_or-rows_of, low_bits}
+use Rattle.auto_core.proofs.RowLemmas.{length-row_of, get_or-row_of, length-rows_of, get_or-rows_of}
 
 pub IsRowFrom-grows : (old new : List Shape) (width : ℕ) (table : List ℕ) (offset node : ℕ) → Grows old new → IsRowFrom old width table offset node → IsRowFrom new width table offset node
 IsRowFrom-grows old new width table offset node grows is =
@@ -25,7 +26,8 @@ pub AreRowsFrom-grows : (old new : List Shape) (width : ℕ) (table nodes : List
 AreRowsFrom-grows old new width table nodes grows are = record { rows = λ i h. IsRowFrom-grows old new width table (i * width) (slice_index nodes i) grows (are.rows i h) }
 
 -- a row of a part of a table
-pub IsRowFrom-part : (shapes : List Shape) (width : ℕ) (table : List ℕ) (start node : ℕ) → 0 < width → IsRowFrom shapes width (take width (drop start table)) 0 node → IsRowFrom shapes width table start node
+pub IsRowFrom-part : (shapes : List Shape) (width : ℕ) (table : List ℕ) (start node : ℕ) → 0 < width → IsRowFrom shapes width (take width (drop start table)) 0 node
+    → IsRowFrom shapes width table start node
 IsRowFrom-part shapes width table start node some is = record {
   known = is.known;
   map = λ letter.
@@ -34,7 +36,8 @@ IsRowFrom-part shapes width table start node some is = record {
       ∙ get_or-take width (drop start table) (letter % width) 0 below ∙ get_or-drop start table (letter % width) 0;
 }
 
-pub AreRowsFrom-push : (shapes : List Shape) (width : ℕ) (table nodes : List ℕ) (node count : ℕ) → length nodes ≡ count → AreRowsFrom shapes width table nodes → IsRowFrom shapes width table (count * width) node → AreRowsFrom shapes width table (nodes ++ node ∷ [])
+pub AreRowsFrom-push : (shapes : List Shape) (width : ℕ) (table nodes : List ℕ) (node count : ℕ) → length nodes ≡ count → AreRowsFrom shapes width table nodes
+    → IsRowFrom shapes width table (count * width) node → AreRowsFrom shapes width table (nodes ++ node ∷ [])
 AreRowsFrom-push shapes width table nodes node count size are is = record {
   rows = λ i h. elim (cases_lt i (length nodes)) [
     | inl below ↦ rw (get_or_append_left nodes (node ∷ []) 0 i below) (are.rows i below)
@@ -65,7 +68,8 @@ row_of-is shapes width table node size is =
     get_or-row_of shapes width node i below ∙ is.map i ∙ ap (λ k. slice_index table k) (plain i width below))
 
 -- the values of the node are the row's entries
-pub leaves-row : (shapes : List Shape) (tracks : ℕ) (table : List ℕ) (node : ℕ) → length table ≡ 2 ^ tracks → IsRowFrom shapes (2 ^ tracks) table 0 node → (letter : ℕ) → Contains table (map_at shapes node letter)
+pub leaves-row : (shapes : List Shape) (tracks : ℕ) (table : List ℕ) (node : ℕ) → length table ≡ 2 ^ tracks → IsRowFrom shapes (2 ^ tracks) table 0 node → (letter : ℕ)
+    → Contains table (map_at shapes node letter)
 leaves-row shapes tracks table node size is letter =
     let below = mod_below letter (2 ^ tracks) (pow_pos tracks) in
     rw (is.map letter) (Contains-get_or table (0 + letter % 2 ^ tracks) 0 (omega (arith, below, size)))
@@ -88,12 +92,14 @@ rows_of-is shapes width table nodes some size are =
     ap (λ k. get_or (rows_of shapes width nodes) k 0) whole ∙ get_or-rows_of shapes width nodes (i / width) (i % width) 0 within rest
     ∙ (are.rows (i / width) within).map (i % width) ∙ ap (λ k. slice_index table (i / width * width + k)) once ∙ ap (λ k. slice_index table k) (sym whole))
 
-row_within : (shapes : List Shape) (width : ℕ) (table : List ℕ) (offset node bound : ℕ) → 0 < width → offset + width ≤ length table → All (λ state. state < bound) table → IsRowFrom shapes width table offset node → (letter : ℕ) → map_at shapes node letter < bound
+row_within : (shapes : List Shape) (width : ℕ) (table : List ℕ) (offset node bound : ℕ) → 0 < width → offset + width ≤ length table → All (λ state. state < bound) table
+    → IsRowFrom shapes width table offset node → (letter : ℕ) → map_at shapes node letter < bound
 row_within shapes width table offset node bound some room within is letter =
     let below = mod_below letter width some in
     rw (is.map letter) (within (offset + letter % width) 0 (omega (arith, below, room)))
 
-pub AreRows-tables : (tracks : List Var) (shapes : List Shape) (first next : List ℕ) (node : ℕ) (nodes : List ℕ) (accept : List Bool) → AreTables tracks first next accept → length nodes ≡ length accept
+pub AreRows-tables : (tracks : List Var) (shapes : List Shape) (first next : List ℕ) (node : ℕ) (nodes : List ℕ) (accept : List Bool) → AreTables tracks first next accept
+    → length nodes ≡ length accept
     → IsRowFrom shapes (2 ^ length tracks) first 0 node → AreRowsFrom shapes (2 ^ length tracks) next nodes → AreRows tracks shapes node nodes accept
 AreRows-tables tracks shapes first next node nodes accept are size is rows =
     let some = pow_pos (length tracks) in
@@ -109,7 +115,10 @@ AreRows-tables tracks shapes first next node nodes accept are size is rows =
       first_within = row_within shapes (2 ^ length tracks) first 0 node (length accept) some (let l = are.first_size in omega (arith, l)) are.first_within is;
       rows_known = λ i d h. (at i d h).known;
       rows_narrow = λ i d h. LooksBelow-row shapes (length tracks) next (i * 2 ^ length tracks) (get_or nodes i d) (at i d h);
-      rows_within = λ i d h. row_within shapes (2 ^ length tracks) next (i * 2 ^ length tracks) (get_or nodes i d) (length accept) some (let l = are.next_size in row_room i (length nodes) (length accept) (2 ^ length tracks) (length next) h size l) are.next_within (at i d h);
+      rows_within =
+          λ i d h. row_within shapes (2 ^ length tracks) next (i * 2 ^ length tracks) (get_or nodes i d) (length accept) some
+          (let l = are.next_size in row_room i (length nodes) (length accept) (2 ^ length tracks) (length next) h size l) are.next_within
+          (at i d h);
     }
   where
     row_room : (i count states width size : ℕ) → i < count → count ≡ states → size ≡ states * width → i * width + width ≤ size

@@ -10,8 +10,7 @@ use Rattle.std.proofs.lemmas.Nat.Bits.{bit_at-suc, bit_at_lowest}
 use Rattle.track_word.specs.declared.tracks.Var.{Var}
 use Rattle.track_word.specs.Tracks.{place}
 use Rattle.letter_diagram.specs.Relabelled.{relabelled}
-use Rattle.letter_diagram.proofs.Narrow.{bit_at-relabelled}
-use Rattle.auto_core.proofs.Renamed.{relabelled-below}
+use Rattle.letter_diagram.proofs.Narrow.{bit_at-relabelled, relabelled-below}
 
 halved : (letter n : ℕ) → letter < 2 ^ suc n → letter / 2 < 2 ^ n
 halved letter n small = omega (arith, small)
@@ -45,7 +44,8 @@ index_of-place places i different within =
     (λ k before. other-number (get_or places k 0) (get_or places i 0) (different k i 0 before within))
     (λ _. same-number (get_or places i 0) (get_or places i 0) refl)
 
-pub covered : (places : List ℕ) (tracks letter : ℕ) → AllPairs (λ p q. p ≢ q) places → All (λ p. p < tracks) places → letter < 2 ^ length places → (from : ℕ) × (from < 2 ^ tracks) × (relabelled places from ≡ letter)
+pub covered : (places : List ℕ) (tracks letter : ℕ) → AllPairs (λ p q. p ≢ q) places → All (λ p. p < tracks) places → letter < 2 ^ length places
+    → (from : ℕ) × (from < 2 ^ tracks) × (relabelled places from ≡ letter)
 covered places tracks letter different below small =
     let inverse = map (index_of places) (range_with_len 0 tracks) in
     let size = length-map-range_with_len (index_of places) 0 tracks in (

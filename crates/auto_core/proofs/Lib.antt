@@ -1,4 +1,5 @@
 pub mod RowLemmas
+pub mod States
 pub mod Places
 pub mod Denses
 pub mod Products
@@ -13,5 +14,6 @@ pub mod Ascents
 pub mod Linears
 pub mod Members
 pub mod Inserted
+pub mod Restricted
 pub mod Renamed
 pub mod Inverses

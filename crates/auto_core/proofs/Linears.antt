@@ -23,7 +23,8 @@ use Rattle.auto_core.proofs.Spans.{weight-between, weight-neg, weight-same, Stan
 use Rattle.auto_core.proofs.Totals.{total-sum, sum_weight, ReadsTotals, stands-state_of}
 
 -- weights by terms and by tracks
-weights-at : (tracks : List Var) (terms : List (ℤ × Var)) (i letter : ℕ) → ((j : ℕ) (d : ℤ × Var) → j < length terms → place tracks (record { 0 = (get_or terms j d).1.0 }) ≡ i + j) → sum_weight tracks terms letter ≡ weight_from i (map (λ t. t.0) terms) letter
+weights-at : (tracks : List Var) (terms : List (ℤ × Var)) (i letter : ℕ) → ((j : ℕ) (d : ℤ × Var) → j < length terms → place tracks (record { 0 = (get_or terms j d).1.0 }) ≡ i + j)
+    → sum_weight tracks terms letter ≡ weight_from i (map (λ t. t.0) terms) letter
 weights-at tracks [] i letter at = refl
 weights-at tracks (t ∷ terms) i letter at =
     let here : place tracks (record { 0 = t.1.0 }) ≡ i = at 0 t (omega arith) ∙ omega arith in
@@ -78,7 +79,8 @@ module _ (terms ordered : List (ℤ × Var)) (tracks : List Var) (weights : List
 stands-within : (span : Span) (x : ℤ) (s states : ℕ) → StandsFor span x s → pos states +ℤ span.low ≡ span.high +ℤ pos 1 → s < states
 stands-within span x s states is count = let w = is.within in omega (arith, ints, w, count)
 
-row-narrow : (shapes : List Shape) (weights : List ℤ) (span : Span) (sum : ℤ) (node tracks : ℕ) → IsSpan span → length weights ≡ tracks → IsSumRow shapes weights span 0 sum node → LooksBelow shapes node tracks
+row-narrow : (shapes : List Shape) (weights : List ℤ) (span : Span) (sum : ℤ) (node tracks : ℕ) → IsSpan span → length weights ≡ tracks → IsSumRow shapes weights span 0 sum node
+    → LooksBelow shapes node tracks
 row-narrow shapes weights span sum node tracks is size row = record {
   same = λ a b bits.
       let e = weight-same weights 0 a b (λ k h. bits k (omega (arith, h, size))) in
@@ -86,8 +88,10 @@ row-narrow shapes weights span sum node tracks is size row = record {
 }
 
 -- the nodes of the rows of sums are rows of an automaton
-pub AreRows-sums : (tracks : List Var) (shapes : List Shape) (weights opposite : List ℤ) (span : Span) (first : ℕ) (rows : List ℕ) (accept : List Bool) → IsSpan span → IsAscending tracks → length tracks ≤ 8 → length weights ≡ length tracks → length opposite ≡ length tracks
-    → pos (length rows) +ℤ span.low ≡ span.high +ℤ pos 1 → pos (length accept) +ℤ span.low ≡ span.high +ℤ pos 1 → IsSumRow shapes opposite span 0 (pos 0) first → AreSumRows shapes weights span rows → AreRows tracks shapes first rows accept
+pub AreRows-sums : (tracks : List Var) (shapes : List Shape) (weights opposite : List ℤ) (span : Span) (first : ℕ) (rows : List ℕ) (accept : List Bool) → IsSpan span
+    → IsAscending tracks → length tracks ≤ 8 → length weights ≡ length tracks → length opposite ≡ length tracks
+    → pos (length rows) +ℤ span.low ≡ span.high +ℤ pos 1 → pos (length accept) +ℤ span.low ≡ span.high +ℤ pos 1 → IsSumRow shapes opposite span 0 (pos 0) first
+    → AreSumRows shapes weights span rows → AreRows tracks shapes first rows accept
 AreRows-sums tracks shapes weights opposite span first rows accept is up few size size_opposite count_rows count first_row are =
     let some = is.some in
     let low = is.low in
@@ -104,27 +108,36 @@ AreRows-sums tracks shapes weights opposite span first rows accept is up few siz
       first_within = λ letter. stands-within span (pos 0 +ℤ weight_from 0 opposite letter) (map_at shapes first letter) (length accept) (first_row.map letter) count;
       rows_known = λ i d h. (at i d h).known;
       rows_narrow = λ i d h. row-narrow shapes weights span ((span.low +ℤ pos i) +ℤ (span.low +ℤ pos i)) (get_or rows i d) (length tracks) is size (at i d h);
-      rows_within = λ i d h letter. stands-within span (((span.low +ℤ pos i) +ℤ (span.low +ℤ pos i)) +ℤ weight_from 0 weights letter) (map_at shapes (get_or rows i d) letter) (length accept) ((at i d h).map letter) count;
+      rows_within =
+          λ i d h letter. stands-within span (((span.low +ℤ pos i) +ℤ (span.low +ℤ pos i)) +ℤ weight_from 0 weights letter)
+          (map_at shapes (get_or rows i d) letter) (length accept) ((at i d h).map letter) count;
     }
 
-module _ (a : Automaton) (shapes : List Shape) (weights opposite : List ℤ) (bound : ℤ) (span : Span) (first : ℕ) (rows : List ℕ) (is_span : IsSpanOf weights bound span) (negative : opposite ≡ map neg_ℤ weights)
-    (first_is : a.first ≡ row_of shapes (width a) first) (next_is : a.next ≡ rows_of shapes (width a) rows) (states : length rows ≡ length a.accept) (first_row : IsSumRow shapes opposite span 0 (pos 0) first) (are : AreSumRows shapes weights span rows) where
+module _ (a : Automaton) (shapes : List Shape) (weights opposite : List ℤ) (bound : ℤ) (span : Span) (first : ℕ) (rows : List ℕ)
+    (is_span : IsSpanOf weights bound span) (negative : opposite ≡ map neg_ℤ weights)
+    (first_is : a.first ≡ row_of shapes (width a) first) (next_is : a.next ≡ rows_of shapes (width a) rows) (states : length rows ≡ length a.accept)
+    (first_row : IsSumRow shapes opposite span 0 (pos 0) first) (are : AreSumRows shapes weights span rows) where
   sum_reads : ReadsTotals a (weight_from 0 weights) (StandsFor span)
   sum_reads = record {
     first = λ letter below.
         let at : first_state a letter ≡ map_at shapes first letter = ap (λ l. slice_index l letter) first_is ∙ get_or-row_of shapes (width a) first letter below in
-        let sum : pos 0 +ℤ weight_from 0 opposite letter ≡ neg_ℤ (weight_from 0 weights letter) = zero-add (weight_from 0 opposite letter) ∙ ap (λ w. weight_from 0 w letter) negative ∙ weight-neg weights 0 letter in
+        let sum : pos 0 +ℤ weight_from 0 opposite letter ≡ neg_ℤ (weight_from 0 weights letter) =
+        zero-add (weight_from 0 opposite letter) ∙ ap (λ w. weight_from 0 w letter) negative ∙ weight-neg weights 0 letter in
         rw at (subst (λ z. StandsFor span z (map_at shapes first letter)) sum (first_row.map letter));
     next = λ x state letter known below here.
         let inside : state < length rows = rw states known in
-        let at : next_state a state letter ≡ map_at shapes (slice_index rows state) letter = ap (λ l. slice_index l (state * width a + letter)) next_is ∙ get_or-rows_of shapes (width a) rows state letter 0 inside below in
-        rw at (StandsFor-more weights bound span x (weight_from 0 weights letter) state (map_at shapes (slice_index rows state) letter) is_span (weight-between weights 0 letter) here ((are.rows state inside).map letter));
+        let at : next_state a state letter ≡ map_at shapes (slice_index rows state) letter =
+        ap (λ l. slice_index l (state * width a + letter)) next_is ∙ get_or-rows_of shapes (width a) rows state letter 0 inside below in
+        rw at
+        (StandsFor-more weights bound span x (weight_from 0 weights letter) state (map_at shapes (slice_index rows state) letter) is_span
+        (weight-between weights 0 letter) here ((are.rows state inside).map letter));
   }
     where
       zero-add : (z : ℤ) → pos 0 +ℤ z ≡ z
       zero-add z = omega (arith, ints)
 
-  pub sum_words : (rel : Rel) → IsAutomaton a → AreFlagsOf rel bound span a.accept → (word : List ℕ) → IsWord (length a.tracks) word → Accepts a word ↔ Compares rel (total (weight_from 0 weights) word) bound
+  pub sum_words : (rel : Rel) → IsAutomaton a → AreFlagsOf rel bound span a.accept → (word : List ℕ) → IsWord (length a.tracks) word
+      → Accepts a word ↔ Compares rel (total (weight_from 0 weights) word) bound
   sum_words rel is flags word word_is =
       let reads = stands-state_of a (weight_from 0 weights) (StandsFor span) is sum_reads word word_is in
       let tells = flags.tells (state_of a word) reads.1 in
@@ -144,7 +157,8 @@ each-small [] each i d h = absurd (omega (arith, h))
 each-small (t ∷ terms) each zero d h = (each.0.1, each.0.2)
 each-small (t ∷ terms) each (suc i) d h = each-small terms each.1 i d (omega (arith, h))
 
-pub AreWeights-atom : (terms ordered : List (ℤ × Var)) (tracks : List Var) (weights opposite : List ℤ) (bound : ℤ) → IsAtom terms bound → AreOrdered terms ordered tracks weights → opposite ≡ map neg_ℤ weights → AreWeights tracks weights opposite
+pub AreWeights-atom : (terms ordered : List (ℤ × Var)) (tracks : List Var) (weights opposite : List ℤ) (bound : ℤ) → IsAtom terms bound → AreOrdered terms ordered tracks weights
+    → opposite ≡ map neg_ℤ weights → AreWeights tracks weights opposite
 AreWeights-atom terms ordered tracks weights opposite bound atom are negative = record {
   ascending = tracks-ascending terms ordered tracks weights bound atom are;
   few = let few = atom.0.1 in let l = tracks-length terms ordered tracks weights bound atom are in omega (arith, few, l);
@@ -188,5 +202,8 @@ abs-ordered (t ∷ terms) =
     omega (arith, a, b, e)
 
 -- the weights' magnitudes are those of the terms
-pub weights-size : (terms ordered : List (ℤ × Var)) (tracks : List Var) (weights : List ℤ) → AreOrdered terms ordered tracks weights → sum_by gain weights + sum_by loss weights ≡ sum_by (λ t. unsigned_abs t.0) terms
-weights-size terms ordered tracks weights are = ap (λ w. sum_by gain w + sum_by loss w) (are.weights_are ∙ ap (map (λ (t : ℤ × Var). t.0)) are.is) ∙ magnitudes (ordered_terms terms) ∙ abs-ordered terms
+pub weights-size : (terms ordered : List (ℤ × Var)) (tracks : List Var) (weights : List ℤ) → AreOrdered terms ordered tracks weights
+    → sum_by gain weights + sum_by loss weights ≡ sum_by (λ t. unsigned_abs t.0) terms
+weights-size terms ordered tracks weights are =
+    ap (λ w. sum_by gain w + sum_by loss w) (are.weights_are ∙ ap (map (λ (t : ℤ × Var). t.0)) are.is) ∙ magnitudes (ordered_terms terms)
+    ∙ abs-ordered terms

@@ -1,9 +1,10 @@
 -- The words of a tuple are accepted alike.
-use Rattle.std.proofs.Common.{◌≡◌, ◌≢◌, ◌↔◌, ℕ, zero, suc, ℤ, pos, negsuc, ◌+◌, ◌-◌, ◌^◌, ◌<◌, ◌≤◌, List, [], ◌∷◌, length, All, get_or, IsTrue, Bool, arith, inl, inr, refl, sym, ap, ◌∙◌, subst}
+use Rattle.std.proofs.Common.{◌≡◌, ◌↔◌, ℕ, zero, suc, ℤ, pos, negsuc, ◌-◌, ◌<◌, ◌≤◌, List, ◌∷◌, length, All, get_or, IsTrue, Bool, arith, inl, inr, refl, sym, ap, ◌∙◌, subst}
 use mir.Val.{SFits}
 use Rattle.std.specs.Int.{w64}
 use Rattle.std.proofs.lemmas.Bool.{cases_lt}
 use Rattle.std.proofs.lemmas.List.{ext_get_or, get_or-map, length-map}
+use Rattle.track_word.proofs.Repeats.{repeated_some, IsWord-repeated, IsWord-again}
 use Rattle.track_word.specs.declared.tracks.Var.{Var}
 use Rattle.track_word.specs.Word.{IsWord, val, repeat_first, repeated, spelled, letters_below, letter_of, FitsBelow, BitsSpell, RepeatKeepsValues, EqualValuesEqualWords}
 use Rattle.track_word.specs.Tracks.{IsAscending, Values, place, word_values, values_at}
@@ -15,36 +16,6 @@ pub FitsBelow-i64 : (z : ℤ) → SFits w64 z → FitsBelow 63 z
 FitsBelow-i64 (pos n) fits = fits.sfits
 FitsBelow-i64 (negsuc n) fits = fits.sfits
 
-length-letters : (integers : List ℤ) (n : ℕ) → length (letters_below integers n) ≡ n
-length-letters integers zero = refl
-length-letters integers (suc n) = ap suc (length-letters integers n)
-
-pub IsWord-repeat : (tracks : ℕ) (word : List ℕ) → IsWord tracks word → IsWord tracks (repeat_first word)
-IsWord-repeat tracks [] is = is
-IsWord-repeat tracks (l ∷ word) is = record {
-  nonempty = λ e. never l (l ∷ word) e;
-  letters = λ i d h. at i d h;
-}
-  where
-    never : (l : ℕ) (ls : List ℕ) → l ∷ ls ≡ [] → ⊥
-    never l ls e = cc
-
-    at : (i d : ℕ) → i < length (l ∷ l ∷ word) → get_or (l ∷ l ∷ word) i d < 2 ^ tracks
-    at zero d h = is.letters 0 0 (omega arith)
-    at (suc i) d h = is.letters i d (omega (arith, h))
-
-IsWord-repeated : (tracks k : ℕ) (word : List ℕ) → IsWord tracks word → IsWord tracks (repeated k word)
-IsWord-repeated tracks zero word is = is
-IsWord-repeated tracks (suc k) word is = IsWord-repeat tracks (repeated k word) (IsWord-repeated tracks k word is)
-
-length-repeat : (word : List ℕ) → word ≢ [] → length (repeat_first word) ≡ suc (length word)
-length-repeat [] some = absurd (some refl)
-length-repeat (l ∷ word) some = refl
-
-length-repeated : (tracks k : ℕ) (word : List ℕ) → IsWord tracks word → length (repeated k word) ≡ k + length word
-length-repeated tracks zero word is = omega arith
-length-repeated tracks (suc k) word is = length-repeat (repeated k word) (IsWord-repeated tracks k word is).nonempty ∙ ap suc (length-repeated tracks k word is) ∙ omega arith
-
 val-repeated : RepeatKeepsValues → (k : ℕ) (word : List ℕ) (t : ℕ) → val (repeated k word) t ≡ val word t
 val-repeated keeps zero word t = refl
 val-repeated keeps (suc k) word t = keeps (repeated k word) t ∙ val-repeated keeps k word t
@@ -53,16 +24,17 @@ accepts-repeated : (a : Automaton) → DecidesIntegers a → (k : ℕ) (word : L
 accepts-repeated a decides zero word is = (λ h. h, λ h. h)
 accepts-repeated a decides (suc k) word is =
     let before = accepts-repeated a decides k word is in
-    let more = decides.stable (repeated k word) (IsWord-repeated (length a.tracks) k word is) in
+    let more = decides.stable (repeated k word) (IsWord-repeated (length a.tracks) word k is) in
     (λ h. more.0 (before.0 h), λ h. before.1 (more.1 h))
 
 -- words of equal values, the one not longer than the other, are accepted alike
-alike : (a : Automaton) → DecidesIntegers a → RepeatKeepsValues → EqualValuesEqualWords → (v w : List ℕ) → IsWord (length a.tracks) v → IsWord (length a.tracks) w → length v ≤ length w → ((t : ℕ) → t < length a.tracks → val v t ≡ val w t) → Accepts a v ↔ Accepts a w
+alike : (a : Automaton) → DecidesIntegers a → RepeatKeepsValues → EqualValuesEqualWords → (v w : List ℕ) → IsWord (length a.tracks) v → IsWord (length a.tracks) w
+    → length v ≤ length w → ((t : ℕ) → t < length a.tracks → val v t ≡ val w t) → Accepts a v ↔ Accepts a w
 alike a decides keeps equal v w av aw shorter same =
     let k = length w - length v in
     let longer = accepts-repeated a decides k v av in
-    let size : length (repeated k v) ≡ length w = length-repeated (length a.tracks) k v av ∙ omega (arith, shorter) in
-    let one : repeated k v ≡ w = equal (length a.tracks) (repeated k v) w (IsWord-repeated (length a.tracks) k v av) aw size (λ t h. val-repeated keeps k v t ∙ same t h) in
+    let size : length (repeated k v) ≡ length w = (repeated_some v k av.nonempty).0 ∙ omega (arith, shorter) in
+    let one : repeated k v ≡ w = equal (length a.tracks) (repeated k v) w (IsWord-repeated (length a.tracks) v k av) aw size (λ t h. val-repeated keeps k v t ∙ same t h) in
     subst (λ x. Accepts a v ↔ Accepts a x) one longer
 
 -- the value of the t-th track
@@ -112,11 +84,12 @@ module _ (a : Automaton) (values : List ℤ) (is : IsAutomaton a) (count : lengt
   member-accepted flag tells = rw tells (accepted-spelled a values 63 is count decides fits spell keeps equal)
 
 -- an automaton that decides what holds of values decides a set of integers
-pub DecidesIntegers-values : RepeatKeepsValues → (a : Automaton) (tracks : List Var) (P : Values → Type 0) → a.tracks ≡ tracks → ((word : List ℕ) → IsWord (length tracks) word → Accepts a word ↔ P (word_values tracks word)) → DecidesIntegers a
+pub DecidesIntegers-values : RepeatKeepsValues → (a : Automaton) (tracks : List Var) (P : Values → Type 0) → a.tracks ≡ tracks
+    → ((word : List ℕ) → IsWord (length tracks) word → Accepts a word ↔ P (word_values tracks word)) → DecidesIntegers a
 DecidesIntegers-values keeps a tracks P same decides = record {
   stable = λ word is.
       let own = decides word (rw (← same) is) in
-      let longer = decides (repeat_first word) (rw (← same) (IsWord-repeat (length a.tracks) word is)) in
+      let longer = decides (repeat_first word) (rw (← same) (IsWord-again (length a.tracks) word is)) in
       let values : word_values tracks (repeat_first word) ≡ word_values tracks word = λ i x. keeps word (place tracks (record { 0 = x })) i in
       let other = subst (λ v. Accepts a (repeat_first word) ↔ P v) values longer in
       (λ h. other.1 (own.0 h), λ h. own.1 (other.0 h));
@@ -126,7 +99,8 @@ pub IsLeft-start : (a : Automaton) (values : List ℤ) (left state : ℕ) → le
 unfolding word_of
 IsLeft-start a values left state whole is = record { leads = rw (whole, is) refl }
 
-pub IsLeft-more : (a : Automaton) (values : List ℤ) (left rest place state next : ℕ) → left ≡ suc rest → place ≡ rest → next ≡ next_state a state (letter_of values place) → IsLeft a values left state → IsLeft a values rest next
+pub IsLeft-more : (a : Automaton) (values : List ℤ) (left rest place state next : ℕ) → left ≡ suc rest → place ≡ rest → next ≡ next_state a state (letter_of values place)
+    → IsLeft a values left state → IsLeft a values rest next
 IsLeft-more a values left rest place state next one at is here = record {
   leads = rw (is, at) (subst (λ n. run a state (letters_below values n) ≡ state_of a (word_of values)) one here.leads);
 }

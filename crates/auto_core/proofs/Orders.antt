@@ -1,4 +1,4 @@
--- Terms in the order of their variables.
+-- Terms in the order of their variables. Crates above cite these lemmas.
 use Rattle.std.proofs.Common.{◌≡◌, ◌≢◌, ℕ, suc, ℤ, ◌+ℤ◌, ◌*ℤ◌, ◌+◌, Bool, true, false, cond, not, List, [], ◌∷◌, length, map, All, nat_lt, ◌==◌, if◌then◌else◌, arith, inl, inr, refl, sym, ap, ◌∙◌}
 use Rattle.std.specs.List.{insert, position_or_len}
 use Rattle.std.proofs.lemmas.Grind.{common_steps}
@@ -9,7 +9,8 @@ use Rattle.track_word.specs.Tracks.{Values, with_var}
 use Rattle.track_word.specs.Atom.{sum_of, term_vars, atom_tracks, IsDistinct}
 use Rattle.auto_core.specs.Sums.{with_term, ordered_terms}
 
-place-cons : (b : Bool) (t u : ℤ × Var) (terms : List (ℤ × Var)) (n : ℕ) → insert terms n t ≡ with_term t terms → insert (u ∷ terms) (cond (not b) (1 + n) 0) t ≡ (if b then t ∷ u ∷ terms else u ∷ with_term t terms)
+place-cons : (b : Bool) (t u : ℤ × Var) (terms : List (ℤ × Var)) (n : ℕ) → insert terms n t ≡ with_term t terms
+    → insert (u ∷ terms) (cond (not b) (1 + n) 0) t ≡ (if b then t ∷ u ∷ terms else u ∷ with_term t terms)
 place-cons true t u terms n e = refl
 place-cons false t u terms n e = ap (λ k. insert (u ∷ terms) k t) (let h : 1 + n ≡ suc n = omega arith in h) ∙ ap (λ l. u ∷ l) e
 
@@ -17,7 +18,8 @@ pub insert-with_term : (t : ℤ × Var) (terms : List (ℤ × Var)) → insert t
 insert-with_term t [] = refl
 insert-with_term t (u ∷ terms) = place-cons (nat_lt t.1.0 u.1.0) t u terms (position_or_len (λ u. nat_lt t.1.0 u.1.0) terms) (insert-with_term t terms)
 
-sum-cons : (b : Bool) (t u : ℤ × Var) (terms : List (ℤ × Var)) (v : Values) → sum_of (with_term t terms) v ≡ (t.0 *ℤ v t.1.0) +ℤ sum_of terms v → sum_of (if b then t ∷ u ∷ terms else u ∷ with_term t terms) v ≡ (t.0 *ℤ v t.1.0) +ℤ sum_of (u ∷ terms) v
+sum-cons : (b : Bool) (t u : ℤ × Var) (terms : List (ℤ × Var)) (v : Values) → sum_of (with_term t terms) v ≡ (t.0 *ℤ v t.1.0) +ℤ sum_of terms v
+    → sum_of (if b then t ∷ u ∷ terms else u ∷ with_term t terms) v ≡ (t.0 *ℤ v t.1.0) +ℤ sum_of (u ∷ terms) v
 sum-cons true t u terms v e = refl
 sum-cons false t u terms v e = ap (λ s. (u.0 *ℤ v u.1.0) +ℤ s) e ∙ swap (u.0 *ℤ v u.1.0) (t.0 *ℤ v t.1.0) (sum_of terms v)
   where
@@ -32,7 +34,8 @@ pub sum-ordered : (terms : List (ℤ × Var)) (v : Values) → sum_of (ordered_t
 sum-ordered [] v = refl
 sum-ordered (t ∷ terms) v = sum-with_term t (ordered_terms terms) v ∙ ap (λ s. (t.0 *ℤ v t.1.0) +ℤ s) (sum-ordered terms v)
 
-length-cons : (b : Bool) (t u : ℤ × Var) (terms : List (ℤ × Var)) → length (with_term t terms) ≡ suc (length terms) → length (if b then t ∷ u ∷ terms else u ∷ with_term t terms) ≡ suc (suc (length terms))
+length-cons : (b : Bool) (t u : ℤ × Var) (terms : List (ℤ × Var)) → length (with_term t terms) ≡ suc (length terms)
+    → length (if b then t ∷ u ∷ terms else u ∷ with_term t terms) ≡ suc (suc (length terms))
 length-cons true t u terms e = refl
 length-cons false t u terms e = ap suc e
 
@@ -53,7 +56,8 @@ pub Each-all : (P : ℤ × Var → Type 0) (terms : List (ℤ × Var)) → All P
 Each-all P [] all = tt
 Each-all P (t ∷ terms) all = (all 0 t (omega arith), Each-all P terms (λ i d h. all (suc i) d (omega (arith, h))))
 
-each-cons : (P : ℤ × Var → Type 0) (b : Bool) (t u : ℤ × Var) (terms : List (ℤ × Var)) → P t → P u → Each P terms → Each P (with_term t terms) → Each P (if b then t ∷ u ∷ terms else u ∷ with_term t terms)
+each-cons : (P : ℤ × Var → Type 0) (b : Bool) (t u : ℤ × Var) (terms : List (ℤ × Var)) → P t → P u → Each P terms → Each P (with_term t terms)
+    → Each P (if b then t ∷ u ∷ terms else u ∷ with_term t terms)
 each-cons P true t u terms pt pu each with_t = (pt, (pu, each))
 each-cons P false t u terms pt pu each with_t = (pu, with_t)
 
@@ -65,7 +69,7 @@ pub each-ordered : (P : ℤ × Var → Type 0) (terms : List (ℤ × Var)) → E
 each-ordered P [] each = tt
 each-ordered P (t ∷ terms) each = each-with_term P t (ordered_terms terms) each.0 (each-ordered P terms each.1)
 
-same-var : (x y : Var) → x.0 ≡ y.0 → x ≡ y
+pub same-var : (x y : Var) → x.0 ≡ y.0 → x ≡ y
 same-var x y e = grind (arith, e)
 
 vars-cons : (b e : Bool) (t u : ℤ × Var) (terms : List (ℤ × Var)) → nat_lt t.1.0 u.1.0 ≡ b → e ≡ false → term_vars (with_term t terms) ≡ with_var t.1 (term_vars terms)

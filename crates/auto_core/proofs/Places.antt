@@ -1,10 +1,10 @@
 -- Places of entries in a dense row.
-use Rattle.std.proofs.Common.{◌≡◌, ℕ, ◌+◌, ◌-◌, ◌*◌, ◌/◌, ◌%◌, ◌^◌, ◌<◌, List, slice_index, nat_eq, arith, sym, ap, ◌∙◌, inl, inr, ◌⊎◌, if◌then◌else◌}
+use Rattle.std.proofs.Common.{◌≡◌, ℕ, ◌+◌, ◌-◌, ◌*◌, ◌/◌, ◌%◌, ◌^◌, ◌<◌, List, slice_index, nat_eq, arith, sym, ap, ◌∙◌, inl, inr, if◌then◌else◌}
 use Rattle.std.specs.Int.{bit_at}
 use Rattle.std.proofs.lemmas.Grind.{common_steps}
 use Rattle.std.proofs.lemmas.Nat.{mod-pow-add, pow-add}
 use Rattle.std.proofs.Math.Nat.{div-div-eq-div-mul}
-use Rattle.std.proofs.lemmas.Nat.Bits.{bit_at-lt}
+use Rattle.track_word.proofs.LetterBits.{bit_cases}
 use Rattle.letter_diagram.specs.declared.diagrams.Shape.{Shape}
 use Rattle.letter_diagram.specs.Diagram.{map_at, chosen}
 use Rattle.auto_core.specs.Dense.{place_of}
@@ -36,9 +36,6 @@ place_of-bit tracks track offset letter within =
     ∙ regroup offset (letter / 2 ^ (track + 1) % 2 ^ (tracks - (track + 1))) (bit_at letter track) (2 ^ track)
     ∙ ap (λ q. offset + bit_at letter track * 2 ^ track + letter / 2 ^ (track + 1) % 2 ^ (tracks - (track + 1)) * q) (sym double)
 
-bit_cases : (letter track : ℕ) → (bit_at letter track ≡ 0) ⊎ (bit_at letter track ≡ 1)
-bit_cases letter track = let l = bit_at-lt letter track in grind (arith, common_steps, l)
-
 -- the entry by the bit of a track
 pub chosen-place : (shapes : List Shape) (table : List ℕ) (tracks track offset past low high letter : ℕ) → track < tracks → past ≡ offset + 2 ^ track
     → map_at shapes low letter ≡ slice_index table (place_of tracks (track + 1) offset letter) → map_at shapes high letter ≡ slice_index table (place_of tracks (track + 1) past letter)
@@ -48,8 +45,14 @@ chosen-place shapes table tracks track offset past low high letter within is l h
     elim (bit_cases letter track) [
       | inl z ↦
           ap (λ n. if nat_eq n 0 then map_at shapes low letter else map_at shapes high letter) z ∙ l
-          ∙ ap (λ k. slice_index table k) (ap (λ o. place_of tracks (track + 1) o letter) (let e : offset ≡ offset + 0 * 2 ^ track = omega arith in e ∙ ap (λ b. offset + b * 2 ^ track) (sym z)) ∙ sym place)
+          ∙ ap (λ k. slice_index table k)
+          (ap (λ o. place_of tracks (track + 1) o letter)
+          (let e : offset ≡ offset + 0 * 2 ^ track = omega arith in e ∙ ap (λ b. offset + b * 2 ^ track) (sym z))
+          ∙ sym place)
       | inr o ↦
           ap (λ n. if nat_eq n 0 then map_at shapes low letter else map_at shapes high letter) o ∙ h
-          ∙ ap (λ k. slice_index table k) (ap (λ o. place_of tracks (track + 1) o letter) (is ∙ (let e : offset + 2 ^ track ≡ offset + 1 * 2 ^ track = omega arith in e) ∙ ap (λ b. offset + b * 2 ^ track) (sym o)) ∙ sym place)
+          ∙ ap (λ k. slice_index table k)
+          (ap (λ o. place_of tracks (track + 1) o letter)
+          (is ∙ (let e : offset + 2 ^ track ≡ offset + 1 * 2 ^ track = omega arith in e) ∙ ap (λ b. offset + b * 2 ^ track) (sym o))
+          ∙ sym place)
     ]

@@ -39,7 +39,8 @@ at_second rows a b n size = get_or_push (rows ++ a ∷ []) b 0 (n + 1) (let l = 
 
 -- a row for one more state
 pub ArePrefixRows-push : (value : ℤ) (left : ℕ) (rows : List ℕ) (a b : ℕ) → length rows ≡ left * 2 → ArePrefixRows value left rows
-    → IsPrefixState value (int_shr value left +ℤ int_shr value left +ℤ pos 0) a → IsPrefixState value (int_shr value left +ℤ int_shr value left +ℤ pos 1) b → ArePrefixRows value (left + 1) ((rows ++ a ∷ []) ++ b ∷ [])
+    → IsPrefixState value (int_shr value left +ℤ int_shr value left +ℤ pos 0) a → IsPrefixState value (int_shr value left +ℤ int_shr value left +ℤ pos 1) b
+    → ArePrefixRows value (left + 1) ((rows ++ a ∷ []) ++ b ∷ [])
 ArePrefixRows-push value left rows a b size are low high = record {
   after = λ state letter known bit. elim (cases_lt state left) [
     | inl below ↦ rw (at_pair rows a b (left * 2) (state * 2 + letter) size (omega (arith, below, bit))) (are.after state letter below bit)
@@ -124,7 +125,9 @@ module _ (a : Automaton) (value : ℤ) (fits : SFits w64 value) (one : width a �
               (subst (λ k. IsPrefixState value (int_shr value state +ℤ int_shr value state +ℤ pos letter) (slice_index a.next k)) (sym (place state)) (rows.prefixes.after state letter left small))
           | inr past ↦
               let end : state ≡ 64 = omega (arith, past, inside) in
-              let there : next_state a state letter ≡ 64 = ap (λ k. slice_index a.next k) (place state ∙ (let e : state * 2 + letter ≡ 128 + letter = omega (arith, end) in e)) ∙ rows.stays letter small in
+              let there : next_state a state letter ≡ 64 =
+              ap (λ k. slice_index a.next k) (place state ∙ (let e : state * 2 + letter ≡ 128 + letter = omega (arith, end) in e))
+              ∙ rows.stays letter small in
               subst (IsPrefixState value (x +ℤ x +ℤ pos letter)) (sym there) (IsPrefixState-stays value x letter fits small (subst (IsPrefixState value x) end here))
         ]);
   }
@@ -164,7 +167,8 @@ rows_within value rows are i d h =
           rw half (let e : 64 * 2 + i % 2 ≡ 128 + i % 2 = omega arith in rw e (rw stays (omega arith)))
     ]))
 
-pub AreTables-prefix : (var : Var) (value : ℤ) (s t : ℕ) (rows : List ℕ) (flags : List Bool) → IsPrefixState value (pos 0) s → IsPrefixState value (negsuc 0) t → AreAllPrefixRows value rows → IsFirstFlag flags
+pub AreTables-prefix : (var : Var) (value : ℤ) (s t : ℕ) (rows : List ℕ) (flags : List Bool) → IsPrefixState value (pos 0) s → IsPrefixState value (negsuc 0) t
+    → AreAllPrefixRows value rows → IsFirstFlag flags
     → AreTables (var ∷ []) (s ∷ t ∷ []) rows flags
 AreTables-prefix var value s t rows flags zero_read sign_read are flag =
     let size = flag.size in
@@ -188,7 +192,8 @@ AreTables-prefix var value s t rows flags zero_read sign_read are flag =
     two s t n hs ht (suc (suc i)) d h = absurd (omega (arith, h))
 
 -- the automaton of these tables decides whether the variable has the value
-pub value_words : (a : Automaton) (var : Var) (value : ℤ) (s t : ℕ) → SFits w64 value → IsAutomaton a → a.tracks ≡ var ∷ [] → a.first ≡ s ∷ t ∷ [] → AreAllPrefixRows value a.next → IsFirstFlag a.accept
+pub value_words : (a : Automaton) (var : Var) (value : ℤ) (s t : ℕ) → SFits w64 value → IsAutomaton a → a.tracks ≡ var ∷ [] → a.first ≡ s ∷ t ∷ [] → AreAllPrefixRows value a.next
+    → IsFirstFlag a.accept
     → IsPrefixState value (pos 0) s → IsPrefixState value (negsuc 0) t → (word : List ℕ) → IsWord 1 word → Accepts a word ↔ ValueHolds var value word
 value_words a var value s t fits is tracks first rows flag zero_read sign_read word are =
     let one : length a.tracks ≡ 1 = ap length tracks in
@@ -197,7 +202,9 @@ value_words a var value s t fits is tracks first rows flag zero_read sign_read w
     rw (alone var) words
 
 -- the same, where the tables were made for a number that is the value
-pub value_words-same : (a : Automaton) (var : Var) (value made : ℤ) (s t : ℕ) → made ≡ value → SFits w64 value → IsAutomaton a → a.tracks ≡ var ∷ [] → a.first ≡ s ∷ t ∷ [] → AreAllPrefixRows made a.next → IsFirstFlag a.accept
+pub value_words-same : (a : Automaton) (var : Var) (value made : ℤ) (s t : ℕ) → made ≡ value → SFits w64 value → IsAutomaton a → a.tracks ≡ var ∷ [] → a.first ≡ s ∷ t ∷ []
+    → AreAllPrefixRows made a.next → IsFirstFlag a.accept
     → IsPrefixState made (pos 0) s → IsPrefixState made (negsuc 0) t → (word : List ℕ) → IsWord 1 word → Accepts a word ↔ ValueHolds var value word
 value_words-same a var value made s t same fits is tracks first rows flag zero_read sign_read =
-    value_words a var value s t fits is tracks first (subst (λ v. AreAllPrefixRows v a.next) same rows) flag (subst (λ v. IsPrefixState v (pos 0) s) same zero_read) (subst (λ v. IsPrefixState v (negsuc 0) t) same sign_read)
+    value_words a var value s t fits is tracks first (subst (λ v. AreAllPrefixRows v a.next) same rows) flag
+    (subst (λ v. IsPrefixState v (pos 0) s) same zero_read) (subst (λ v. IsPrefixState v (negsuc 0) t) same sign_read)

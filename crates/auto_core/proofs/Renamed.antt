@@ -3,32 +3,22 @@ use Rattle.std.proofs.Common.{◌≡◌, ◌≢◌, ◌↔◌, ℕ, zero, suc, �
 use Rattle.std.specs.Int.{bit_at}
 use Rattle.std.specs.List.{remove}
 use Rattle.std.proofs.lemmas.List.{get_or_default}
-use Rattle.std.proofs.lemmas.Nat.Bits.{bit_at-lt}
+use Rattle.track_word.proofs.Repeats.{IsWord-again}
 use Rattle.track_word.specs.declared.tracks.Var.{Var}
 use Rattle.track_word.specs.Word.{IsWord, repeat_first}
-use Rattle.track_word.specs.Tracks.{IsAscending, place, restrict, part_of}
+use Rattle.track_word.specs.Tracks.{IsAscending, place, part_of}
 use Rattle.letter_diagram.specs.declared.diagrams.Shape.{Shape}
 use Rattle.letter_diagram.specs.Diagram.{map_at, LooksBelow}
 use Rattle.letter_diagram.specs.Relabelled.{relabelled}
-use Rattle.letter_diagram.specs.BroughtRelabelled.{IsBroughtRelabelled}
+use Rattle.letter_diagram.specs.Carried.{IsCarried}
 use Rattle.letter_diagram.specs.Listed.{EachAnswers}
-use Rattle.letter_diagram.proofs.Narrow.{bit_at-relabelled}
+use Rattle.letter_diagram.proofs.Narrow.{bit_at-relabelled, relabelled-below}
 use Rattle.auto_core.specs.Automaton.{Automaton, width, first_state, next_state, run, state_of, is_final, Accepts}
 use Rattle.auto_core.specs.Integers.{DecidesIntegers}
 use Rattle.auto_core.specs.Reduced.{IsReduced}
 use Rattle.auto_core.specs.Rows.{AreRows, IsOverNodes}
 use Rattle.auto_core.proofs.RowLemmas.{get_or-row_of, get_or-rows_of}
-use Rattle.auto_core.proofs.Members.{IsWord-repeat}
-
-pub relabelled-below : (places : List ℕ) (letter : ℕ) → relabelled places letter < 2 ^ length places
-relabelled-below [] letter = omega arith
-relabelled-below (p ∷ places) letter =
-    let small = bit_at-lt letter p in
-    let rest = relabelled-below places letter in
-    doubled (bit_at letter p) (relabelled places letter) (length places) small rest
-  where
-    doubled : (b r n : ℕ) → b < 2 → r < 2 ^ n → b + 2 * r < 2 ^ suc n
-    doubled b r n small rest = omega (arith, small, rest)
+use Rattle.auto_core.proofs.Restricted.{relabelled-places}
 
 relabelled-same : (places : List ℕ) (bound a b : ℕ) → All (λ p. p < bound) places → ((k : ℕ) → k < bound → bit_at a k ≡ bit_at b k) → relabelled places a ≡ relabelled places b
 relabelled-same [] bound a b below same = refl
@@ -37,13 +27,8 @@ relabelled-same (p ∷ places) bound a b below same =
     let rest = relabelled-same places bound a b (λ i d h. below (suc i) d (omega (arith, h))) same in
     λ i. bit i + 2 * rest i
 
--- the letter by the places of variables
-relabelled-restrict : (tracks vars : List Var) (letter : ℕ) → relabelled (map (place tracks) vars) letter ≡ restrict tracks vars letter
-relabelled-restrict tracks [] letter = refl
-relabelled-restrict tracks (v ∷ vars) letter = ap (λ r. bit_at letter (place tracks v) + 2 * r) (relabelled-restrict tracks vars letter)
-
 pub part_of-relabelled : (tracks vars : List Var) (word : List ℕ) → map (relabelled (map (place tracks) vars)) word ≡ part_of tracks vars word
-part_of-relabelled tracks vars word = λ i. map (λ letter. relabelled-restrict tracks vars letter i) word
+part_of-relabelled tracks vars word = λ i. map (λ letter. relabelled-places tracks vars letter i) word
 
 -- the maps of first and rows are those of an automaton on relabelled letters
 pub record AreRenamed (a : Automaton) (shapes : List Shape) (places : List ℕ) (first : ℕ) (rows : List ℕ) : Type 0 where
@@ -54,7 +39,9 @@ pub record AreRenamed (a : Automaton) (shapes : List Shape) (places : List ℕ) 
   pub rows_are : (i letter : ℕ) → i < length a.row_nodes → map_at shapes (slice_index rows i) letter ≡ map_at a.shapes (slice_index a.row_nodes i) (relabelled places letter)
 
 -- the nodes that were brought for an automaton's rows, that of the first row apart
-pub AreRenamed-brought : (a : Automaton) (shapes : List Shape) (places answers : List ℕ) (first : ℕ) (rows : List ℕ) → EachAnswers (IsBroughtRelabelled a.shapes shapes places) (a.first_node ∷ a.row_nodes) answers → first ≡ slice_index_or answers 0 first → rows ≡ remove answers 0
+pub AreRenamed-brought : (a : Automaton) (shapes : List Shape) (places answers : List ℕ) (first : ℕ) (rows : List ℕ)
+    → EachAnswers (IsCarried a.shapes shapes (relabelled places) (λ value. value)) (a.first_node ∷ a.row_nodes) answers → first ≡ slice_index_or answers 0 first
+    → rows ≡ remove answers 0
     → AreRenamed a shapes places first rows
 AreRenamed-brought a shapes places [] first rows brought is rest = let size = brought.size in absurd (omega (arith, size))
 AreRenamed-brought a shapes places (answer ∷ answers) first rows brought is rest =
@@ -67,33 +54,38 @@ AreRenamed-brought a shapes places (answer ∷ answers) first rows brought is re
     }))
 
 -- nodes stay as they are for letters whose tracks keep their places
-brought-in_order : (shapes : List Shape) (places nodes : List ℕ) → ((i : ℕ) → i < length places → slice_index places i ≡ i) → All (λ node. node < length shapes) nodes → All (λ node. LooksBelow shapes node (length places)) nodes
-    → EachAnswers (IsBroughtRelabelled shapes shapes places) nodes nodes
+brought-in_order : (shapes : List Shape) (places nodes : List ℕ) → ((i : ℕ) → i < length places → slice_index places i ≡ i) → All (λ node. node < length shapes) nodes
+    → All (λ node. LooksBelow shapes node (length places)) nodes
+    → EachAnswers (IsCarried shapes shapes (relabelled places) (λ value. value)) nodes nodes
 brought-in_order shapes places nodes in_order known narrow = record {
   size = refl;
   each = λ i h. record {
     known = known i 0 h;
     source_known = known i 0 h;
     map = λ letter. (narrow i 0 h).same letter (relabelled places letter) (λ k below. sym (bit_at-relabelled places letter k 0 below ∙ ap (bit_at letter) (in_order k below)));
+    top = λ _. omega arith;
   };
 }
 
 pub rows-in_order : (a : Automaton) (places : List ℕ) → IsOverNodes a → length places ≡ length a.tracks → ((i : ℕ) → i < length places → slice_index places i ≡ i)
-    → EachAnswers (IsBroughtRelabelled a.shapes a.shapes places) (a.first_node ∷ a.row_nodes) (a.first_node ∷ a.row_nodes)
+    → EachAnswers (IsCarried a.shapes a.shapes (relabelled places) (λ value. value)) (a.first_node ∷ a.row_nodes) (a.first_node ∷ a.row_nodes)
 rows-in_order a places over count in_order =
     brought-in_order a.shapes places (a.first_node ∷ a.row_nodes) in_order (all_cons (λ node. node < length a.shapes) a.first_node a.row_nodes over.nodes.first_known over.nodes.rows_known)
-    (subst (λ n. All (λ node. LooksBelow a.shapes node n) (a.first_node ∷ a.row_nodes)) (sym count) (all_cons (λ node. LooksBelow a.shapes node (length a.tracks)) a.first_node a.row_nodes over.nodes.first_narrow over.nodes.rows_narrow))
+    (subst (λ n. All (λ node. LooksBelow a.shapes node n) (a.first_node ∷ a.row_nodes)) (sym count)
+    (all_cons (λ node. LooksBelow a.shapes node (length a.tracks)) a.first_node a.row_nodes over.nodes.first_narrow over.nodes.rows_narrow))
   where
     all_cons : (P : ℕ → Type 0) (x : ℕ) (xs : List ℕ) → P x → All P xs → All P (x ∷ xs)
     all_cons P x xs p ps zero d h = p
     all_cons P x xs p ps (suc i) d h = ps i d (omega (arith, h))
 
-narrow : (a : Automaton) (shapes : List Shape) (places : List ℕ) (bound node source : ℕ) → All (λ p. p < bound) places → ((letter : ℕ) → map_at shapes node letter ≡ map_at a.shapes source (relabelled places letter)) → LooksBelow shapes node bound
+narrow : (a : Automaton) (shapes : List Shape) (places : List ℕ) (bound node source : ℕ) → All (λ p. p < bound) places
+    → ((letter : ℕ) → map_at shapes node letter ≡ map_at a.shapes source (relabelled places letter)) → LooksBelow shapes node bound
 narrow a shapes places bound node source below is = record {
   same = λ x y bits. is x ∙ ap (map_at a.shapes source) (relabelled-same places bound x y below bits) ∙ sym (is y);
 }
 
-pub AreRows-renamed : (a : Automaton) (tracks : List Var) (shapes : List Shape) (places : List ℕ) (first : ℕ) (rows : List ℕ) (accept : List Bool) → IsOverNodes a → IsAscending tracks → length tracks ≤ 20 → accept ≡ a.accept
+pub AreRows-renamed : (a : Automaton) (tracks : List Var) (shapes : List Shape) (places : List ℕ) (first : ℕ) (rows : List ℕ) (accept : List Bool) → IsOverNodes a
+    → IsAscending tracks → length tracks ≤ 20 → accept ≡ a.accept
     → All (λ p. p < length tracks) places → AreRenamed a shapes places first rows → AreRows tracks shapes first rows accept
 AreRows-renamed a tracks shapes places first rows accept over up few same below are =
     let size = ap length same in
@@ -119,7 +111,8 @@ AreRows-renamed a tracks shapes places first rows accept over up few same below 
 first_state-over : (a : Automaton) → IsOverNodes a → (letter : ℕ) → letter < width a → first_state a letter ≡ map_at a.shapes a.first_node letter
 first_state-over a over letter h = ap (λ l. slice_index l letter) over.first ∙ get_or-row_of a.shapes (width a) a.first_node letter h
 
-next_state-over : (a : Automaton) → IsOverNodes a → (state letter : ℕ) → state < length a.row_nodes → letter < width a → next_state a state letter ≡ map_at a.shapes (slice_index a.row_nodes state) letter
+next_state-over : (a : Automaton) → IsOverNodes a → (state letter : ℕ) → state < length a.row_nodes → letter < width a
+    → next_state a state letter ≡ map_at a.shapes (slice_index a.row_nodes state) letter
 next_state-over a over state letter k h = ap (λ l. slice_index l (state * width a + letter)) over.next ∙ get_or-rows_of a.shapes (width a) a.row_nodes state letter 0 k h
 
 -- the word of the bits at the places is one of as many tracks
@@ -139,7 +132,8 @@ repeat-map : (f : ℕ → ℕ) (word : List ℕ) → repeat_first (map f word) �
 repeat-map f [] = refl
 repeat-map f (l ∷ ls) = refl
 
-module _ (a new : Automaton) (places : List ℕ) (over : IsOverNodes a) (made : IsOverNodes new) (count : length places ≡ length a.tracks) (same : new.accept ≡ a.accept) (are : AreRenamed a new.shapes places new.first_node new.row_nodes) where
+module _ (a new : Automaton) (places : List ℕ) (over : IsOverNodes a) (made : IsOverNodes new) (count : length places ≡ length a.tracks)
+    (same : new.accept ≡ a.accept) (are : AreRenamed a new.shapes places new.first_node new.row_nodes) where
   inside : (letter : ℕ) → relabelled places letter < width a
   inside letter = rw (← count) (relabelled-below places letter)
 
@@ -162,7 +156,8 @@ module _ (a new : Automaton) (places : List ℕ) (over : IsOverNodes a) (made : 
   run-is : (letters : List ℕ) (s t : ℕ) → s ≡ t → t < length a.accept → All (λ letter. letter < width new) letters → run new s letters ≡ run a t (map (relabelled places) letters)
   run-is [] s t e k all = e
   run-is (l ∷ ls) s t e k all =
-      run-is ls (next_state new s l) (next_state a t (relabelled places l)) (ap (λ n. next_state new n l) e ∙ next-is t l k (all 0 0 (omega arith))) (next-within t l k) (λ i d h. all (suc i) d (omega (arith, h)))
+      run-is ls (next_state new s l) (next_state a t (relabelled places l)) (ap (λ n. next_state new n l) e ∙ next-is t l k (all 0 0 (omega arith)))
+      (next-within t l k) (λ i d h. all (suc i) d (omega (arith, h)))
 
   state-is : (word : List ℕ) → All (λ letter. letter < width new) word → state_of new word ≡ state_of a (map (relabelled places) word)
   state-is [] all = refl
@@ -204,7 +199,9 @@ module _ (a new : Automaton) (places : List ℕ) (over : IsOverNodes a) (made : 
               let t = reduced.apart j k jh kh ne in
               let w = read_from t.letters t.are_letters in
               let final = λ (s : ℕ) (h : s < length a.accept).
-              (let e : is_final new (run new s w.0) ≡ is_final a (run a s t.letters) = (λ i. slice_index_or (same i) (run-is w.0 s s refl h w.1 i) false) ∙ ap (λ l. is_final a (run a s l)) w.2 in e) in
+              (let e : is_final new (run new s w.0) ≡ is_final a (run a s t.letters) =
+              (λ i. slice_index_or (same i) (run-is w.0 s s refl h w.1 i) false) ∙ ap (λ l. is_final a (run a s l)) w.2 in
+              e) in
               record { letters = w.0; are_letters = w.1; differ = λ e. t.differ (sym (final j jh) ∙ e ∙ final k kh) };
         }
 
@@ -218,7 +215,7 @@ module _ (a new : Automaton) (places : List ℕ) (over : IsOverNodes a) (made : 
   DecidesIntegers-renamed decides = record {
     stable = λ word is.
         let one = words-renamed word is in
-        let longer = words-renamed (repeat_first word) (IsWord-repeat (length new.tracks) word is) in
+        let longer = words-renamed (repeat_first word) (IsWord-again (length new.tracks) word is) in
         let old = decides.stable (map (relabelled places) word) (IsWord-map places (length new.tracks) (length a.tracks) word count is) in
         let twice = subst (λ w. Accepts a (map (relabelled places) word) ↔ Accepts a w) (repeat-map (relabelled places) word) old in
         (λ h. longer.1 (twice.0 (one.0 h)), λ h. one.1 (twice.1 (longer.0 h)));

@@ -1,23 +1,16 @@
 -- Entries of dense rows of nodes.
-use Rattle.std.proofs.Common.{◌≡◌, ℕ, zero, suc, ◌+◌, ◌-◌, ◌*◌, ◌/◌, ◌%◌, ◌^◌, ◌<◌, Bool, List, [], ◌∷◌, ◌++◌, length, All, get_or, arith, inl, inr, sym, ap, ◌∙◌, subst}
+use Rattle.std.proofs.Common.{◌≡◌, ℕ, zero, suc, ◌+◌, ◌-◌, ◌*◌, ◌%◌, ◌^◌, ◌<◌, Bool, List, [], ◌∷◌, ◌++◌, length, All, get_or, arith, inl, inr, sym, ap, ◌∙◌, subst}
 use Rattle.std.specs.List.{flat_map}
-use Rattle.std.specs.Int.{bit_at}
 use Rattle.std.proofs.lemmas.Nat.{mod_below, pow_pos}
-use Rattle.std.proofs.lemmas.Nat.Bits.{bit_at_cat_low}
 use Rattle.std.proofs.lemmas.Bool.{cases_lt}
-use Rattle.std.proofs.lemmas.Grind.{common_steps}
 use Rattle.std.proofs.lemmas.List.{length-append, get_or_append_left, get_or-append_right}
 use Rattle.std.proofs.lemmas.List.FromFn.{length-map-range_with_len, get_or-map-range_with_len}
+pub use Rattle.track_word.proofs.LetterBits.{low_bits}
 use Rattle.track_word.specs.declared.tracks.Var.{Var}
 use Rattle.letter_diagram.specs.declared.diagrams.Shape.{Shape}
 use Rattle.letter_diagram.specs.Diagram.{map_at, LooksBelow}
 use Rattle.auto_core.specs.Automaton.{IsAutomaton, next_state}
 use Rattle.auto_core.specs.Rows.{row_of, rows_of, dense, AreRows}
-
-pub low_bits : (letter bound k : ℕ) → k < bound → bit_at letter k ≡ bit_at (letter % 2 ^ bound) k
-low_bits letter bound k below =
-    let whole : letter ≡ letter / 2 ^ bound * 2 ^ bound + letter % 2 ^ bound = grind (arith, common_steps) in
-    ap (λ n. bit_at n k) whole ∙ bit_at_cat_low (letter / 2 ^ bound) bound (letter % 2 ^ bound) k below
 
 module _ (shapes : List Shape) (width : ℕ) where
   pub length-row_of : (node : ℕ) → length (row_of shapes width node) ≡ width
@@ -52,7 +45,8 @@ module _ (shapes : List Shape) (width : ℕ) where
   unfolding row_of
   row_within node bound letter d h all = rw (get_or-map-range_with_len (map_at shapes node) 0 width letter letter d h (omega arith)) (all letter)
 
-  rows_within : (bound : ℕ) (nodes : List ℕ) → All (λ node. (letter : ℕ) → map_at shapes node letter < bound) nodes → (k d : ℕ) → k < length (rows_of shapes width nodes) → get_or (rows_of shapes width nodes) k d < bound
+  rows_within : (bound : ℕ) (nodes : List ℕ) → All (λ node. (letter : ℕ) → map_at shapes node letter < bound) nodes → (k d : ℕ) → k < length (rows_of shapes width nodes)
+      → get_or (rows_of shapes width nodes) k d < bound
   unfolding rows_of
   rows_within bound [] all k d h = absurd (omega arith)
   rows_within bound (n ∷ nodes) all k d h =
@@ -64,7 +58,8 @@ module _ (shapes : List Shape) (width : ℕ) where
             (rows_within bound nodes (λ i e inside. all (suc i) e (omega (arith, inside))) (k - width) d (omega (arith, size, whole, h, past)))
       ]
 
-pub IsAutomaton-dense : (tracks : List Var) (shapes : List Shape) (first : ℕ) (rows : List ℕ) (accept : List Bool) → AreRows tracks shapes first rows accept → IsAutomaton (dense tracks shapes first rows accept)
+pub IsAutomaton-dense : (tracks : List Var) (shapes : List Shape) (first : ℕ) (rows : List ℕ) (accept : List Bool) → AreRows tracks shapes first rows accept
+    → IsAutomaton (dense tracks shapes first rows accept)
 IsAutomaton-dense tracks shapes first rows accept are = record {
   ascending = are.ascending;
   few_tracks = are.few_tracks;
@@ -77,20 +72,23 @@ IsAutomaton-dense tracks shapes first rows accept are = record {
 }
 
 -- where narrow nodes have equal maps at the letters of their tracks, they have equal maps
-pub map_at-narrow : (shapes : List Shape) (a b bound : ℕ) → LooksBelow shapes a bound → LooksBelow shapes b bound → ((letter : ℕ) → letter < 2 ^ bound → map_at shapes a letter ≡ map_at shapes b letter) → (letter : ℕ) → map_at shapes a letter ≡ map_at shapes b letter
+pub map_at-narrow : (shapes : List Shape) (a b bound : ℕ) → LooksBelow shapes a bound → LooksBelow shapes b bound
+    → ((letter : ℕ) → letter < 2 ^ bound → map_at shapes a letter ≡ map_at shapes b letter) → (letter : ℕ) → map_at shapes a letter ≡ map_at shapes b letter
 map_at-narrow shapes a b bound na nb same letter =
     let low = λ (k : ℕ) (below : k < bound). low_bits letter bound k below in
     na.same letter (letter % 2 ^ bound) low ∙ same (letter % 2 ^ bound) (mod_below letter (2 ^ bound) (pow_pos bound)) ∙ sym (nb.same letter (letter % 2 ^ bound) low)
 
 module _ (tracks : List Var) (shapes : List Shape) (first : ℕ) (rows : List ℕ) (accept : List Bool) (are : AreRows tracks shapes first rows accept) where
   -- an entry of the dense table by the node of its row
-  pub next_state-dense : (state letter node : ℕ) → state < length accept → letter < 2 ^ length tracks → node ≡ get_or rows state node → next_state (dense tracks shapes first rows accept) state letter ≡ map_at shapes node letter
+  pub next_state-dense : (state letter node : ℕ) → state < length accept → letter < 2 ^ length tracks → node ≡ get_or rows state node
+      → next_state (dense tracks shapes first rows accept) state letter ≡ map_at shapes node letter
   next_state-dense state letter node known within is =
       get_or-rows_of shapes (2 ^ length tracks) rows state letter node (let size = are.rows_size in omega (arith, size, known)) within ∙ ap (λ n. map_at shapes n letter) (sym is)
 
   -- states whose rows are equal have one map
   pub map_at-same_row : (a b x y : ℕ) → a < length accept → b < length accept → x ≡ get_or rows a x → y ≡ get_or rows b y
-      → ((letter : ℕ) → letter < 2 ^ length tracks → next_state (dense tracks shapes first rows accept) a letter ≡ next_state (dense tracks shapes first rows accept) b letter) → (letter : ℕ) → map_at shapes x letter ≡ map_at shapes y letter
+      → ((letter : ℕ) → letter < 2 ^ length tracks → next_state (dense tracks shapes first rows accept) a letter ≡ next_state (dense tracks shapes first rows accept) b letter)
+      → (letter : ℕ) → map_at shapes x letter ≡ map_at shapes y letter
   map_at-same_row a b x y ka kb ix iy same =
       let size = are.rows_size in
       let narrow = λ (n i : ℕ) (k : i < length accept) (is : n ≡ get_or rows i n). subst (λ m. LooksBelow shapes m (length tracks)) (sym is) (are.rows_narrow i n (omega (arith, size, k))) in

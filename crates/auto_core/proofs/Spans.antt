@@ -2,18 +2,14 @@
 use Rattle.std.proofs.Common.{◌≡◌, ◌↔◌, ℕ, suc, ℤ, pos, negsuc, neg_ℤ, ◌+ℤ◌, ◌*ℤ◌, ◌≤ℤ◌, ◌<ℤ◌, ◌+◌, ◌<◌, List, [], ◌∷◌, length, map, arith, inl, inr, ◌⊎◌, refl, sym, ap, ◌∙◌, subst}
 use Rattle.std.specs.List.{sum_by}
 use Rattle.std.specs.Int.{bit_at}
-use Rattle.std.proofs.lemmas.Grind.{common_steps}
 use Rattle.std.proofs.lemmas.Int.{ints, by_lt_z}
 use Rattle.std.proofs.lemmas.List.Sums.{sum_by-cons}
-use Rattle.std.proofs.lemmas.Nat.Bits.{bit_at-lt}
+use Rattle.track_word.proofs.LetterBits.{bit_cases}
 use Rattle.track_word.specs.declared.atoms.Rel.{Rel}
 use Rattle.track_word.specs.declared.atoms.Rel.TheVariants.{Le, Eq}
 use Rattle.track_word.specs.Atom.{Compares}
 use Rattle.auto_core.specs.declared.sums.Span.{Span}
 use Rattle.auto_core.specs.Sums.{gain, loss, weight_from, IsSpan, IsSpanOf, StandsFor}
-
-bit_cases : (letter track : ℕ) → (bit_at letter track ≡ 0) ⊎ (bit_at letter track ≡ 1)
-bit_cases letter track = let l = bit_at-lt letter track in grind (arith, common_steps, l)
 
 -- what a letter adds lies between what the weights can take away and what they can add
 pub record IsBetween (down up : ℕ) (z : ℤ) : Type 0 where
@@ -36,7 +32,10 @@ both a b c d x y p q =
 
 pub weight-between : (weights : List ℤ) (track letter : ℕ) → IsBetween (sum_by loss weights) (sum_by gain weights) (weight_from track weights letter)
 weight-between [] track letter = record { low = omega (arith, ints); high = omega (arith, ints) }
-weight-between (w ∷ weights) track letter = rw (sum_by-cons loss w weights, sum_by-cons gain w weights) (both (loss w) (gain w) (sum_by loss weights) (sum_by gain weights) (w *ℤ pos (bit_at letter track)) (weight_from (suc track) weights letter) (one-weight w (bit_at letter track) (bit_cases letter track)) (weight-between weights (suc track) letter))
+weight-between (w ∷ weights) track letter =
+    rw (sum_by-cons loss w weights, sum_by-cons gain w weights)
+    (both (loss w) (gain w) (sum_by loss weights) (sum_by gain weights) (w *ℤ pos (bit_at letter track)) (weight_from (suc track) weights letter)
+    (one-weight w (bit_at letter track) (bit_cases letter track)) (weight-between weights (suc track) letter))
 
 -- the weights of a sign letter
 pub weight-neg : (weights : List ℤ) (track letter : ℕ) → weight_from track (map neg_ℤ weights) letter ≡ neg_ℤ (weight_from track weights letter)
@@ -51,7 +50,8 @@ weight-neg (w ∷ weights) track letter = rw (weight-neg weights (suc track) let
 pub weight-same : (weights : List ℤ) (track a b : ℕ) → ((k : ℕ) → k < track + length weights → bit_at a k ≡ bit_at b k) → weight_from track weights a ≡ weight_from track weights b
 weight-same [] track a b same = refl
 weight-same (w ∷ weights) track a b same =
-    ap (λ n. (w *ℤ pos n) +ℤ weight_from (suc track) weights a) (same track (omega arith)) ∙ ap (λ z. (w *ℤ pos (bit_at b track)) +ℤ z) (weight-same weights (suc track) a b (λ k h. same k (omega (arith, h))))
+    ap (λ n. (w *ℤ pos n) +ℤ weight_from (suc track) weights a) (same track (omega arith))
+    ∙ ap (λ z. (w *ℤ pos (bit_at b track)) +ℤ z) (weight-same weights (suc track) a b (λ k h. same k (omega (arith, h))))
 
 -- a sum has one state
 pub StandsFor-one : (span : Span) (x : ℤ) (s t : ℕ) → IsSpan span → StandsFor span x s → StandsFor span x t → s ≡ t
@@ -97,7 +97,8 @@ StandsFor-more weights bound span x d s t is between here there =
     subst (λ z. StandsFor span z t) (let e : ((span.low +ℤ pos s) +ℤ (span.low +ℤ pos s)) +ℤ d ≡ x +ℤ x +ℤ d = omega (arith, ints, same) in e) there))
 
 -- the value of a sum's state compares with the bound as the sum does
-pub Compares-state : (rel : Rel) (weights : List ℤ) (bound : ℤ) (span : Span) (x : ℤ) (s : ℕ) → IsSpanOf weights bound span → StandsFor span x s → Compares rel (span.low +ℤ pos s) bound ↔ Compares rel x bound
+pub Compares-state : (rel : Rel) (weights : List ℤ) (bound : ℤ) (span : Span) (x : ℤ) (s : ℕ) → IsSpanOf weights bound span → StandsFor span x s
+    → Compares rel (span.low +ℤ pos s) bound ↔ Compares rel x bound
 Compares-state rel weights bound span x s is here =
     let lower = is.below in
     let upper = is.above in

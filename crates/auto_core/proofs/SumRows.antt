@@ -1,19 +1,19 @@
 -- Rows of sums, as nodes are added and remembered.
-use Rattle.std.proofs.Common.{◌≡◌, ℕ, suc, ℤ, pos, ◌+ℤ◌, ◌*ℤ◌, ◌+◌, ◌<◌, ◌≤◌, Bool, true, false, List, [], ◌∷◌, length, drop, get_or, None, Some, nat_eq, if◌then◌else◌, arith, inl, inr, ◌⊎◌, refl, sym, ap, ◌∙◌, subst}
+use Rattle.std.proofs.Common.{◌≡◌, ℕ, suc, ℤ, pos, ◌+ℤ◌, ◌*ℤ◌, ◌+◌, ◌<◌, ◌≤◌, Bool, true, false, List, [], ◌∷◌, length, drop, get_or, None, Some, nat_eq, if◌then◌else◌, arith, inl, inr, refl, sym, ap, ◌∙◌, subst}
 use Rattle.std.specs.Int.{bit_at}
 use Rattle.std.specs.HashMap.{HashMap, get, Updates, IsEmpty}
-use Rattle.std.proofs.lemmas.Grind.{common_steps}
 use Rattle.std.specs.Ordering.{int_eq}
 use Rattle.std.proofs.lemmas.Bool.Decides.{Decides-and, Decides-eqb, Decides-int_eq}
 use Rattle.std.proofs.lemmas.Int.{ints}
 use Rattle.std.proofs.lemmas.List.{drop_more}
-use Rattle.std.proofs.lemmas.Nat.Bits.{bit_at-lt}
+use Rattle.track_word.proofs.LetterBits.{bit_cases}
 use Rattle.letter_diagram.specs.declared.diagrams.Shape.{Shape}
 use Rattle.letter_diagram.specs.Diagram.{map_at, top_track, chosen, Grows}
 use Rattle.auto_core.specs.declared.sums.Span.{Span}
 use Rattle.auto_core.specs.Sums.{weight_from, StandsFor, IsSumRow, RemembersSums, key_eq}
 
-pub IsSumRow-grows : (old new : List Shape) (weights : List ℤ) (span : Span) (track : ℕ) (sum : ℤ) (node : ℕ) → Grows old new → IsSumRow old weights span track sum node → IsSumRow new weights span track sum node
+pub IsSumRow-grows : (old new : List Shape) (weights : List ℤ) (span : Span) (track : ℕ) (sum : ℤ) (node : ℕ) → Grows old new → IsSumRow old weights span track sum node
+    → IsSumRow new weights span track sum node
 IsSumRow-grows old new weights span track sum node grows is =
     let known = is.known in
     let longer = grows.longer in
@@ -25,7 +25,8 @@ IsSumRow-grows old new weights span track sum node grows is =
       top = omega arith;
     }
 
-pub RemembersSums-grows : {S : Type 0} (old new : List Shape) (weights : List ℤ) (span : Span) (memo : HashMap (ℕ × ℤ) ℕ S) → Grows old new → RemembersSums old weights span memo → RemembersSums new weights span memo
+pub RemembersSums-grows : {S : Type 0} (old new : List Shape) (weights : List ℤ) (span : Span) (memo : HashMap (ℕ × ℤ) ℕ S) → Grows old new → RemembersSums old weights span memo
+    → RemembersSums new weights span memo
 RemembersSums-grows old new weights span memo grows all = record { rows = λ track sum node at. IsSumRow-grows old new weights span track sum node grows (all.rows track sum node at) }
 
 key_eq-true : (a c : ℕ) (b d : ℤ) → key_eq (a, b) (c, d) ≡ true → (a ≡ c) × (b ≡ d)
@@ -34,7 +35,8 @@ key_eq-true a c b d h = (Decides-and (nat_eq a c) (int_eq b d) (Decides-eqb a c)
 some-same : (a b : ℕ) → Some a ≡ Some b → a ≡ b
 some-same a b e = cc
 
-pub RemembersSums-insert : {S : Type 0} (shapes : List Shape) (weights : List ℤ) (span : Span) (memo new : HashMap (ℕ × ℤ) ℕ S) (track : ℕ) (sum : ℤ) (node : ℕ) → RemembersSums shapes weights span memo → Updates key_eq memo new (track, sum) (Some node)
+pub RemembersSums-insert : {S : Type 0} (shapes : List Shape) (weights : List ℤ) (span : Span) (memo new : HashMap (ℕ × ℤ) ℕ S) (track : ℕ) (sum : ℤ) (node : ℕ)
+    → RemembersSums shapes weights span memo → Updates key_eq memo new (track, sum) (Some node)
     → IsSumRow shapes weights span track sum node → RemembersSums shapes weights span new
 RemembersSums-insert shapes weights span memo new track sum node all updates is = record {
   rows = λ t s n at. by t s n at (key_eq (track, sum) (t, s)) refl;
@@ -50,7 +52,8 @@ RemembersSums-insert shapes weights span memo new track sum node all updates is 
         subst P same (subst (IsSumRow shapes weights span track sum) one is)
     by t s n at false e = all.rows t s n (sym (updates.2 (t, s) e) ∙ at)
 
-pub IsSumRow-leaf : (shapes : List Shape) (weights : List ℤ) (span : Span) (track : ℕ) (sum : ℤ) (node state : ℕ) → track ≡ length weights → track ≤ 20 → node < length shapes → ((letter : ℕ) → map_at shapes node letter ≡ state) → top_track shapes node ≡ 20 → StandsFor span sum state
+pub IsSumRow-leaf : (shapes : List Shape) (weights : List ℤ) (span : Span) (track : ℕ) (sum : ℤ) (node state : ℕ) → track ≡ length weights → track ≤ 20 → node < length shapes
+    → ((letter : ℕ) → map_at shapes node letter ≡ state) → top_track shapes node ≡ 20 → StandsFor span sum state
     → IsSumRow shapes weights span track sum node
 IsSumRow-leaf shapes weights span track sum node state end few known map top stands = record {
   known = known;
@@ -64,11 +67,10 @@ IsSumRow-leaf shapes weights span track sum node state end few known map top sta
     all-dropped [] = refl
     all-dropped (w ∷ weights) = all-dropped weights
 
-bit_cases : (letter track : ℕ) → (bit_at letter track ≡ 0) ⊎ (bit_at letter track ≡ 1)
-bit_cases letter track = let l = bit_at-lt letter track in grind (arith, common_steps, l)
-
-pub IsSumRow-test : (shapes : List Shape) (weights : List ℤ) (span : Span) (track : ℕ) (sum weight : ℤ) (low high node : ℕ) → track < length weights → weight ≡ get_or weights track (pos 0) → node < length shapes → track ≤ top_track shapes node
-    → ((letter : ℕ) → map_at shapes node letter ≡ chosen shapes track low high letter) → IsSumRow shapes weights span (track + 1) sum low → IsSumRow shapes weights span (track + 1) (sum +ℤ weight) high → IsSumRow shapes weights span track sum node
+pub IsSumRow-test : (shapes : List Shape) (weights : List ℤ) (span : Span) (track : ℕ) (sum weight : ℤ) (low high node : ℕ) → track < length weights
+    → weight ≡ get_or weights track (pos 0) → node < length shapes → track ≤ top_track shapes node
+    → ((letter : ℕ) → map_at shapes node letter ≡ chosen shapes track low high letter) → IsSumRow shapes weights span (track + 1) sum low
+    → IsSumRow shapes weights span (track + 1) (sum +ℤ weight) high → IsSumRow shapes weights span track sum node
 IsSumRow-test shapes weights span track sum weight low high node within is known top map is_low is_high = record {
   known = known;
   map = λ letter.
@@ -79,10 +81,16 @@ IsSumRow-test shapes weights span track sum weight low high node within is known
       elim (bit_cases letter track) [
         | inl z ↦
             rw (map letter ∙ ap (λ n. if nat_eq n 0 then map_at shapes low letter else map_at shapes high letter) z)
-            (subst (λ s. StandsFor span s (map_at shapes low letter)) (ap (λ t. sum +ℤ weight_from t (drop (track + 1) weights) letter) (sym next) ∙ clear sum weight (weight_from (suc track) (drop (track + 1) weights) letter) (bit_at letter track) z) (is_low.map letter))
+            (subst (λ s. StandsFor span s (map_at shapes low letter))
+            (ap (λ t. sum +ℤ weight_from t (drop (track + 1) weights) letter) (sym next)
+            ∙ clear sum weight (weight_from (suc track) (drop (track + 1) weights) letter) (bit_at letter track) z)
+            (is_low.map letter))
         | inr o ↦
             rw (map letter ∙ ap (λ n. if nat_eq n 0 then map_at shapes low letter else map_at shapes high letter) o)
-            (subst (λ s. StandsFor span s (map_at shapes high letter)) (ap (λ t. (sum +ℤ weight) +ℤ weight_from t (drop (track + 1) weights) letter) (sym next) ∙ set sum weight (weight_from (suc track) (drop (track + 1) weights) letter) (bit_at letter track) o) (is_high.map letter))
+            (subst (λ s. StandsFor span s (map_at shapes high letter))
+            (ap (λ t. (sum +ℤ weight) +ℤ weight_from t (drop (track + 1) weights) letter) (sym next)
+            ∙ set sum weight (weight_from (suc track) (drop (track + 1) weights) letter) (bit_at letter track) o)
+            (is_high.map letter))
       ]);
   top = top;
 }

@@ -41,7 +41,8 @@ fold-none [] = refl
 fold-none (letter ∷ letters) = fold-none letters
 
 -- a sum of two weights, the one scaled
-fold-scaled : (c : ℤ) (f g : ℕ → ℤ) (letters : List ℕ) (x y : ℤ) → fold (step (λ letter. (c *ℤ f letter) +ℤ g letter)) ((c *ℤ x) +ℤ y) letters ≡ (c *ℤ fold (step f) x letters) +ℤ fold (step g) y letters
+fold-scaled : (c : ℤ) (f g : ℕ → ℤ) (letters : List ℕ) (x y : ℤ)
+    → fold (step (λ letter. (c *ℤ f letter) +ℤ g letter)) ((c *ℤ x) +ℤ y) letters ≡ (c *ℤ fold (step f) x letters) +ℤ fold (step g) y letters
 fold-scaled c f g [] x y = refl
 fold-scaled c f g (letter ∷ letters) x y =
     ap (λ z. fold (step (λ letter. (c *ℤ f letter) +ℤ g letter)) z letters) (double-scaled c x y (f letter) (g letter)) ∙ fold-scaled c f g letters (step f x letter) (step g y letter)
@@ -72,7 +73,9 @@ pub record ReadsTotals (a : Automaton) (weight : ℕ → ℤ) (Stands : ℤ → 
   pub next : (x : ℤ) (state letter : ℕ) → state < length a.accept → letter < width a → Stands x state → Stands (step weight x letter) (next_state a state letter)
 
 next_within : (a : Automaton) (state letter : ℕ) → IsAutomaton a → state < length a.accept → letter < width a → next_state a state letter < length a.accept
-next_within a state letter is known below = is.next_within (state * width a + letter) 0 (let size = is.next_size in place_within state (length a.accept) (width a) letter (length a.next) known below size)
+next_within a state letter is known below =
+    is.next_within (state * width a + letter) 0
+    (let size = is.next_size in place_within state (length a.accept) (width a) letter (length a.next) known below size)
   where
     place_within : (state states width letter size : ℕ) → state < states → letter < width → size ≡ states * width → state * width + letter < size
     place_within state states width letter size known below is = let p = mul-below state states width known in omega (arith, p, is, below)
@@ -85,7 +88,8 @@ stands-run : (a : Automaton) (weight : ℕ → ℤ) (Stands : ℤ → ℕ → Ty
 stands-run a weight Stands is reads [] x state known all here = (here, known)
 stands-run a weight Stands is reads (letter ∷ letters) x state known all here =
     let below = all 0 0 (omega arith) in
-    stands-run a weight Stands is reads letters (step weight x letter) (next_state a state letter) (next_within a state letter is known below) (λ i d h. all (suc i) d (omega arith)) (reads.next x state letter known below here)
+    stands-run a weight Stands is reads letters (step weight x letter) (next_state a state letter) (next_within a state letter is known below)
+    (λ i d h. all (suc i) d (omega arith)) (reads.next x state letter known below here)
 
 pub stands-state_of : (a : Automaton) (weight : ℕ → ℤ) (Stands : ℤ → ℕ → Type 0) → IsAutomaton a → ReadsTotals a weight Stands → (word : List ℕ) → IsWord (length a.tracks) word
     → Stands (total weight word) (state_of a word) × (state_of a word < length a.accept)
@@ -93,4 +97,5 @@ stands-state_of a weight Stands is reads [] word = absurd (word.nonempty refl)
 stands-state_of a weight Stands is reads (sign ∷ letters) word =
     let below = word.letters 0 0 (omega arith) in
     let size = is.first_size in
-    stands-run a weight Stands is reads letters (neg_ℤ (weight sign)) (first_state a sign) (is.first_within sign 0 (omega (arith, size, below))) (λ i d h. word.letters (suc i) d (omega arith)) (reads.first sign below)
+    stands-run a weight Stands is reads letters (neg_ℤ (weight sign)) (first_state a sign) (is.first_within sign 0 (omega (arith, size, below)))
+    (λ i d h. word.letters (suc i) d (omega arith)) (reads.first sign below)

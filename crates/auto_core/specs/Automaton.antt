@@ -1,5 +1,6 @@
 -- What contracts see of an automaton, and the words that it accepts.
 use Rattle.std.specs.Prelude.{◌≡◌, ℕ, ◌+◌, ◌*◌, ◌^◌, ◌<◌, ◌≤◌, Bool, false, List, [], ◌∷◌, length, All, fold, slice_index, slice_index_or, IsTrue}
+use Rattle.limits.specs.declared.numbers.TheConstants.{MOST_TRACKS}
 use Rattle.track_word.specs.declared.tracks.Var.{Var}
 use Rattle.track_word.specs.Tracks.{IsAscending}
 use Rattle.letter_diagram.specs.declared.diagrams.Shape.{Shape}
@@ -22,7 +23,7 @@ width a = 2 ^ length a.tracks
 -- tables of the right sizes, whose entries are states
 pub record IsAutomaton (a : Automaton) : Type 0 where
   pub ascending : IsAscending a.tracks
-  pub few_tracks : length a.tracks ≤ 20
+  pub few_tracks : length a.tracks ≤ MOST_TRACKS
   pub some_state : 0 < length a.accept
   pub few_states : length a.accept < 2 ^ 31
   pub first_size : length a.first ≡ width a

@@ -10,7 +10,9 @@ pub record IsPrefixState (value read : ℤ) (state : ℕ) : Type 0 where
 
 -- the states after one more letter, for so many states
 pub record ArePrefixRows (value : ℤ) (states : ℕ) (rows : List ℕ) : Type 0 where
-  pub after : (state letter : ℕ) → state < states → letter < 2 → IsPrefixState value (int_shr value state +ℤ int_shr value state +ℤ pos letter) (slice_index rows (state * 2 + letter))
+  pub after : (state letter : ℕ) → state < states → letter < 2
+      → IsPrefixState value (int_shr value state +ℤ int_shr value state +ℤ pos letter)
+      (slice_index rows (state * 2 + letter))
 
 -- the rows of all states, where the last one is not left
 pub record AreAllPrefixRows (value : ℤ) (rows : List ℕ) : Type 0 where

@@ -1,6 +1,7 @@
 -- Rows of an automaton as nodes of diagrams.
 use Rattle.std.specs.Prelude.{◌≡◌, ℕ, ◌*◌, ◌^◌, ◌<◌, ◌≤◌, Bool, List, length, All, map}
 use Rattle.std.specs.List.{range_with_len, flat_map}
+use Rattle.limits.specs.declared.numbers.TheConstants.{MOST_TRACKS}
 use Rattle.track_word.specs.declared.tracks.Var.{Var}
 use Rattle.track_word.specs.Tracks.{IsAscending}
 use Rattle.letter_diagram.specs.declared.diagrams.Shape.{Shape}
@@ -28,9 +29,10 @@ dense tracks shapes first rows accept = record {
 }
 
 -- the nodes are rows of an automaton, and look at its tracks alone
-pub record AreRows (tracks : List Var) (shapes : List Shape) (first : ℕ) (rows : List ℕ) (accept : List Bool) : Type 0 where
+pub record AreRows (tracks : List Var) (shapes : List Shape) (first : ℕ) (rows : List ℕ) (accept : List Bool) : Type
+    0 where
   pub ascending : IsAscending tracks
-  pub few_tracks : length tracks ≤ 20
+  pub few_tracks : length tracks ≤ MOST_TRACKS
   pub some_state : 0 < length accept
   pub few_states : length accept < 2 ^ 31
   pub rows_size : length rows ≡ length accept
@@ -50,7 +52,7 @@ pub record IsOverNodes (a : Automaton) : Type 0 where
 -- dense tables: an entry for each sign letter, and for each state a row of entries and a flag
 pub record AreTables (tracks : List Var) (first next : List ℕ) (accept : List Bool) : Type 0 where
   pub ascending : IsAscending tracks
-  pub few_tracks : length tracks ≤ 20
+  pub few_tracks : length tracks ≤ MOST_TRACKS
   pub some_state : 0 < length accept
   pub few_states : length accept < 2 ^ 31
   pub first_size : length first ≡ 2 ^ length tracks

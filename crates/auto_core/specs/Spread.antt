@@ -6,7 +6,8 @@ use Rattle.track_word.specs.Tracks.{with_vars, without_var, part_of}
 
 -- the same letters after either of two words make words that are alike in a set of words over so many tracks
 pub record SameResidual (tracks : ℕ) (words : List ℕ → Type 0) (v w : List ℕ) : Type 0 where
-  pub same : (letters : List ℕ) → All (λ letter. letter < 2 ^ tracks) letters → words (v ++ letters) ↔ words (w ++ letters)
+  pub same : (letters : List ℕ) → All (λ letter. letter < 2 ^ tracks) letters
+      → words (v ++ letters) ↔ words (w ++ letters)
 
 -- words over all tracks, alike in F on the tracks fs and in G on the tracks gs
 pub record AlikeInBoth (all fs gs : List Var) (F G : List ℕ → Type 0) (v w : List ℕ) : Type 0 where
@@ -21,7 +22,8 @@ pub record IsLift (some gs : List Var) (word lift : List ℕ) : Type 0 where
 
 -- each lift of the one word has a lift of the other with the same residual
 abbrev pub LiftsInto : List Var → List Var → (List ℕ → Type 0) → List ℕ → List ℕ → Type 0
-LiftsInto some gs G v w = (x : List ℕ) → IsLift some gs v x → (y : List ℕ) × IsLift some gs w y × SameResidual (length gs) G x y
+LiftsInto some gs G v w =
+    (x : List ℕ) → IsLift some gs v x → (y : List ℕ) × IsLift some gs w y × SameResidual (length gs) G x y
 
 pub record AlikeLifted (some gs : List Var) (G : List ℕ → Type 0) (v w : List ℕ) : Type 0 where
   pub forth : LiftsInto some gs G v w
@@ -36,7 +38,8 @@ pub record HasMoreClasses (tracks : ℕ) (Alike : List ℕ → List ℕ → Type
 
 -- the spread of a conjunction or disjunction of parts with these tracks and words exceeds the budget
 abbrev pub BothSpreadExceeds : List Var → List Var → (List ℕ → Type 0) → (List ℕ → Type 0) → ℕ → Type 0
-BothSpreadExceeds fs gs F G budget = HasMoreClasses (length (with_vars fs gs)) (AlikeInBoth (with_vars fs gs) fs gs F G) budget
+BothSpreadExceeds fs gs F G budget =
+    HasMoreClasses (length (with_vars fs gs)) (AlikeInBoth (with_vars fs gs) fs gs F G) budget
 
 -- the spread of a projection of a part with these tracks and words exceeds the budget
 abbrev pub ExSpreadExceeds : Var → List Var → (List ℕ → Type 0) → ℕ → Type 0

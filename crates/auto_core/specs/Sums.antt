@@ -37,7 +37,8 @@ loss (negsuc n) = suc n
 -- the weights of a letter's bits, by the tracks from a track on
 abbrev pub weight_from : ℕ → List ℤ → ℕ → ℤ
 weight_from track [] letter = pos 0
-weight_from track (weight ∷ weights) letter = (weight *ℤ pos (bit_at letter track)) +ℤ weight_from (suc track) weights letter
+weight_from track (weight ∷ weights) letter =
+    (weight *ℤ pos (bit_at letter track)) +ℤ weight_from (suc track) weights letter
 
 -- what a sum comes to by one more letter of this weight
 abbrev pub step : (ℕ → ℤ) → ℤ → ℕ → ℤ
@@ -84,22 +85,28 @@ pub record StandsFor (span : Span) (sum : ℤ) (state : ℕ) : Type 0 where
   pub above : span.high ≤ℤ sum → span.low +ℤ pos state ≡ span.high
 
 -- the node's map leads a letter to the state of the sum and the weights of its bits from a track on
-pub record IsSumRow (shapes : List Shape) (weights : List ℤ) (span : Span) (track : ℕ) (sum : ℤ) (node : ℕ) : Type 0 where
+pub record IsSumRow (shapes : List Shape) (weights : List ℤ) (span : Span) (track : ℕ) (sum : ℤ) (node : ℕ) : Type
+    0 where
   pub known : node < length shapes
-  pub map : (letter : ℕ) → StandsFor span (sum +ℤ weight_from track (drop track weights) letter) (map_at shapes node letter)
+  pub map : (letter : ℕ)
+      → StandsFor span (sum +ℤ weight_from track (drop track weights) letter) (map_at shapes node letter)
   pub top : track ≤ top_track shapes node
 
 abbrev pub key_eq : ℕ × ℤ → ℕ × ℤ → Bool
 key_eq p q = nat_eq p.0 q.0 && int_eq p.1 q.1
 
 -- the nodes in a memo are such
-pub record RemembersSums {S : Type 0} (shapes : List Shape) (weights : List ℤ) (span : Span) (memo : HashMap (ℕ × ℤ) ℕ S) : Type 0 where
-  pub rows : (track : ℕ) (sum : ℤ) (node : ℕ) → get key_eq memo (track, sum) ≡ Some node → IsSumRow shapes weights span track sum node
+pub record RemembersSums {S : Type 0} (shapes : List Shape) (weights : List ℤ) (span : Span)
+    (memo : HashMap (ℕ × ℤ) ℕ S) : Type 0 where
+  pub rows : (track : ℕ) (sum : ℤ) (node : ℕ) → get key_eq memo (track, sum) ≡ Some node
+      → IsSumRow shapes weights span track sum node
 
 -- the rows of the states, whose values are doubled by a letter
 pub record AreSumRows (shapes : List Shape) (weights : List ℤ) (span : Span) (nodes : List ℕ) : Type 0 where
-  pub rows : (i : ℕ) → i < length nodes → IsSumRow shapes weights span 0 ((span.low +ℤ pos i) +ℤ (span.low +ℤ pos i)) (slice_index nodes i)
+  pub rows : (i : ℕ) → i < length nodes
+      → IsSumRow shapes weights span 0 ((span.low +ℤ pos i) +ℤ (span.low +ℤ pos i)) (slice_index nodes i)
 
 -- the flags tell whether the states' values compare with the bound
 pub record AreFlagsOf (rel : Rel) (bound : ℤ) (span : Span) (flags : List Bool) : Type 0 where
-  pub tells : (i : ℕ) → i < length flags → IsTrue (slice_index_or flags i false) ↔ Compares rel (span.low +ℤ pos i) bound
+  pub tells : (i : ℕ) → i < length flags
+      → IsTrue (slice_index_or flags i false) ↔ Compares rel (span.low +ℤ pos i) bound

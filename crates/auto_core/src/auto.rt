@@ -71,7 +71,8 @@ impl Auto {
         ensures is { result ≡ self.now.first_node }
         ensures known { result < length self.now.shapes }
         ensures narrow { LooksBelow self.now.shapes result (length self.now.tracks) }
-        ensures map { (letter : ℕ) → letter < 2 ^ length self.now.tracks → map_at self.now.shapes result letter ≡ first_state self.now letter }
+        ensures map { (letter : ℕ) → letter < 2 ^ length self.now.tracks
+            → map_at self.now.shapes result letter ≡ first_state self.now letter }
         ensures within { (letter : ℕ) → map_at self.now.shapes result letter < length self.now.accept }
     {
         self.first
@@ -83,7 +84,8 @@ impl Auto {
         ensures is { slice_get self.now.row_nodes state ≡ Some result }
         ensures known { result < length self.now.shapes }
         ensures narrow { LooksBelow self.now.shapes result (length self.now.tracks) }
-        ensures map { (letter : ℕ) → letter < 2 ^ length self.now.tracks → map_at self.now.shapes result letter ≡ next_state self.now state letter }
+        ensures map { (letter : ℕ) → letter < 2 ^ length self.now.tracks
+            → map_at self.now.shapes result letter ≡ next_state self.now state letter }
         ensures within { (letter : ℕ) → map_at self.now.shapes result letter < length self.now.accept }
     {
         self.rows[state as usize]

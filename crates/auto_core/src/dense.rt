@@ -8,6 +8,7 @@ ghost use Rattle.auto_core.specs.Dense.{IsRowFrom, IsPartFrom, AreRowsFrom};
 
 use crate::auto::Auto;
 use letter_diagram::{Diagrams, Node};
+use limits::MOST_TRACKS;
 use std::alloc::{AllocError, Global};
 use track_word::Var;
 
@@ -44,7 +45,7 @@ fn nodes_of_rows(
     tracks: u8,
     count: usize,
 ) -> Result<Vec<Node>, AllocError>
-    requires few { tracks ≤ 20 }
+    requires few { tracks ≤ MOST_TRACKS }
     requires size { length table.now ≡ count * 2 ^ tracks }
     ensures nodes { IfOk result (λ nodes. AreRowsFrom diagrams.new (2 ^ tracks) table.now nodes.items) }
     ensures count { IfOk result (λ nodes. length nodes.items ≡ count) }
@@ -62,7 +63,7 @@ fn nodes_of_rows(
 
 /// The node whose map is a dense row: `table` has an entry for each letter over so many tracks, in the order of the letters.
 pub fn node_of_row(diagrams: &mut Diagrams, table: &[u32], tracks: u8) -> Result<Node, AllocError>
-    requires few { tracks ≤ 20 }
+    requires few { tracks ≤ MOST_TRACKS }
     requires size { length table.now ≡ 2 ^ tracks }
     ensures row { IfOk result (λ node. IsRowFrom diagrams.new (2 ^ tracks) table.now 0 node) }
     ensures entries { IfOk result (λ node. row_of diagrams.new (2 ^ tracks) node ≡ table.now) }
@@ -82,7 +83,7 @@ fn node_from(
     track: u8,
     offset: usize,
 ) -> Result<Node, AllocError>
-    requires few { tracks ≤ 20 }
+    requires few { tracks ≤ MOST_TRACKS }
     requires track { track ≤ tracks }
     requires size { length table.now ≡ 2 ^ tracks }
     requires offset { offset < 2 ^ track }

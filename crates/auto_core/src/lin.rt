@@ -26,8 +26,11 @@ impl Auto {
     pub fn lin(alloc: Global, terms: &[(i8, Var)], rel: Rel, bound: i32) -> Result<Auto, AllocError>
         requires { IsAtom terms.now bound }
         ensures tracks { IfOk result (λ a. a.tracks ≡ atom_tracks terms.now) }
-        ensures words { IfOk result (λ a. (word : List ℕ) → IsWord (length (atom_tracks terms.now)) word → Accepts a word ↔ AtomHolds terms.now rel bound word) }
-        ensures few { IfOk result (λ a. length a.accept ≤ sum_by (λ t. unsigned_abs t.0) terms.now + unsigned_abs bound + 3) }
+        ensures words { IfOk result
+            (λ a. (word : List ℕ) → IsWord (length (atom_tracks terms.now)) word
+            → Accepts a word ↔ AtomHolds terms.now rel bound word) }
+        ensures few { IfOk result
+            (λ a. length a.accept ≤ sum_by (λ t. unsigned_abs t.0) terms.now + unsigned_abs bound + 3) }
         ensures integers { IfOk result (λ a. DecidesIntegers a) }
         ensures valid { IfOk result (λ a. IsAutomaton a) }
     {
@@ -61,8 +64,11 @@ fn sum_automaton(
     requires low { negsuc 999 ≤ℤ bound }
     requires high { bound ≤ℤ pos 1000 }
     ensures tracks { IfOk result (λ a. a.tracks ≡ tracks.items) }
-    ensures words { IfOk result (λ a. (word : List ℕ) → IsWord (length tracks.items) word → Accepts a word ↔ Compares rel (total (weight_from 0 weights.now) word) bound) }
-    ensures few { IfOk result (λ a. length a.accept ≤ sum_by gain weights.now + sum_by loss weights.now + unsigned_abs bound + 3) }
+    ensures words { IfOk result
+        (λ a. (word : List ℕ) → IsWord (length tracks.items) word
+        → Accepts a word ↔ Compares rel (total (weight_from 0 weights.now) word) bound) }
+    ensures few { IfOk result
+        (λ a. length a.accept ≤ sum_by gain weights.now + sum_by loss weights.now + unsigned_abs bound + 3) }
     ensures valid { IfOk result (λ a. IsAutomaton a) }
 {
     let span = span_of(weights, bound);

@@ -5,6 +5,7 @@ ghost use Rattle.auto_core.specs.Automaton.{state_of, Accepts};
 ghost use Rattle.auto_core.specs.Integers.{DecidesIntegers, IsWordOf, IsAccepted, word_of};
 
 use crate::auto::Auto;
+use limits::MOST_TRACKS;
 use track_word::bit_of;
 use track_word::laws::{
     bits_spell_their_integers, repeating_first_letter_keeps_values, words_of_equal_values_are_equal,
@@ -21,7 +22,7 @@ impl Auto {
         bits_spell_their_integers();
         repeating_first_letter_keeps_values();
         words_of_equal_values_are_equal();
-        let _ = self.tracks();
+        let _ = self.tracks(); // for its invariant
         let state = self.state_of_values(values);
         self.accept_of(state)
     }
@@ -33,7 +34,7 @@ impl Auto {
         ensures within { result < length self.now.accept }
         ensures fits { All (FitsBelow 63) values.now }
     {
-        let _ = self.tracks();
+        let _ = self.tracks(); // for its invariant
         let mut state = self.first_of(letter_at(values, 63));
         for read in 0..63u8 {
             state = self.next_of(state, letter_at(values, 62 - read));
@@ -44,7 +45,7 @@ impl Auto {
 
 /// The letter of the bits of one place.
 fn letter_at(values: &[i64], place: u8) -> u32
-    requires few { length values.now ≤ 20 }
+    requires few { length values.now ≤ MOST_TRACKS }
     requires place { place ≤ 63 }
     ensures letter { result ≡ letter_of values.now place }
     ensures within { result < 2 ^ length values.now }

@@ -38,7 +38,7 @@ impl Auto {
         requires { IsWord (length self.now.tracks) word.now }
         ensures { IsTrue result ↔ Accepts self.now word.now }
     {
-        let _ = self.tracks();
+        let _ = self.tracks(); // for its invariant
         let mut state = self.first_of(word[0]);
         for letter in &word[1..] {
             state = self.next_of(state, *letter);

@@ -1,9 +1,8 @@
 //! Automata whose tracks take their bits from other variables.
-ghost use Rattle.std.specs.Prelude.{◌≡◌, ◌≢◌, ◌↔◌, ◌≤◌, ◌<◌, ◌^◌, ◌∷◌, [], ℕ, List, length, map, slice_index, All, AllPairs, IfOk, OnOk, IsTrue, nat_le};
-ghost use Rattle.std.specs.List.{position_or_len};
+ghost use Rattle.std.specs.Prelude.{◌≡◌, ◌≢◌, ◌↔◌, ◌≤◌, ◌<◌, ◌^◌, ◌∷◌, [], ℕ, List, length, map, slice_index, All, AllPairs, IfOk, IsTrue};
 ghost use Rattle.track_word.specs.Word.{IsWord};
-ghost use Rattle.track_word.specs.Tracks.{with_vars, with_var, place, part_of, IsAscending};
-ghost use Rattle.letter_diagram.specs.BroughtRelabelled.{IsBroughtRelabelled};
+ghost use Rattle.track_word.specs.Tracks.{with_vars, place, part_of, IsAscending};
+ghost use Rattle.letter_diagram.specs.Carried.{IsCarried};
 ghost use Rattle.letter_diagram.specs.Listed.{EachAnswers};
 ghost use Rattle.letter_diagram.specs.Relabelled.{relabelled};
 ghost use Rattle.auto_core.specs.Automaton.{IsAutomaton, Accepts};
@@ -13,8 +12,9 @@ ghost use Rattle.auto_core.specs.Rows.{IsOverNodes};
 
 use crate::auto::Auto;
 use letter_diagram::{Diagrams, Node};
+use limits::MOST_TRACKS;
 use std::alloc::{AllocError, Global};
-use track_word::Var;
+use track_word::{Var, insert_tracks, places_of};
 
 impl Auto {
     /// The automaton over the variables that accepts a word where this one accepts what its tracks read of it:
@@ -23,14 +23,17 @@ impl Auto {
     pub fn rename(&self, alloc: Global, vars: &[Var]) -> Result<Auto, AllocError>
         requires { length vars.now ≡ length self.now.tracks }
         ensures tracks { IfOk result (λ r. r.tracks ≡ with_vars vars.now []) }
-        ensures words { IfOk result (λ r. (word : List ℕ) → IsWord (length r.tracks) word → Accepts r word ↔ Accepts self.now (part_of r.tracks vars.now word)) }
+        ensures words { IfOk result
+            (λ r. (word : List ℕ) → IsWord (length r.tracks) word
+            → Accepts r word ↔ Accepts self.now (part_of r.tracks vars.now word)) }
         ensures accept { IfOk result (λ r. r.accept ≡ self.now.accept) }
         ensures integers { DecidesIntegers self.now → IfOk result (λ r. DecidesIntegers r) }
         ensures reduced { IsReduced self.now → AllPairs (λ x y. x ≢ y) vars.now → IfOk result (λ r. IsReduced r) }
         ensures valid { IfOk result (λ r. IsAutomaton r) }
     {
-        let _ = self.tracks();
-        let tracks = ascending(alloc, vars)?;
+        let _ = self.tracks(); // for its invariant
+        let mut tracks = Vec::new(alloc);
+        insert_tracks(&mut tracks, vars)?;
         let places = places_of(alloc, tracks.as_slice(), vars)?;
         let renamed = self.over_tracks(alloc, tracks, places.as_slice())?;
         Ok(renamed)
@@ -40,9 +43,11 @@ impl Auto {
     /// they are nodes of. Where each track keeps its place the nodes are copied as they are.
     fn nodes_over(&self, alloc: Global, places: &[u8]) -> Result<(Diagrams, Vec<Node>), AllocError>
         requires count { length places.now ≡ length self.now.tracks }
-        requires places { All (λ place. place < 20) places.now }
+        requires places { All (λ place. place < MOST_TRACKS) places.now }
         ensures over { IsOverNodes self.now }
-        ensures brought { IfOk result (λ made. EachAnswers (IsBroughtRelabelled self.now.shapes made.0 places.now) (self.now.first_node ∷ self.now.row_nodes) made.1.items) }
+        ensures brought { IfOk result
+            (λ made. EachAnswers (IsCarried self.now.shapes made.0 (relabelled places.now) (λ value. value))
+            (self.now.first_node ∷ self.now.row_nodes) made.1.items) }
     {
         let nodes = self.all_nodes(alloc)?;
         if are_in_order(places) {
@@ -62,22 +67,24 @@ impl Auto {
         places: &[u8],
     ) -> Result<Auto, AllocError>
         requires ascending { IsAscending tracks.items }
-        requires few { length tracks.items ≤ 20 }
+        requires few { length tracks.items ≤ MOST_TRACKS }
         requires count { length places.now ≡ length self.now.tracks }
         requires places { All (λ place. place < length tracks.items) places.now }
         ensures tracks { IfOk result (λ r. r.tracks ≡ tracks.items) }
-        ensures words { IfOk result (λ r. (word : List ℕ) → IsWord (length tracks.items) word → Accepts r word ↔ Accepts self.now (map (relabelled places.now) word)) }
+        ensures words { IfOk result
+            (λ r. (word : List ℕ) → IsWord (length tracks.items) word
+            → Accepts r word ↔ Accepts self.now (map (relabelled places.now) word)) }
         ensures accept { IfOk result (λ r. r.accept ≡ self.now.accept) }
         ensures integers { DecidesIntegers self.now → IfOk result (λ r. DecidesIntegers r) }
         ensures reduced { IsReduced self.now → AllPairs (λ x y. x ≢ y) places.now → IfOk result (λ r. IsReduced r) }
         ensures valid { IfOk result (λ r. IsAutomaton r) }
     {
-        let _ = self.tracks();
+        let _ = self.tracks(); // for its invariant
         let (diagrams, mut rows) = self.nodes_over(alloc, places)?;
         let first = rows.remove(0);
         let accept = self.flags().to_vec(alloc)?;
         let renamed = Auto::from_diagrams(tracks, diagrams, first, rows, accept);
-        let _ = renamed.diagrams();
+        let _ = renamed.diagrams(); // for its invariant
         Ok(renamed)
     }
 }
@@ -92,69 +99,4 @@ fn are_in_order(places: &[u8]) -> bool
         }
     }
     true
-}
-
-/// The variables, ascending and without repeats.
-fn ascending(alloc: Global, vars: &[Var]) -> Result<Vec<Var>, AllocError>
-    ensures { IfOk result (λ sorted. sorted.items ≡ with_vars vars.now []) }
-{
-    match vars.split_first() {
-        None => Ok(Vec::new(alloc)),
-        Some((var, rest)) => {
-            let mut sorted = ascending(alloc, rest)?;
-            insert_var(&mut sorted, *var)?;
-            Ok(sorted)
-        }
-    }
-}
-
-/// Puts a variable at its place among ascending ones, unless it is there.
-fn insert_var(sorted: &mut Vec<Var>, var: Var) -> Result<(), AllocError>
-    ensures { OnOk result (sorted.new.items ≡ with_var var sorted.old.items) }
-{
-    let place = place_for(sorted.as_slice(), var);
-    if place < sorted.len() && sorted[place].0 == var.0 {
-        return Ok(());
-    }
-    sorted.insert(place, var)?;
-    Ok(())
-}
-
-/// The place of the first variable that does not come before a variable.
-fn place_for(vars: &[Var], var: Var) -> usize
-    ensures place { result ≡ position_or_len (λ other. nat_le var.0 other.0) vars.now }
-    ensures within { result ≤ length vars.now }
-{
-    for (index, other) in vars.iter().enumerate() {
-        if var.0 <= other.0 {
-            return index;
-        }
-    }
-    vars.len()
-}
-
-/// The place of a variable among tracks.
-fn place_in(tracks: &[Var], var: Var) -> usize
-    ensures place { result ≡ place tracks.now var }
-    ensures within { result ≤ length tracks.now }
-{
-    for (index, other) in tracks.iter().enumerate() {
-        if other.0 == var.0 {
-            return index;
-        }
-    }
-    tracks.len()
-}
-
-/// The places of variables among tracks.
-fn places_of(alloc: Global, tracks: &[Var], vars: &[Var]) -> Result<Vec<u8>, AllocError>
-    requires { length tracks.now ≤ 20 }
-    ensures { IfOk result (λ places. places.items ≡ map (place tracks.now) vars.now) }
-{
-    let mut places = Vec::new(alloc);
-    for var in vars {
-        let place = place_in(tracks, *var);
-        places.push(place as u8)?;
-    }
-    Ok(places)
 }

@@ -19,7 +19,8 @@ impl Auto {
     /// Decides `var = value`. A state stands for what has been read so far, where that is the value without some of its last bits.
     pub fn value(alloc: Global, var: Var, value: i64) -> Result<Auto, AllocError>
         ensures tracks { IfOk result (λ a. a.tracks ≡ var ∷ []) }
-        ensures words { IfOk result (λ a. (word : List ℕ) → IsWord 1 word → Accepts a word ↔ ValueHolds var value word) }
+        ensures words { IfOk result
+            (λ a. (word : List ℕ) → IsWord 1 word → Accepts a word ↔ ValueHolds var value word) }
         ensures few { IfOk result (λ a. length a.accept ≤ 66) }
         ensures integers { IfOk result (λ a. DecidesIntegers a) }
         ensures valid { IfOk result (λ a. IsAutomaton a) }

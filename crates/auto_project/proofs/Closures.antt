@@ -15,7 +15,7 @@ use Rattle.letter_diagram.specs.Leaves.{AreLeaves}
 use Rattle.letter_diagram.specs.Merged.{HasSets}
 use Rattle.letter_diagram.proofs.Mergings.{HasSets-grows}
 use Rattle.auto_core.specs.Automaton.{Automaton, IsAutomaton}
-use Rattle.auto_walk.proofs.States.{state_within}
+use Rattle.auto_core.proofs.States.{state_within}
 use Rattle.auto_project.specs.Lifted.{Begins, LiftLeads}
 use Rattle.auto_project.specs.SetMaps.{set_of, IsSetRow, AreSetRows, IsLedRow, IsJoined, IsNothing, IsUnionOf, IsGuarded, IsSwept}
 use Rattle.auto_project.proofs.Lists.{length-wider, all_in_or_one_not, in_or_not, Contains-range, Contains-head, Contains-cases}
@@ -26,7 +26,8 @@ pub no-row : (rows : List ℕ) (from : ℕ) → length rows ≤ from → slice_g
 no-row rows from h = slice_get_past rows from h
 
 -- nothing is given where there is no row
-pub IsGuarded-none : (shapes : List Shape) (sets : List (List ℕ)) (rows : List ℕ) (from node guarded : ℕ) → IsNothing shapes sets guarded → slice_get rows from ≡ None → IsGuarded shapes sets rows from node guarded
+pub IsGuarded-none : (shapes : List Shape) (sets : List (List ℕ)) (rows : List ℕ) (from node guarded : ℕ) → IsNothing shapes sets guarded → slice_get rows from ≡ None
+    → IsGuarded shapes sets rows from node guarded
 IsGuarded-none shapes sets rows from node guarded nothing none = record {
   is = nothing.is;
   has = λ row letter state at c d. cc;
@@ -34,7 +35,8 @@ IsGuarded-none shapes sets rows from node guarded nothing none = record {
 }
 
 -- what joining a state's row gives
-pub IsGuarded-joined : (shapes : List Shape) (sets : List (List ℕ)) (rows : List ℕ) (from row node guarded : ℕ) → slice_get rows from ≡ Some row → IsJoined shapes sets from node row guarded → IsGuarded shapes sets rows from node guarded
+pub IsGuarded-joined : (shapes : List Shape) (sets : List (List ℕ)) (rows : List ℕ) (from row node guarded : ℕ) → slice_get rows from ≡ Some row
+    → IsJoined shapes sets from node row guarded → IsGuarded shapes sets rows from node guarded
 IsGuarded-joined shapes sets rows from row node guarded at joined = record {
   is = record { known = joined.known; numbered = λ letter. (joined.joins letter).known };
   has = λ other letter state at' there c.
@@ -65,9 +67,12 @@ pub record IsSweeping (shapes : List Shape) (sets : List (List ℕ)) (a : Automa
   pub have_sets : All (HasSets shapes sets) nodes
   pub own : Contains nodes node
   pub from : (one letter state : ℕ) → Contains nodes one → Contains (set_of shapes sets one letter) state → Contains (set_of shapes sets node letter) state ⊎ Gives shapes sets rows node letter state
-  pub done : (i row letter state : ℕ) → i < count → i < length states → slice_get rows (slice_index states i) ≡ Some row → Contains (set_of shapes sets node letter) (slice_index states i) → Contains (set_of shapes sets row letter) state → HasOne shapes sets nodes letter state
+  pub done : (i row letter state : ℕ) → i < count → i < length states → slice_get rows (slice_index states i) ≡ Some row
+      → Contains (set_of shapes sets node letter) (slice_index states i) → Contains (set_of shapes sets row letter) state
+      → HasOne shapes sets nodes letter state
 
-pub IsSweeping-first : (shapes : List Shape) (sets : List (List ℕ)) (a : Automaton) (some : List Var) (rows states : List ℕ) (node : ℕ) (nodes : List ℕ) → AreSetRows shapes sets a some rows → IsLedRow shapes sets a some node
+pub IsSweeping-first : (shapes : List Shape) (sets : List (List ℕ)) (a : Automaton) (some : List Var) (rows states : List ℕ) (node : ℕ) (nodes : List ℕ)
+    → AreSetRows shapes sets a some rows → IsLedRow shapes sets a some node
     → ((letter state : ℕ) → Contains (set_of shapes sets node letter) state → Contains states state) → nodes ≡ node ∷ [] → IsSweeping shapes sets a some rows states node nodes 0
 IsSweeping-first shapes sets a some rows states node nodes are led all e = subst (λ l. IsSweeping shapes sets a some rows states node l 0) (sym e) (record {
   are_rows = are;
@@ -82,7 +87,8 @@ IsSweeping-first shapes sets a some rows states node nodes are led all e = subst
     only-one : (one : ℕ) → Contains (node ∷ []) one → node ≡ one
     only-one one c = elim (Contains-cases node [] one c) [ inl e ↦ e | inr none ↦ let h = none.1 in absurd (omega arith) ]
 
-module _ (shapes more : List Shape) (sets sets' : List (List ℕ)) (a : Automaton) (some : List Var) (rows states : List ℕ) (node : ℕ) (nodes : List ℕ) (count : ℕ) (grows : Grows shapes more) (kept : SetsKept sets sets')
+module _ (shapes more : List Shape) (sets sets' : List (List ℕ)) (a : Automaton) (some : List Var) (rows states : List ℕ) (node : ℕ) (nodes : List ℕ)
+    (count : ℕ) (grows : Grows shapes more) (kept : SetsKept sets sets')
     (so_far : IsSweeping shapes sets a some rows states node nodes count) where
   sets-of : (one : ℕ) → Contains nodes one → HasSets shapes sets one
   sets-of one c = All-contains (HasSets shapes sets) nodes one so_far.have_sets c
@@ -111,9 +117,12 @@ module _ (shapes more : List Shape) (sets sets' : List (List ℕ)) (a : Automato
     })
   ]
 
-  done_now : (i row letter state : ℕ) → i < count → i < length states → slice_get rows (slice_index states i) ≡ Some row → Contains (set_of more sets' node letter) (slice_index states i) → Contains (set_of more sets' row letter) state → HasOne more sets' nodes letter state
+  done_now : (i row letter state : ℕ) → i < count → i < length states → slice_get rows (slice_index states i) ≡ Some row
+      → Contains (set_of more sets' node letter) (slice_index states i) → Contains (set_of more sets' row letter) state → HasOne more sets' nodes letter state
   done_now i row letter state h within at c d =
-      let h' = so_far.done i row letter state h within at (had shapes more sets sets' grows kept node letter (slice_index states i) so_far.led.is c) (had shapes more sets sets' grows kept row letter state (so_far.are_rows.each (slice_index states i) row at).is d) in
+      let h' =
+      so_far.done i row letter state h within at (had shapes more sets sets' grows kept node letter (slice_index states i) so_far.led.is c)
+      (had shapes more sets sets' grows kept row letter state (so_far.are_rows.each (slice_index states i) row at).is d) in
       record { one = h'.one; among = h'.among; has = has-kept shapes more sets sets' grows kept h'.one letter state (sets-of h'.one h'.among) h'.has }
 
   -- one more guarded row
@@ -197,7 +206,9 @@ pub record IsClosing (shapes : List Shape) (sets : List (List ℕ)) (a : Automat
   pub ascend : All IsStrictlyIncreasing sets
   pub led : IsLedRow shapes sets a some node
   pub begins : (letter state : ℕ) → letter < 2 ^ length some → Begins a some letter state → Contains (set_of shapes sets node letter) state
-  pub progress : (letter : ℕ) → letter < 2 ^ length some → ((state : ℕ) → LiftLeads a some (letter ∷ []) state → Contains (set_of shapes sets node letter) state) ⊎ (round ≤ length (set_of shapes sets node letter))
+  pub progress : (letter : ℕ) → letter < 2 ^ length some
+      → ((state : ℕ) → LiftLeads a some (letter ∷ []) state → Contains (set_of shapes sets node letter) state)
+      ⊎ (round ≤ length (set_of shapes sets node letter))
 
 set-ascends : (sets : List (List ℕ)) (number : ℕ) → number < length sets → All IsStrictlyIncreasing sets → IsStrictlyIncreasing (set_at sets number)
 set-ascends sets number h all = All-get_or IsStrictlyIncreasing sets number [] h all
@@ -213,9 +224,11 @@ IsClosing-first shapes sets a some rows node are ascend first = record {
 }
 
 module _ (shapes more : List Shape) (sets sets' : List (List ℕ)) (a : Automaton) (some : List Var) (rows : List ℕ) (node next round : ℕ) (grows : Grows shapes more) (kept : SetsKept sets sets')
-    (so_far : IsClosing shapes sets a some rows node round) (led : IsLedRow more sets' a some next) (swept : IsSwept more sets' rows node next) (ascend : All IsStrictlyIncreasing sets') (valid : IsAutomaton a) where
+    (so_far : IsClosing shapes sets a some rows node round) (led : IsLedRow more sets' a some next) (swept : IsSwept more sets' rows node next)
+    (ascend : All IsStrictlyIncreasing sets') (valid : IsAutomaton a) where
   -- a set that sweeping leaves as it is is closed
-  closed-at : (letter : ℕ) → letter < 2 ^ length some → ((state : ℕ) → Contains (set_of more sets' next letter) state → Contains (set_of more sets' node letter) state) → (state : ℕ) → LiftLeads a some (letter ∷ []) state → Contains (set_of more sets' node letter) state
+  closed-at : (letter : ℕ) → letter < 2 ^ length some → ((state : ℕ) → Contains (set_of more sets' next letter) state → Contains (set_of more sets' node letter) state)
+      → (state : ℕ) → LiftLeads a some (letter ∷ []) state → Contains (set_of more sets' node letter) state
   closed-at letter below back =
       LiftLeads-in a some letter (set_of more sets' node letter)
       (λ state b. has-kept shapes more sets sets' grows kept node letter state so_far.led.is (so_far.begins letter state below b))
@@ -243,7 +256,9 @@ module _ (shapes more : List Shape) (sets sets' : List (List ℕ)) (a : Automato
         | inl back ↦ inl (λ state l. swept.wider letter state (closed-at letter below back state l))
         | inr new ↦ inr (
             let numbered = swept.is.numbered letter in
-            let longer = length-wider (set_of more sets' node letter) (set_of more sets' next letter) new.0 (set-ascends sets' (map_at more node letter) numbered ascend) (λ s c. swept.wider letter s c) new.1 new.2 in
+            let longer =
+            length-wider (set_of more sets' node letter) (set_of more sets' next letter) new.0
+            (set-ascends sets' (map_at more node letter) numbered ascend) (λ s c. swept.wider letter s c) new.1 new.2 in
             let same = ap length (stays shapes more sets sets' grows kept node letter so_far.led.is) in
             omega (arith, many, longer, same))
       ]
@@ -261,7 +276,8 @@ module _ (shapes more : List Shape) (sets sets' : List (List ℕ)) (a : Automato
       }
 
 -- after as many rounds as states each set is closed, since none has more states
-pub IsSetRow-last : (shapes : List Shape) (sets : List (List ℕ)) (a : Automaton) (some : List Var) (rows : List ℕ) (node round : ℕ) → IsAutomaton a → length rows ≤ round → IsClosing shapes sets a some rows node round
+pub IsSetRow-last : (shapes : List Shape) (sets : List (List ℕ)) (a : Automaton) (some : List Var) (rows : List ℕ) (node round : ℕ) → IsAutomaton a → length rows ≤ round
+    → IsClosing shapes sets a some rows node round
     → IsSetRow shapes sets (length some) node (λ letter state. LiftLeads a some (letter ∷ []) state)
 IsSetRow-last shapes sets a some rows node round valid enough so_far = record {
   is = so_far.led.is;
@@ -277,7 +293,9 @@ IsSetRow-last shapes sets a some rows node round valid enough so_far = record {
             let numbered = so_far.led.is.numbered letter in
             let within = subst (λ n. n < length a.accept) l.leads (state_within a valid l.lift) in
             let fewer = length-wider (set_of shapes sets node letter) (range_with_len 0 (length a.accept)) state (set-ascends sets (map_at shapes node letter) numbered so_far.ascend)
-            (λ t c. Contains-range (length a.accept) t (let k = so_far.led.led letter t below c in subst (λ n. n < length a.accept) k.leads (state_within a valid k.lift))) (Contains-range (length a.accept) state within) new in
+            (λ t c. Contains-range (length a.accept) t
+            (let k = so_far.led.led letter t below c in subst (λ n. n < length a.accept) k.leads (state_within a valid k.lift)))
+            (Contains-range (length a.accept) state within) new in
             let count = length-range_with_len 0 (length a.accept) in
             absurd (omega (arith, many, fewer, size, enough, count))
       ]
@@ -286,7 +304,8 @@ IsSetRow-last shapes sets a some rows node round valid enough so_far = record {
 }
 
 -- the states of the first sets
-pub states-so-far : (sets : List (List ℕ)) (leaves states more : List ℕ) (count : ℕ) → more ≡ states ++ set_at sets (slice_index leaves count) → ((k state : ℕ) → k < count → Contains (set_at sets (slice_index leaves k)) state → Contains states state)
+pub states-so-far : (sets : List (List ℕ)) (leaves states more : List ℕ) (count : ℕ) → more ≡ states ++ set_at sets (slice_index leaves count)
+    → ((k state : ℕ) → k < count → Contains (set_at sets (slice_index leaves k)) state → Contains states state)
     → (k state : ℕ) → k < count + 1 → Contains (set_at sets (slice_index leaves k)) state → Contains more state
 states-so-far sets leaves states more count is so_far k state h c = elim (cases_lt k count) [
   | inl less ↦ subst (λ l. Contains l state) (sym is) (Contains-append_left states (set_at sets (slice_index leaves count)) state (so_far k state less c))
@@ -295,7 +314,8 @@ states-so-far sets leaves states more count is so_far k state h c = elim (cases_
       subst (λ l. Contains l state) (sym is) (Contains-append_right states (set_at sets (slice_index leaves count)) state (subst (λ n. Contains (set_at sets (slice_index leaves n)) state) e c))
 ]
 
-pub states-all : (shapes : List Shape) (sets : List (List ℕ)) (node : ℕ) (leaves states : List ℕ) (count : ℕ) → length leaves ≤ count → AreLeaves shapes node leaves → ((k state : ℕ) → k < count → Contains (set_at sets (slice_index leaves k)) state → Contains states state)
+pub states-all : (shapes : List Shape) (sets : List (List ℕ)) (node : ℕ) (leaves states : List ℕ) (count : ℕ) → length leaves ≤ count → AreLeaves shapes node leaves
+    → ((k state : ℕ) → k < count → Contains (set_at sets (slice_index leaves k)) state → Contains states state)
     → (letter state : ℕ) → Contains (set_of shapes sets node letter) state → Contains states state
 states-all shapes sets node leaves states count all are so_far letter state c =
     let there = are.all letter in

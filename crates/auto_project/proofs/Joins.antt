@@ -27,7 +27,8 @@ pub record AreSingletonsSoFar (sets : List (List ℕ)) (count : ℕ) : Type 0 wh
 same_single : (m n : ℕ) → m ∷ [] ≡ n ∷ [] → m ≡ n
 same_single m n e = cc
 
-pub AreSingletonsSoFar-push : (old new : List (List ℕ)) (count number : ℕ) → NumbersSet old new (count ∷ []) → slice_get new number ≡ Some (count ∷ []) → AreSingletonsSoFar old count → AreSingletonsSoFar new (count + 1)
+pub AreSingletonsSoFar-push : (old new : List (List ℕ)) (count number : ℕ) → NumbersSet old new (count ∷ []) → slice_get new number ≡ Some (count ∷ [])
+    → AreSingletonsSoFar old count → AreSingletonsSoFar new (count + 1)
 AreSingletonsSoFar-push old new count number (inl e) at are =
     let at' : slice_get old number ≡ Some (count ∷ []) = ap (λ l. slice_get l number) (sym e) ∙ at in
     let within = slice_get_within old number (count ∷ []) at' in
@@ -58,7 +59,8 @@ pub record AreJoinedSoFar (sets : List (List ℕ)) (only : ℕ) (pairs : List (�
   pub size : length table ≡ count
   pub each : (i a b : ℕ) → i < count → slice_get pairs i ≡ Some (a, b) → IsJoinedSet sets only a b (slice_index table i)
 
-pub AreJoinedSoFar-push : (sets sets' : List (List ℕ)) (only : ℕ) (pairs : List (ℕ × ℕ)) (table : List ℕ) (count number : ℕ) (pair : ℕ × ℕ) → SetsKept sets sets' → slice_get pairs count ≡ Some pair → AreJoinedSoFar sets only pairs table count
+pub AreJoinedSoFar-push : (sets sets' : List (List ℕ)) (only : ℕ) (pairs : List (ℕ × ℕ)) (table : List ℕ) (count number : ℕ) (pair : ℕ × ℕ) → SetsKept sets sets'
+    → slice_get pairs count ≡ Some pair → AreJoinedSoFar sets only pairs table count
     → IsJoinedSet sets' only pair.0 pair.1 number → AreJoinedSoFar sets' only pairs (table ++ number ∷ []) (count + 1)
 AreJoinedSoFar-push sets sets' only pairs table count number pair kept at so_far here = record {
   size = let l = length_push table number in let s = so_far.size in omega (arith, l, s);
@@ -76,14 +78,16 @@ AreJoinedSoFar-push sets sets' only pairs table count number pair kept at so_far
       ];
 }
 
-pub AreJoinedSets-all : (sets : List (List ℕ)) (only : ℕ) (pairs : List (ℕ × ℕ)) (table : List ℕ) (count : ℕ) → count ≡ length pairs → AreJoinedSoFar sets only pairs table count → AreJoinedSets sets only pairs table
+pub AreJoinedSets-all : (sets : List (List ℕ)) (only : ℕ) (pairs : List (ℕ × ℕ)) (table : List ℕ) (count : ℕ) → count ≡ length pairs → AreJoinedSoFar sets only pairs table count
+    → AreJoinedSets sets only pairs table
 AreJoinedSets-all sets only pairs table count all so_far = record {
   size = so_far.size ∙ all;
   each = λ i a b at. so_far.each i a b (let h = slice_get_within pairs i (a, b) at in omega (arith, h, all)) at;
 }
 
 -- the pairs of values of two nodes are pairs of known numbers
-pub pairs-known : (shapes : List Shape) (sets : List (List ℕ)) (pairs : List (ℕ × ℕ)) (a b from : ℕ) → from ≡ 0 → HasSets shapes sets a → HasSets shapes sets b → AreAnswers shapes from pairs a b → All (λ (pair : ℕ × ℕ). (pair.0 < length sets) × (pair.1 < length sets)) pairs
+pub pairs-known : (shapes : List Shape) (sets : List (List ℕ)) (pairs : List (ℕ × ℕ)) (a b from : ℕ) → from ≡ 0 → HasSets shapes sets a → HasSets shapes sets b
+    → AreAnswers shapes from pairs a b → All (λ (pair : ℕ × ℕ). (pair.0 < length sets) × (pair.1 < length sets)) pairs
 pairs-known shapes sets pairs a b from none a_sets b_sets answers = All-from_get_or (λ (pair : ℕ × ℕ). (pair.0 < length sets) × (pair.1 < length sets)) pairs (0, 0) (λ i h.
     let one = answers.answer i (omega (arith, none)) h in
     let e : (map_at shapes a one.0, map_at shapes b one.0) ≡ get_or pairs i (0, 0) = same_Some _ _ (sym one.1 ∙ slice_get-get_or pairs i (0, 0) h) in
@@ -102,11 +106,13 @@ IsJoined-made old mid shapes sets only pairs table a b both node a_known b_known
       (subst (λ n. IsJoinedSet sets only (map_at old a letter) n (slice_index table (map_at mid both letter))) (sym (grows.map b letter b_known)) j));
 }
 
-pub table-covers : (mid : List Shape) (pairs : List (ℕ × ℕ)) (table : List ℕ) (both : ℕ) (letter : ℕ) (pair : ℕ × ℕ) → length table ≡ length pairs → slice_get pairs (map_at mid both letter) ≡ Some pair → map_at mid both letter < length table
+pub table-covers : (mid : List Shape) (pairs : List (ℕ × ℕ)) (table : List ℕ) (both : ℕ) (letter : ℕ) (pair : ℕ × ℕ) → length table ≡ length pairs
+    → slice_get pairs (map_at mid both letter) ≡ Some pair → map_at mid both letter < length table
 table-covers mid pairs table both letter pair size at = let h = slice_get_within pairs (map_at mid both letter) pair at in omega (arith, h, size)
 
 -- a node whose sets are empty
-pub IsNothing-made : (shapes : List Shape) (sets : List (List ℕ)) (empty node : ℕ) → slice_get sets empty ≡ Some [] → node < length shapes → ((letter : ℕ) → map_at shapes node letter ≡ empty) → IsNothing shapes sets node
+pub IsNothing-made : (shapes : List Shape) (sets : List (List ℕ)) (empty node : ℕ) → slice_get sets empty ≡ Some [] → node < length shapes
+    → ((letter : ℕ) → map_at shapes node letter ≡ empty) → IsNothing shapes sets node
 IsNothing-made shapes sets empty node at known constant =
     let within = slice_get_within sets empty [] at in
     record {
@@ -119,8 +125,10 @@ IsNothing-made shapes sets empty node at known constant =
     }
 
 -- the union of two unions
-pub IsUnionOf-both : (s1 s2 s3 : List Shape) (t1 t2 t3 : List (List ℕ)) (s0 : List Shape) (t0 : List (List ℕ)) (nodes front back : List ℕ) (a b node : ℕ) → nodes ≡ front ++ back → All (HasSets s0 t0) front → All (HasSets s0 t0) back
-    → Grows s0 s1 → SetsKept t0 t1 → Grows s1 s2 → SetsKept t1 t2 → Grows s2 s3 → SetsKept t2 t3 → IsUnionOf s1 t1 front a → IsUnionOf s2 t2 back b → IsUnited s3 t3 a b node → IsUnionOf s3 t3 nodes node
+pub IsUnionOf-both : (s1 s2 s3 : List Shape) (t1 t2 t3 : List (List ℕ)) (s0 : List Shape) (t0 : List (List ℕ)) (nodes front back : List ℕ) (a b node : ℕ) → nodes ≡ front ++ back
+    → All (HasSets s0 t0) front → All (HasSets s0 t0) back
+    → Grows s0 s1 → SetsKept t0 t1 → Grows s1 s2 → SetsKept t1 t2 → Grows s2 s3 → SetsKept t2 t3 → IsUnionOf s1 t1 front a → IsUnionOf s2 t2 back b → IsUnited s3 t3 a b node
+    → IsUnionOf s3 t3 nodes node
 IsUnionOf-both s1 s2 s3 t1 t2 t3 s0 t0 nodes front back a b node same front_sets back_sets g1 k1 g2 k2 g3 k3 of_front of_back both =
     subst (λ l. IsUnionOf s3 t3 l node) (sym same) (record {
       is = record { known = both.known; numbered = λ letter. (both.map letter).known };
@@ -152,18 +160,30 @@ IsUnionOf-both s1 s2 s3 t1 t2 t3 s0 t0 nodes front back a b node same front_sets
     from : (letter state : ℕ) → ((one : ℕ) × Contains (front ++ back) one × Contains (set_of s3 t3 one letter) state) → Contains (set_of s3 t3 node letter) state
     from letter state (one, c, d) = elim (Contains-append_cases front back one c) [
       | inl l ↦
-          ((both.map letter).members state).1 (inl (has-kept s1 s3 t1 t3 far far_kept a letter state of_front.is ((of_front.members letter state).1 (one, l, had s1 s3 t1 t3 far far_kept one letter state (front_at one l) d))))
-      | inr r ↦ ((both.map letter).members state).1 (inr (has-kept s2 s3 t2 t3 g3 k3 b letter state of_back.is ((of_back.members letter state).1 (one, r, had s2 s3 t2 t3 g3 k3 one letter state (back_at one r) d))))
+          ((both.map letter).members state).1
+          (inl
+          (has-kept s1 s3 t1 t3 far far_kept a letter state of_front.is
+          ((of_front.members letter state).1 (one, l, had s1 s3 t1 t3 far far_kept one letter state (front_at one l) d))))
+      | inr r ↦
+          ((both.map letter).members state).1
+          (inr
+          (has-kept s2 s3 t2 t3 g3 k3 b letter state of_back.is
+          ((of_back.members letter state).1 (one, r, had s2 s3 t2 t3 g3 k3 one letter state (back_at one r) d))))
     ]
 
 -- a part of nodes with sets
 pub front-sets : (shapes : List Shape) (sets : List (List ℕ)) (nodes front back : List ℕ) → nodes ≡ front ++ back → All (HasSets shapes sets) nodes → All (HasSets shapes sets) front
 front-sets shapes sets nodes front back same all =
-    All-from_get_or (HasSets shapes sets) front 0 (λ i h. All-contains (HasSets shapes sets) nodes (get_or front i 0) all (subst (λ l. Contains l (get_or front i 0)) (sym same) (Contains-append_left front back (get_or front i 0) (Contains-get_or front i 0 h))))
+    All-from_get_or (HasSets shapes sets) front 0
+    (λ i h. All-contains (HasSets shapes sets) nodes (get_or front i 0) all
+    (subst (λ l. Contains l (get_or front i 0)) (sym same)
+    (Contains-append_left front back (get_or front i 0) (Contains-get_or front i 0 h))))
 
 pub back-sets : (shapes : List Shape) (sets : List (List ℕ)) (nodes front back : List ℕ) → nodes ≡ front ++ back → All (HasSets shapes sets) nodes → All (HasSets shapes sets) back
 back-sets shapes sets nodes front back same all =
-    All-from_get_or (HasSets shapes sets) back 0 (λ i h. All-contains (HasSets shapes sets) nodes (get_or back i 0) all (subst (λ l. Contains l (get_or back i 0)) (sym same) (Contains-append_right front back (get_or back i 0) (Contains-get_or back i 0 h))))
+    All-from_get_or (HasSets shapes sets) back 0
+    (λ i h. All-contains (HasSets shapes sets) nodes (get_or back i 0) all
+    (subst (λ l. Contains l (get_or back i 0)) (sym same) (Contains-append_right front back (get_or back i 0) (Contains-get_or back i 0 h))))
 
 -- the rows of some states
 Contains-map : (f : ℕ → ℕ) (xs : List ℕ) (y : ℕ) → Contains (map f xs) y → (x : ℕ) × Contains xs x × (f x ≡ y)
@@ -180,7 +200,8 @@ map-contains f (y ∷ ys) x c = elim (Contains-cases y ys x c) [
   | inr later ↦ Contains-cons (f y) (map f ys) (f x) (map-contains f ys x later)
 ]
 
-pub IsUnionRow-from : (shapes : List Shape) (sets : List (List ℕ)) (rows set nodes : List ℕ) (node : ℕ) → nodes ≡ map (slice_index rows) set → IsUnionOf shapes sets nodes node → IsUnionRow shapes sets rows set node
+pub IsUnionRow-from : (shapes : List Shape) (sets : List (List ℕ)) (rows set nodes : List ℕ) (node : ℕ) → nodes ≡ map (slice_index rows) set → IsUnionOf shapes sets nodes node
+    → IsUnionRow shapes sets rows set node
 IsUnionRow-from shapes sets rows set nodes node same union = record {
   is = union.is;
   members = λ letter state. (
@@ -196,7 +217,8 @@ pub picked-some : (rows set nodes : List ℕ) → nodes ≡ map (slice_index row
 picked-some rows [] nodes same some none = some refl
 picked-some rows (state ∷ set) nodes same some none = let e = ap length (sym same ∙ none) in omega (arith, e)
 
-pub picked-sets : (shapes : List Shape) (sets : List (List ℕ)) (rows set nodes : List ℕ) → nodes ≡ map (slice_index rows) set → All (λ state. state < length rows) set → All (HasSets shapes sets) rows → All (HasSets shapes sets) nodes
+pub picked-sets : (shapes : List Shape) (sets : List (List ℕ)) (rows set nodes : List ℕ) → nodes ≡ map (slice_index rows) set → All (λ state. state < length rows) set
+    → All (HasSets shapes sets) rows → All (HasSets shapes sets) nodes
 picked-sets shapes sets rows set nodes same within all =
     All-from_get_or (HasSets shapes sets) nodes 0 (λ i h.
     let p = Contains-map (slice_index rows) set (get_or nodes i 0) (subst (λ l. Contains l (get_or nodes i 0)) same (Contains-get_or nodes i 0 h)) in

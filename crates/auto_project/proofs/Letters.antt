@@ -1,34 +1,28 @@
 -- Letters over tracks, and over all of them but one.
-use Rattle.std.proofs.Common.{◌≡◌, ◌≢◌, ◌⊎◌, ℕ, zero, suc, ◌<◌, ◌≤◌, ◌+◌, ◌-◌, ◌*◌, ◌/◌, ◌%◌, ◌^◌, Bool, true, false, true≢false, not, nat_eq, cond, List, [], ◌∷◌, length, map, get_or, Contains, arith, refl, sym, ap, ◌∙◌, subst, inl, inr}
+use Rattle.std.proofs.Common.{◌≡◌, ◌≢◌, ◌⊎◌, ℕ, zero, suc, ◌<◌, ◌≤◌, ◌+◌, ◌-◌, ◌*◌, ◌%◌, ◌^◌, Bool, true, false, true≢false, not, nat_eq, cond, List, [], ◌∷◌, length, map, get_or, Contains, arith, refl, sym, ap, ◌∙◌, subst, inl, inr}
 use Rattle.std.specs.Int.{bit_at}
 use Rattle.std.specs.List.{All, filter, position_or_len}
 use Rattle.std.specs.List.Sorted.{IsStrictlyIncreasing}
-use Rattle.std.proofs.lemmas.Grind.{common_steps}
 use Rattle.std.proofs.lemmas.Bool.{cases_eq, cases_lt, ne_eqb, eq-eqb}
 use Rattle.std.proofs.lemmas.Bool.Decides.{Decides-eqb}
-use Rattle.std.proofs.lemmas.List.{get_or-map, length-map}
 use Rattle.std.proofs.lemmas.List.Elements.{Contains-get_or}
-use Rattle.std.proofs.lemmas.List.Kept.{AllPairs-from_increasing, IsStrictlyIncreasing-filter}
+use Rattle.std.proofs.lemmas.List.Kept.{IsStrictlyIncreasing-filter}
 use Rattle.std.proofs.lemmas.List.Sums.{position_or_len_is, fails_before_first, passes_at_first}
 use Rattle.std.proofs.lemmas.Nat.Bits.{bit_at-lt, bit_at-suc, bit_at_lowest, bit_at_above, bit_at_cat_low, bit_at_cat_high, same_from_bits_below}
 use Rattle.track_word.specs.declared.tracks.Var.{Var}
 use Rattle.track_word.specs.Tracks.{IsAscending, without_var, place, restrict}
-use Rattle.letter_diagram.specs.Restricted.{IsWithBit}
-use Rattle.auto_walk.proofs.Restricted.{restrict-below}
+use Rattle.track_word.proofs.LetterBits.{bit_cases, half, lowest}
+use Rattle.letter_diagram.specs.Merged.{IsWithBit}
+use Rattle.auto_core.proofs.Ascents.{place-at}
+use Rattle.auto_core.proofs.Restricted.{restrict-below}
 use Rattle.auto_project.specs.Lifted.{ReadsAs}
 use Rattle.auto_project.specs.Subsets.{lengthened}
 use Rattle.auto_project.proofs.Lists.{Contains-filter, Contains-from_filter, length-filter_less, length-filter_le}
 
-half : (b r : ℕ) → b < 2 → (b + 2 * r) / 2 ≡ r
-half b r h = omega (arith, h)
-
-rest : (b r : ℕ) → b < 2 → (b + 2 * r) % 2 ≡ b
-rest b r h = omega (arith, h)
-
 -- the bits of a letter over some tracks
 pub bit_at-restrict : (all some : List Var) (letter i : ℕ) (d : Var) → i < length some → bit_at (restrict all some letter) i ≡ bit_at letter (place all (get_or some i d))
 bit_at-restrict all [] letter i d h = absurd (omega arith)
-bit_at-restrict all (v ∷ vs) letter zero d h = bit_at_lowest (restrict all (v ∷ vs) letter) ∙ rest (bit_at letter (place all v)) (restrict all vs letter) (bit_at-lt letter (place all v))
+bit_at-restrict all (v ∷ vs) letter zero d h = bit_at_lowest (restrict all (v ∷ vs) letter) ∙ lowest (bit_at letter (place all v)) (restrict all vs letter) (bit_at-lt letter (place all v))
 bit_at-restrict all (v ∷ vs) letter (suc i) d h =
     bit_at-suc (restrict all (v ∷ vs) letter) i ∙ ap (λ n. bit_at n i) (half (bit_at letter (place all v)) (restrict all vs letter) (bit_at-lt letter (place all v)))
     ∙ bit_at-restrict all vs letter i d (omega arith)
@@ -54,19 +48,6 @@ place-below all v d i h e = elim (cases_lt (place all v) (length all)) [
 pub place-same : (all : List Var) (v w : Var) → v.0 ≡ w.0 → place all v ≡ place all w
 place-same all v w e = ap (λ n. position_or_len (λ (other : Var). nat_eq other.0 n) all) e
 
-names_rise : (all : List Var) → IsAscending all → (i j : ℕ) (d : Var) → i < j → j < length all → (get_or all i d).0 < (get_or all j d).0
-names_rise all up i j d less h =
-    let size = length-map all (λ (v : Var). v.0) in
-    let l = AllPairs-from_increasing (map (λ (v : Var). v.0) all) up i j 0 less (omega (arith, size, h)) in
-    let first = get_or-map (λ (v : Var). v.0) all i d 0 (omega arith) in
-    let second = get_or-map (λ (v : Var). v.0) all j d 0 h in
-    omega (arith, l, first, second)
-
-pub place-at : (all : List Var) → IsAscending all → (i : ℕ) (d : Var) → i < length all → place all (get_or all i d) ≡ i
-place-at all up i d h = position_or_len_is (λ other. nat_eq other.0 (get_or all i d).0) all i d (omega arith)
-    (λ k less. let l = names_rise all up k i d less h in ne_eqb (get_or all k d).0 (get_or all i d).0 (λ e. omega (arith, l, e)))
-    (λ _. eq-eqb (get_or all i d).0 (get_or all i d).0 refl)
-
 -- a track that has no place comes after all
 pub place-none : (all : List Var) (v : Var) → ((i : ℕ) (d : Var) → i < length all → (get_or all i d).0 ≢ v.0) → place all v ≡ length all
 place-none all v none = position_or_len_is (λ other. nat_eq other.0 v.0) all (length all) v (omega arith)
@@ -81,7 +62,8 @@ module _ (all : List Var) (x : Var) (up : IsAscending all) where
   names-filter (y ∷ ys) = by (not (nat_eq y.0 x.0)) (names-filter ys)
     where
       by : (b : Bool) → map (λ (v : Var). v.0) (filter (λ (z : Var). not (nat_eq z.0 x.0)) ys) ≡ filter (λ n. not (nat_eq n x.0)) (map (λ (v : Var). v.0) ys)
-          → map (λ (v : Var). v.0) (cond b (y ∷ filter (λ (z : Var). not (nat_eq z.0 x.0)) ys) (filter (λ (z : Var). not (nat_eq z.0 x.0)) ys)) ≡ cond b (y.0 ∷ filter (λ n. not (nat_eq n x.0)) (map (λ (v : Var). v.0) ys)) (filter (λ n. not (nat_eq n x.0)) (map (λ (v : Var). v.0) ys))
+          → map (λ (v : Var). v.0) (cond b (y ∷ filter (λ (z : Var). not (nat_eq z.0 x.0)) ys) (filter (λ (z : Var). not (nat_eq z.0 x.0)) ys)) ≡ cond
+          b (y.0 ∷ filter (λ n. not (nat_eq n x.0)) (map (λ (v : Var). v.0) ys)) (filter (λ n. not (nat_eq n x.0)) (map (λ (v : Var). v.0) ys))
       by true e = ap (λ l. y.0 ∷ l) e
       by false e = e
 
@@ -129,7 +111,9 @@ module _ (all : List Var) (x : Var) (up : IsAscending all) where
   ]
 
   low_bit : (letter bit i : ℕ) → i < length (without_var x all) → bit_at (letter + bit * 2 ^ length (without_var x all)) i ≡ bit_at letter i
-  low_bit letter bit i h = ap (λ n. bit_at n i) (let e : letter + bit * 2 ^ length (without_var x all) ≡ bit * 2 ^ length (without_var x all) + letter = omega arith in e) ∙ bit_at_cat_low bit (length (without_var x all)) letter i h
+  low_bit letter bit i h =
+      ap (λ n. bit_at n i) (let e : letter + bit * 2 ^ length (without_var x all) ≡ bit * 2 ^ length (without_var x all) + letter = omega arith in e)
+      ∙ bit_at_cat_low bit (length (without_var x all)) letter i h
 
   lost_bit : (letter bit : ℕ) → letter < 2 ^ length (without_var x all) → bit < 2 → bit_at (letter + bit * 2 ^ length (without_var x all)) (length (without_var x all)) ≡ bit
   lost_bit letter bit h small =
@@ -138,9 +122,11 @@ module _ (all : List Var) (x : Var) (up : IsAscending all) where
       ∙ ap (bit_at bit) (let e : length (without_var x all) - length (without_var x all) ≡ 0 = omega arith in e) ∙ bit_at_lowest bit ∙ (let e : bit % 2 ≡ bit = omega arith in e)
 
   -- a letter with a bit on the lost track is read as the longer letter
-  pub lengthened-with : (letter bit longer : ℕ) → letter < 2 ^ length (without_var x all) → bit < 2 → IsWithBit longer letter (length (without_var x all)) bit → restrict (without_var x all) all longer ≡ lengthened all (without_var x all) bit letter
+  pub lengthened-with : (letter bit longer : ℕ) → letter < 2 ^ length (without_var x all) → bit < 2 → IsWithBit longer letter (length (without_var x all)) bit
+      → restrict (without_var x all) all longer ≡ lengthened all (without_var x all) bit letter
   lengthened-with letter bit longer h small is =
-      restrict-agree (without_var x all) all (length (without_var x all) + 1) longer (letter + bit * 2 ^ length (without_var x all)) places-left (λ k below. elim (cases_eq k (length (without_var x all))) [
+      restrict-agree (without_var x all) all (length (without_var x all) + 1) longer (letter + bit * 2 ^ length (without_var x all)) places-left
+      (λ k below. elim (cases_eq k (length (without_var x all))) [
         | inl e ↦ ap (bit_at longer) e ∙ is.at ∙ sym (lost_bit letter bit h small) ∙ ap (bit_at (letter + bit * 2 ^ length (without_var x all))) (sym e)
         | inr ne ↦ is.same k ne ∙ sym (low_bit letter bit k (less k (length (without_var x all)) ne below))
       ])
@@ -166,7 +152,9 @@ module _ (all : List Var) (x : Var) (up : IsAscending all) where
         let name = name_is all (get_or (without_var x all) i x) x there in
         bit_at-restrict all (without_var x all) (lengthened all (without_var x all) bit letter) i x below
         ∙ bit_at-restrict (without_var x all) all (letter + bit * 2 ^ length (without_var x all)) (place all (get_or (without_var x all) i x)) x there
-        ∙ ap (bit_at (letter + bit * 2 ^ length (without_var x all))) (place-same (without_var x all) (get_or all (place all (get_or (without_var x all) i x)) x) (get_or (without_var x all) i x) name ∙ place-at (without_var x all) ascending-without i x below)
+        ∙ ap (bit_at (letter + bit * 2 ^ length (without_var x all)))
+        (place-same (without_var x all) (get_or all (place all (get_or (without_var x all) i x)) x) (get_or (without_var x all) i x) name
+        ∙ place-at (without_var x all) i x ascending-without below)
         ∙ low_bit letter bit i below);
   }
 
@@ -177,11 +165,14 @@ module _ (all : List Var) (x : Var) (up : IsAscending all) where
       let small = subst (λ n. n < 2 ^ length (without_var x all)) is.reads (restrict-below all (without_var x all) longer) in
       same_from_bits_below (length all) longer _ is.below (restrict-below (without_var x all) all (letter + bit_at longer (place all x) * 2 ^ length (without_var x all))) (λ j below.
       let read = bit_at-restrict (without_var x all) all (letter + bit_at longer (place all x) * 2 ^ length (without_var x all)) j x below in
-      let own = place-at all up j x below in
+      let own = place-at all j x up below in
       elim (cases_eq (get_or all j x).0 x.0) [
         | inl e ↦
             let here = sym own ∙ place-same all (get_or all j x) x e in
-            ap (bit_at longer) here ∙ sym (read ∙ ap (bit_at (letter + bit_at longer (place all x) * 2 ^ length (without_var x all))) (place-lost (get_or all j x) e) ∙ lost_bit letter (bit_at longer (place all x)) small (bit_at-lt longer (place all x)))
+            ap (bit_at longer) here
+            ∙ sym
+            (read ∙ ap (bit_at (letter + bit_at longer (place all x) * 2 ^ length (without_var x all))) (place-lost (get_or all j x) e)
+            ∙ lost_bit letter (bit_at longer (place all x)) small (bit_at-lt longer (place all x)))
         | inr ne ↦
             let i_below = is-left j x below ne in
             let name = name_is (without_var x all) (get_or all j x) x i_below in
@@ -192,10 +183,8 @@ module _ (all : List Var) (x : Var) (up : IsAscending all) where
             ∙ ap (bit_at longer) (place-same all (get_or (without_var x all) (place (without_var x all) (get_or all j x)) x) (get_or all j x) name ∙ own))
       ])
 
-  bit_cases : (letter k : ℕ) → (bit_at letter k ≡ 0) ⊎ (bit_at letter k ≡ 1)
-  bit_cases letter k = let l = bit_at-lt letter k in grind (arith, common_steps, l)
-
-  pub lengthened-or : (letter longer : ℕ) → ReadsAs all (without_var x all) letter longer → (longer ≡ lengthened all (without_var x all) 0 letter) ⊎ (longer ≡ lengthened all (without_var x all) 1 letter)
+  pub lengthened-or : (letter longer : ℕ) → ReadsAs all (without_var x all) letter longer
+      → (longer ≡ lengthened all (without_var x all) 0 letter) ⊎ (longer ≡ lengthened all (without_var x all) 1 letter)
   lengthened-or letter longer is = elim (bit_cases longer (place all x)) [
     | inl z ↦ inl (reads-lengthened letter longer is ∙ ap (λ b. lengthened all (without_var x all) b letter) z)
     | inr o ↦ inr (reads-lengthened letter longer is ∙ ap (λ b. lengthened all (without_var x all) b letter) o)

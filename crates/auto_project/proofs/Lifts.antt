@@ -13,7 +13,7 @@ use Rattle.track_word.specs.Word.{repeat_first, repeated}
 use Rattle.track_word.specs.Tracks.{without_var, part_of}
 use Rattle.auto_core.specs.Automaton.{Automaton, IsAutomaton, first_state, next_state, run, state_of}
 use Rattle.auto_core.specs.Spread.{IsLift}
-use Rattle.auto_walk.proofs.Restricted.{restrict-below}
+use Rattle.auto_core.proofs.Restricted.{restrict-below}
 use Rattle.auto_project.specs.Lifted.{ReadsAs, Begins, Follows, LiftLeads}
 use Rattle.auto_project.specs.Subsets.{lengthened, leads_to, next_set}
 use Rattle.auto_project.proofs.Lists.{Contains-cons, Contains-cases, Contains-head, Contains-filter, Contains-from_filter, Contains-range, increasing-range}
@@ -145,7 +145,8 @@ module _ (a : Automaton) (some : List Var) where
       one_more (suc n) = ap (λ l. letter ∷ l) (one_more n)
 
   -- a set that has what a letter begins with, and what follows on it by the letter, has all that lifts of the letter lead to
-  module _ (letter : ℕ) (set : List ℕ) (begins : (state : ℕ) → Begins a some letter state → Contains set state) (follows : (from state : ℕ) → Contains set from → Follows a some from letter state → Contains set state) where
+  module _ (letter : ℕ) (set : List ℕ) (begins : (state : ℕ) → Begins a some letter state → Contains set state)
+      (follows : (from state : ℕ) → Contains set from → Follows a some from letter state → Contains set state) where
     run-in : (n : ℕ) (longer : List ℕ) (from : ℕ) → Contains set from → AllZip (ReadsAs a.tracks some) (replicate n letter ++ []) longer → Contains set (run a from longer)
     run-in zero [] from c z = c
     run-in zero (l ∷ ls) from c z = elim z [ ]
@@ -191,7 +192,8 @@ module _ (a : Automaton) (some : List Var) where
         fold_has letters ls (step set letter) (next_state a s l) t ((steps set letter (next_state a s l) small).1 (s, member, record { longer = l; is = zips.0; leads = refl })) zips.1 e
 
     -- the set after a word has just the states to which its lifts lead
-    pub lift_from : (sign : ℕ) (letters first : List ℕ) (t : ℕ) → ((s : ℕ) → Contains first s → LiftLeads a some (sign ∷ []) s) → All (λ l. l < 2 ^ length some) letters → Contains (fold step first letters) t → LiftLeads a some (sign ∷ letters) t
+    pub lift_from : (sign : ℕ) (letters first : List ℕ) (t : ℕ) → ((s : ℕ) → Contains first s → LiftLeads a some (sign ∷ []) s) → All (λ l. l < 2 ^ length some) letters
+        → Contains (fold step first letters) t → LiftLeads a some (sign ∷ letters) t
     lift_from sign letters first t firsts small h =
         let l = fold_leads letters first t small h in
         let s = firsts l.from l.member in
@@ -207,7 +209,8 @@ module _ (a : Automaton) (some : List Var) where
         no_more zero ls = refl
         no_more (suc n) ls = ap (λ l. sign ∷ l) (no_more n ls)
 
-    pub lift_to : (sign : ℕ) (letters first : List ℕ) (t : ℕ) → ((s : ℕ) → LiftLeads a some (sign ∷ []) s → Contains first s) → LiftLeads a some (sign ∷ letters) t → Contains (fold step first letters) t
+    pub lift_to : (sign : ℕ) (letters first : List ℕ) (t : ℕ) → ((s : ℕ) → LiftLeads a some (sign ∷ []) s → Contains first s) → LiftLeads a some (sign ∷ letters) t
+        → Contains (fold step first letters) t
     lift_to sign letters first t firsts l =
         let z = lift-zips a.tracks some sign letters l.lift l.is in
         let parts = cut a.tracks some (replicate (suc z.times) sign) letters l.lift z.zips in
@@ -242,7 +245,11 @@ module _ (a : Automaton) (x : Var) (valid : IsAutomaton a) where
       to : Contains (next_set a (without_var x a.tracks) set letter) t → (s : ℕ) × Contains set s × Follows a (without_var x a.tracks) s letter t
       to c =
           let passes = (Contains-from_filter (leads_to a (without_var x a.tracks) set letter) _ t c).1 in
-          let one = any-from (λ s. nat_eq (next_state a s (lengthened a.tracks (without_var x a.tracks) 0 letter)) t || nat_eq (next_state a s (lengthened a.tracks (without_var x a.tracks) 1 letter)) t) set passes in (
+          let one =
+          any-from
+          (λ s. nat_eq (next_state a s (lengthened a.tracks (without_var x a.tracks) 0 letter)) t || nat_eq
+          (next_state a s (lengthened a.tracks (without_var x a.tracks) 1 letter)) t)
+          set passes in (
             one.0,
             one.1,
             elim (or-cases _ _ one.2) [
@@ -254,7 +261,10 @@ module _ (a : Automaton) (x : Var) (valid : IsAutomaton a) where
       from : ((s : ℕ) × Contains set s × Follows a (without_var x a.tracks) s letter t) → Contains (next_set a (without_var x a.tracks) set letter) t
       from (s, member, f) =
           Contains-filter (leads_to a (without_var x a.tracks) set letter) _ t (Contains-range (length a.accept) t (follows-within s letter t f))
-          (any-to (λ s. nat_eq (next_state a s (lengthened a.tracks (without_var x a.tracks) 0 letter)) t || nat_eq (next_state a s (lengthened a.tracks (without_var x a.tracks) 1 letter)) t) set s member
+          (any-to
+          (λ s. nat_eq (next_state a s (lengthened a.tracks (without_var x a.tracks) 0 letter)) t || nat_eq
+          (next_state a s (lengthened a.tracks (without_var x a.tracks) 1 letter)) t)
+          set s member
           (elim (lengthened-or a.tracks x valid.ascending letter f.longer f.is) [
             | inl e ↦ or-left _ _ ((Decides-eqb (next_state a s (lengthened a.tracks (without_var x a.tracks) 0 letter)) t).1 (ap (next_state a s) (sym e) ∙ f.leads))
             | inr e ↦ or-right _ _ ((Decides-eqb (next_state a s (lengthened a.tracks (without_var x a.tracks) 1 letter)) t).1 (ap (next_state a s) (sym e) ∙ f.leads))

@@ -1,18 +1,17 @@
 -- Rows of the walk over sets of states.
-use Rattle.std.proofs.Common.{◌≡◌, ◌≢◌, ℕ, ◌<◌, ◌+◌, ◌*◌, ◌/◌, ◌%◌, ◌^◌, ◌||◌, nat_eq, List, [], ◌∷◌, length, get_or, slice_get, slice_index, Some, Contains, AllPairs, arith, refl, sym, ap, ◌∙◌, subst, inl, inr}
+use Rattle.std.proofs.Common.{◌≡◌, ◌≢◌, ℕ, ◌<◌, ◌%◌, ◌^◌, ◌||◌, nat_eq, List, [], ◌∷◌, length, get_or, slice_get, slice_index, Some, Contains, AllPairs, arith, refl, sym, ap, ◌∙◌, subst, inl, inr}
 use Rattle.std.specs.List.{All, fold, range_with_len}
 use Rattle.std.specs.List.Sorted.{IsStrictlyIncreasing}
 use Rattle.std.specs.Int.{bit_at}
-use Rattle.std.proofs.lemmas.Grind.{common_steps}
 use Rattle.std.proofs.lemmas.Option.{slice_get-get_or}
 use Rattle.std.proofs.lemmas.List.Elements.{All-get_or, All-head, All-from_get_or, Contains-get_or, All-contains}
 use Rattle.std.proofs.lemmas.List.Kept.{IsStrictlyIncreasing-filter}
 use Rattle.std.proofs.lemmas.Bool.Decides.{Decides-eqb}
 use Rattle.std.proofs.lemmas.Nat.{mod_below, pow_pos}
-use Rattle.std.proofs.lemmas.Nat.Bits.{bit_at_cat_low}
 use Rattle.track_word.specs.declared.tracks.Var.{Var}
 use Rattle.track_word.specs.Word.{IsWord}
 use Rattle.track_word.specs.Tracks.{without_var}
+use Rattle.track_word.proofs.LetterBits.{low_bits}
 use Rattle.letter_diagram.specs.declared.diagrams.Shape.{Shape}
 use Rattle.letter_diagram.specs.Diagram.{map_at, Grows}
 use Rattle.letter_diagram.specs.Sets.{SetsKept}
@@ -22,7 +21,7 @@ use Rattle.auto_core.specs.Automaton.{Automaton, IsAutomaton, first_state, next_
 use Rattle.auto_walk.specs.Walker.{Walker, place_of, IsReached, AreTracks}
 use Rattle.auto_walk.specs.Rows.{AreNumbered, IsRow}
 use Rattle.auto_walk.proofs.WalkLemmas.{All-at, one_place}
-use Rattle.auto_walk.proofs.States.{state_within, run_within}
+use Rattle.auto_core.proofs.States.{state_within, run_within}
 use Rattle.auto_project.specs.Lifted.{Begins, Follows, LiftLeads}
 use Rattle.auto_project.specs.Subsets.{lengthened, leads_to, next_set, set_walker}
 use Rattle.auto_project.specs.SetMaps.{set_of, IsSetRow, AreSetRows, HasSetRows, HasClosedRows, HasPlaceRows, IsUnionRow}
@@ -43,20 +42,27 @@ some-element [] some = absurd (some refl)
 some-element (element ∷ set) some = (element, Contains-head element set)
 
 -- the rows of the walk are those that follow on the states
-pub HasPlaceRows-from : (shapes : List Shape) (sets : List (List ℕ)) (a : Automaton) (x : Var) (first : ℕ) (rows : List ℕ) → HasClosedRows shapes sets a (without_var x a.tracks) first rows → HasPlaceRows shapes sets a (without_var x a.tracks) first rows
+pub HasPlaceRows-from : (shapes : List Shape) (sets : List (List ℕ)) (a : Automaton) (x : Var) (first : ℕ) (rows : List ℕ)
+    → HasClosedRows shapes sets a (without_var x a.tracks) first rows → HasPlaceRows shapes sets a (without_var x a.tracks) first rows
 HasPlaceRows-from shapes sets a x first rows closed = record {
   valid = closed.valid;
   first_is = closed.first_row.is;
   first_some = λ letter below none.
       let longer = lengthened a.tracks (without_var x a.tracks) 0 letter in
-      let begins : Begins a (without_var x a.tracks) letter (first_state a longer) = record { longer = longer; is = ReadsAs-lengthened a.tracks x closed.valid.ascending letter 0 below; leads = refl } in
-      no-element (set_of shapes sets first letter) (first_state a longer) none ((closed.first_row.members letter (first_state a longer) below).1 (LiftLeads-begins a (without_var x a.tracks) letter (first_state a longer) begins));
+      let begins : Begins a (without_var x a.tracks) letter (first_state a longer) =
+      record { longer = longer; is = ReadsAs-lengthened a.tracks x closed.valid.ascending letter 0 below; leads = refl } in
+      no-element (set_of shapes sets first letter) (first_state a longer) none
+      ((closed.first_row.members letter (first_state a longer) below).1
+      (LiftLeads-begins a (without_var x a.tracks) letter (first_state a longer) begins));
   first_within = λ letter state below c. let l = (closed.first_row.members letter state below).0 c in subst (λ n. n < length a.accept) l.leads (state_within a closed.valid l.lift);
   first_narrow = λ m n agree. alike first closed.first_row.is (λ p q state same c. closed.first_row.narrow.same p q state same c) m n agree;
   size = closed.state_rows.size;
   is = λ state h. (row state h).is;
   narrow = λ state m n h agree. alike (slice_index rows state) (row state h).is (λ p q t same c. (row state h).narrow.same p q t same c) m n agree;
-  leads = λ state letter h below. same_sets (set_of shapes sets (slice_index rows state) letter) (next_set a (without_var x a.tracks) (state ∷ []) letter) (set-ascends shapes sets (slice_index rows state) letter (row state h).is closed.ascend) (increasing-next a x closed.valid (state ∷ []) letter)
+  leads =
+      λ state letter h below. same_sets (set_of shapes sets (slice_index rows state) letter) (next_set a (without_var x a.tracks) (state ∷ []) letter)
+      (set-ascends shapes sets (slice_index rows state) letter (row state h).is closed.ascend)
+      (increasing-next a x closed.valid (state ∷ []) letter)
       (λ t c. (steps-next a x closed.valid (state ∷ []) letter t below).1 (state, Contains-head state [], ((row state h).members letter t below).0 c))
       (λ t c. ((row state h).members letter t below).1 (only state letter t ((steps-next a x closed.valid (state ∷ []) letter t below).0 c)));
 }
@@ -87,7 +93,9 @@ module _ (shapes more : List Shape) (sets sets' : List (List ℕ)) (a : Automato
     first_narrow = λ x y agree. stays shapes more sets sets' grows kept first x r.first_is ∙ r.first_narrow x y agree ∙ sym (stays shapes more sets sets' grows kept first y r.first_is);
     size = r.size;
     is = λ state h. HasSets-grows shapes more sets sets' (slice_index rows state) grows kept (r.is state h);
-    narrow = λ state x y h agree. stays shapes more sets sets' grows kept (slice_index rows state) x (r.is state h) ∙ r.narrow state x y h agree ∙ sym (stays shapes more sets sets' grows kept (slice_index rows state) y (r.is state h));
+    narrow =
+        λ state x y h agree. stays shapes more sets sets' grows kept (slice_index rows state) x (r.is state h) ∙ r.narrow state x y h agree
+        ∙ sym (stays shapes more sets sets' grows kept (slice_index rows state) y (r.is state h));
     leads = λ state letter h below. stays shapes more sets sets' grows kept (slice_index rows state) letter (r.is state h) ∙ r.leads state letter h below;
   }
 
@@ -107,10 +115,13 @@ module _ (shapes : List Shape) (sets : List (List ℕ)) (a : Automaton) (some : 
   place-within (sign ∷ letters) t is c = fold-within letters (set_of shapes sets first sign) t (λ s d. r.first_within sign s (All-head (λ l. l < 2 ^ length some) sign letters is.letters) d) c
 
   -- the states of a numbered place are states of the automaton
-  pub states-within : (places : List (List ℕ)) (number : ℕ) (set : List ℕ) → slice_get places number ≡ Some set → AreNumbered (set_walker a some shapes sets first) places → All (λ state. state < length a.accept) set
+  pub states-within : (places : List (List ℕ)) (number : ℕ) (set : List ℕ) → slice_get places number ≡ Some set → AreNumbered (set_walker a some shapes sets first) places
+      → All (λ state. state < length a.accept) set
   states-within places number set at numbered =
       let reached = All-at (IsReached (set_walker a some shapes sets first)) places number set at numbered.reached in
-      All-from_get_or (λ state. state < length a.accept) set 0 (λ i h. place-within reached.word (get_or set i 0) reached.is_word (subst (λ l. Contains l (get_or set i 0)) (sym reached.leads) (Contains-get_or set i 0 h)))
+      All-from_get_or (λ state. state < length a.accept) set 0
+      (λ i h. place-within reached.word (get_or set i 0) reached.is_word
+      (subst (λ l. Contains l (get_or set i 0)) (sym reached.leads) (Contains-get_or set i 0 h)))
 
   -- some state follows on a set with some state
   next-some : (set : List ℕ) (letter s : ℕ) → Contains set s → s < length a.accept → (t : ℕ) × Contains (next_set a some set letter) t
@@ -119,7 +130,10 @@ module _ (shapes : List Shape) (sets : List (List ℕ)) (a : Automaton) (some : 
       let within : t < length a.accept = run_within a r.valid (lengthened a.tracks some 0 letter ∷ []) s h in (
         t,
         Contains-filter (leads_to a some set letter) (range_with_len 0 (length a.accept)) t (Contains-range (length a.accept) t within)
-            (any-to (λ from. nat_eq (next_state a from (lengthened a.tracks some 0 letter)) t || nat_eq (next_state a from (lengthened a.tracks some 1 letter)) t) set s c (or-left _ _ ((Decides-eqb t t).1 refl))),
+            (any-to
+            (λ from. nat_eq (next_state a from (lengthened a.tracks some 0 letter)) t || nat_eq
+            (next_state a from (lengthened a.tracks some 1 letter)) t)
+            set s c (or-left _ _ ((Decides-eqb t t).1 refl))),
       )
 
   fold-some : (letters set : List ℕ) (s : ℕ) → Contains set s → s < length a.accept → (t : ℕ) × Contains (fold (next_set a some) set letters) t
@@ -156,15 +170,27 @@ module _ (shapes : List Shape) (sets : List (List ℕ)) (a : Automaton) (some : 
         let both = Contains-from_filter (leads_to a some (from ∷ []) letter) (range_with_len 0 (length a.accept)) t d in
         let one = any-from (λ s. nat_eq (next_state a s (lengthened a.tracks some 0 letter)) t || nat_eq (next_state a s (lengthened a.tracks some 1 letter)) t) (from ∷ []) both.1 in
         elim (Contains-cases from [] one.0 one.1) [
-          | inl e ↦ Contains-filter (leads_to a some set letter) (range_with_len 0 (length a.accept)) t both.0 (any-to (λ s. nat_eq (next_state a s (lengthened a.tracks some 0 letter)) t || nat_eq (next_state a s (lengthened a.tracks some 1 letter)) t) set one.0 (subst (Contains set) e c) one.2)
+          | inl e ↦
+              Contains-filter (leads_to a some set letter) (range_with_len 0 (length a.accept)) t both.0
+              (any-to
+              (λ s. nat_eq (next_state a s (lengthened a.tracks some 0 letter)) t || nat_eq
+              (next_state a s (lengthened a.tracks some 1 letter)) t)
+              set one.0 (subst (Contains set) e c) one.2)
           | inr none ↦ let h = none.1 in absurd (omega arith)
         ]
 
     comes-from : (letter t : ℕ) → Contains (next_set a some set letter) t → (from : ℕ) × Contains set from × Contains (next_set a some (from ∷ []) letter) t
     comes-from letter t c =
         let both = Contains-from_filter (leads_to a some set letter) (range_with_len 0 (length a.accept)) t c in
-        let one = any-from (λ s. nat_eq (next_state a s (lengthened a.tracks some 0 letter)) t || nat_eq (next_state a s (lengthened a.tracks some 1 letter)) t) set both.1 in
-        (one.0, one.1, Contains-filter (leads_to a some (one.0 ∷ []) letter) (range_with_len 0 (length a.accept)) t both.0 (any-to (λ s. nat_eq (next_state a s (lengthened a.tracks some 0 letter)) t || nat_eq (next_state a s (lengthened a.tracks some 1 letter)) t) (one.0 ∷ []) one.0 (Contains-head one.0 []) one.2))
+        let one = any-from (λ s. nat_eq (next_state a s (lengthened a.tracks some 0 letter)) t || nat_eq (next_state a s (lengthened a.tracks some 1 letter)) t) set both.1 in (
+          one.0,
+          one.1,
+          Contains-filter (leads_to a some (one.0 ∷ []) letter) (range_with_len 0 (length a.accept)) t both.0
+              (any-to
+              (λ s. nat_eq (next_state a s (lengthened a.tracks some 0 letter)) t || nat_eq (next_state a s (lengthened a.tracks some 1 letter))
+              t)
+              (one.0 ∷ []) one.0 (Contains-head one.0 []) one.2),
+        )
 
     pub union-next : (letter : ℕ) → letter < 2 ^ length some → IsStrictlyIncreasing (next_set a some set letter) → set_of shapes sets node letter ≡ next_set a some set letter
     union-next letter below up =
@@ -172,13 +198,9 @@ module _ (shapes : List Shape) (sets : List (List ℕ)) (a : Automaton) (some : 
         (λ t c. let one = (union.members letter t).0 c in passes one.0 letter t one.1 (subst (λ l. Contains l t) (r.leads one.0 letter (inside one.0 one.1) below) one.2))
         (λ t c. let one = comes-from letter t c in (union.members letter t).1 (one.0, one.1, subst (λ l. Contains l t) (sym (r.leads one.0 letter (inside one.0 one.1) below)) one.2))
 
-low_bits : (letter bound k : ℕ) → k < bound → bit_at letter k ≡ bit_at (letter % 2 ^ bound) k
-low_bits letter bound k below =
-    let whole : letter ≡ letter / 2 ^ bound * 2 ^ bound + letter % 2 ^ bound = grind (arith, common_steps) in
-    ap (λ n. bit_at n k) whole ∙ bit_at_cat_low (letter / 2 ^ bound) bound (letter % 2 ^ bound) k below
-
 -- a row of places
-pub IsRow-placed : (w : Walker) (shapes : List Shape) (sets : List (List ℕ)) (more : List Shape) (before places : List (List ℕ)) (node row : ℕ) (lead : ℕ → List ℕ) → IsPlaced shapes sets more places node row → AddsSetsOf shapes sets before places node
+pub IsRow-placed : (w : Walker) (shapes : List Shape) (sets : List (List ℕ)) (more : List Shape) (before places : List (List ℕ)) (node row : ℕ) (lead : ℕ → List ℕ)
+    → IsPlaced shapes sets more places node row → AddsSetsOf shapes sets before places node
     → ((x y : ℕ) → ((k : ℕ) → k < length w.tracks → bit_at x k ≡ bit_at y k) → set_of shapes sets node x ≡ set_of shapes sets node y)
     → ((letter : ℕ) → letter < 2 ^ length w.tracks → set_of shapes sets node letter ≡ lead letter) → AllPairs (λ p q. p ≢ q) places → IsRow w more before places lead row
 IsRow-placed w shapes sets more before places node row lead is adds narrow value apart = record {
@@ -197,7 +219,8 @@ IsRow-placed w shapes sets more before places node row lead is adds narrow value
 }
 
 -- the closed rows of what was made
-pub HasClosedRows-made : (old shapes : List Shape) (before sets : List (List ℕ)) (a : Automaton) (some listed : List Var) (begun first : ℕ) (rows : List ℕ) → listed ≡ some → HasSetRows old before a listed begun rows → Grows old shapes → SetsKept before sets → All IsStrictlyIncreasing sets
+pub HasClosedRows-made : (old shapes : List Shape) (before sets : List (List ℕ)) (a : Automaton) (some listed : List Var) (begun first : ℕ) (rows : List ℕ) → listed ≡ some
+    → HasSetRows old before a listed begun rows → Grows old shapes → SetsKept before sets → All IsStrictlyIncreasing sets
     → IsSetRow shapes sets (length some) first (λ letter state. LiftLeads a some (letter ∷ []) state) → HasClosedRows shapes sets a some first rows
 HasClosedRows-made old shapes before sets a some listed begun first rows same made grows kept ascend closed = record {
   valid = made.valid;
@@ -206,33 +229,49 @@ HasClosedRows-made old shapes before sets a some listed begun first rows same ma
   state_rows = AreSetRows-kept old shapes before sets grows kept a some rows (subst (λ tracks. AreSetRows old before a tracks rows) same made.state_rows);
 }
 
-pub HasPlaceRows-made : (shapes : List Shape) (sets : List (List ℕ)) (a : Automaton) (x : Var) (some : List Var) (first : ℕ) (rows : List ℕ) → some ≡ without_var x a.tracks → HasClosedRows shapes sets a some first rows → HasPlaceRows shapes sets a some first rows
+pub HasPlaceRows-made : (shapes : List Shape) (sets : List (List ℕ)) (a : Automaton) (x : Var) (some : List Var) (first : ℕ) (rows : List ℕ) → some ≡ without_var x a.tracks
+    → HasClosedRows shapes sets a some first rows → HasPlaceRows shapes sets a some first rows
 HasPlaceRows-made shapes sets a x some first rows same closed =
-    subst (λ tracks. HasPlaceRows shapes sets a tracks first rows) (sym same) (HasPlaceRows-from shapes sets a x first rows (subst (λ tracks. HasClosedRows shapes sets a tracks first rows) same closed))
+    subst (λ tracks. HasPlaceRows shapes sets a tracks first rows) (sym same)
+    (HasPlaceRows-from shapes sets a x first rows (subst (λ tracks. HasClosedRows shapes sets a tracks first rows) same closed))
 
 pub AreTracks-left : (a : Automaton) (x : Var) (some : List Var) → IsAutomaton a → some ≡ without_var x a.tracks → AreTracks some
 AreTracks-left a x some valid same =
-    subst AreTracks (sym same) (record { ascending = ascending-without a.tracks x valid.ascending; few = let l = length-without a.tracks x valid.ascending in let few = valid.few_tracks in omega (arith, l, few) })
+    subst AreTracks (sym same)
+    (record {
+      ascending = ascending-without a.tracks x valid.ascending;
+      few = let l = length-without a.tracks x valid.ascending in
+          let few = valid.few_tracks in omega (arith, l, few);
+    })
 
 -- the set that follows on a set ascends
 pub increasing-set : (a : Automaton) (some : List Var) (set : List ℕ) (letter : ℕ) → IsStrictlyIncreasing (next_set a some set letter)
 increasing-set a some set letter = IsStrictlyIncreasing-filter (leads_to a some set letter) (range_with_len 0 (length a.accept)) (increasing-range (length a.accept))
 
 -- the row of the first sets
-pub IsRow-first : (a : Automaton) (some : List Var) (shapes : List Shape) (sets : List (List ℕ)) (more : List Shape) (before places : List (List ℕ)) (first : ℕ) (rows : List ℕ) (row : ℕ) → HasPlaceRows shapes sets a some first rows → IsPlaced shapes sets more places first row
+pub IsRow-first : (a : Automaton) (some : List Var) (shapes : List Shape) (sets : List (List ℕ)) (more : List Shape) (before places : List (List ℕ)) (first : ℕ) (rows : List ℕ) (row : ℕ)
+    → HasPlaceRows shapes sets a some first rows → IsPlaced shapes sets more places first row
     → AddsSetsOf shapes sets before places first → AllPairs (λ p q. p ≢ q) places → IsRow (set_walker a some shapes sets first) more before places (set_of shapes sets first) row
-IsRow-first a some shapes sets more before places first rows row r is adds apart = IsRow-placed (set_walker a some shapes sets first) shapes sets more before places first row (set_of shapes sets first) is adds r.first_narrow (λ letter below. refl) apart
+IsRow-first a some shapes sets more before places first rows row r is adds apart =
+    IsRow-placed (set_walker a some shapes sets first) shapes sets more before places first row (set_of shapes sets first) is adds r.first_narrow
+    (λ letter below. refl) apart
 
 -- the row of the sets that follow on a set
-pub IsRow-union : (a : Automaton) (some : List Var) (shapes mid : List Shape) (sets sets' : List (List ℕ)) (more : List Shape) (before places : List (List ℕ)) (first : ℕ) (rows set : List ℕ) (union row : ℕ) → HasPlaceRows shapes sets a some first rows → Grows shapes mid → SetsKept sets sets'
-    → All (λ state. state < length rows) set → IsUnionRow mid sets' rows set union → All IsStrictlyIncreasing sets' → IsPlaced mid sets' more places union row → AddsSetsOf mid sets' before places union → AllPairs (λ p q. p ≢ q) places
+pub IsRow-union : (a : Automaton) (some : List Var) (shapes mid : List Shape) (sets sets' : List (List ℕ)) (more : List Shape)
+    (before places : List (List ℕ)) (first : ℕ) (rows set : List ℕ) (union row : ℕ)
+    → HasPlaceRows shapes sets a some first rows → Grows shapes mid → SetsKept sets sets'
+    → All (λ state. state < length rows) set → IsUnionRow mid sets' rows set union → All IsStrictlyIncreasing sets' → IsPlaced mid sets' more places union row
+    → AddsSetsOf mid sets' before places union → AllPairs (λ p q. p ≢ q) places
     → IsRow (set_walker a some shapes sets first) more before places (next_set a some set) row
 IsRow-union a some shapes mid sets sets' more before places first rows set union row r grows kept within is ascend placed adds apart =
     let now = HasPlaceRows-kept shapes mid sets sets' a some first rows grows kept r in
-    IsRow-placed (set_walker a some shapes sets first) mid sets' more before places union row (next_set a some set) placed adds (union-narrow mid sets' a some first rows now set union within is ascend)
+    IsRow-placed (set_walker a some shapes sets first) mid sets' more before places union row (next_set a some set) placed adds
+    (union-narrow mid sets' a some first rows now set union within is ascend)
     (λ letter below. union-next mid sets' a some first rows now set union within is ascend letter below (increasing-set a some set letter)) apart
 
 -- the states of a numbered place have rows
-pub rows-within : (a : Automaton) (some : List Var) (shapes : List Shape) (sets places : List (List ℕ)) (first : ℕ) (rows set : List ℕ) (number : ℕ) → HasPlaceRows shapes sets a some first rows → slice_get places number ≡ Some set → AreNumbered (set_walker a some shapes sets first) places
+pub rows-within : (a : Automaton) (some : List Var) (shapes : List Shape) (sets places : List (List ℕ)) (first : ℕ) (rows set : List ℕ) (number : ℕ)
+    → HasPlaceRows shapes sets a some first rows → slice_get places number ≡ Some set → AreNumbered (set_walker a some shapes sets first) places
     → All (λ state. state < length rows) set
-rows-within a some shapes sets places first rows set number r at numbered = subst (λ n. All (λ state. state < n) set) (sym r.size) (states-within shapes sets a some first rows r places number set at numbered)
+rows-within a some shapes sets places first rows set number r at numbered =
+    subst (λ n. All (λ state. state < n) set) (sym r.size) (states-within shapes sets a some first rows r places number set at numbered)

@@ -66,14 +66,17 @@ IsJoinedSet-kept sets sets' only a b number kept is =
       known = omega arith;
       members = λ state.
           subst (λ set. Contains set state ↔ (Contains (set_at sets' a) only × Contains (set_at sets' b) state)) (sym en)
-          (subst (λ set. Contains (set_at sets number) state ↔ (Contains set only × Contains (set_at sets' b) state)) (sym ea) (subst (λ set. Contains (set_at sets number) state ↔ (Contains (set_at sets a) only × Contains set state)) (sym eb) (is.members state)));
+          (subst (λ set. Contains (set_at sets number) state ↔ (Contains set only × Contains (set_at sets' b) state)) (sym ea)
+          (subst (λ set. Contains (set_at sets number) state ↔ (Contains (set_at sets a) only × Contains set state)) (sym eb)
+          (is.members state)));
     }
 
 -- the second set where the first has the state, else nothing
 pub IsJoinedSet-second : (sets : List (List ℕ)) (only a b : ℕ) → a < length sets → b < length sets → Contains (set_at sets a) only → IsJoinedSet sets only a b b
 IsJoinedSet-second sets only a b a_known b_known there = record { a_known = a_known; b_known = b_known; known = b_known; members = λ state. (λ c. (there, c), λ e. e.1) }
 
-pub IsJoinedSet-nothing : (sets sets' : List (List ℕ)) (only a b number : ℕ) → SetsKept sets sets' → a < length sets → b < length sets → (Contains (set_at sets a) only → ⊥) → slice_get sets' number ≡ Some [] → IsJoinedSet sets' only a b number
+pub IsJoinedSet-nothing : (sets sets' : List (List ℕ)) (only a b number : ℕ) → SetsKept sets sets' → a < length sets → b < length sets → (Contains (set_at sets a) only → ⊥)
+    → slice_get sets' number ≡ Some [] → IsJoinedSet sets' only a b number
 IsJoinedSet-nothing sets sets' only a b number kept a_known b_known absent at =
     let longer = kept.longer in
     record {
@@ -87,5 +90,6 @@ IsJoinedSet-nothing sets sets' only a b number kept a_known b_known absent at =
     }
 
 -- merged rows, as more nodes and sets are known
-pub EachMerged-kept : (shapes more : List Shape) (sets sets' : List (List ℕ)) (track : ℕ) (nodes answers : List ℕ) → Grows shapes more → SetsKept sets sets' → EachAnswers (IsMerged shapes sets track) nodes answers → EachAnswers (IsMerged more sets' track) nodes answers
+pub EachMerged-kept : (shapes more : List Shape) (sets sets' : List (List ℕ)) (track : ℕ) (nodes answers : List ℕ) → Grows shapes more → SetsKept sets sets'
+    → EachAnswers (IsMerged shapes sets track) nodes answers → EachAnswers (IsMerged more sets' track) nodes answers
 EachMerged-kept shapes more sets sets' track nodes answers grows kept each = record { size = each.size; each = λ i h. IsMerged-grows shapes more sets sets' track _ _ grows kept (each.each i h) }

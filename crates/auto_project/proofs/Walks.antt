@@ -1,12 +1,10 @@
 -- The places of the walk over sets of states, what it accepts, and how many words it tells apart.
-use Rattle.std.proofs.Common.{◌≡◌, ◌≢◌, ◌↔◌, ℕ, ◌<◌, ◌^◌, Bool, true, false, IsTrue, List, [], ◌∷◌, ◌++◌, length, Contains, arith, refl, sym, ap, ◌∙◌, subst, inl, inr}
+use Rattle.std.proofs.Common.{◌≡◌, ◌≢◌, ◌↔◌, ℕ, ◌<◌, ◌^◌, List, [], ◌∷◌, length, Contains, arith, refl, sym, ap, ◌∙◌, subst}
 use Rattle.std.specs.Prelude.{Result, IfOk, OnOk}
 use Rattle.std.specs.List.{fold, list_any}
 use Rattle.std.specs.List.Sorted.{IsStrictlyIncreasing}
-use Rattle.std.proofs.lemmas.Bool.{cases_eq}
 use Rattle.std.proofs.lemmas.Result.{IfOk-weaker, on_ok_weaker}
 use Rattle.std.proofs.lemmas.List.Elements.{All-get_or, All-head, All-tail}
-use Rattle.std.proofs.lemmas.List.Sums.{fold-append}
 use Rattle.track_word.specs.declared.tracks.Var.{Var}
 use Rattle.track_word.specs.Word.{IsWord}
 use Rattle.track_word.specs.Tracks.{without_var}
@@ -14,52 +12,25 @@ use Rattle.letter_diagram.specs.declared.diagrams.Shape.{Shape}
 use Rattle.letter_diagram.specs.Diagram.{map_at, Grows}
 use Rattle.letter_diagram.specs.Sets.{set_at, SetsKept}
 use Rattle.letter_diagram.proofs.SetNumbers.{set_at-kept}
-use Rattle.auto_core.specs.Automaton.{Automaton, IsAutomaton, first_state, next_state, run, state_of, is_final, Accepts}
+use Rattle.auto_core.specs.Automaton.{Automaton, state_of, is_final, Accepts}
 use Rattle.auto_core.specs.Reduced.{IsReduced}
-use Rattle.auto_core.specs.Spread.{SameResidual, IsLift, LiftsInto, AlikeLifted, ExSpreadExceeds}
+use Rattle.auto_core.specs.Spread.{IsLift, LiftsInto, AlikeLifted, ExSpreadExceeds}
 use Rattle.auto_walk.specs.Walker.{Walker, place_of, MoreThan, IsWalked}
-use Rattle.auto_walk.proofs.States.{state_within}
-use Rattle.auto_project.specs.Lifted.{LiftLeads}
+use Rattle.auto_core.proofs.States.{same_state, same_residual}
+use Rattle.auto_project.specs.Lifted.{LiftLeads, MoreSets}
 use Rattle.auto_project.specs.Subsets.{next_set, set_walker}
 use Rattle.auto_project.specs.SetMaps.{set_of, HasClosedRows}
 use Rattle.auto_project.proofs.Lists.{same_sets}
 use Rattle.auto_project.proofs.Lifts.{any-from, any-to, steps-next, lift_from, lift_to, increasing-next}
 
 -- sets of nodes that are known stay
-pub set_of-kept : (shapes more : List Shape) (sets sets' : List (List ℕ)) (node letter : ℕ) → Grows shapes more → SetsKept sets sets' → node < length shapes → map_at shapes node letter < length sets → set_of more sets' node letter ≡ set_of shapes sets node letter
+pub set_of-kept : (shapes more : List Shape) (sets sets' : List (List ℕ)) (node letter : ℕ) → Grows shapes more → SetsKept sets sets' → node < length shapes
+    → map_at shapes node letter < length sets → set_of more sets' node letter ≡ set_of shapes sets node letter
 set_of-kept shapes more sets sets' node letter grows kept known numbered = ap (set_at sets') (grows.map node letter known) ∙ set_at-kept sets sets' (map_at shapes node letter) kept numbered
 
-state_of-append : (a : Automaton) (word letters : List ℕ) → word ≢ [] → state_of a (word ++ letters) ≡ run a (state_of a word) letters
-state_of-append a [] letters nonempty = absurd (nonempty refl)
-state_of-append a (sign ∷ word) letters nonempty = fold-append (next_state a) (first_state a sign) word letters
-
-same_flag : (b c : Bool) → IsTrue b ↔ IsTrue c → b ≡ c
-same_flag true true h = refl
-same_flag true false h = sym (h.0 refl)
-same_flag false true h = h.1 refl
-same_flag false false h = refl
-
--- in a reduced automaton words with one residual lead to one state
-same_state : (a : Automaton) → IsAutomaton a → IsReduced a → (v w : List ℕ) → v ≢ [] → w ≢ [] → SameResidual (length a.tracks) (Accepts a) v w → state_of a v ≡ state_of a w
-same_state a is reduced v w v_some w_some h =
-    elim (cases_eq (state_of a v) (state_of a w)) [
-      | inl same ↦ same
-      | inr other ↦
-          let apart = reduced.apart (state_of a v) (state_of a w) (state_within a is v) (state_within a is w) other in
-          let flags = same_flag _ _ (h.same apart.letters apart.are_letters) in
-          absurd (apart.differ (ap (is_final a) (sym (state_of-append a v apart.letters v_some)) ∙ flags ∙ ap (is_final a) (state_of-append a w apart.letters w_some)))
-    ]
-
--- words that lead to one state have one residual
-same_residual : (a : Automaton) (v w : List ℕ) → v ≢ [] → w ≢ [] → state_of a v ≡ state_of a w → SameResidual (length a.tracks) (Accepts a) v w
-same_residual a v w v_some w_some e = record {
-  same = λ letters h.
-      let both : state_of a (v ++ letters) ≡ state_of a (w ++ letters) = state_of-append a v letters v_some ∙ ap (λ s. run a s letters) e ∙ sym (state_of-append a w letters w_some) in
-      (λ p. ap (is_final a) (sym both) ∙ p, λ p. ap (is_final a) both ∙ p);
-}
-
 -- the walk stays where more nodes and sets are known
-pub walker-kept : (a : Automaton) (some : List Var) (shapes more : List Shape) (sets sets' : List (List ℕ)) (first : ℕ) → Grows shapes more → SetsKept sets sets' → first < length shapes → ((letter : ℕ) → map_at shapes first letter < length sets)
+pub walker-kept : (a : Automaton) (some : List Var) (shapes more : List Shape) (sets sets' : List (List ℕ)) (first : ℕ) → Grows shapes more → SetsKept sets sets'
+    → first < length shapes → ((letter : ℕ) → map_at shapes first letter < length sets)
     → set_walker a some more sets' first ≡ set_walker a some shapes sets first
 walker-kept a some shapes more sets sets' first grows kept known numbered = λ i. record {
   tracks = some;
@@ -70,7 +41,8 @@ walker-kept a some shapes more sets sets' first grows kept known numbered = λ i
 
 module _ (a : Automaton) (x : Var) (shapes : List Shape) (sets : List (List ℕ)) (first : ℕ) (rows : List ℕ) (closed : HasClosedRows shapes sets a (without_var x a.tracks) first rows) where
   -- a word leads to the set of the states to which its lifts lead
-  pub place-lifts : (word : List ℕ) (t : ℕ) → IsWord (length (without_var x a.tracks)) word → Contains (place_of (set_walker a (without_var x a.tracks) shapes sets first) word) t ↔ LiftLeads a (without_var x a.tracks) word t
+  pub place-lifts : (word : List ℕ) (t : ℕ) → IsWord (length (without_var x a.tracks)) word
+      → Contains (place_of (set_walker a (without_var x a.tracks) shapes sets first) word) t ↔ LiftLeads a (without_var x a.tracks) word t
   place-lifts [] t is = absurd (is.nonempty refl)
   place-lifts (sign ∷ letters) t is =
       let small = All-head (λ l. l < 2 ^ length (without_var x a.tracks)) sign letters is.letters in
@@ -86,7 +58,9 @@ module _ (a : Automaton) (x : Var) (shapes : List Shape) (sets : List (List ℕ)
 
   place-increasing : (word : List ℕ) → word ≢ [] → IsStrictlyIncreasing (place_of (set_walker a (without_var x a.tracks) shapes sets first) word)
   place-increasing [] nonempty = absurd (nonempty refl)
-  place-increasing (sign ∷ letters) nonempty = fold-increasing letters (set_of shapes sets first sign) (All-get_or IsStrictlyIncreasing sets (map_at shapes first sign) [] (closed.first_row.is.numbered sign) closed.ascend)
+  place-increasing (sign ∷ letters) nonempty =
+      fold-increasing letters (set_of shapes sets first sign)
+      (All-get_or IsStrictlyIncreasing sets (map_at shapes first sign) [] (closed.first_row.is.numbered sign) closed.ascend)
 
   pub accepts-lifts : (m : Automaton) → IsWalked (set_walker a (without_var x a.tracks) shapes sets first) m → (word : List ℕ) → IsWord (length m.tracks) word
       → Accepts m word ↔ ((lift : List ℕ) × IsLift m.tracks a.tracks word lift × Accepts a lift)
@@ -107,6 +81,62 @@ module _ (a : Automaton) (x : Var) (shapes : List Shape) (sets : List (List ℕ)
           let c = (place-lifts word (state_of a lift) here).1 (record { lift = lift; is = l; leads = refl }) in
           (walked.words word here).1 (any-to (is_final a) (place_of (set_walker a (without_var x a.tracks) shapes sets first) word) (state_of a lift) c accepted)
 
+  -- words that lead to one set are alike, whatever the automaton
+  into_other : (v w : List ℕ) → IsWord (length (without_var x a.tracks)) v → IsWord (length (without_var x a.tracks)) w
+      → place_of (set_walker a (without_var x a.tracks) shapes sets first) v ≡ place_of (set_walker a (without_var x a.tracks) shapes sets first) w
+      → LiftsInto (without_var x a.tracks) a.tracks (Accepts a) v w
+  into_other v w is_v is_w e lift is =
+      let c = (place-lifts v (state_of a lift) is_v).1 (record { lift = lift; is = is; leads = refl }) in
+      let l = (place-lifts w (state_of a lift) is_w).0 (subst (λ p. Contains p (state_of a lift)) e c) in
+      (l.lift, l.is, same_residual a lift l.lift is.is_word.nonempty l.is.is_word.nonempty (sym l.leads))
+
+  pub MoreThan-from_spread : (budget : ℕ) → ExSpreadExceeds x a.tracks (Accepts a) budget → MoreThan (set_walker a (without_var x a.tracks) shapes sets first) budget
+  MoreThan-from_spread budget more = record {
+    words = more.words;
+    count = more.count;
+    are_words = more.are_words;
+    apart = λ i j d less within e.
+        let v = more.are_words i d (omega arith) in
+        let w = more.are_words j d within in
+        more.apart i j d less within (record { forth = into_other _ _ v w e; back = into_other _ _ w v (sym e) });
+  }
+
+  -- what was made by a walk that is this one
+  module _ {E : Type 0} (w : Walker) (same : w ≡ set_walker a (without_var x a.tracks) shapes sets first) (r : Result Automaton E) where
+    pub tracks-if : IfOk r (IsWalked w) → IfOk r (λ m. m.tracks ≡ without_var x a.tracks)
+    tracks-if = IfOk-weaker r (IsWalked w) (λ m. m.tracks ≡ without_var x a.tracks) (λ m walked. (subst (λ v. IsWalked v m) same walked).tracks)
+
+    pub words-if : IfOk r (IsWalked w) → IfOk r (λ m. (word : List ℕ) → IsWord (length m.tracks) word → Accepts m word ↔ ((lift : List ℕ) × IsLift m.tracks a.tracks word lift × Accepts a lift))
+    words-if = IfOk-weaker r (IsWalked w) (λ m. (word : List ℕ) → IsWord (length m.tracks) word → Accepts m word ↔ ((lift : List ℕ) × IsLift m.tracks a.tracks word lift × Accepts a lift))
+        (λ m walked. accepts-lifts m (subst (λ v. IsWalked v m) same walked))
+
+    pub within-if : (budget : ℕ) → OnOk r (MoreThan w budget → ⊥) → OnOk r (ExSpreadExceeds x a.tracks (Accepts a) budget → ⊥)
+    within-if budget = on_ok_weaker r (λ few spread. few (subst (λ v. MoreThan v budget) (sym same) (MoreThan-from_spread budget spread)))
+
+  -- words whose lifts lead to the same states lead to one set
+  same_lifts : (v w : List ℕ) → IsWord (length (without_var x a.tracks)) v → IsWord (length (without_var x a.tracks)) w
+      → ((t : ℕ) → LiftLeads a (without_var x a.tracks) v t ↔ LiftLeads a (without_var x a.tracks) w t)
+      → place_of (set_walker a (without_var x a.tracks) shapes sets first) v ≡ place_of (set_walker a (without_var x a.tracks) shapes sets first) w
+  same_lifts v w is_v is_w alike =
+      same_sets _ _ (place-increasing v is_v.nonempty) (place-increasing w is_w.nonempty)
+      (λ t c. (place-lifts w t is_w).1 ((alike t).0 ((place-lifts v t is_v).0 c)))
+      (λ t c. (place-lifts v t is_v).1 ((alike t).1 ((place-lifts w t is_w).0 c)))
+
+  pub many-from : (w : Walker) → w ≡ set_walker a (without_var x a.tracks) shapes sets first → (budget : ℕ) → MoreThan w budget
+      → MoreSets a (without_var x a.tracks) budget
+  many-from w same budget more = apart_sets (subst (λ v. MoreThan v budget) same more)
+    where
+      apart_sets : MoreThan (set_walker a (without_var x a.tracks) shapes sets first) budget → MoreSets a (without_var x a.tracks) budget
+      apart_sets sets_apart = record {
+        words = sets_apart.words;
+        count = sets_apart.count;
+        are_words = sets_apart.are_words;
+        apart = λ i j d less within alike.
+            sets_apart.apart i j d less within
+            (same_lifts _ _ (sets_apart.are_words i d (omega arith)) (sets_apart.are_words j d within) alike);
+      }
+
+  -- words that are alike in a reduced automaton lead to one set
   module _ (reduced : IsReduced a) where
     within_place : (v w : List ℕ) → IsWord (length (without_var x a.tracks)) v → IsWord (length (without_var x a.tracks)) w → LiftsInto (without_var x a.tracks) a.tracks (Accepts a) v w
         → (t : ℕ) → Contains (place_of (set_walker a (without_var x a.tracks) shapes sets first) v) t → Contains (place_of (set_walker a (without_var x a.tracks) shapes sets first) w) t
@@ -121,13 +151,6 @@ module _ (a : Automaton) (x : Var) (shapes : List Shape) (sets : List (List ℕ)
     same_place v w is_v is_w alike =
         same_sets _ _ (place-increasing v is_v.nonempty) (place-increasing w is_w.nonempty) (within_place v w is_v is_w alike.forth) (within_place w v is_w is_v alike.back)
 
-    into_other : (v w : List ℕ) → IsWord (length (without_var x a.tracks)) v → IsWord (length (without_var x a.tracks)) w
-        → place_of (set_walker a (without_var x a.tracks) shapes sets first) v ≡ place_of (set_walker a (without_var x a.tracks) shapes sets first) w → LiftsInto (without_var x a.tracks) a.tracks (Accepts a) v w
-    into_other v w is_v is_w e lift is =
-        let c = (place-lifts v (state_of a lift) is_v).1 (record { lift = lift; is = is; leads = refl }) in
-        let l = (place-lifts w (state_of a lift) is_w).0 (subst (λ p. Contains p (state_of a lift)) e c) in
-        (l.lift, l.is, same_residual a lift l.lift is.is_word.nonempty l.is.is_word.nonempty (sym l.leads))
-
     pub ExSpreadExceeds-from : (budget : ℕ) → MoreThan (set_walker a (without_var x a.tracks) shapes sets first) budget → ExSpreadExceeds x a.tracks (Accepts a) budget
     ExSpreadExceeds-from budget more = record {
       words = more.words;
@@ -137,31 +160,9 @@ module _ (a : Automaton) (x : Var) (shapes : List Shape) (sets : List (List ℕ)
           more.apart i j d less within (same_place _ _ (more.are_words i d (omega arith)) (more.are_words j d within) alike);
     }
 
-    pub MoreThan-from_spread : (budget : ℕ) → ExSpreadExceeds x a.tracks (Accepts a) budget → MoreThan (set_walker a (without_var x a.tracks) shapes sets first) budget
-    MoreThan-from_spread budget more = record {
-      words = more.words;
-      count = more.count;
-      are_words = more.are_words;
-      apart = λ i j d less within e.
-          let v = more.are_words i d (omega arith) in
-          let w = more.are_words j d within in
-          more.apart i j d less within (record { forth = into_other _ _ v w e; back = into_other _ _ w v (sym e) });
-    }
-
-    -- what was made by a walk that is this one
-    module _ {E : Type 0} (w : Walker) (same : w ≡ set_walker a (without_var x a.tracks) shapes sets first) (r : Result Automaton E) where
-      pub tracks-if : IfOk r (IsWalked w) → IfOk r (λ m. m.tracks ≡ without_var x a.tracks)
-      tracks-if = IfOk-weaker r (IsWalked w) (λ m. m.tracks ≡ without_var x a.tracks) (λ m walked. (subst (λ v. IsWalked v m) same walked).tracks)
-
-      pub words-if : IfOk r (IsWalked w) → IfOk r (λ m. (word : List ℕ) → IsWord (length m.tracks) word → Accepts m word ↔ ((lift : List ℕ) × IsLift m.tracks a.tracks word lift × Accepts a lift))
-      words-if = IfOk-weaker r (IsWalked w) (λ m. (word : List ℕ) → IsWord (length m.tracks) word → Accepts m word ↔ ((lift : List ℕ) × IsLift m.tracks a.tracks word lift × Accepts a lift))
-          (λ m walked. accepts-lifts m (subst (λ v. IsWalked v m) same walked))
-
-      pub within-if : (budget : ℕ) → OnOk r (MoreThan w budget → ⊥) → OnOk r (ExSpreadExceeds x a.tracks (Accepts a) budget → ⊥)
-      within-if budget = on_ok_weaker r (λ few spread. few (subst (λ v. MoreThan v budget) (sym same) (MoreThan-from_spread budget spread)))
-
     pub over-from : (w : Walker) → w ≡ set_walker a (without_var x a.tracks) shapes sets first → (budget : ℕ) → MoreThan w budget → ExSpreadExceeds x a.tracks (Accepts a) budget
     over-from w same budget more = ExSpreadExceeds-from budget (subst (λ v. MoreThan v budget) same more)
 
-pub walker-at : (a b : Automaton) (tracks some : List Var) (shapes : List Shape) (sets : List (List ℕ)) (first : ℕ) → a ≡ b → tracks ≡ some → set_walker a tracks shapes sets first ≡ set_walker b some shapes sets first
+pub walker-at : (a b : Automaton) (tracks some : List Var) (shapes : List Shape) (sets : List (List ℕ)) (first : ℕ) → a ≡ b → tracks ≡ some
+    → set_walker a tracks shapes sets first ≡ set_walker b some shapes sets first
 walker-at a b tracks some shapes sets first same same_tracks = λ i. set_walker (same i) (same_tracks i) shapes sets first

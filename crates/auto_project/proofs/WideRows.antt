@@ -3,25 +3,24 @@ use Rattle.std.proofs.Common.{◌≡◌, ◌≢◌, ◌⊎◌, ◌↔◌, ℕ, �
 use Rattle.std.specs.List.{All}
 use Rattle.std.specs.Int.{bit_at}
 use Rattle.std.proofs.lemmas.Bool.{cases_eq, cases_lt}
-use Rattle.std.proofs.lemmas.Grind.{common_steps}
 use Rattle.std.proofs.lemmas.List.Elements.{All-from_get_or}
-use Rattle.std.proofs.lemmas.Nat.Bits.{bit_at-lt}
 use Rattle.std.proofs.lemmas.Option.{slice_get-get_or, slice_get_within, get_or_from_slice_get}
 use Rattle.track_word.specs.declared.tracks.Var.{Var}
 use Rattle.track_word.specs.Tracks.{without_var, place, restrict}
+use Rattle.track_word.proofs.LetterBits.{bit_cases}
 use Rattle.letter_diagram.specs.declared.diagrams.Shape.{Shape}
 use Rattle.letter_diagram.specs.Diagram.{map_at, Grows}
 use Rattle.letter_diagram.specs.Sets.{set_at, SetsKept}
 use Rattle.letter_diagram.specs.Relabelled.{relabelled}
 use Rattle.letter_diagram.specs.Listed.{EachAnswers}
-use Rattle.letter_diagram.specs.Restricted.{IsWithBit}
+use Rattle.letter_diagram.specs.Merged.{IsWithBit}
 use Rattle.letter_diagram.specs.Merged.{HasSets, IsMerged}
 use Rattle.letter_diagram.proofs.Canonical.{flip, bit_at-flip_same, bit_at-flip_other}
 use Rattle.auto_core.specs.Automaton.{Automaton, IsAutomaton, width, first_state, next_state}
 use Rattle.auto_core.specs.Rows.{IsOverNodes}
 use Rattle.auto_core.proofs.RowLemmas.{get_or-row_of, get_or-rows_of}
 use Rattle.auto_core.proofs.Renamed.{AreRenamed}
-use Rattle.auto_walk.proofs.Restricted.{relabelled-places, restrict-below}
+use Rattle.auto_core.proofs.Restricted.{relabelled-places, restrict-below}
 use Rattle.auto_project.specs.Lifted.{ReadsAs, Begins, Follows}
 use Rattle.auto_project.specs.Subsets.{lengthened}
 use Rattle.auto_project.specs.SetMaps.{set_of, IsNarrow, IsSetRow, HasSetRows, AreSingletons, IsWideRow, AreWideRows, HasWideRows}
@@ -36,7 +35,8 @@ module _ (a : Automaton) (valid : IsAutomaton a) (over : IsOverNodes a) (some : 
   row-map : (state letter : ℕ) → state < length a.row_nodes → letter < width a → map_at a.shapes (get_or a.row_nodes state 0) letter ≡ next_state a state letter
   row-map state letter known below = sym (ap (λ l. get_or l (state * width a + letter) 0) over.next ∙ get_or-rows_of a.shapes (2 ^ length a.tracks) a.row_nodes state letter 0 known below)
 
-  pub IsWideRow-made : (shapes : List Shape) (source node : ℕ) (value : ℕ → ℕ) → node < length shapes → ((letter : ℕ) → map_at a.shapes source letter < length a.accept) → ((letter : ℕ) → letter < width a → map_at a.shapes source letter ≡ value letter)
+  pub IsWideRow-made : (shapes : List Shape) (source node : ℕ) (value : ℕ → ℕ) → node < length shapes → ((letter : ℕ) → map_at a.shapes source letter < length a.accept)
+      → ((letter : ℕ) → letter < width a → map_at a.shapes source letter ≡ value letter)
       → ((letter : ℕ) → map_at shapes node letter ≡ map_at a.shapes source (relabelled (map (place some) a.tracks) letter)) → IsWideRow shapes a some node value
   IsWideRow-made shapes source node value known within says maps =
       let reads = λ (letter : ℕ). maps letter ∙ ap (map_at a.shapes source) (relabelled-places some a.tracks letter) in
@@ -57,7 +57,9 @@ module _ (a : Automaton) (valid : IsAutomaton a) (over : IsOverNodes a) (some : 
           let count = are.count in
           let known : state < length a.row_nodes = omega (arith, within, count) in
           let here = get_or_from_slice_get rows state node 0 at in
-          IsWideRow-made shapes (get_or a.row_nodes state 0) node (next_state a state) (subst (λ n. n < length shapes) here (are.rows_known state known)) (over.nodes.rows_within state 0 known) (λ letter below. row-map state letter known below)
+          IsWideRow-made shapes (get_or a.row_nodes state 0) node (next_state a state)
+          (subst (λ n. n < length shapes) here (are.rows_known state known)) (over.nodes.rows_within state 0 known)
+          (λ letter below. row-map state letter known below)
           (λ letter. ap (λ n. map_at shapes n letter) (sym here) ∙ are.rows_are state letter known);
     };
   }
@@ -70,7 +72,8 @@ module _ (a : Automaton) (x : Var) (valid : IsAutomaton a) where
   single-at sets number singles h = get_or_from_slice_get sets number (number ∷ []) [] (singles.single number h)
 
   -- the numbers of a wide row are numbers of sets
-  pub wide-sets : (shapes : List Shape) (sets : List (List ℕ)) (node : ℕ) (value : ℕ → ℕ) → AreSingletons sets (length a.accept) → IsWideRow shapes a (without_var x a.tracks) node value → HasSets shapes sets node
+  pub wide-sets : (shapes : List Shape) (sets : List (List ℕ)) (node : ℕ) (value : ℕ → ℕ) → AreSingletons sets (length a.accept)
+      → IsWideRow shapes a (without_var x a.tracks) node value → HasSets shapes sets node
   wide-sets shapes sets node value singles row = record {
     known = row.known;
     numbered = λ letter. let w = row.within letter in let e = singles.enough in omega (arith, w, e);
@@ -81,9 +84,6 @@ module _ (a : Automaton) (x : Var) (valid : IsAutomaton a) where
     pub longer : ℕ
     pub is : ReadsAs a.tracks (without_var x a.tracks) letter longer
     pub leads : value longer ≡ state
-
-  bit_cases : (letter k : ℕ) → (bit_at letter k ≡ 0) ⊎ (bit_at letter k ≡ 1)
-  bit_cases letter k = let l = bit_at-lt letter k in grind (arith, common_steps, l)
 
   -- both letters that differ from a letter in a track alone
   with-off : (letter track : ℕ) → (other : ℕ) × IsWithBit other letter track 0
@@ -109,7 +109,9 @@ module _ (a : Automaton) (x : Var) (valid : IsAutomaton a) where
       below k ne h = elim (cases_lt k track) [ inl less ↦ less | inr past ↦ absurd (ne (omega arith)) ]
 
   -- the sets of a merged row
-  module _ (old shapes : List Shape) (before sets : List (List ℕ)) (node merged : ℕ) (value : ℕ → ℕ) (singles : AreSingletons before (length a.accept)) (row : IsWideRow old a (without_var x a.tracks) node value) (grows : Grows old shapes) (kept : SetsKept before sets)
+  module _ (old shapes : List Shape) (before sets : List (List ℕ)) (node merged : ℕ) (value : ℕ → ℕ)
+      (singles : AreSingletons before (length a.accept)) (row : IsWideRow old a (without_var x a.tracks) node value) (grows : Grows old shapes)
+      (kept : SetsKept before sets)
       (is : IsMerged shapes sets (length (without_var x a.tracks)) node merged) where
     value-at : (letter : ℕ) → map_at shapes node letter ≡ value (restrict (without_var x a.tracks) a.tracks letter)
     value-at letter = grows.map node letter row.known ∙ row.reads letter
@@ -117,7 +119,9 @@ module _ (a : Automaton) (x : Var) (valid : IsAutomaton a) where
     single-now : (letter : ℕ) → set_at sets (map_at shapes node letter) ≡ value (restrict (without_var x a.tracks) a.tracks letter) ∷ []
     single-now letter =
         let within = row.within letter in
-        ap (set_at sets) (grows.map node letter row.known) ∙ get_or_from_slice_get sets (map_at old node letter) (map_at old node letter ∷ []) [] (kept.at (map_at old node letter) (map_at old node letter ∷ []) (singles.single (map_at old node letter) within))
+        ap (set_at sets) (grows.map node letter row.known)
+        ∙ get_or_from_slice_get sets (map_at old node letter) (map_at old node letter ∷ []) []
+        (kept.at (map_at old node letter) (map_at old node letter ∷ []) (singles.single (map_at old node letter) within))
         ∙ ap (λ n. n ∷ []) (row.reads letter)
 
     -- the states at both bits
@@ -143,8 +147,13 @@ module _ (a : Automaton) (x : Var) (valid : IsAutomaton a) where
           let m_on = with-on m (length (without_var x a.tracks)) in
           let n_off = with-off n (length (without_var x a.tracks)) in
           let n_on = with-on n (length (without_var x a.tracks)) in
-          let off = restrict-agree (without_var x a.tracks) a.tracks (length (without_var x a.tracks) + 1) m_off.0 n_off.0 (places-left a.tracks x valid.ascending) (agree-with m n m_off.0 n_off.0 (length (without_var x a.tracks)) 0 m_off.1 n_off.1 agree) in
-          let on = restrict-agree (without_var x a.tracks) a.tracks (length (without_var x a.tracks) + 1) m_on.0 n_on.0 (places-left a.tracks x valid.ascending) (agree-with m n m_on.0 n_on.0 (length (without_var x a.tracks)) 1 m_on.1 n_on.1 agree) in
+          let off =
+          restrict-agree (without_var x a.tracks) a.tracks (length (without_var x a.tracks) + 1) m_off.0 n_off.0
+          (places-left a.tracks x valid.ascending)
+          (agree-with m n m_off.0 n_off.0 (length (without_var x a.tracks)) 0 m_off.1 n_off.1 agree) in
+          let on =
+          restrict-agree (without_var x a.tracks) a.tracks (length (without_var x a.tracks) + 1) m_on.0 n_on.0
+          (places-left a.tracks x valid.ascending) (agree-with m n m_on.0 n_on.0 (length (without_var x a.tracks)) 1 m_on.1 n_on.1 agree) in
           (both-bits n n_off.0 n_on.0 state n_off.1 n_on.1).1 (elim ((both-bits m m_off.0 m_on.0 state m_off.1 m_on.1).0 c) [
             | inl l ↦ inl (ap value (sym off) ∙ l)
             | inr r ↦ inr (ap value (sym on) ∙ r)
@@ -177,22 +186,30 @@ module _ (a : Automaton) (x : Var) (valid : IsAutomaton a) where
           | inr e ↦ inr (ap value (lengthened-with a.tracks x valid.ascending letter 1 on.0 below (omega arith) on.1 ∙ sym e) ∙ r.leads)
         ])
 
-    IsSetRow-merged : (Holds : ℕ → ℕ → Type 0) → ((letter state : ℕ) → Reads letter state value → Holds letter state) → ((letter state : ℕ) → Holds letter state → Reads letter state value) → IsSetRow shapes sets (length (without_var x a.tracks)) merged Holds
+    IsSetRow-merged : (Holds : ℕ → ℕ → Type 0) → ((letter state : ℕ) → Reads letter state value → Holds letter state)
+        → ((letter state : ℕ) → Holds letter state → Reads letter state value) → IsSetRow shapes sets (length (without_var x a.tracks)) merged Holds
     IsSetRow-merged Holds to from = record {
-      is = record { known = is.known; numbered = λ letter. let off = with-off letter (length (without_var x a.tracks)) in let on = with-on letter (length (without_var x a.tracks)) in (is.map letter off.0 on.0 off.1 on.1).known };
+      is =
+          record {
+            known = is.known;
+            numbered = λ letter. let off = with-off letter (length (without_var x a.tracks)) in
+                let on = with-on letter (length (without_var x a.tracks)) in (is.map letter off.0 on.0 off.1 on.1).known;
+          };
       narrow = merged-narrow;
       members = λ letter state below. (λ c. to letter state (reads-either letter state below c), λ h. either-reads letter state below (from letter state h));
     }
 
   -- the sets of a wide row where no track is lost
-  module _ (shapes : List Shape) (sets : List (List ℕ)) (node : ℕ) (value : ℕ → ℕ) (singles : AreSingletons sets (length a.accept)) (row : IsWideRow shapes a (without_var x a.tracks) node value) (same : length (without_var x a.tracks) ≡ length a.tracks) where
+  module _ (shapes : List Shape) (sets : List (List ℕ)) (node : ℕ) (value : ℕ → ℕ) (singles : AreSingletons sets (length a.accept))
+      (row : IsWideRow shapes a (without_var x a.tracks) node value) (same : length (without_var x a.tracks) ≡ length a.tracks) where
     single-of : (letter : ℕ) → set_of shapes sets node letter ≡ value (restrict (without_var x a.tracks) a.tracks letter) ∷ []
     single-of letter = single-at sets (map_at shapes node letter) singles (row.within letter) ∙ ap (λ n. n ∷ []) (row.reads letter)
 
     shorter : (letter : ℕ) → restrict (without_var x a.tracks) a.tracks letter ≡ lengthened a.tracks (without_var x a.tracks) 0 letter
     shorter letter = ap (restrict (without_var x a.tracks) a.tracks) (let e : letter ≡ letter + 0 * 2 ^ length (without_var x a.tracks) = omega arith in e)
 
-    IsSetRow-wide : (Holds : ℕ → ℕ → Type 0) → ((letter state : ℕ) → Reads letter state value → Holds letter state) → ((letter state : ℕ) → Holds letter state → Reads letter state value) → IsSetRow shapes sets (length (without_var x a.tracks)) node Holds
+    IsSetRow-wide : (Holds : ℕ → ℕ → Type 0) → ((letter state : ℕ) → Reads letter state value → Holds letter state)
+        → ((letter state : ℕ) → Holds letter state → Reads letter state value) → IsSetRow shapes sets (length (without_var x a.tracks)) node Holds
     IsSetRow-wide Holds to from = record {
       is = wide-sets shapes sets node value singles row;
       narrow = record {
@@ -226,19 +243,24 @@ module _ (a : Automaton) (x : Var) (valid : IsAutomaton a) where
   follows-to : (from letter state : ℕ) → Follows a (without_var x a.tracks) from letter state → Reads letter state (next_state a from)
   follows-to from letter state r = record { longer = r.longer; is = r.is; leads = r.leads }
 
-  pub HasSetRows-wide : (shapes : List Shape) (sets : List (List ℕ)) (first : ℕ) (rows : List ℕ) → AreSingletons sets (length a.accept) → HasWideRows shapes a (without_var x a.tracks) first rows → length (without_var x a.tracks) ≡ length a.tracks
+  pub HasSetRows-wide : (shapes : List Shape) (sets : List (List ℕ)) (first : ℕ) (rows : List ℕ) → AreSingletons sets (length a.accept)
+      → HasWideRows shapes a (without_var x a.tracks) first rows → length (without_var x a.tracks) ≡ length a.tracks
       → HasSetRows shapes sets a (without_var x a.tracks) first rows
   HasSetRows-wide shapes sets first rows singles wide same = record {
     valid = valid;
     first_row = IsSetRow-wide shapes sets first (first_state a) singles wide.first_row same (Begins a (without_var x a.tracks)) begins-from begins-to;
     state_rows = record {
       size = wide.state_rows.size;
-      each = λ state node at. IsSetRow-wide shapes sets node (next_state a state) singles (wide.state_rows.each state node at) same (Follows a (without_var x a.tracks) state) (follows-from state) (follows-to state);
+      each =
+          λ state node at. IsSetRow-wide shapes sets node (next_state a state) singles (wide.state_rows.each state node at) same
+          (Follows a (without_var x a.tracks) state) (follows-from state) (follows-to state);
     };
   }
 
-  pub HasSetRows-merged : (old shapes : List Shape) (before sets : List (List ℕ)) (first merged_first : ℕ) (rows merged : List ℕ) → AreSingletons before (length a.accept) → HasWideRows old a (without_var x a.tracks) first rows → Grows old shapes → SetsKept before sets
-      → IsMerged shapes sets (length (without_var x a.tracks)) first merged_first → EachAnswers (IsMerged shapes sets (length (without_var x a.tracks))) rows merged → HasSetRows shapes sets a (without_var x a.tracks) merged_first merged
+  pub HasSetRows-merged : (old shapes : List Shape) (before sets : List (List ℕ)) (first merged_first : ℕ) (rows merged : List ℕ) → AreSingletons before (length a.accept)
+      → HasWideRows old a (without_var x a.tracks) first rows → Grows old shapes → SetsKept before sets
+      → IsMerged shapes sets (length (without_var x a.tracks)) first merged_first → EachAnswers (IsMerged shapes sets (length (without_var x a.tracks))) rows merged
+      → HasSetRows shapes sets a (without_var x a.tracks) merged_first merged
   HasSetRows-merged old shapes before sets first merged_first rows merged singles wide grows kept first_is each = record {
     valid = valid;
     first_row = IsSetRow-merged old shapes before sets first merged_first (first_state a) singles wide.first_row grows kept first_is (Begins a (without_var x a.tracks)) begins-from begins-to;
@@ -251,9 +273,13 @@ module _ (a : Automaton) (x : Var) (valid : IsAutomaton a) where
           let inside : state < length rows = omega (arith, h, size) in
           let row = wide.state_rows.each state (get_or rows state 0) (slice_get-get_or rows state 0 inside) in
           IsSetRow-merged old shapes before sets (get_or rows state 0) node (next_state a state) singles row grows kept
-          (subst (IsMerged shapes sets (length (without_var x a.tracks)) (get_or rows state 0)) here (each.each state inside)) (Follows a (without_var x a.tracks) state) (follows-from state) (follows-to state);
+          (subst (IsMerged shapes sets (length (without_var x a.tracks)) (get_or rows state 0)) here (each.each state inside))
+          (Follows a (without_var x a.tracks) state) (follows-from state) (follows-to state);
     };
   }
 
-  pub wide-rows-sets : (shapes : List Shape) (sets : List (List ℕ)) (rows : List ℕ) → AreSingletons sets (length a.accept) → AreWideRows shapes a (without_var x a.tracks) rows → All (HasSets shapes sets) rows
-  wide-rows-sets shapes sets rows singles wide = All-from_get_or (HasSets shapes sets) rows 0 (λ i h. wide-sets shapes sets (get_or rows i 0) (next_state a i) singles (wide.each i (get_or rows i 0) (slice_get-get_or rows i 0 h)))
+  pub wide-rows-sets : (shapes : List Shape) (sets : List (List ℕ)) (rows : List ℕ) → AreSingletons sets (length a.accept) → AreWideRows shapes a (without_var x a.tracks) rows
+      → All (HasSets shapes sets) rows
+  wide-rows-sets shapes sets rows singles wide =
+      All-from_get_or (HasSets shapes sets) rows 0
+      (λ i h. wide-sets shapes sets (get_or rows i 0) (next_state a i) singles (wide.each i (get_or rows i 0) (slice_get-get_or rows i 0 h)))

@@ -1,6 +1,7 @@
 -- The states to which an automaton is led by letters and words that read alike on some of its tracks.
-use Rattle.std.specs.Prelude.{◌≡◌, ℕ, ◌^◌, ◌<◌, List, length}
+use Rattle.std.specs.Prelude.{◌≡◌, ◌↔◌, ℕ, ◌+◌, ◌^◌, ◌<◌, List, length, All, AllPairs}
 use Rattle.track_word.specs.declared.tracks.Var.{Var}
+use Rattle.track_word.specs.Word.{IsWord}
 use Rattle.track_word.specs.Tracks.{restrict}
 use Rattle.auto_core.specs.Automaton.{Automaton, first_state, next_state, state_of}
 use Rattle.auto_core.specs.Spread.{IsLift}
@@ -27,3 +28,10 @@ pub record LiftLeads (a : Automaton) (some : List Var) (word : List ℕ) (state 
   pub lift : List ℕ
   pub is : IsLift some a.tracks word lift
   pub leads : state_of a lift ≡ state
+
+-- one word more than the budget, no two of which have lifts that lead to the same states
+pub record MoreSets (a : Automaton) (some : List Var) (budget : ℕ) : Type 0 where
+  pub words : List (List ℕ)
+  pub count : length words ≡ budget + 1
+  pub are_words : All (IsWord (length some)) words
+  pub apart : AllPairs (λ u v. ¬ ((state : ℕ) → LiftLeads a some u state ↔ LiftLeads a some v state)) words

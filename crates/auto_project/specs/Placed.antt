@@ -7,7 +7,8 @@ use Rattle.letter_diagram.specs.NodeMemo.{answer_of}
 use Rattle.auto_project.specs.SetMaps.{set_of}
 
 -- the row's map leads each letter to the place of the set that the node gives it
-pub record IsPlaced (shapes : List Shape) (sets : List (List ℕ)) (rows : List Shape) (places : List (List ℕ)) (node row : ℕ) : Type 0 where
+pub record IsPlaced (shapes : List Shape) (sets : List (List ℕ)) (rows : List Shape) (places : List (List ℕ))
+    (node row : ℕ) : Type 0 where
   pub source : HasSets shapes sets node
   pub known : row < length rows
   pub leads : (letter : ℕ) → slice_get places (map_at rows row letter) ≡ Some (set_of shapes sets node letter)
@@ -15,8 +16,10 @@ pub record IsPlaced (shapes : List Shape) (sets : List (List ℕ)) (rows : List 
 
 -- what is new among the places is a set that the node gives
 pub record AddsSetsOf (shapes : List Shape) (sets before places : List (List ℕ)) (node : ℕ) : Type 0 where
-  pub led : (place : ℕ) → length before ≤ place → place < length places → (letter : ℕ) × (slice_get places place ≡ Some (set_of shapes sets node letter))
+  pub led : (place : ℕ) → length before ≤ place → place < length places
+      → (letter : ℕ) × (slice_get places place ≡ Some (set_of shapes sets node letter))
 
 -- the answers of a memo lead to places
-pub record RemembersPlaced (shapes : List Shape) (sets : List (List ℕ)) (rows : List Shape) (places : List (List ℕ)) (memo : List (Option ℕ)) : Type 0 where
+pub record RemembersPlaced (shapes : List Shape) (sets : List (List ℕ)) (rows : List Shape) (places : List (List ℕ))
+    (memo : List (Option ℕ)) : Type 0 where
   pub placed : (node row : ℕ) → answer_of memo node ≡ Some row → IsPlaced shapes sets rows places node row

@@ -26,7 +26,8 @@ pub record IsJoinedSet (sets : List (List ℕ)) (only a b number : ℕ) : Type 0
   pub a_known : a < length sets
   pub b_known : b < length sets
   pub known : number < length sets
-  pub members : (state : ℕ) → Contains (set_at sets number) state ↔ (Contains (set_at sets a) only × Contains (set_at sets b) state)
+  pub members : (state : ℕ)
+      → Contains (set_at sets number) state ↔ (Contains (set_at sets a) only × Contains (set_at sets b) state)
 
 -- for each pair of numbers that of the joined set
 pub record AreJoinedSets (sets : List (List ℕ)) (only : ℕ) (pairs : List (ℕ × ℕ)) (table : List ℕ) : Type 0 where
@@ -36,47 +37,60 @@ pub record AreJoinedSets (sets : List (List ℕ)) (only : ℕ) (pairs : List (�
 -- the node's sets are the joined sets of two nodes
 pub record IsJoined (shapes : List Shape) (sets : List (List ℕ)) (only a b node : ℕ) : Type 0 where
   pub known : node < length shapes
-  pub joins : (letter : ℕ) → IsJoinedSet sets only (map_at shapes a letter) (map_at shapes b letter) (map_at shapes node letter)
+  pub joins : (letter : ℕ)
+      → IsJoinedSet sets only (map_at shapes a letter) (map_at shapes b letter) (map_at shapes node letter)
 
 -- letters that agree on so many tracks have sets with the same states
 pub record IsNarrow (shapes : List Shape) (sets : List (List ℕ)) (tracks node : ℕ) : Type 0 where
-  pub same : (x y state : ℕ) → ((k : ℕ) → k < tracks → bit_at x k ≡ bit_at y k) → Contains (set_of shapes sets node x) state → Contains (set_of shapes sets node y) state
+  pub same : (x y state : ℕ) → ((k : ℕ) → k < tracks → bit_at x k ≡ bit_at y k)
+      → Contains (set_of shapes sets node x) state → Contains (set_of shapes sets node y) state
 
 -- the node's map leads each letter over so many tracks to the set of the states for which this holds
-pub record IsSetRow (shapes : List Shape) (sets : List (List ℕ)) (tracks node : ℕ) (Holds : ℕ → ℕ → Type 0) : Type 0 where
+pub record IsSetRow (shapes : List Shape) (sets : List (List ℕ)) (tracks node : ℕ) (Holds : ℕ → ℕ → Type 0) : Type
+    0 where
   pub is : HasSets shapes sets node
   pub narrow : IsNarrow shapes sets tracks node
-  pub members : (letter state : ℕ) → letter < 2 ^ tracks → Contains (set_of shapes sets node letter) state ↔ Holds letter state
+  pub members : (letter state : ℕ) → letter < 2 ^ tracks
+      → Contains (set_of shapes sets node letter) state ↔ Holds letter state
 
 -- a node for each state, which leads each letter over some tracks to the set of the states that follow
-pub record AreSetRows (shapes : List Shape) (sets : List (List ℕ)) (a : Automaton) (some : List Var) (rows : List ℕ) : Type 0 where
+pub record AreSetRows (shapes : List Shape) (sets : List (List ℕ)) (a : Automaton) (some : List Var)
+    (rows : List ℕ) : Type 0 where
   pub size : length rows ≡ length a.accept
-  pub each : (state node : ℕ) → slice_get rows state ≡ Some node → IsSetRow shapes sets (length some) node (Follows a some state)
+  pub each : (state node : ℕ) → slice_get rows state ≡ Some node
+      → IsSetRow shapes sets (length some) node (Follows a some state)
 
 -- the rows of an automaton over some of its tracks, from the states to which a sign letter leads
-pub record HasSetRows (shapes : List Shape) (sets : List (List ℕ)) (a : Automaton) (some : List Var) (first : ℕ) (rows : List ℕ) : Type 0 where
+pub record HasSetRows (shapes : List Shape) (sets : List (List ℕ)) (a : Automaton) (some : List Var) (first : ℕ)
+    (rows : List ℕ) : Type 0 where
   pub valid : IsAutomaton a
   pub first_row : IsSetRow shapes sets (length some) first (Begins a some)
   pub state_rows : AreSetRows shapes sets a some rows
 
 -- the same, from the states to which the lifts of a sign letter lead
-pub record HasClosedRows (shapes : List Shape) (sets : List (List ℕ)) (a : Automaton) (some : List Var) (first : ℕ) (rows : List ℕ) : Type 0 where
+pub record HasClosedRows (shapes : List Shape) (sets : List (List ℕ)) (a : Automaton) (some : List Var) (first : ℕ)
+    (rows : List ℕ) : Type 0 where
   pub valid : IsAutomaton a
   pub ascend : All IsStrictlyIncreasing sets
   pub first_row : IsSetRow shapes sets (length some) first (λ letter state. LiftLeads a some (letter ∷ []) state)
   pub state_rows : AreSetRows shapes sets a some rows
 
 -- the rows of the walk over sets of states: each state's row leads to the sets that follow on that state alone
-pub record HasPlaceRows (shapes : List Shape) (sets : List (List ℕ)) (a : Automaton) (some : List Var) (first : ℕ) (rows : List ℕ) : Type 0 where
+pub record HasPlaceRows (shapes : List Shape) (sets : List (List ℕ)) (a : Automaton) (some : List Var) (first : ℕ)
+    (rows : List ℕ) : Type 0 where
   pub valid : IsAutomaton a
   pub first_is : HasSets shapes sets first
   pub first_some : (letter : ℕ) → letter < 2 ^ length some → set_of shapes sets first letter ≢ []
-  pub first_within : (letter state : ℕ) → letter < 2 ^ length some → Contains (set_of shapes sets first letter) state → state < length a.accept
-  pub first_narrow : (x y : ℕ) → ((k : ℕ) → k < length some → bit_at x k ≡ bit_at y k) → set_of shapes sets first x ≡ set_of shapes sets first y
+  pub first_within : (letter state : ℕ) → letter < 2 ^ length some → Contains (set_of shapes sets first letter) state
+      → state < length a.accept
+  pub first_narrow : (x y : ℕ) → ((k : ℕ) → k < length some → bit_at x k ≡ bit_at y k)
+      → set_of shapes sets first x ≡ set_of shapes sets first y
   pub size : length rows ≡ length a.accept
   pub is : (state : ℕ) → state < length rows → HasSets shapes sets (slice_index rows state)
-  pub narrow : (state x y : ℕ) → state < length rows → ((k : ℕ) → k < length some → bit_at x k ≡ bit_at y k) → set_of shapes sets (slice_index rows state) x ≡ set_of shapes sets (slice_index rows state) y
-  pub leads : (state letter : ℕ) → state < length rows → letter < 2 ^ length some → set_of shapes sets (slice_index rows state) letter ≡ next_set a some (state ∷ []) letter
+  pub narrow : (state x y : ℕ) → state < length rows → ((k : ℕ) → k < length some → bit_at x k ≡ bit_at y k)
+      → set_of shapes sets (slice_index rows state) x ≡ set_of shapes sets (slice_index rows state) y
+  pub leads : (state letter : ℕ) → state < length rows → letter < 2 ^ length some
+      → set_of shapes sets (slice_index rows state) letter ≡ next_set a some (state ∷ []) letter
 
 -- the node's map gives each letter a state, by the letter over all tracks
 pub record IsWideRow (shapes : List Shape) (a : Automaton) (some : List Var) (node : ℕ) (value : ℕ → ℕ) : Type 0 where
@@ -90,16 +104,19 @@ pub record AreWideRows (shapes : List Shape) (a : Automaton) (some : List Var) (
   pub each : (state node : ℕ) → slice_get rows state ≡ Some node → IsWideRow shapes a some node (next_state a state)
 
 -- the rows of an automaton by the letters over all tracks
-pub record HasWideRows (shapes : List Shape) (a : Automaton) (some : List Var) (first : ℕ) (rows : List ℕ) : Type 0 where
+pub record HasWideRows (shapes : List Shape) (a : Automaton) (some : List Var) (first : ℕ) (rows : List ℕ) : Type
+    0 where
   pub valid : IsAutomaton a
   pub first_row : IsWideRow shapes a some first (first_state a)
   pub state_rows : AreWideRows shapes a some rows
 
 -- the node's sets have states to which a lift of the letter leads
-pub record IsLedRow (shapes : List Shape) (sets : List (List ℕ)) (a : Automaton) (some : List Var) (node : ℕ) : Type 0 where
+pub record IsLedRow (shapes : List Shape) (sets : List (List ℕ)) (a : Automaton) (some : List Var) (node : ℕ) : Type
+    0 where
   pub is : HasSets shapes sets node
   pub narrow : IsNarrow shapes sets (length some) node
-  pub led : (letter state : ℕ) → letter < 2 ^ length some → Contains (set_of shapes sets node letter) state → LiftLeads a some (letter ∷ []) state
+  pub led : (letter state : ℕ) → letter < 2 ^ length some → Contains (set_of shapes sets node letter) state
+      → LiftLeads a some (letter ∷ []) state
 
 -- the node's sets have no state
 pub record IsNothing (shapes : List Shape) (sets : List (List ℕ)) (node : ℕ) : Type 0 where
@@ -109,21 +126,31 @@ pub record IsNothing (shapes : List Shape) (sets : List (List ℕ)) (node : ℕ)
 -- the node's sets have just what the sets of some nodes have
 pub record IsUnionOf (shapes : List Shape) (sets : List (List ℕ)) (nodes : List ℕ) (node : ℕ) : Type 0 where
   pub is : HasSets shapes sets node
-  pub members : (letter state : ℕ) → Contains (set_of shapes sets node letter) state ↔ ((one : ℕ) × Contains nodes one × Contains (set_of shapes sets one letter) state)
+  pub members : (letter state : ℕ)
+      → Contains (set_of shapes sets node letter) state
+      ↔ ((one : ℕ) × Contains nodes one × Contains (set_of shapes sets one letter) state)
 
 -- the guarded row's sets have what the row of a state gives where the node's sets have the state
 pub record IsGuarded (shapes : List Shape) (sets : List (List ℕ)) (rows : List ℕ) (from node guarded : ℕ) : Type 0 where
   pub is : HasSets shapes sets guarded
-  pub has : (row letter state : ℕ) → slice_get rows from ≡ Some row → Contains (set_of shapes sets node letter) from → Contains (set_of shapes sets row letter) state → Contains (set_of shapes sets guarded letter) state
-  pub only : (letter state : ℕ) → Contains (set_of shapes sets guarded letter) state → (row : ℕ) × (slice_get rows from ≡ Some row) × Contains (set_of shapes sets node letter) from × Contains (set_of shapes sets row letter) state
+  pub has : (row letter state : ℕ) → slice_get rows from ≡ Some row → Contains (set_of shapes sets node letter) from
+      → Contains (set_of shapes sets row letter) state → Contains (set_of shapes sets guarded letter) state
+  pub only : (letter state : ℕ) → Contains (set_of shapes sets guarded letter) state
+      → (row : ℕ) × (slice_get rows from ≡ Some row) × Contains (set_of shapes sets node letter) from
+      × Contains (set_of shapes sets row letter) state
 
 -- the swept node's sets have what the node's sets have, and what the rows of their states give
 pub record IsSwept (shapes : List Shape) (sets : List (List ℕ)) (rows : List ℕ) (node swept : ℕ) : Type 0 where
   pub is : HasSets shapes sets node
-  pub wider : (letter state : ℕ) → Contains (set_of shapes sets node letter) state → Contains (set_of shapes sets swept letter) state
-  pub has : (from row letter state : ℕ) → slice_get rows from ≡ Some row → Contains (set_of shapes sets node letter) from → Contains (set_of shapes sets row letter) state → Contains (set_of shapes sets swept letter) state
+  pub wider : (letter state : ℕ) → Contains (set_of shapes sets node letter) state
+      → Contains (set_of shapes sets swept letter) state
+  pub has : (from row letter state : ℕ) → slice_get rows from ≡ Some row
+      → Contains (set_of shapes sets node letter) from → Contains (set_of shapes sets row letter) state
+      → Contains (set_of shapes sets swept letter) state
 
 -- the node's sets have just what the sets of the rows of some states have
 pub record IsUnionRow (shapes : List Shape) (sets : List (List ℕ)) (rows set : List ℕ) (node : ℕ) : Type 0 where
   pub is : HasSets shapes sets node
-  pub members : (letter state : ℕ) → Contains (set_of shapes sets node letter) state ↔ ((from : ℕ) × Contains set from × Contains (set_of shapes sets (slice_index rows from) letter) state)
+  pub members : (letter state : ℕ)
+      → Contains (set_of shapes sets node letter) state
+      ↔ ((from : ℕ) × Contains set from × Contains (set_of shapes sets (slice_index rows from) letter) state)

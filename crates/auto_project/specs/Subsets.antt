@@ -15,7 +15,11 @@ lengthened all some bit letter = restrict some all (letter + bit * 2 ^ length so
 
 -- a state of the set leads, with some bit on the lost track, to this state
 abbrev pub leads_to : Automaton → List Var → List ℕ → ℕ → ℕ → Bool
-leads_to a some set letter state = list_any (λ from. nat_eq (next_state a from (lengthened a.tracks some 0 letter)) state || nat_eq (next_state a from (lengthened a.tracks some 1 letter)) state) set
+leads_to a some set letter state =
+    list_any
+    (λ from. nat_eq (next_state a from (lengthened a.tracks some 0 letter)) state || nat_eq
+    (next_state a from (lengthened a.tracks some 1 letter)) state)
+    set
 
 -- the states to which states of the set lead, ascending
 abbrev pub next_set : Automaton → List Var → List ℕ → ℕ → List ℕ

@@ -36,7 +36,9 @@ fn drop_repeats(states: &mut Vec<u32>) -> Result<(), AllocError>
 /// The states that stand in a set of the node.
 fn states_in(diagrams: &Diagrams, sets: &Sets, node: Node) -> Result<Vec<u32>, AllocError>
     requires { HasSets diagrams.now sets.now node }
-    ensures { IfOk result (λ states. (letter state : ℕ) → Contains (set_of diagrams.now sets.now node letter) state → Contains states.items state) }
+    ensures { IfOk result
+        (λ states. (letter state : ℕ) → Contains (set_of diagrams.now sets.now node letter) state
+        → Contains states.items state) }
 {
     let mut states = Vec::new(diagrams.alloc());
     let leaves = diagrams.leaves(node)?;
@@ -80,9 +82,11 @@ pub struct Rows<'a> {
 impl<'a> Rows<'a> {
     /// The node whose sets have besides what follows on one of their states by the same letter, in the merger that united them.
     fn swept(&self, merger: Merger, node: Node) -> Result<(Merger, Node), AllocError>
-        requires rows { AreSetRows merger.shapes merger.sets self.now.automaton.now self.now.tracks.items self.now.nodes.items }
+        requires rows { AreSetRows merger.shapes merger.sets self.now.automaton.now self.now.tracks.items
+            self.now.nodes.items }
         requires led { IsLedRow merger.shapes merger.sets self.now.automaton.now self.now.tracks.items node }
-        ensures led { IfOk result (λ made. IsLedRow made.0.shapes made.0.sets self.now.automaton.now self.now.tracks.items made.1) }
+        ensures led { IfOk result
+            (λ made. IsLedRow made.0.shapes made.0.sets self.now.automaton.now self.now.tracks.items made.1) }
         ensures swept { IfOk result (λ made. IsSwept made.0.shapes made.0.sets self.now.nodes.items node made.1) }
         ensures ascend { IfOk result (λ made. All IsStrictlyIncreasing made.0.sets) }
         ensures grows { IfOk result (λ made. Grows merger.shapes made.0.shapes) }
@@ -103,7 +107,7 @@ impl<'a> Rows<'a> {
         }
         let mut merger = uniter(diagrams, sets);
         let next = united(&mut merger, nodes.as_slice())?;
-        let _ = merger.sets().len();
+        let _ = merger.sets().len(); // for its invariant
         Ok((merger, next))
     }
 
@@ -111,13 +115,17 @@ impl<'a> Rows<'a> {
     /// at least to each set that is not closed yet, so there are at most as many rounds as states.
     pub fn closed(&self, merger: Merger, first: Node) -> Result<(Merger, Node), AllocError>
         requires valid { IsAutomaton self.now.automaton.now }
-        requires first { IsSetRow merger.shapes merger.sets (length self.now.tracks.items) first (Begins self.now.automaton.now self.now.tracks.items) }
-        requires rows { AreSetRows merger.shapes merger.sets self.now.automaton.now self.now.tracks.items self.now.nodes.items }
-        ensures closed { IfOk result (λ made. IsSetRow made.0.shapes made.0.sets (length self.now.tracks.items) made.1 (λ letter state. LiftLeads self.now.automaton.now self.now.tracks.items (letter ∷ []) state)) }
+        requires first { IsSetRow merger.shapes merger.sets (length self.now.tracks.items) first
+            (Begins self.now.automaton.now self.now.tracks.items) }
+        requires rows { AreSetRows merger.shapes merger.sets self.now.automaton.now self.now.tracks.items
+            self.now.nodes.items }
+        ensures closed { IfOk result
+            (λ made. IsSetRow made.0.shapes made.0.sets (length self.now.tracks.items) made.1
+            (λ letter state. LiftLeads self.now.automaton.now self.now.tracks.items (letter ∷ []) state)) }
         ensures grows { IfOk result (λ made. Grows merger.shapes made.0.shapes) }
         ensures kept { IfOk result (λ made. SetsKept merger.sets made.0.sets) }
     {
-        let _ = merger.sets().len();
+        let _ = merger.sets().len(); // for its invariant
         let mut merger = merger;
         let mut node = first;
         for round in 0..self.nodes.len() {

@@ -11,6 +11,5 @@ mod projection;
 mod rows;
 mod sets;
 mod subsets;
-mod tracks;
 
-pub use projection::forget;
+pub use projection::{forget, forget_within};

@@ -8,6 +8,7 @@ ghost use Rattle.auto_project.specs.Placed.{IsPlaced, AddsSetsOf, RemembersPlace
 
 use crate::sets::number_of;
 use letter_diagram::{Diagrams, Merger, Node, NodeMemo, Sets, Shape};
+use limits::MOST_TRACKS;
 use std::alloc::{AllocError, Global};
 
 /// The sets that are numbered as places, and nodes whose maps lead letters to places. Nodes of a merger are led to them, each once:
@@ -43,14 +44,18 @@ impl Places {
     fn leaf(&mut self, sets: &Sets, number: u32) -> Result<Node, AllocError>
         requires { number < length sets.now }
         ensures known { IfOk result (λ row. row < length self.new.rows) }
-        ensures leads { IfOk result (λ row. (letter : ℕ) → slice_get self.new.sets (map_at self.new.rows row letter) ≡ Some (set_at sets.now number)) }
-        ensures top { IfOk result (λ row. top_track self.new.rows row ≡ 20) }
-        ensures added { OnOk result ((place : ℕ) → length self.old.sets ≤ place → place < length self.new.sets → slice_get self.new.sets place ≡ Some (set_at sets.now number)) }
+        ensures leads { IfOk result
+            (λ row. (letter : ℕ)
+            → slice_get self.new.sets (map_at self.new.rows row letter) ≡ Some (set_at sets.now number)) }
+        ensures top { IfOk result (λ row. top_track self.new.rows row ≡ MOST_TRACKS) }
+        ensures added { OnOk result
+            ((place : ℕ) → length self.old.sets ≤ place → place < length self.new.sets
+            → slice_get self.new.sets place ≡ Some (set_at sets.now number)) }
         ensures grows { Grows self.old.rows self.new.rows }
         ensures kept { SetsKept self.old.sets self.new.sets }
         ensures placed { self.new.placed ≡ self.old.placed }
     {
-        let _ = sets.len();
+        let _ = sets.len(); // for its invariant
         match sets.get(number) {
             Some(set) => {
                 let place = number_of(&mut self.sets, set)?;
@@ -64,10 +69,13 @@ impl Places {
     /// `row`, where there is room for what is remembered.
     fn led(&mut self, merger: &Merger, node: Node) -> Result<Node, AllocError>
         requires node { HasSets merger.now.shapes merger.now.sets node }
-        requires remembered { RemembersPlaced merger.now.shapes merger.now.sets self.old.rows self.old.sets self.old.placed }
-        ensures placed { IfOk result (λ row. IsPlaced merger.now.shapes merger.now.sets self.new.rows self.new.sets node row) }
+        requires remembered { RemembersPlaced merger.now.shapes merger.now.sets self.old.rows self.old.sets
+            self.old.placed }
+        ensures placed { IfOk result
+            (λ row. IsPlaced merger.now.shapes merger.now.sets self.new.rows self.new.sets node row) }
         ensures added { OnOk result (AddsSetsOf merger.now.shapes merger.now.sets self.old.sets self.new.sets node) }
-        ensures remembered { RemembersPlaced merger.now.shapes merger.now.sets self.new.rows self.new.sets self.new.placed }
+        ensures remembered { RemembersPlaced merger.now.shapes merger.now.sets self.new.rows self.new.sets
+            self.new.placed }
         ensures grows { Grows self.old.rows self.new.rows }
         ensures kept { SetsKept self.old.sets self.new.sets }
     {
@@ -90,17 +98,20 @@ impl Places {
     /// before are not visited again.
     pub fn row(&mut self, merger: &Merger, node: Node) -> Result<Node, AllocError>
         requires node { HasSets merger.now.shapes merger.now.sets node }
-        requires remembered { RemembersPlaced merger.now.shapes merger.now.sets self.old.rows self.old.sets self.old.placed }
-        ensures placed { IfOk result (λ row. IsPlaced merger.now.shapes merger.now.sets self.new.rows self.new.sets node row) }
+        requires remembered { RemembersPlaced merger.now.shapes merger.now.sets self.old.rows self.old.sets
+            self.old.placed }
+        ensures placed { IfOk result
+            (λ row. IsPlaced merger.now.shapes merger.now.sets self.new.rows self.new.sets node row) }
         ensures added { OnOk result (AddsSetsOf merger.now.shapes merger.now.sets self.old.sets self.new.sets node) }
         ensures different { IfOk result (λ _. AllPairs (λ p q. p ≢ q) self.new.sets) }
-        ensures remembered { RemembersPlaced merger.now.shapes merger.now.sets self.new.rows self.new.sets self.new.placed }
+        ensures remembered { RemembersPlaced merger.now.shapes merger.now.sets self.new.rows self.new.sets
+            self.new.placed }
         ensures grows { Grows self.old.rows self.new.rows }
         ensures kept { SetsKept self.old.sets self.new.sets }
     {
         self.placed.make_room(merger.diagrams().len())?;
         let row = self.led(merger, node)?;
-        let _ = self.sets.len();
+        let _ = self.sets.len(); // for its invariant
         Ok(row)
     }
 }

@@ -9,11 +9,11 @@ ghost use Rattle.auto_project.specs.SetMaps.{AreSingletons, HasWideRows, HasSetR
 
 use crate::join::uniter;
 use crate::sets::singletons;
-use crate::tracks::{places_of, tracks_without};
 use auto_core::Auto;
 use letter_diagram::{Diagrams, Merger, Node, Sets};
+use limits::MOST_TRACKS;
 use std::alloc::{AllocError, Global};
-use track_word::Var;
+use track_word::{Var, places_of};
 
 /// Nodes that lead letters to states: the first row, and a row for each state.
 #[derive(Drop)]
@@ -33,8 +33,8 @@ pub struct SetRows {
 
 /// The rows over the tracks that are left, and after them the lost one.
 fn wide_rows(alloc: Global, a: &Auto, tracks: &[Var]) -> Result<StateRows, AllocError>
-    requires few { length tracks.now ≤ 20 }
-    requires fit { All (λ place. place < 20) (map (place tracks.now) a.now.tracks) }
+    requires few { length tracks.now ≤ MOST_TRACKS }
+    requires fit { All (λ place. place < MOST_TRACKS) (map (place tracks.now) a.now.tracks) }
     ensures rows { IfOk result (λ wide. HasWideRows wide.diagrams a.now tracks.now wide.first wide.rows.items) }
 {
     let places = places_of(alloc, tracks, a.tracks())?;
@@ -66,7 +66,8 @@ fn merged_row(merger: &mut Merger, node: Node) -> Result<Node, AllocError>
 
 fn merged_rows(alloc: Global, merger: &mut Merger, nodes: &[Node]) -> Result<Vec<Node>, AllocError>
     requires { All (HasSets merger.old.shapes merger.old.sets) nodes.now }
-    ensures merged { IfOk result (λ rows. EachAnswers (IsMerged merger.new.shapes merger.new.sets merger.old.track) nodes.now rows.items) }
+    ensures merged { IfOk result
+        (λ rows. EachAnswers (IsMerged merger.new.shapes merger.new.sets merger.old.track) nodes.now rows.items) }
     ensures sets { SetsKept merger.old.sets merger.new.sets }
     ensures grows { Grows merger.old.shapes merger.new.shapes }
     ensures track { merger.new.track ≡ merger.old.track }
@@ -86,11 +87,12 @@ fn without_track(
     sets: Sets,
     track: u8,
 ) -> Result<SetRows, AllocError>
-    requires track { track < 20 }
+    requires track { track < MOST_TRACKS }
     requires first { HasSets wide.diagrams sets wide.first }
     requires rows { All (HasSets wide.diagrams sets) wide.rows.items }
     ensures first { IfOk result (λ made. IsMerged made.merger.shapes made.merger.sets track wide.first made.first) }
-    ensures rows { IfOk result (λ made. EachAnswers (IsMerged made.merger.shapes made.merger.sets track) wide.rows.items made.rows.items) }
+    ensures rows { IfOk result
+        (λ made. EachAnswers (IsMerged made.merger.shapes made.merger.sets track) wide.rows.items made.rows.items) }
     ensures grows { IfOk result (λ made. Grows wide.diagrams made.merger.shapes) }
     ensures kept { IfOk result (λ made. SetsKept sets made.merger.sets) }
 {
@@ -112,7 +114,8 @@ fn without_track(
 /// The rows over the tracks that are left, as maps to the sets of the states to which the letters lead that read alike.
 pub fn set_rows(alloc: Global, a: &Auto, var: Var, tracks: &[Var]) -> Result<SetRows, AllocError>
     requires { tracks.now ≡ without_var var a.now.tracks }
-    ensures { IfOk result (λ made. HasSetRows made.merger.shapes made.merger.sets a.now tracks.now made.first made.rows.items) }
+    ensures { IfOk result
+        (λ made. HasSetRows made.merger.shapes made.merger.sets a.now tracks.now made.first made.rows.items) }
 {
     let all = a.tracks();
     let wide = wide_rows(alloc, a, tracks)?;
@@ -125,6 +128,6 @@ pub fn set_rows(alloc: Global, a: &Auto, var: Var, tracks: &[Var]) -> Result<Set
         });
     }
     let made = without_track(alloc, wide, sets, tracks.len() as u8)?;
-    let _ = made.merger.sets().len();
+    let _ = made.merger.sets().len(); // for its invariant
     Ok(made)
 }

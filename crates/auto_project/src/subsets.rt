@@ -14,12 +14,20 @@ use crate::closure::Rows;
 use crate::join::united;
 use crate::placing::Places;
 use crate::rows::{SetRows, set_rows};
-use crate::tracks::tracks_without;
 use auto_core::Auto;
 use auto_walk::Walk;
 use letter_diagram::{Diagrams, Merger, Node, Sets};
 use std::alloc::{AllocError, Global};
-use track_word::Var;
+use track_word::{Var, remove_track};
+
+/// The tracks but one.
+fn tracks_without(alloc: Global, tracks: &[Var], var: Var) -> Result<Vec<Var>, AllocError>
+    ensures { IfOk result (λ left. left.items ≡ without_var var tracks.now) }
+{
+    let mut left = tracks.to_vec(alloc)?;
+    remove_track(&mut left, var);
+    Ok(left)
+}
 
 /// The rows of some states.
 fn rows_of(alloc: Global, rows: &[Node], set: &[u32]) -> Result<Vec<Node>, AllocError>
@@ -67,7 +75,8 @@ pub struct Subsets<'a> {
     merger: Merger,
     places: Places,
     ghost are_tracks: { AreTracks rows.tracks.items },
-    ghost are_rows: { HasPlaceRows merger.shapes merger.sets rows.automaton.now rows.tracks.items first rows.nodes.items },
+    ghost are_rows: { HasPlaceRows merger.shapes merger.sets rows.automaton.now rows.tracks.items first
+        rows.nodes.items },
     ghost remembered: { RemembersPlaced merger.shapes merger.sets places.rows places.sets places.placed },
 }
 
@@ -76,7 +85,9 @@ impl<'a> Subsets<'a> {
         ensures automaton { IfOk result (λ subsets. subsets.rows.automaton.now ≡ a.now) }
         ensures tracks { IfOk result (λ subsets. subsets.rows.tracks.items ≡ without_var var a.now.tracks) }
         ensures fresh { IfOk result (λ subsets. subsets.places.sets ≡ []) }
-        ensures rows { IfOk result (λ subsets. HasClosedRows subsets.merger.shapes subsets.merger.sets a.now (without_var var a.now.tracks) subsets.first subsets.rows.nodes.items) }
+        ensures rows { IfOk result
+            (λ subsets. HasClosedRows subsets.merger.shapes subsets.merger.sets a.now (without_var var a.now.tracks)
+            subsets.first subsets.rows.nodes.items) }
     {
         let tracks = tracks_without(alloc, a.tracks(), var)?;
         let SetRows {
@@ -90,7 +101,7 @@ impl<'a> Subsets<'a> {
             nodes,
         };
         let (merger, first) = rows.closed(merger, first)?;
-        let _ = merger.sets().len();
+        let _ = merger.sets().len(); // for its invariant
         Ok(Subsets {
             rows,
             first,
@@ -103,7 +114,8 @@ impl<'a> Subsets<'a> {
     fn union_row(&mut self, set: &[u32]) -> Result<Node, AllocError>
         requires some { set.now ≢ [] }
         requires within { All (λ state. state < length self.old.rows.nodes.items) set.now }
-        ensures union { IfOk result (λ node. IsUnionRow self.new.merger.shapes self.new.merger.sets self.old.rows.nodes.items set.now node) }
+        ensures union { IfOk result
+            (λ node. IsUnionRow self.new.merger.shapes self.new.merger.sets self.old.rows.nodes.items set.now node) }
         ensures ascend { IfOk result (λ _. All IsStrictlyIncreasing self.new.merger.sets) }
         ensures grows { Grows self.old.merger.shapes self.new.merger.shapes }
         ensures kept { SetsKept self.old.merger.sets self.new.merger.sets }
@@ -112,15 +124,18 @@ impl<'a> Subsets<'a> {
         ensures places { self.new.places ≡ self.old.places }
     {
         let node = united_rows(&mut self.merger, self.rows.nodes.as_slice(), set)?;
-        let _ = self.merger.sets().len();
+        let _ = self.merger.sets().len(); // for its invariant
         Ok(node)
     }
 
     /// The node that leads each letter to the place of the set to which `node` leads it. New places are numbered.
     fn numbered(&mut self, node: Node) -> Result<Node, AllocError>
         requires { HasSets self.old.merger.shapes self.old.merger.sets node }
-        ensures placed { IfOk result (λ row. IsPlaced self.old.merger.shapes self.old.merger.sets self.new.places.rows self.new.places.sets node row) }
-        ensures added { OnOk result (AddsSetsOf self.old.merger.shapes self.old.merger.sets self.old.places.sets self.new.places.sets node) }
+        ensures placed { IfOk result
+            (λ row. IsPlaced self.old.merger.shapes self.old.merger.sets self.new.places.rows self.new.places.sets node
+            row) }
+        ensures added { OnOk result
+            (AddsSetsOf self.old.merger.shapes self.old.merger.sets self.old.places.sets self.new.places.sets node) }
         ensures different { IfOk result (λ _. AllPairs (λ p q. p ≢ q) self.new.places.sets) }
         ensures grows { Grows self.old.places.rows self.new.places.rows }
         ensures kept { SetsKept self.old.places.sets self.new.places.sets }

@@ -1,20 +1,19 @@
--- A state of each class, and for each state the one of its class.
-use Rattle.std.proofs.Common.{◌≡◌, ℕ, ◌<◌, List, length, get_or, All, arith, sym, ap, ◌∙◌, subst}
+-- For each state the one that stands for its class.
+use Rattle.std.proofs.Common.{◌≡◌, ℕ, ◌<◌, List, length, get_or, arith, sym, ap, ◌∙◌}
 use Rattle.std.proofs.lemmas.List.Elements.{All-get_or, All-from_get_or}
 use Rattle.auto_core.specs.Automaton.{Automaton, IsAutomaton}
-use Rattle.auto_reduce.specs.Partition.{IsPartition, IsCoarsest}
-use Rattle.auto_reduce.specs.Quotient.{AreMembers, IsCanonical}
-use Rattle.auto_reduce.proofs.States.{next_within}
+use Rattle.auto_refine.specs.Coarsest.{IsCoarsest, AreMembers}
+use Rattle.auto_reduce.specs.Quotient.{IsCanonical}
+use Rattle.auto_refine.proofs.States.{next_within}
 
--- ---- the canonical states
 module _ (a : Automaton) (is : IsAutomaton a) (classes : List ℕ) (count : ℕ) (members canon : List ℕ)
     (coarse : IsCoarsest a classes count) (f : AreMembers classes count members) (size : length canon ≡ length classes)
     (values : (k : ℕ) → k < length classes → get_or canon k 0 ≡ get_or members (get_or classes k 0) 0) where
   states : length classes ≡ length a.accept
-  states = coarse.sound.partition.states
+  states = coarse.partition.states
 
   class_within : (j : ℕ) → j < length a.accept → get_or classes j 0 < count
-  class_within j jw = let inside : j < length classes = omega (arith, states) in All-get_or (λ c. c < count) classes j 0 inside coarse.sound.partition.within
+  class_within j jw = let inside : j < length classes = omega (arith, states) in All-get_or (λ c. c < count) classes j 0 inside coarse.partition.within
 
   canon_is : (j : ℕ) → j < length a.accept → get_or canon j 0 ≡ get_or members (get_or classes j 0) 0
   canon_is j jw = values j (omega (arith, states))
@@ -36,17 +35,7 @@ module _ (a : Automaton) (is : IsAutomaton a) (classes : List ℕ) (count : ℕ)
     valid = is;
     size = size ∙ states;
     within = All-from_get_or (λ s. s < length a.accept) canon 0 (λ i h. canon_within i (omega (arith, h, size, states)));
-    flags = λ j jw. coarse.sound.flags (get_or canon j 0) j (canon_within j jw) jw (class_kept j jw);
-    steps = λ j x jw below. same_canon _ _ (next_within a is _ x) (next_within a is j x) (coarse.steps (get_or canon j 0) j x (canon_within j jw) jw below (class_kept j jw));
-    apart = λ j k jw kw other. coarse.sound.apart j k jw kw (λ e. other (same_canon j k jw kw e));
+    flags = λ j jw. coarse.respects.flags (get_or canon j 0) j (canon_within j jw) jw (class_kept j jw);
+    steps = λ j x jw below. same_canon _ _ (next_within a is _ x) (next_within a is j x) (coarse.respects.rows (get_or canon j 0) j x (canon_within j jw) jw below (class_kept j jw));
+    apart = λ j k jw kw other. coarse.apart j k jw kw (λ e. other (same_canon j k jw kw e));
   }
-
-pub AreMembers-from : (classes members : List ℕ) (count : ℕ) → IsPartition (length classes) classes count → length members ≡ count → All (λ s. s < length classes) members
-    → ((k : ℕ) → k < length classes → get_or classes (get_or members (get_or classes k 0) 0) 0 ≡ get_or classes k 0) → AreMembers classes count members
-AreMembers-from classes members count p size within has = record {
-  size = size;
-  within = within;
-  has = λ class below.
-      let rep = p.attained class below in
-      subst (λ c. get_or classes (get_or members c 0) 0 ≡ c) rep.has (has rep.state rep.within);
-}

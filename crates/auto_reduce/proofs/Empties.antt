@@ -3,7 +3,7 @@ use Rattle.std.proofs.Common.{◌≡◌, ℕ, ◌<◌, true, false, true≢false
 use Rattle.track_word.specs.Word.{IsWord}
 use Rattle.auto_core.specs.Automaton.{Automaton, IsAutomaton, is_final, state_of, Accepts}
 use Rattle.auto_core.specs.Reduced.{IsReduced}
-use Rattle.auto_walk.proofs.States.{state_within}
+use Rattle.auto_core.proofs.States.{state_within}
 
 pub some_word : (a : Automaton) → IsReduced a → (state : ℕ) → state < length a.accept → is_final a state ≡ true → ((word : List ℕ) → IsWord (length a.tracks) word → Accepts a word → ⊥) → ⊥
 some_word a reduced state within flag none =

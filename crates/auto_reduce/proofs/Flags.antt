@@ -1,15 +1,9 @@
--- Flags that are set together are equal, and lists of flags that compare as equal.
-use Rattle.std.proofs.Common.{◌≡◌, ◌↔◌, Bool, true, false, IsTrue, refl, sym, ap, ◌∙◌, List, not, true≢false}
+-- What comparing lists of flags says.
+use Rattle.std.proofs.Common.{◌≡◌, Bool, true, false, refl, sym, ap, ◌∙◌, List, not, true≢false}
 use Rattle.std.specs.Cmp.Lexicographic.{pointwise}
 use Rattle.std.proofs.lemmas.Slice.Eq.{slice_eq-Decides}
 use Rattle.std.specs.Cmp.{booleans_Decides}
 use mathlib.Core.Bool.{beq}
-
-pub same_flag : (b c : Bool) → IsTrue b ↔ IsTrue c → b ≡ c
-same_flag true true h = refl
-same_flag true false h = sym (h.0 refl)
-same_flag false true h = h.1 refl
-same_flag false false h = refl
 
 -- what `!=` says of two lists of flags
 pub flags_differ : (xs ys : List Bool) (r : Bool) → r ≡ not (pointwise beq xs ys) → r ≡ true → xs ≡ ys → ⊥

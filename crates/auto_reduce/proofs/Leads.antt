@@ -9,14 +9,12 @@ use Rattle.letter_diagram.specs.Diagram.{LooksBelow}
 use Rattle.auto_core.specs.Automaton.{Automaton, width, first_state, next_state, state_of}
 use Rattle.auto_core.specs.Rows.{IsOverNodes}
 use Rattle.auto_core.proofs.RowLemmas.{low_bits, get_or-row_of}
-use Rattle.auto_reduce.specs.Leading.{entry_at}
 use Rattle.auto_reduce.specs.Quotient.{IsCanonical, IsMet, IsOrderTo}
-use Rattle.auto_reduce.specs.Unmet.{AddsRow}
-use Rattle.auto_reduce.proofs.Counting.{length_le-below}
-use Rattle.auto_walk.proofs.States.{state_within}
-use Rattle.auto_reduce.proofs.States.{state_of-append}
+use Rattle.auto_reduce.specs.Unmet.{entry_at, AddsRow}
+use Rattle.auto_refine.proofs.Counting.{length_le-below}
+use Rattle.auto_core.proofs.States.{state_of-append, state_within}
 use Rattle.auto_reduce.proofs.Orders.{Contains-on}
-use Rattle.auto_reduce.proofs.RowNodes.{AreRowNodes-own}
+use Rattle.auto_ways.proofs.RowNodes.{AreRowNodes-own}
 
 pub IsWord-one : (tracks letter : ℕ) → letter < 2 ^ tracks → IsWord tracks (letter ∷ [])
 IsWord-one tracks letter below = record { nonempty = λ e. cc e; letters = All-cons (λ l. l < 2 ^ tracks) letter [] below (All-nil (λ l. l < 2 ^ tracks)) }
@@ -120,7 +118,8 @@ module _ (a : Automaton) (canon : List ℕ) (c : IsCanonical a canon) where
         different = apart;
         first = λ letter below. Contains-on old new adds.longer adds.kept _ (o.first letter below);
         next = λ p letter less below. elim (cases_lt p place) [
-          | inl before ↦ subst (λ s. Contains new (get_or canon (next_state a s letter) 0)) (sym (adds.kept p (omega arith))) (Contains-on old new adds.longer adds.kept _ (o.next p letter before below))
+          | inl before ↦ subst (λ s. Contains new (get_or canon (next_state a s letter) 0)) (sym (adds.kept p (omega arith)))
+              (Contains-on old new adds.longer adds.kept _ (o.next p letter before below))
           | inr past ↦
               let same : place ≡ p = omega (arith, less, past) in
               subst (λ s. Contains new (get_or canon (next_state a s letter) 0)) (sym (adds.kept p (omega arith) ∙ ap (λ n. get_or old n 0) (sym same) ∙ is))

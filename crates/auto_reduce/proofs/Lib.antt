@@ -1,14 +1,4 @@
 pub mod States
-pub mod Leadings
-pub mod Listings
-pub mod Splits
-pub mod Placed
-pub mod Climbs
-pub mod Stales
-pub mod Refinings
-pub mod Counting
-pub mod Rounds
-pub mod RowNodes
 pub mod Quotients
 pub mod Orders
 pub mod Leads

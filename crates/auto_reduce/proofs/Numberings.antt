@@ -8,14 +8,15 @@ use Rattle.auto_core.specs.Automaton.{Automaton, width, first_state, next_state}
 use Rattle.auto_reduce.specs.Quotient.{IsOrderTo, IsQuotientBy}
 use Rattle.auto_reduce.specs.Unmet.{AddsRow}
 use Rattle.auto_reduce.specs.Numbering.{mentions, IsNumberedBreadthFirst, led_in, IsMentioned, IsMentionedBefore, IsNumberedTo, IsQuotient}
-use Rattle.auto_reduce.proofs.States.{first_within, next_within}
+use Rattle.auto_refine.proofs.States.{first_within, next_within}
 use Rattle.auto_reduce.proofs.Orders.{place_in}
 use Rattle.auto_reduce.proofs.Leads.{LeadsTo, leads_low}
 use Rattle.auto_reduce.proofs.Quotients.{different_places}
 
 module _ (a : Automaton) (canon : List ℕ) where
   -- rows of kept places lead where they did
-  led-kept : (old new : List ℕ) → ((place : ℕ) → place < length old → get_or new place 0 ≡ get_or old place 0) → (row letter : ℕ) → row ≤ length old → led_in a canon new row letter ≡ led_in a canon old row letter
+  led-kept : (old new : List ℕ) → ((place : ℕ) → place < length old → get_or new place 0 ≡ get_or old place 0) → (row letter : ℕ) → row ≤ length old
+      → led_in a canon new row letter ≡ led_in a canon old row letter
   led-kept old new kept zero letter within = refl
   led-kept old new kept (suc place) letter within = ap (λ s. get_or canon (next_state a s letter) 0) (kept place (omega (arith, within)))
 
@@ -51,7 +52,8 @@ module _ (a : Automaton) (canon : List ℕ) where
           }
     ]
 
-    before_old : (row letter number : ℕ) → row < rows → letter < width a → number + 1 < length new → led_in a canon new row letter ≡ get_or new (number + 1) 0 → IsMentionedBefore a canon new row letter (get_or new number 0)
+    before_old : (row letter number : ℕ) → row < rows → letter < width a → number + 1 < length new
+        → led_in a canon new row letter ≡ get_or new (number + 1) 0 → IsMentionedBefore a canon new row letter (get_or new number 0)
     before_old row letter number less below h e =
         let kept = led-kept old new adds.kept row letter (omega (arith, less, within)) in
         let p = place_in old _ (closed row letter less below) in
@@ -72,7 +74,8 @@ module _ (a : Automaton) (canon : List ℕ) where
         earlier_in (inl b) = omega (arith, b, less, within)
         earlier_in (inr b) = let q = b.0 in omega (arith, q, less, within)
 
-    before_new : (letter number : ℕ) → letter < width a → number + 1 < length new → led_in a canon new rows letter ≡ get_or new (number + 1) 0 → IsMentionedBefore a canon new rows letter (get_or new number 0)
+    before_new : (letter number : ℕ) → letter < width a → number + 1 < length new → led_in a canon new rows letter ≡ get_or new (number + 1) 0
+        → IsMentionedBefore a canon new rows letter (get_or new number 0)
     before_new letter number below h e = elim (cases_lt number (length old)) [
       | inl before ↦
           let m = n.mentioned number before in
@@ -116,7 +119,8 @@ pub led-next : (a : Automaton) (canon order : List ℕ) (place letter : ℕ) →
 led-next a canon order place letter = ap (λ r. led_in a canon order r letter) (let e : suc place ≡ place + 1 = omega arith in e)
 
 -- the rows that an order is closed under
-pub order-closed : (a : Automaton) (canon order : List ℕ) (rows : ℕ) → IsOrderTo a canon order rows → (row letter : ℕ) → row < rows + 1 → letter < width a → Contains order (led_in a canon order row letter)
+pub order-closed : (a : Automaton) (canon order : List ℕ) (rows : ℕ) → IsOrderTo a canon order rows → (row letter : ℕ) → row < rows + 1
+    → letter < width a → Contains order (led_in a canon order row letter)
 order-closed a canon order rows o zero letter less below = o.first letter below
 order-closed a canon order rows o (suc place) letter less below = o.next place letter (omega (arith, less)) below
 
@@ -166,7 +170,8 @@ module _ (a : Automaton) (canon order : List ℕ) (m : Automaton) (q : IsQuotien
       let inside : number + 1 < length order = let w = state_within row letter in omega (arith, w, e) in
       let b = n.before row letter number (omega (arith, within)) below inside (sym (leads_in row letter within below) ∙ ap (λ k. get_or order k 0) e) in
       let row_in = earlier_in b.before in
-      let state = different_places order q.order_is.different (state_in b.earlier_row b.earlier) number (state_within b.earlier_row b.earlier) (omega (arith, inside)) (leads_in b.earlier_row b.earlier row_in b.below ∙ b.leads) in
+      let state = different_places order q.order_is.different (state_in b.earlier_row b.earlier) number (state_within b.earlier_row b.earlier)
+      (omega (arith, inside)) (leads_in b.earlier_row b.earlier row_in b.below ∙ b.leads) in
       (b.earlier_row * width a + b.earlier, row_before (width a) b.earlier_row row letter b.earlier b.below b.before, mention_at b.earlier_row b.earlier row_in b.below ∙ state)
     where
       earlier_in : {r x l : ℕ} → (r < row) ⊎ ((r ≡ row) × (x < l)) → r ≤ length order
@@ -183,8 +188,11 @@ module _ (a : Automaton) (canon order : List ℕ) (m : Automaton) (q : IsQuotien
         let size = length-append m.first m.next in
         let first_size = q.valid.first_size ∙ same_width in
         let next_size = q.valid.next_size in
-        let row_in : place / width a ≤ length order = row_bound (place / width a) (length order) (place % width a) (let s : length m.next ≡ length order * width a = next_size ∙ ap (λ x. x * width m) q.size ∙ ap (λ x. length order * x) same_width in omega (arith, whole, within, size, first_size, s)) in
-        let b = mention_before (place / width a) (place % width a) state row_in below (sym (mention_at (place / width a) (place % width a) row_in below) ∙ ap (λ k. get_or (mentions m) k 0) (sym whole) ∙ e) in
+        let next : length m.next ≡ length order * width a = next_size ∙ ap (λ x. x * width m) q.size ∙ ap (λ x. length order * x) same_width in
+        let row_in : place / width a ≤ length order =
+        row_bound (place / width a) (length order) (place % width a) (omega (arith, whole, within, size, first_size, next)) in
+        let b = mention_before (place / width a) (place % width a) state row_in below
+        (sym (mention_at (place / width a) (place % width a) row_in below) ∙ ap (λ k. get_or (mentions m) k 0) (sym whole) ∙ e) in
         (b.0, subst (λ p. b.0 < p) (sym whole) b.1, b.2);
   }
     where

@@ -63,7 +63,8 @@ pub AddsAll-insert : (old new : List ℕ) (state : ℕ) → new ≡ insert_key n
 AddsAll-insert old new state h = by (list_any (nat_eq state) old) refl
   where
     by : (b : Bool) → list_any (nat_eq state) old ≡ b → AddsAll old new (state ∷ [])
-    by true there = subst (λ l. AddsAll old l (state ∷ [])) (sym (h ∙ ap (λ c. if c then old else old ++ state ∷ []) there)) (AddsAll-known old state ((is_member-Decides Decides-eqb old state).0 there))
+    by true there = subst (λ l. AddsAll old l (state ∷ [])) (sym (h ∙ ap (λ c. if c then old else old ++ state ∷ []) there))
+        (AddsAll-known old state ((is_member-Decides Decides-eqb old state).0 there))
     by false none = subst (λ l. AddsAll old l (state ∷ [])) (sym (h ∙ ap (λ c. if c then old else old ++ state ∷ []) none)) (AddsAll-push old state)
 
 pub AddsAll-none : (old values : List ℕ) → AddsAll old old (take 0 values)
@@ -96,7 +97,8 @@ before_wider xs y a b h =
     }
 
 -- one value more
-pub AddsAll-more : (old mid new values : List ℕ) (i x : ℕ) → i < length values → x ≡ get_or values i 0 → AddsAll old mid (take i values) → AddsAll mid new (x ∷ []) → AddsAll old new (take (i + 1) values)
+pub AddsAll-more : (old mid new values : List ℕ) (i x : ℕ) → i < length values → x ≡ get_or values i 0 → AddsAll old mid (take i values)
+    → AddsAll mid new (x ∷ []) → AddsAll old new (take (i + 1) values)
 AddsAll-more old mid new values i x within is f g =
     let more = take_more values i 0 within ∙ ap (λ v. take i values ++ v ∷ []) (sym is) in
     subst (AddsAll old new) (sym more) (record {
@@ -112,7 +114,8 @@ AddsAll-more old mid new values i x within is f g =
             let one = place_in (x ∷ []) _ (g.added place after inside) in
             let z : one.0 ≡ 0 = let w = one.1 in omega (arith, w) in
             let e : x ≡ get_or new place 0 = subst (λ n. get_or (x ∷ []) n 0 ≡ get_or new place 0) z one.2 in
-            Contains-at (take i values ++ x ∷ []) (length (take i values)) _ (let l = length_push (take i values) x in omega (arith, l)) (get_or_push (take i values) x 0 (length (take i values)) refl ∙ e)
+            Contains-at (take i values ++ x ∷ []) (length (take i values)) _ (let l = length_push (take i values) x in omega (arith, l))
+            (get_or_push (take i values) x 0 (length (take i values)) refl ∙ e)
       ];
       in_order = λ u v past less inside. elim (cases_lt v (length mid)) [
         | inl before ↦

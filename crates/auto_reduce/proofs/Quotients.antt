@@ -10,14 +10,16 @@ use Rattle.auto_core.specs.Automaton.{Automaton, width, first_state, next_state,
 use Rattle.auto_core.specs.Reduced.{IsReduced, ToldApart}
 use Rattle.auto_core.specs.Rows.{AreRows, IsOverNodes, dense}
 use Rattle.auto_core.proofs.RowLemmas.{get_or-row_of, next_state-dense, IsAutomaton-dense}
-use Rattle.auto_reduce.specs.Leading.{entry_at, IsLedFrom}
-use Rattle.auto_reduce.specs.Quotient.{IsCanonical, IsMet, IsOrder, AreNumbers, AreClassNumbers, ArePicked, AreFlags, IsQuotientBy}
+use Rattle.auto_refine.specs.Led.{ArePicked}
+use Rattle.auto_refine.specs.Leading.{IsLedFrom}
+use Rattle.auto_reduce.specs.Quotient.{IsCanonical, IsMet, IsOrder, AreNumbers, AreClassNumbers, AreFlags, IsQuotientBy}
 use Rattle.auto_reduce.specs.Numbering.{IsQuotient}
-use Rattle.auto_walk.proofs.States.{state_within, run_within}
-use Rattle.auto_reduce.proofs.States.{first_within, next_within}
+use Rattle.auto_reduce.specs.Unmet.{entry_at}
+use Rattle.auto_core.proofs.States.{state_within, run_within}
+use Rattle.auto_refine.proofs.States.{first_within, next_within}
 use Rattle.auto_reduce.proofs.Orders.{place_in}
 use Rattle.auto_reduce.proofs.Leads.{LeadsTo, leads_low, leads-first, leads-row, canon_within, order_within, order_few, order_some}
-use Rattle.auto_reduce.proofs.Stales.{All-picked}
+use Rattle.auto_refine.proofs.Stales.{All-picked}
 
 -- a node that gives the numbers of the values of a row
 pub record IsNumbered (shapes : List Shape) (row : ℕ → ℕ) (numbers : List ℕ) (made : ℕ) : Type 0 where
@@ -53,8 +55,11 @@ module _ (a : Automaton) (canon : List ℕ) (shapes : List Shape) (order numbers
         ap (λ k. get_or order k 0) (m.map letter ∙ number) ∙ p.2
 
   -- the first row and the rows of the states of the order, read as canonical states
-  module _ (over : IsOverNodes a) (first' : ℕ) (rows' : List ℕ) (flags : List Bool) (f : IsNumbered shapes (entry_at canon a.shapes a.first_node) numbers first') (row_count : length rows' ≡ length order)
-      (row_at : (k : ℕ) → k < length order → IsNumbered shapes (entry_at canon a.shapes (get_or a.row_nodes (get_or order k 0) 0)) numbers (get_or rows' k 0)) (are_flags : AreFlags a order flags) where
+  module _ (over : IsOverNodes a) (first' : ℕ) (rows' : List ℕ) (flags : List Bool)
+      (f : IsNumbered shapes (entry_at canon a.shapes a.first_node) numbers first') (row_count : length rows' ≡ length order)
+      (row_at : (k : ℕ) → k < length order
+      → IsNumbered shapes (entry_at canon a.shapes (get_or a.row_nodes (get_or order k 0) 0)) numbers (get_or rows' k 0))
+      (are_flags : AreFlags a order flags) where
     row_of_place : (k : ℕ) → k < length order → LeadsTo a canon (entry_at canon a.shapes (get_or a.row_nodes (get_or order k 0) 0)) (next_state a (get_or order k 0))
     row_of_place k h = leads-row a canon over (get_or order k 0) (All-get_or (λ s. s < length a.accept) order k 0 h (order_within a canon c order (length order) o))
 
@@ -85,7 +90,8 @@ module _ (a : Automaton) (canon : List ℕ) (shapes : List Shape) (order numbers
           first_within = λ letter. let w = within letter in omega (arith, w, states);
           rows_known = All-from_get_or (λ node. node < length shapes) rows' 0 (λ k h. (row_at k (omega (arith, row_count, h))).known);
           rows_narrow = All-from_get_or (λ node. LooksBelow shapes node (length a.tracks)) rows' 0 (λ k h. row_narrow k (omega (arith, row_count, h)));
-          rows_within = All-from_get_or (λ node. (letter : ℕ) → map_at shapes node letter < length flags) rows' 0 (λ k h letter. let w = row_within k (omega (arith, row_count, h)) letter in omega (arith, w, states));
+          rows_within = All-from_get_or (λ node. (letter : ℕ) → map_at shapes node letter < length flags) rows' 0
+              (λ k h letter. let w = row_within k (omega (arith, row_count, h)) letter in omega (arith, w, states));
         }
 
     pub IsQuotientBy-dense : IsQuotientBy a canon order (dense a.tracks shapes first' rows' flags)
@@ -95,7 +101,8 @@ module _ (a : Automaton) (canon : List ℕ) (shapes : List Shape) (order numbers
       order_is = o;
       tracks = refl;
       size = are_flags.size;
-      first = λ letter below. ap (λ k. get_or order k 0) (get_or-row_of shapes (width a) first' letter below) ∙ made_leads _ first' (first_state a) (leads-first a canon over) f (first_within a c.valid) o.first letter below;
+      first = λ letter below. ap (λ k. get_or order k 0) (get_or-row_of shapes (width a) first' letter below) ∙ made_leads _ first' (first_state a)
+          (leads-first a canon over) f (first_within a c.valid) o.first letter below;
       next = λ place letter h below.
           ap (λ k. get_or order k 0) (next_state-dense a.tracks shapes first' rows' flags AreRows-quotient place letter (get_or rows' place 0) (omega (arith, h, are_flags.size)) below
           (same_default rows' place (omega (arith, h, row_count)))) ∙ row_leads place letter h below;
@@ -124,13 +131,15 @@ module _ (a : Automaton) (canon order numbers table picked : List ℕ) (over : I
   table_size = t.size ∙ c.size
 
   pub all_known : All (λ node. node < length a.shapes) (a.first_node ∷ picked)
-  all_known = All-cons (λ node. node < length a.shapes) a.first_node picked over.nodes.first_known (All-picked (λ node. node < length a.shapes) a.row_nodes order picked is_picked states_within over.nodes.rows_known)
+  all_known = All-cons (λ node. node < length a.shapes) a.first_node picked over.nodes.first_known
+      (All-picked (λ node. node < length a.shapes) a.row_nodes order picked is_picked states_within over.nodes.rows_known)
 
   pub all_in_table : All (λ node. (letter : ℕ) → map_at a.shapes node letter < length table) (a.first_node ∷ picked)
   all_in_table = rw table_size (All-cons (λ node. (letter : ℕ) → map_at a.shapes node letter < length a.accept) a.first_node picked over.nodes.first_within
       (All-picked (λ node. (letter : ℕ) → map_at a.shapes node letter < length a.accept) a.row_nodes order picked is_picked states_within over.nodes.rows_within))
 
-  numbered : (shapes : List Shape) (node made : ℕ) → ((letter : ℕ) → map_at a.shapes node letter < length a.accept) → IsLedFrom a.shapes shapes table node made → IsNumbered shapes (entry_at canon a.shapes node) numbers made
+  numbered : (shapes : List Shape) (node made : ℕ) → ((letter : ℕ) → map_at a.shapes node letter < length a.accept)
+      → IsLedFrom a.shapes shapes table node made → IsNumbered shapes (entry_at canon a.shapes node) numbers made
   numbered shapes node made within l = record {
     known = l.known;
     map = λ letter. l.map letter ∙ t.at (map_at a.shapes node letter) (let w = within letter in let s = c.size in omega (arith, w, s));
@@ -167,7 +176,8 @@ module _ (a : Automaton) (canon order : List ℕ) (m : Automaton) (q : IsQuotien
   runs [] place state pw sw all e = e
   runs (letter ∷ letters) place state pw sw all e =
       let below = All-head (λ l. l < width a) letter letters all in
-      runs letters (next_state m place letter) (next_state a state letter) (next_within m q.valid place letter) (next_within a q.canonical.valid state letter) (All-tail (λ l. l < width a) letter letters all)
+      runs letters (next_state m place letter) (next_state a state letter) (next_within m q.valid place letter)
+      (next_within a q.canonical.valid state letter) (All-tail (λ l. l < width a) letter letters all)
       (q.next place letter (omega (arith, pw, q.size)) below ∙ ap (λ s. get_or canon (next_state a s letter) 0) e ∙ q.canonical.steps state letter sw below)
 
   pub words_lead : (word : List ℕ) → IsWord (length a.tracks) word → get_or order (state_of m word) 0 ≡ get_or canon (state_of a word) 0
@@ -190,14 +200,16 @@ module _ (a : Automaton) (canon order : List ℕ) (m : Automaton) (q : IsQuotien
   leads_to : (place : ℕ) → (h : place < length m.accept) → state_of m (met_at place h).word ≡ place
   leads_to place h =
       let met = met_at place h in
-      different_places order q.order_is.different (state_of m met.word) place (let w = state_within m q.valid met.word in omega (arith, w, q.size)) (omega (arith, h, q.size)) (words_lead met.word met.is_word ∙ met.leads)
+      different_places order q.order_is.different (state_of m met.word) place (let w = state_within m q.valid met.word in omega (arith, w, q.size))
+      (omega (arith, h, q.size)) (words_lead met.word met.is_word ∙ met.leads)
 
   -- letters that tell two states apart tell the places of their canonical states apart
   apart_at : (j k s t : ℕ) → j < length m.accept → k < length m.accept → s < length a.accept → t < length a.accept
       → get_or order j 0 ≡ get_or canon s 0 → get_or order k 0 ≡ get_or canon t 0 → ToldApart a s t → ToldApart m j k
   apart_at j k s t jw kw sw tw es et apart =
       let flag = λ (p u : ℕ) (pw : p < length m.accept) (uw : u < length a.accept) (e : get_or order p 0 ≡ get_or canon u 0).
-      flag_is (run m p apart.letters) (run a u apart.letters) (run_within m q.valid apart.letters p pw) (run_within a q.canonical.valid apart.letters u uw) (runs apart.letters p u pw uw apart.are_letters e) in
+      flag_is (run m p apart.letters) (run a u apart.letters) (run_within m q.valid apart.letters p pw)
+      (run_within a q.canonical.valid apart.letters u uw) (runs apart.letters p u pw uw apart.are_letters e) in
       record {
         letters = apart.letters;
         are_letters = subst (λ ts. All (λ l. l < 2 ^ length ts) apart.letters) (sym q.tracks) apart.are_letters;

@@ -8,10 +8,8 @@ use Rattle.track_word.specs.Word.{IsWord}
 use Rattle.auto_core.specs.Automaton.{Automaton, IsAutomaton, width, first_state, next_state, run, state_of, is_final, Accepts}
 use Rattle.auto_reduce.specs.Numbering.{mentions}
 use Rattle.auto_reduce.specs.Tables.{AcceptSameWords, IsInOrder, HaveEqualTables}
-use Rattle.auto_walk.proofs.States.{state_within}
-use Rattle.auto_reduce.proofs.States.{state_of-append}
+use Rattle.auto_core.proofs.States.{state_of-append, state_within, same_flag}
 use Rattle.auto_reduce.proofs.Leads.{IsWord-one, IsWord-append}
-use Rattle.auto_reduce.proofs.Flags.{same_flag}
 
 -- a place of a list where it has a value, or none below a bound has it
 found_or_none : (xs : List ℕ) (s n : ℕ) → ((x : ℕ) × (x < n) × (get_or xs x 0 ≡ s)) ⊎ ((x : ℕ) → x < n → get_or xs x 0 ≢ s)

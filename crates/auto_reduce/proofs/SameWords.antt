@@ -7,12 +7,12 @@ use Rattle.track_word.specs.Word.{IsWord}
 use Rattle.letter_diagram.specs.declared.diagrams.Shape.{Shape}
 use Rattle.letter_diagram.specs.Diagram.{map_at, LooksBelow, Grows}
 use Rattle.letter_diagram.specs.Listed.{EachAnswers}
-use Rattle.letter_diagram.specs.Brought.{IsBrought}
+use Rattle.letter_diagram.specs.Carried.{IsCarried}
 use Rattle.auto_core.specs.Automaton.{Automaton, IsAutomaton, width, first_state, next_state, run, state_of, is_final, Accepts}
 use Rattle.auto_core.specs.Rows.{IsOverNodes}
 use Rattle.auto_core.proofs.RowLemmas.{get_or-row_of, map_at-narrow}
 use Rattle.auto_reduce.specs.Tables.{AcceptSameWords, HaveEqualTables, HaveEqualMaps}
-use Rattle.auto_reduce.proofs.RowNodes.{AreRowNodes-own}
+use Rattle.auto_ways.proofs.RowNodes.{AreRowNodes-own}
 use Rattle.auto_reduce.proofs.SameTables.{next_ext}
 
 module _ (a b : Automaton) (tracks : a.tracks ≡ b.tracks) where
@@ -84,7 +84,7 @@ module _ (a : Automaton) (over : IsOverNodes a) where
   nodes_lead (suc state) letter within below = (AreRowNodes-own a over).leads state letter (omega (arith, within, nodes_size)) below
 
 module _ (a b : Automaton) (is_a : IsAutomaton a) (is_b : IsAutomaton b) (over_a : IsOverNodes a) (over_b : IsOverNodes b) (tracks : a.tracks ≡ b.tracks) (flags : a.accept ≡ b.accept)
-    (shapes : List Shape) (brought : List ℕ) (grows : Grows a.shapes shapes) (each : EachAnswers (IsBrought b.shapes shapes) (nodes_of b) brought) where
+    (shapes : List Shape) (brought : List ℕ) (grows : Grows a.shapes shapes) (each : EachAnswers (IsCarried b.shapes shapes (λ letter. letter) (λ value. value)) (nodes_of b) brought) where
   sizes : length (nodes_of a) ≡ length (nodes_of b)
   sizes = nodes_size a over_a ∙ ap (λ l. suc (length l)) flags ∙ sym (nodes_size b over_b)
 
@@ -120,7 +120,8 @@ module _ (a b : Automaton) (is_a : IsAutomaton a) (is_b : IsAutomaton b) (over_a
 
   brought_narrow : (place : ℕ) → place < length (nodes_of a) → LooksBelow shapes (get_or brought place 0) (length a.tracks)
   brought_narrow place within =
-      let n = subst (λ t. LooksBelow b.shapes (get_or (nodes_of b) place 0) (length t)) (sym tracks) (All-get_or (λ node. LooksBelow b.shapes node (length b.tracks)) (nodes_of b) place 0 (omega (arith, sizes, within)) (nodes_narrow b over_b)) in
+      let n = subst (λ t. LooksBelow b.shapes (get_or (nodes_of b) place 0) (length t)) (sym tracks)
+      (All-get_or (λ node. LooksBelow b.shapes node (length b.tracks)) (nodes_of b) place 0 (omega (arith, sizes, within)) (nodes_narrow b over_b)) in
       record { same = λ x y agree. brought_map place x within ∙ n.same x y agree ∙ sym (brought_map place y within) }
 
   pub HaveEqualTables-maps : HaveEqualMaps shapes (nodes_of a) brought → HaveEqualTables a b
@@ -130,7 +131,8 @@ module _ (a b : Automaton) (is_a : IsAutomaton a) (is_b : IsAutomaton b) (over_a
         let size_b = is_b.first_size in
         let w = same_width a b tracks in
         ext_get_or 0 a.first b.first (omega (arith, size_a, size_b, w)) (λ letter within. same_entry zero letter (omega arith) (omega (arith, within, size_a)));
-    next = next_ext a b is_a is_b (same_width a b tracks) (ap length flags) (λ state letter within below. same_entry (suc state) letter (let s = nodes_size a over_a in omega (arith, s, within)) below);
+    next = next_ext a b is_a is_b (same_width a b tracks) (ap length flags)
+        (λ state letter within below. same_entry (suc state) letter (let s = nodes_size a over_a in omega (arith, s, within)) below);
     accept = flags;
   }
     where

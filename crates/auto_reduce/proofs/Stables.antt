@@ -5,6 +5,7 @@ use Rattle.std.proofs.lemmas.Nat.{mod_below, pow_pos}
 use Rattle.std.proofs.lemmas.List.Elements.{All-head, All-cons}
 use Rattle.std.proofs.lemmas.Option.{slice_get_within, same_Some}
 use Rattle.track_word.specs.Word.{IsWord, repeat_first}
+use Rattle.track_word.proofs.Repeats.{IsWord-again}
 use Rattle.letter_diagram.specs.declared.diagrams.Shape.{Shape}
 use Rattle.letter_diagram.specs.Diagram.{map_at, LooksBelow, Grows}
 use Rattle.letter_diagram.specs.Paired.{AreAnswers}
@@ -12,10 +13,11 @@ use Rattle.letter_diagram.specs.Leaves.{AreLeaves}
 use Rattle.auto_core.specs.Automaton.{Automaton, IsAutomaton, width, first_state, next_state, run, is_final, Accepts}
 use Rattle.auto_core.specs.Reduced.{IsReduced}
 use Rattle.auto_core.specs.Integers.{DecidesIntegers}
+use Rattle.auto_core.proofs.States.{same_flag}
 use Rattle.auto_walk.proofs.WalkWords.{map_at-low}
-use Rattle.auto_reduce.proofs.States.{first_within, next_within}
+use Rattle.auto_reduce.specs.Stable.{Keeps}
+use Rattle.auto_refine.proofs.States.{first_within, next_within}
 use Rattle.auto_reduce.proofs.Orders.{place_in}
-use Rattle.auto_reduce.proofs.Flags.{same_flag}
 
 -- the sign letters that lead to a state lead from it to itself
 pub record IsKept (a : Automaton) (state : ℕ) : Type 0 where
@@ -56,7 +58,7 @@ DecidesIntegers-words m a tracks same = (
   λ d. record {
     stable = λ word is.
         let here = same word is in
-        let once = same (repeat_first word) (IsWord-repeat (length a.tracks) word is) in
+        let once = same (repeat_first word) (IsWord-again (length a.tracks) word is) in
         let s = d.stable word (subst (λ t. IsWord (length t) word) (sym tracks) is) in
         (λ p. once.0 (s.0 (here.1 p)), λ p. here.0 (s.1 (once.1 p)));
   },
@@ -64,29 +66,20 @@ DecidesIntegers-words m a tracks same = (
     stable = λ word is_m.
         let is = subst (λ t. IsWord (length t) word) tracks is_m in
         let here = same word is in
-        let once = same (repeat_first word) (IsWord-repeat (length a.tracks) word is) in
+        let once = same (repeat_first word) (IsWord-again (length a.tracks) word is) in
         let s = d.stable word is in
         (λ p. once.1 (s.0 (here.0 p)), λ p. here.1 (s.1 (once.0 p)));
   },
 )
-  where
-    IsWord-repeat : (tracks : ℕ) (word : List ℕ) → IsWord tracks word → IsWord tracks (repeat_first word)
-    IsWord-repeat tracks [] is = absurd (is.nonempty refl)
-    IsWord-repeat tracks (sign ∷ letters) is = record {
-      nonempty = λ e. cc e;
-      letters = All-cons (λ l. l < 2 ^ tracks) sign (sign ∷ letters) (All-head (λ l. l < 2 ^ tracks) sign letters is.letters) is.letters;
-    }
-
--- a row that gives a state wherever the first row does
-abbrev pub Keeps : List Shape → ℕ → ℕ → ℕ → Type 0
-Keeps shapes first row state = (letter : ℕ) → map_at shapes first letter ≡ state → map_at shapes row letter ≡ state
 
 module _ (shapes : List Shape) (first row state : ℕ) (pairs : List (ℕ × ℕ)) where
   abbrev PairsKeep : Type 0
   PairsKeep = (number before after : ℕ) → slice_get pairs number ≡ Some (before, after) → before ≡ state → after ≡ state
 
   -- the pairs of the values of both are kept just where the maps are
-  pub Keeps-pairs : (after : List Shape) (node : ℕ) → ((letter : ℕ) → slice_get pairs (map_at after node letter) ≡ Some (map_at shapes first letter, map_at shapes row letter)) → PairsKeep → Keeps shapes first row state
+  pub Keeps-pairs : (after : List Shape) (node : ℕ)
+      → ((letter : ℕ) → slice_get pairs (map_at after node letter) ≡ Some (map_at shapes first letter, map_at shapes row letter)) → PairsKeep
+      → Keeps shapes first row state
   Keeps-pairs after node map kept letter leads = kept (map_at after node letter) _ _ (map letter) leads
 
   pub pairs-Keep : AreAnswers shapes 0 pairs first row → Keeps shapes first row state → PairsKeep
@@ -124,5 +117,6 @@ IsKept-leaves a shapes first leaves are leads kept letter below =
     subst (IsKept a) (p.2 ∙ leads letter below) (kept p.0 p.1)
 
 -- a leaf is below the bound of all values
-pub leaf_within : (shapes : List Shape) (first bound : ℕ) (leaves : List ℕ) → AreLeaves shapes first leaves → ((letter : ℕ) → map_at shapes first letter < bound) → (k : ℕ) → k < length leaves → get_or leaves k 0 < bound
+pub leaf_within : (shapes : List Shape) (first bound : ℕ) (leaves : List ℕ) → AreLeaves shapes first leaves
+    → ((letter : ℕ) → map_at shapes first letter < bound) → (k : ℕ) → k < length leaves → get_or leaves k 0 < bound
 leaf_within shapes first bound leaves are below k within = let g = are.given k within in subst (λ v. v < bound) g.1 (below g.0)

@@ -7,21 +7,20 @@ use Rattle.letter_diagram.specs.declared.diagrams.Shape.{Shape}
 use Rattle.letter_diagram.specs.declared.diagrams.Shape.TheVariants.{Leaf, Test}
 use Rattle.letter_diagram.specs.Diagram.{map_at, top_track, chosen, IsAt, Grows, HasChildren}
 use Rattle.letter_diagram.specs.Leaves.{AreLeaves}
-use Rattle.letter_diagram.specs.NodeMemo.{Remembers}
-use Rattle.letter_diagram.proofs.Memos.{node_answers-insert}
+use Rattle.letter_diagram.specs.NodeMemo.{answer_of}
+use Rattle.letter_diagram.specs.Carried.{Learns}
 use Rattle.auto_reduce.specs.Quotient.{AddsAll}
-use Rattle.auto_reduce.specs.Leading.{entry_at}
-use Rattle.auto_reduce.specs.Unmet.{AddsRow, IsMetLeaf, IsPruned, RemembersPruned, AreDone, IsFound, Finds, AreDoneWith, AreDoneBut}
+use Rattle.auto_reduce.specs.Unmet.{entry_at, AddsRow, IsMetLeaf, IsPruned, RemembersPruned, StandsFor, AreDone, IsFound, Finds, AreDoneWith, AreDoneBut}
 use Rattle.auto_reduce.specs.declared.unmet.Unmet.{Unmet}
 use Rattle.auto_reduce.specs.declared.unmet.Unmet.TheVariants.{Nothing, One, Several}
-use Rattle.auto_reduce.proofs.Leadings.{entry-either}
 use Rattle.std.proofs.lemmas.List.Elements.{Contains-push, Contains-append_left}
 use Rattle.auto_reduce.proofs.Orders.{place_in, Contains-kept, one_value}
 use Rattle.auto_reduce.proofs.Quotients.{different_places}
 
--- equal values, or values of a list
-abbrev pub StandsFor : List ℕ → ℕ → ℕ → Type 0
-StandsFor met v w = (v ≡ w) ⊎ (Contains met v × Contains met w)
+-- a table's entry at one of two values
+entry-either : (table : List ℕ) (b : Bool) (v w : ℕ) → get_or table (if b then v else w) 0 ≡ (if b then get_or table v 0 else get_or table w 0)
+entry-either table true v w = refl
+entry-either table false v w = refl
 
 pub IsMetLeaf-grows : (old new : List Shape) (met : List ℕ) (leaf : ℕ) → Grows old new → IsMetLeaf old met leaf → IsMetLeaf new met leaf
 IsMetLeaf-grows old new met leaf grows is =
@@ -45,13 +44,21 @@ IsPruned-grows from old new canon met a r grows is =
       top = omega arith;
     }
 
-pub RemembersPruned-grows : (from old new : List Shape) (canon met : List ℕ) (memo : List (Option ℕ)) → Grows old new → RemembersPruned from old canon met memo → RemembersPruned from new canon met memo
+pub RemembersPruned-grows : (from old new : List Shape) (canon met : List ℕ) (memo : List (Option ℕ)) → Grows old new
+    → RemembersPruned from old canon met memo → RemembersPruned from new canon met memo
 RemembersPruned-grows from old new canon met memo grows all = record { pruned = λ a r at. IsPruned-grows from old new canon met a r grows (all.pruned a r at) }
 
-pub RemembersPruned-insert : (from shapes : List Shape) (canon met : List ℕ) (memo new : List (Option ℕ)) (a r : ℕ) → RemembersPruned from shapes canon met memo → Remembers memo new a r → IsPruned from shapes canon met a r → RemembersPruned from shapes canon met new
-RemembersPruned-insert from shapes canon met memo new a r all remembers is = record { pruned = node_answers-insert (IsPruned from shapes canon met) memo new a r all.pruned remembers is }
+pub RemembersPruned-learns : (from shapes : List Shape) (canon met : List ℕ) (memo new : List (Option ℕ)) (a r : ℕ) → RemembersPruned from shapes canon met memo
+    → Learns (answer_of memo) (answer_of new) a r → IsPruned from shapes canon met a r → RemembersPruned from shapes canon met new
+RemembersPruned-learns from shapes canon met memo new a r all learns is = record {
+  pruned = λ b s at. elim (learns.only b s at) [
+    | inl before ↦ all.pruned b s before
+    | inr now ↦ subst (λ n. IsPruned from shapes canon met n s) (sym now.0) (subst (IsPruned from shapes canon met a) (sym now.1) is)
+  ];
+}
 
-pub IsPruned-leaf : (from shapes : List Shape) (canon met : List ℕ) (a r state value : ℕ) → IsAt from a (Leaf state) → value ≡ get_or canon state 0 → r < length shapes → top_track shapes r ≡ 20 → ((letter : ℕ) → StandsFor met (map_at shapes r letter) value) → IsPruned from shapes canon met a r
+pub IsPruned-leaf : (from shapes : List Shape) (canon met : List ℕ) (a r state value : ℕ) → IsAt from a (Leaf state) → value ≡ get_or canon state 0
+    → r < length shapes → top_track shapes r ≡ 20 → ((letter : ℕ) → StandsFor met (map_at shapes r letter) value) → IsPruned from shapes canon met a r
 IsPruned-leaf from shapes canon met a r state value at is known top map = record {
   known = known;
   map = λ letter. subst (StandsFor met (map_at shapes r letter)) (is ∙ sym (ap (λ v. get_or canon v 0) (at.map letter))) (map letter);
@@ -62,7 +69,8 @@ either : (met : List ℕ) (b : Bool) (v w x y : ℕ) → StandsFor met v w → S
 either met true v w x y p q = p
 either met false v w x y p q = q
 
-pub IsPruned-test : (from mid shapes : List Shape) (canon met : List ℕ) (a r track low high low' high' : ℕ) → IsAt from a (Test track low high) → IsPruned from mid canon met low low' → IsPruned from mid canon met high high'
+pub IsPruned-test : (from mid shapes : List Shape) (canon met : List ℕ) (a r track low high low' high' : ℕ) → IsAt from a (Test track low high)
+    → IsPruned from mid canon met low low' → IsPruned from mid canon met high high'
     → r < length shapes → ((letter : ℕ) → map_at shapes r letter ≡ chosen mid track low' high' letter) → track ≤ top_track shapes r → IsPruned from shapes canon met a r
 IsPruned-test from mid shapes canon met a r track low high low' high' at l h known map top = record {
   known = known;
@@ -70,7 +78,8 @@ IsPruned-test from mid shapes canon met a r track low high low' high' at l h kno
       let entry = ap (λ v. get_or canon v 0) (at.map letter) ∙ entry-either canon (nat_eq (bit_at letter track) 0) (map_at from low letter) (map_at from high letter) in
       subst (λ v. StandsFor met v (entry_at canon from a letter)) (sym (map letter))
       (subst (StandsFor met (chosen mid track low' high' letter)) (sym entry)
-      (either met (nat_eq (bit_at letter track) 0) (map_at mid low' letter) (entry_at canon from low letter) (map_at mid high' letter) (entry_at canon from high letter) (l.map letter) (h.map letter)));
+      (either met (nat_eq (bit_at letter track) 0) (map_at mid low' letter) (entry_at canon from low letter) (map_at mid high' letter)
+      (entry_at canon from high letter) (l.map letter) (h.map letter)));
   top = subst (λ t. t ≤ top_track shapes r) (sym at.top) top;
 }
 
@@ -100,7 +109,9 @@ pub AreDone-none : (from : List Shape) (canon met : List ℕ) (done : List Bool)
 AreDone-none from canon met done none = record { are_met = λ node letter there. absurd (true≢false (sym there ∙ none node)) }
 
 -- ---- what is added
-module _ (to : List Shape) (row : ℕ → ℕ) (r : ℕ) (old new leaves : List ℕ) (is : (letter : ℕ) → StandsFor old (map_at to r letter) (row letter)) (are : AreLeaves to r leaves) (adds : AddsAll old new leaves) (apart : AllPairs (λ j k. j ≢ k) new) where
+module _ (to : List Shape) (row : ℕ → ℕ) (r : ℕ) (old new leaves : List ℕ)
+    (is : (letter : ℕ) → StandsFor old (map_at to r letter) (row letter)) (are : AreLeaves to r leaves) (adds : AddsAll old new leaves)
+    (apart : AllPairs (λ j k. j ≢ k) new) where
   unmet : (place : ℕ) → length old ≤ place → place < length new → Contains old (get_or new place 0) → ⊥
   unmet place past within there =
       let p = place_in old (get_or new place 0) there in
@@ -142,7 +153,8 @@ module _ (to : List Shape) (row : ℕ → ℕ) (r : ℕ) (old new leaves : List 
   }
 
 -- the first row is added whole
-pub AddsRow-first : (to : List Shape) (row : ℕ → ℕ) (r : ℕ) (new leaves : List ℕ) → ((letter : ℕ) → map_at to r letter ≡ row letter) → AreLeaves to r leaves → AddsAll [] new leaves → AllPairs (λ j k. j ≢ k) new → AddsRow row [] new
+pub AddsRow-first : (to : List Shape) (row : ℕ → ℕ) (r : ℕ) (new leaves : List ℕ) → ((letter : ℕ) → map_at to r letter ≡ row letter)
+    → AreLeaves to r leaves → AddsAll [] new leaves → AllPairs (λ j k. j ≢ k) new → AddsRow row [] new
 AddsRow-first to row r new leaves is are adds apart = AddsRow-pruned to row r [] new leaves (λ letter. inl (is letter)) are adds apart
 
 -- ---- what is found before any diagram is made
@@ -159,7 +171,8 @@ found-either : (met : List ℕ) (found : Unmet) (b : Bool) (v w : ℕ) → IsFou
 found-either met found true v w p q = p
 found-either met found false v w p q = q
 
-pub Finds-leaf : (from : List Shape) (canon met : List ℕ) (before after : Unmet) (node state : ℕ) → IsAt from node (Leaf state) → Finds met before (λ letter. get_or canon state 0) after → Finds met before (entry_at canon from node) after
+pub Finds-leaf : (from : List Shape) (canon met : List ℕ) (before after : Unmet) (node state : ℕ) → IsAt from node (Leaf state)
+    → Finds met before (λ letter. get_or canon state 0) after → Finds met before (entry_at canon from node) after
 Finds-leaf from canon met before after node state at f =
     let same : (letter : ℕ) → get_or canon state 0 ≡ entry_at canon from node letter = λ letter. sym (ap (λ v. get_or canon v 0) (at.map letter)) in
     record {
@@ -177,7 +190,8 @@ Finds-test from canon met before mid after node track low high at children l h =
   leads = λ letter.
       let entry = ap (λ v. get_or canon v 0) (at.map letter) ∙ entry-either canon (nat_eq (bit_at letter track) 0) (map_at from low letter) (map_at from high letter) in
       subst (IsFound met after) (sym entry)
-      (found-either met after (nat_eq (bit_at letter track) 0) (entry_at canon from low letter) (entry_at canon from high letter) (h.kept (entry_at canon from low letter) (l.leads letter)) (h.leads letter));
+      (found-either met after (nat_eq (bit_at letter track) 0) (entry_at canon from low letter) (entry_at canon from high letter)
+      (h.kept (entry_at canon from low letter) (l.leads letter)) (h.leads letter));
   kept = λ value f. h.kept value (l.kept value f);
   given = λ s e. elim (h.given s e) [
     | inl mid_is ↦ elim (l.given s mid_is) [
@@ -188,10 +202,13 @@ Finds-test from canon met before mid after node track low high at children l h =
   ];
 }
 
-pub AreDoneWith-kept : (from : List Shape) (canon met : List ℕ) (before after : Unmet) (row : ℕ → ℕ) (done : List Bool) → Finds met before row after → AreDoneWith from canon met before done → AreDoneWith from canon met after done
+pub AreDoneWith-kept : (from : List Shape) (canon met : List ℕ) (before after : Unmet) (row : ℕ → ℕ) (done : List Bool) → Finds met before row after
+    → AreDoneWith from canon met before done → AreDoneWith from canon met after done
 AreDoneWith-kept from canon met before after row done f all = record { are_found = λ node letter there. f.kept (entry_at canon from node letter) (all.are_found node letter there) }
 
-pub AreDoneWith-note : (from : List Shape) (canon met : List ℕ) (before after : Unmet) (done new : List Bool) (node : ℕ) → AreDoneWith from canon met after done → new ≡ set done node true → Finds met before (entry_at canon from node) after → AreDoneWith from canon met after new
+pub AreDoneWith-note : (from : List Shape) (canon met : List ℕ) (before after : Unmet) (done new : List Bool) (node : ℕ)
+    → AreDoneWith from canon met after done → new ≡ set done node true → Finds met before (entry_at canon from node) after
+    → AreDoneWith from canon met after new
 AreDoneWith-note from canon met before after done new node all noted f = record {
   are_found = λ other letter there. elim (done_before done new node other noted there) [
     | inl was ↦ all.are_found other letter was
@@ -199,7 +216,8 @@ AreDoneWith-note from canon met before after done new node all noted f = record 
   ];
 }
 
-pub AreDoneBut-note : (from : List Shape) (canon met nodes : List ℕ) (done new : List Bool) (node : ℕ) → AreDoneBut from canon met nodes done → new ≡ set done node true → AreDoneBut from canon met (nodes ++ node ∷ []) new
+pub AreDoneBut-note : (from : List Shape) (canon met nodes : List ℕ) (done new : List Bool) (node : ℕ) → AreDoneBut from canon met nodes done
+    → new ≡ set done node true → AreDoneBut from canon met (nodes ++ node ∷ []) new
 AreDoneBut-note from canon met nodes done new node all noted = record {
   are_met = λ other there. elim (done_before done new node other noted there) [
     | inl was ↦ elim (all.are_met other was) [
@@ -219,7 +237,8 @@ one_added old new state value adds found = elim found [
   | inr e ↦ adds.has value (subst (Contains (state ∷ [])) (sym e) (Contains-push [] state))
 ]
 
-pub AreDone-from_one : (from : List Shape) (canon old new : List ℕ) (state : ℕ) (done : List Bool) → AddsAll old new (state ∷ []) → AreDoneWith from canon old (One state) done → AreDone from canon new done
+pub AreDone-from_one : (from : List Shape) (canon old new : List ℕ) (state : ℕ) (done : List Bool) → AddsAll old new (state ∷ [])
+    → AreDoneWith from canon old (One state) done → AreDone from canon new done
 AreDone-from_one from canon old new state done adds all = record { are_met = λ node letter there. one_added old new state (entry_at canon from node letter) adds (all.are_found node letter there) }
 
 pub AddsRow-none : (met : List ℕ) (row : ℕ → ℕ) → Finds met Nothing row Nothing → AddsRow row met met

@@ -3,12 +3,10 @@ pub use Rattle.letter_diagram.specs.Diagram
 pub use Rattle.auto_core.specs.Automaton
 pub use Rattle.auto_core.specs.Reduced
 pub use Rattle.auto_core.specs.Integers
-pub mod Leading
-pub mod RoundMemo
-pub mod Partition
-pub mod Refining
+pub use Rattle.auto_refine.specs.Coarsest
+pub use Rattle.auto_refine.specs.Leading
 pub mod Quotient
 pub mod Unmet
 pub mod Numbering
 pub mod Tables
-pub mod Ways
+pub mod Stable

@@ -1,14 +1,11 @@
 -- One state for all states that nothing tells apart, and the automaton over these in the order in which they are met.
-use Rattle.std.specs.Prelude.{◌≡◌, ◌≢◌, ℕ, ◌<◌, ◌≤◌, Bool, false, List, ◌∷◌, length, All, AllPairs, Contains, slice_index, slice_index_or}
+use Rattle.std.specs.Prelude.{◌≡◌, ◌≢◌, ℕ, ◌<◌, ◌≤◌, Bool, false, List, ◌∷◌, length, drop, All, AllPairs, Contains, slice_index, slice_index_or}
 use Rattle.track_word.specs.Word.{IsWord}
+use Rattle.letter_diagram.specs.declared.diagrams.Shape.{Shape}
 use Rattle.auto_core.specs.Automaton.{Automaton, IsAutomaton, width, first_state, next_state, state_of, is_final}
 use Rattle.auto_core.specs.Reduced.{ToldApart}
-
--- a state of each class
-pub record AreMembers (classes : List ℕ) (count : ℕ) (members : List ℕ) : Type 0 where
-  pub size : length members ≡ count
-  pub within : All (λ state. state < length classes) members
-  pub has : (class : ℕ) → class < count → slice_index classes (slice_index members class) ≡ class
+use Rattle.auto_core.specs.Rows.{AreRows, dense}
+use Rattle.auto_refine.specs.Led.{ArePicked}
 
 -- for each state one that nothing tells apart from it, the same for all of these
 pub record IsCanonical (a : Automaton) (canon : List ℕ) : Type 0 where
@@ -18,7 +15,8 @@ pub record IsCanonical (a : Automaton) (canon : List ℕ) : Type 0 where
   pub flags : (j : ℕ) → j < length a.accept → is_final a (slice_index canon j) ≡ is_final a j
   pub steps : (j letter : ℕ) → j < length a.accept → letter < width a
       → slice_index canon (next_state a (slice_index canon j) letter) ≡ slice_index canon (next_state a j letter)
-  pub apart : (j k : ℕ) → j < length a.accept → k < length a.accept → slice_index canon j ≢ slice_index canon k → ToldApart a j k
+  pub apart : (j k : ℕ) → j < length a.accept → k < length a.accept → slice_index canon j ≢ slice_index canon k
+      → ToldApart a j k
 
 -- a value stands in a list before another one
 pub record ComesBefore (values : List ℕ) (x y : ℕ) : Type 0 where
@@ -35,7 +33,8 @@ pub record AddsAll (old new values : List ℕ) : Type 0 where
   pub kept : (place : ℕ) → place < length old → slice_index new place ≡ slice_index old place
   pub has : (value : ℕ) → Contains values value → Contains new value
   pub added : (place : ℕ) → length old ≤ place → place < length new → Contains values (slice_index new place)
-  pub in_order : (i j : ℕ) → length old ≤ i → i < j → j < length new → ComesBefore values (slice_index new i) (slice_index new j)
+  pub in_order : (i j : ℕ) → length old ≤ i → i < j → j < length new
+      → ComesBefore values (slice_index new i) (slice_index new j)
 
 -- a word whose state has this canonical state
 pub record IsMet (a : Automaton) (canon : List ℕ) (state : ℕ) : Type 0 where
@@ -43,12 +42,14 @@ pub record IsMet (a : Automaton) (canon : List ℕ) (state : ℕ) : Type 0 where
   pub is_word : IsWord (length a.tracks) word
   pub leads : slice_index canon (state_of a word) ≡ state
 
--- different canonical states that words lead to, all those of the first row and of the rows of the first so many of them
+-- different canonical states that words lead to, all those of the first row and of the rows of the first so many of
+-- them
 pub record IsOrderTo (a : Automaton) (canon order : List ℕ) (rows : ℕ) : Type 0 where
   pub met : All (IsMet a canon) order
   pub different : AllPairs (λ j k. j ≢ k) order
   pub first : (letter : ℕ) → letter < width a → Contains order (slice_index canon (first_state a letter))
-  pub next : (place letter : ℕ) → place < rows → letter < width a → Contains order (slice_index canon (next_state a (slice_index order place) letter))
+  pub next : (place letter : ℕ) → place < rows → letter < width a
+      → Contains order (slice_index canon (next_state a (slice_index order place) letter))
 
 abbrev pub IsOrder : Automaton → List ℕ → List ℕ → Type 0
 IsOrder a canon order = IsOrderTo a canon order (length order)
@@ -64,6 +65,12 @@ pub record AreClassNumbers (canon numbers table : List ℕ) : Type 0 where
   pub size : length table ≡ length canon
   pub at : (state : ℕ) → state < length canon → slice_index table state ≡ slice_index numbers (slice_index canon state)
 
+-- for each state the place of its canonical state in an order
+pub record ArePlaces (canon order : List ℕ) (states : ℕ) (table : List ℕ) : Type 0 where
+  pub numbers : List ℕ
+  pub are_numbers : AreNumbers order states numbers
+  pub are_class_numbers : AreClassNumbers canon numbers table
+
 -- the automaton whose states are the places of an order of canonical states
 pub record IsQuotientBy (a : Automaton) (canon order : List ℕ) (m : Automaton) : Type 0 where
   pub valid : IsAutomaton m
@@ -71,14 +78,12 @@ pub record IsQuotientBy (a : Automaton) (canon order : List ℕ) (m : Automaton)
   pub order_is : IsOrder a canon order
   pub tracks : m.tracks ≡ a.tracks
   pub size : length m.accept ≡ length order
-  pub first : (letter : ℕ) → letter < width a → slice_index order (first_state m letter) ≡ slice_index canon (first_state a letter)
-  pub next : (place letter : ℕ) → place < length order → letter < width a → slice_index order (next_state m place letter) ≡ slice_index canon (next_state a (slice_index order place) letter)
+  pub first : (letter : ℕ) → letter < width a
+      → slice_index order (first_state m letter) ≡ slice_index canon (first_state a letter)
+  pub next : (place letter : ℕ) → place < length order → letter < width a
+      → slice_index order (next_state m place letter) ≡ slice_index canon
+      (next_state a (slice_index order place) letter)
   pub final : (place : ℕ) → place < length order → is_final m place ≡ is_final a (slice_index order place)
-
--- the nodes of the states of an order
-pub record ArePicked (rows order picked : List ℕ) : Type 0 where
-  pub size : length picked ≡ length order
-  pub at : (place : ℕ) → place < length order → slice_index picked place ≡ slice_index rows (slice_index order place)
 
 -- the node of the first row, then those of the rows of the states of an order
 pub record AreFirstAndPicked (a : Automaton) (order nodes : List ℕ) : Type 0 where
@@ -90,3 +95,15 @@ pub record AreFirstAndPicked (a : Automaton) (order nodes : List ℕ) : Type 0 w
 pub record AreFlags (a : Automaton) (order : List ℕ) (flags : List Bool) : Type 0 where
   pub size : length flags ≡ length order
   pub at : (place : ℕ) → place < length order → slice_index_or flags place false ≡ is_final a (slice_index order place)
+
+-- with the flags of an order's states, the first of some nodes and those behind it are the rows of an automaton
+pub record AreRowsOver (a : Automaton) (order : List ℕ) (shapes : List Shape) (rows : List ℕ) : Type 0 where
+  pub are_rows : (flags : List Bool) → AreFlags a order flags
+      → AreRows a.tracks shapes (slice_index rows 0) (drop 1 rows) flags
+
+-- the automaton of these rows, with these flags
+pub record IsOverRows (a : Automaton) (order : List ℕ) (shapes : List Shape) (rows : List ℕ) (m : Automaton) : Type
+    0 where
+  pub flags : List Bool
+  pub are_flags : AreFlags a order flags
+  pub is : m ≡ dense a.tracks shapes (slice_index rows 0) (drop 1 rows) flags

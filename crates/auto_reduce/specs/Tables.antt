@@ -1,5 +1,6 @@
 -- Automata that accept the same words, and automata with equal tables.
 use Rattle.std.specs.Prelude.{◌≡◌, ◌↔◌, ℕ, ◌<◌, ◌^◌, List, length, slice_index}
+use Rattle.limits.specs.declared.numbers.TheConstants.{MOST_TRACKS}
 use Rattle.track_word.specs.Word.{IsWord}
 use Rattle.letter_diagram.specs.declared.diagrams.Shape.{Shape}
 use Rattle.letter_diagram.specs.Diagram.{map_at}
@@ -24,8 +25,10 @@ pub record HaveEqualTables (a b : Automaton) : Type 0 where
 
 -- with equal tracks, the tables of such automata are equal where they accept the same words
 abbrev pub EqualWordsEqualTables : Type 0
-EqualWordsEqualTables = (a b : Automaton) → IsInOrder a → IsInOrder b → a.tracks ≡ b.tracks → AcceptSameWords a b → HaveEqualTables a b
+EqualWordsEqualTables =
+    (a b : Automaton) → IsInOrder a → IsInOrder b → a.tracks ≡ b.tracks → AcceptSameWords a b → HaveEqualTables a b
 
 -- nodes of equal maps, place by place
 pub record HaveEqualMaps (shapes : List Shape) (nodes others : List ℕ) : Type 0 where
-  pub at : (place letter : ℕ) → place < length nodes → letter < 2 ^ 20 → map_at shapes (slice_index nodes place) letter ≡ map_at shapes (slice_index others place) letter
+  pub at : (place letter : ℕ) → place < length nodes → letter < 2 ^ MOST_TRACKS
+      → map_at shapes (slice_index nodes place) letter ≡ map_at shapes (slice_index others place) letter

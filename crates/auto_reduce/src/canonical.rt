@@ -1,17 +1,14 @@
 //! One state for each class.
 ghost use Rattle.std.specs.Prelude.{IfOk};
-ghost use Rattle.auto_core.specs.Automaton.{IsAutomaton};
 ghost use Rattle.auto_reduce.specs.Quotient.{IsCanonical};
 
-use crate::classes::members;
-use crate::partition::coarsest;
 use auto_core::Auto;
+use auto_refine::{coarsest, members};
 use std::alloc::{AllocError, Global};
 
 /// For each state one of the states that nothing tells apart from it, the same for all of these.
 pub fn canonical(alloc: Global, a: &Auto) -> Result<Vec<u32>, AllocError>
-    ensures canonical { IfOk result (λ canon. IsCanonical a.now canon.items) }
-    ensures valid { IsAutomaton a.now }
+    ensures { IfOk result (λ canon. IsCanonical a.now canon.items) }
 {
     let partition = coarsest(alloc, a)?;
     let members = members(alloc, &partition)?;

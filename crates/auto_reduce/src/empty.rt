@@ -11,7 +11,7 @@ pub fn is_empty(a: &Auto) -> bool
     requires { IsReduced a.now }
     ensures { IsTrue result ↔ ((word : List ℕ) → IsWord (length a.now.tracks) word → ¬ Accepts a.now word) }
 {
-    let _ = a.states();
+    let _ = a.states(); // for its invariant
     for flag in a.flags() {
         if *flag {
             return false;

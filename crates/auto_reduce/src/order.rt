@@ -21,6 +21,7 @@ impl Model for Order {
 }
 
 impl Order {
+    /// No state.
     pub fn new(alloc: Global) -> Self
         ensures { result ≡ [] }
     {
@@ -29,6 +30,7 @@ impl Order {
         }
     }
 
+    /// The states, in the order in which they were added.
     pub fn as_slice(&self) -> &[u32]
         ensures states { result.now ≡ self.now }
         ensures different { AllPairs (λ x y. x ≢ y) self.now }
@@ -43,6 +45,7 @@ impl Order {
         self.seen.contains(&state)
     }
 
+    /// Adds a state that was not added before. Another one stays where it is.
     pub fn add(&mut self, state: u32) -> Result<(), AllocError>
         ensures adds { OnOk result (AddsAll self.old self.new (state ∷ [])) }
         ensures different { AllPairs (λ x y. x ≢ y) self.new }
@@ -51,11 +54,12 @@ impl Order {
         Ok(())
     }
 
+    /// Adds states, one after another.
     pub fn add_all(&mut self, states: &[u32]) -> Result<(), AllocError>
         ensures adds { OnOk result (AddsAll self.old self.new states.now) }
         ensures different { AllPairs (λ x y. x ≢ y) self.new }
     {
-        let _ = &self.seen;
+        let _ = &self.seen; // for its invariant
         for state in states {
             self.add(*state)?;
         }

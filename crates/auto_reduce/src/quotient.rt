@@ -1,18 +1,16 @@
 //! The automaton over one state of each class.
-ghost use Rattle.std.specs.Prelude.{◌≡◌, ◌≤◌, ◌<◌, ◌+◌, ◌^◌, ◌≢◌, ◌↔◌, List, ℕ, IfOk, length, All, AllPairs};
+ghost use Rattle.std.specs.Prelude.{◌≡◌, ◌≤◌, ◌<◌, ◌+◌, ◌^◌, ◌≢◌, ◌↔◌, List, ℕ, IfOk, false, length, slice_index_or, All, AllPairs};
 ghost use Rattle.track_word.specs.Word.{IsWord};
 ghost use Rattle.auto_core.specs.Automaton.{Accepts, IsAutomaton};
 ghost use Rattle.auto_core.specs.Reduced.{IsReduced};
+ghost use Rattle.auto_reduce.specs.Quotient.{IsCanonical, IsOrder, AreNumbers, AreClassNumbers, ArePlaces, AreFirstAndPicked, AreFlags, AreRowsOver, IsOverRows, IsQuotientBy};
 ghost use Rattle.auto_reduce.specs.Numbering.{IsNumberedTo, IsNumberedBreadthFirst, IsQuotient};
-ghost use Rattle.auto_reduce.specs.Quotient.{IsCanonical, IsOrder, AreNumbers, AreClassNumbers, AreFirstAndPicked, AreFlags, IsQuotientBy};
 
 use crate::canonical::canonical;
-use crate::leading::lead_nodes;
 use crate::order::Order;
-use crate::round_memo::RoundMemo;
-use crate::rows::picked;
-use crate::unmet::{Done, add_row, first_met};
+use crate::unmet::{Kept, Rows, add_row, first_met};
 use auto_core::Auto;
+use auto_refine::{RoundMemo, lead_nodes, picked};
 use letter_diagram::{Diagrams, Node};
 use std::alloc::{AllocError, Global};
 
@@ -21,28 +19,20 @@ fn breadth_first(
     alloc: Global,
     a: &Auto,
     canon: &[u32],
-    memo: &mut RoundMemo,
+    kept: &mut Kept,
 ) -> Result<Order, AllocError>
-    requires { IsCanonical a.now canon.now }
+    requires canonical { IsCanonical a.now canon.now }
+    requires done { (node : ℕ) → slice_index_or kept.old.done node false ≡ false }
     ensures order { IfOk result (λ order. IsOrder a.now canon.now order) }
     ensures numbered { IfOk result (λ order. IsNumberedTo a.now canon.now order (length order + 1)) }
 {
-    let mut order = first_met(alloc, a.diagrams(), a.first_node(), canon, memo)?;
-    let mut done = Done::new(alloc, a.diagrams().len())?;
-    let mut passed = Vec::new(alloc);
+    let from = a.diagrams();
+    let mut order = first_met(alloc, from, a.first_node(), canon, &mut kept.memo)?;
+    let rows = Rows { from, canon };
     let mut place = 0;
     while place < order.as_slice().len() {
         let row = a.row_node(order.as_slice()[place]);
-        add_row(
-            alloc,
-            a.diagrams(),
-            row,
-            canon,
-            &mut order,
-            &mut done,
-            &mut passed,
-            memo,
-        )?;
+        add_row(alloc, &rows, row, &mut order, kept)?;
         place += 1;
     }
     Ok(order)
@@ -60,21 +50,57 @@ fn over_places(
     requires order { IsOrder a.now canon.now order.now }
     ensures { IfOk result (IsQuotientBy a.now canon.now order.now) }
 {
-    let numbers = numbers(alloc, order, a.states())?;
-    let table = class_numbers(alloc, canon, numbers.as_slice())?;
-    let accept = flags(alloc, a, order)?;
-    let tracks = a.tracks().to_vec(alloc)?;
+    let states = a.states();
     let from = a.diagrams();
-    let room = nodes_left(from.len(), a.states(), order.len());
-    let mut diagrams = Diagrams::with_capacity(alloc, room)?;
+    let table = place_table(alloc, canon, order, states)?;
     let nodes = first_and_picked(alloc, a, order)?;
-    let mut rows = lead_nodes(
+    let room = nodes_left(from.len(), states, order.len());
+    let mut diagrams = Diagrams::with_capacity(alloc, room)?;
+    let rows = lead_nodes(
         from,
         nodes.as_slice(),
         table.as_slice(),
         &mut diagrams,
         memo,
     )?;
+    let m = over_rows(alloc, a, order, diagrams, rows)?;
+    Ok(m)
+}
+
+/// For each state the place of its canonical state in an order.
+fn place_table(
+    alloc: Global,
+    canon: &[u32],
+    order: &[u32],
+    states: u32,
+) -> Result<Vec<u32>, AllocError>
+    requires canon { All (λ state. state < states) canon.now }
+    requires below { All (λ state. state < states) order.now }
+    requires different { AllPairs (λ j k. j ≢ k) order.now }
+    requires some { 0 < length order.now }
+    requires few { length order.now ≤ states }
+    ensures { IfOk result (λ table. ArePlaces canon.now order.now states table.items) }
+{
+    let numbers = numbers(alloc, order, states)?;
+    let table = class_numbers(alloc, canon, numbers.as_slice())?;
+    Ok(table)
+}
+
+/// The automaton over the first of some rows and those behind it, with the flags of an order's states.
+fn over_rows(
+    alloc: Global,
+    a: &Auto,
+    order: &[u32],
+    diagrams: Diagrams,
+    mut rows: Vec<Node>,
+) -> Result<Auto, AllocError>
+    requires order { All (λ state. state < length a.now.accept) order.now }
+    requires some { 0 < length rows.items }
+    requires rows { AreRowsOver a.now order.now diagrams rows.items }
+    ensures { IfOk result (IsOverRows a.now order.now diagrams rows.items) }
+{
+    let accept = flags(alloc, a, order)?;
+    let tracks = a.tracks().to_vec(alloc)?;
     let first = rows.remove(0);
     Ok(Auto::from_diagrams(tracks, diagrams, first, rows, accept))
 }
@@ -145,7 +171,8 @@ fn flags(alloc: Global, a: &Auto, order: &[u32]) -> Result<Vec<bool>, AllocError
 /// row of each class. The answer has no node that its rows don't reach.
 pub fn reduce(alloc: Global, a: &Auto) -> Result<Auto, AllocError>
     ensures tracks { IfOk result (λ m. m.tracks ≡ a.now.tracks) }
-    ensures words { IfOk result (λ m. (word : List ℕ) → IsWord (length a.now.tracks) word → Accepts m word ↔ Accepts a.now word) }
+    ensures words { IfOk result
+        (λ m. (word : List ℕ) → IsWord (length a.now.tracks) word → Accepts m word ↔ Accepts a.now word) }
     ensures reduced { IfOk result IsReduced }
     ensures numbered { IfOk result IsNumberedBreadthFirst }
     ensures fewer { IfOk result (λ m. length m.accept ≤ length a.now.accept) }
@@ -160,8 +187,8 @@ fn quotient(alloc: Global, a: &Auto) -> Result<Auto, AllocError>
     ensures { IfOk result (IsQuotient a.now) }
 {
     let canon = canonical(alloc, a)?;
-    let mut memo = RoundMemo::new(alloc, a.diagrams().len())?;
-    let order = breadth_first(alloc, a, canon.as_slice(), &mut memo)?;
-    let m = over_places(alloc, a, canon.as_slice(), order.as_slice(), &mut memo)?;
+    let mut kept = Kept::new(alloc, a.diagrams().len())?;
+    let order = breadth_first(alloc, a, canon.as_slice(), &mut kept)?;
+    let m = over_places(alloc, a, canon.as_slice(), order.as_slice(), &mut kept.memo)?;
     Ok(m)
 }

@@ -1,9 +1,10 @@
 //! Whether a repeated first letter ever matters.
 ghost use Rattle.std.specs.Prelude.{◌≡◌, ◌↔◌, ◌<◌, ℕ, length, slice_get, Some, IfOk, IsTrue};
-ghost use Rattle.letter_diagram.specs.Diagram.{map_at, Grows};
+ghost use Rattle.letter_diagram.specs.Diagram.{Grows};
 ghost use Rattle.auto_core.specs.Automaton.{IsAutomaton};
 ghost use Rattle.auto_core.specs.Integers.{DecidesIntegers};
 ghost use Rattle.auto_core.specs.Reduced.{IsReduced};
+ghost use Rattle.auto_reduce.specs.Stable.{Keeps};
 
 use crate::quotient::reduce;
 use auto_core::Auto;
@@ -42,7 +43,7 @@ fn signs_stay(m: &Auto) -> Result<bool, AllocError>
 fn keeps(diagrams: &mut Diagrams, first: Node, row: Node, state: u32) -> Result<bool, AllocError>
     requires first_known { first < length diagrams.old }
     requires row_known { row < length diagrams.old }
-    ensures keeps { IfOk result (λ keeps. IsTrue keeps ↔ ((letter : ℕ) → map_at diagrams.old first letter ≡ state → map_at diagrams.old row letter ≡ state)) }
+    ensures keeps { IfOk result (λ keeps. IsTrue keeps ↔ Keeps diagrams.old first row state) }
     ensures grows { Grows diagrams.old diagrams.new }
 {
     let mut pairs = Pairs::new(diagrams.alloc());
@@ -52,7 +53,8 @@ fn keeps(diagrams: &mut Diagrams, first: Node, row: Node, state: u32) -> Result<
 
 /// Whether no pair leaves a state.
 fn each_keeps(pairs: &[(u32, u32)], state: u32) -> bool
-    ensures { IsTrue result ↔ ((number before after : ℕ) → slice_get pairs.now number ≡ Some (before, after) → before ≡ state → after ≡ state) }
+    ensures { IsTrue result ↔ ((number before after : ℕ) → slice_get pairs.now number ≡ Some (before, after)
+        → before ≡ state → after ≡ state) }
 {
     for pair in pairs {
         if pair.0 == state && pair.1 != state {

@@ -1,13 +1,12 @@
 //! The canonical states to which a row leads and that were not met before it.
-ghost use Rattle.std.specs.Prelude.{[], ◌∷◌, ◌++◌, ◌≡◌, ◌≢◌, ◌<◌, ◌⊎◌, ℕ, true, false, length, slice_index_or, slice_set, IfOk, OnOk, Contains, AllPairs};
+ghost use Rattle.std.specs.Prelude.{[], ◌≡◌, ◌≢◌, ◌<◌, ℕ, true, false, length, slice_index_or, slice_set, IfOk, OnOk, Contains, AllPairs};
 ghost use Rattle.letter_diagram.specs.Diagram.{map_at, top_track, Grows};
-ghost use Rattle.auto_reduce.specs.Leading.{entry_at};
-ghost use Rattle.auto_reduce.specs.Unmet.{AddsRow, IsMetLeaf, IsPruned, RemembersPruned, AreDone, AreDoneWith, AreDoneBut, Finds};
+ghost use Rattle.auto_reduce.specs.Unmet.{entry_at, AddsRow, IsMetLeaf, IsPruned, RemembersPruned, StandsFor, AreDone, AreDoneWith, AreDoneBut, Finds};
 
-use crate::leading::lead_nodes;
 use crate::order::Order;
-use crate::round_memo::RoundMemo;
-use letter_diagram::{Diagrams, Node, Shape};
+use auto_refine::{RoundMemo, lead_nodes};
+use letter_diagram::{Diagrams, Memo, Node, Shape};
+use limits::MOST_TRACKS;
 use std::alloc::{AllocError, Global};
 use std::marker::Model;
 
@@ -28,8 +27,7 @@ impl Model for Done {
 impl Done {
     /// None of so many nodes is done.
     pub fn new(alloc: Global, nodes: usize) -> Result<Self, AllocError>
-        ensures none { IfOk result (λ done. (node : ℕ) → slice_index_or done node false ≡ false) }
-        ensures len { IfOk result (λ done. length done ≡ nodes) }
+        ensures { IfOk result (λ done. (node : ℕ) → slice_index_or done node false ≡ false) }
     {
         Ok(Done {
             nodes: vec![in alloc; false; nodes]?,
@@ -60,13 +58,49 @@ impl Done {
     }
 
     fn remove_all(&mut self, nodes: &[Node])
-        ensures { (node : ℕ) → slice_index_or self.new node false ≡ true → (slice_index_or self.old node false ≡ true) × ¬ Contains nodes.now node }
+        ensures { (node : ℕ) → slice_index_or self.new node false ≡ true
+            → (slice_index_or self.old node false ≡ true) × ¬ Contains nodes.now node }
     {
-        let _ = &self.nodes;
+        let _ = &self.nodes; // for its invariant
         for node in nodes {
             self.remove(*node);
         }
     }
+}
+
+/// Nodes of one `Diagrams` whose values stand for canonical states.
+#[derive(Drop)]
+pub struct Rows<'a> {
+    pub from: &'a Diagrams,
+    pub canon: &'a [u32],
+}
+
+/// What one row leaves to the next: which nodes are done, and room for the nodes that it passes and for answers.
+#[derive(Drop)]
+pub struct Kept {
+    done: Done,
+    passed: Vec<Node>,
+    pub memo: RoundMemo,
+}
+
+impl Kept {
+    /// None of so many nodes is done.
+    pub fn new(alloc: Global, nodes: usize) -> Result<Self, AllocError>
+        ensures { IfOk result (λ kept. (node : ℕ) → slice_index_or kept.done node false ≡ false) }
+    {
+        Ok(Kept {
+            done: Done::new(alloc, nodes)?,
+            passed: Vec::new(alloc),
+            memo: RoundMemo::new(alloc, nodes)?,
+        })
+    }
+}
+
+/// States that were met, and a leaf that stands for all of them.
+#[derive(Drop)]
+struct Met<'a> {
+    order: &'a Order,
+    leaf: Node,
 }
 
 /// The canonical states that were found beside the order.
@@ -94,151 +128,142 @@ fn with_state(order: &Order, found: Unmet, state: u32) -> Unmet
 /// What was found, with the canonical states to which a node leads. Stops where several were found. The nodes that it passes are noted
 /// as done, and as passed: where several were found they aren't done. Costs the nodes that are not done.
 fn unmet_states(
-    from: &Diagrams,
+    rows: &Rows,
     node: Node,
-    canon: &[u32],
     order: &Order,
     found: Unmet,
-    done: &mut Done,
-    passed: &mut Vec<Node>,
+    kept: &mut Kept,
 ) -> Result<Unmet, AllocError>
-    requires known { node < length from.now }
-    requires leaves { (letter : ℕ) → map_at from.now node letter < length canon.now }
-    requires done { AreDoneWith from.now canon.now order.now found done.old }
-    requires passed { AreDoneBut from.now canon.now order.now passed.old.items done.old }
-    ensures finds { IfOk result (Finds order.now found (entry_at canon.now from.now node)) }
-    ensures done { IfOk result (λ unmet. AreDoneWith from.now canon.now order.now unmet done.new) }
-    ensures passed { OnOk result (AreDoneBut from.now canon.now order.now passed.new.items done.new) }
+    requires known { node < length rows.now.from.now }
+    requires leaves { (letter : ℕ) → map_at rows.now.from.now node letter < length rows.now.canon.now }
+    requires done { AreDoneWith rows.now.from.now rows.now.canon.now order.now found kept.old.done }
+    requires passed { AreDoneBut rows.now.from.now rows.now.canon.now order.now kept.old.passed.items kept.old.done }
+    ensures finds { IfOk result (Finds order.now found (entry_at rows.now.canon.now rows.now.from.now node)) }
+    ensures done { IfOk result
+        (λ unmet. AreDoneWith rows.now.from.now rows.now.canon.now order.now unmet kept.new.done) }
+    ensures passed { OnOk result
+        (AreDoneBut rows.now.from.now rows.now.canon.now order.now kept.new.passed.items kept.new.done) }
 {
     if let Unmet::Several = found {
         return Ok(Unmet::Several);
     }
-    if done.has(node) {
+    if kept.done.has(node) {
         return Ok(found);
     }
-    let unmet = match from.shape(node) {
-        Shape::Leaf(state) => with_state(order, found, canon[state as usize]),
+    let unmet = match rows.from.shape(node) {
+        Shape::Leaf(state) => with_state(order, found, rows.canon[state as usize]),
         Shape::Test { low, high, .. } => {
-            let low = unmet_states(from, low, canon, order, found, done, passed)?;
-            unmet_states(from, high, canon, order, low, done, passed)?
+            let low = unmet_states(rows, low, order, found, kept)?;
+            unmet_states(rows, high, order, low, kept)?
         }
     };
-    passed.push(node)?;
-    done.add(node);
+    kept.passed.push(node)?;
+    kept.done.add(node);
     Ok(unmet)
 }
 
 /// The leaf of a state, or where it was met that of a state that was met.
-fn pruned_leaf(order: &Order, met: Node, to: &mut Diagrams, state: u32) -> Result<Node, AllocError>
-    requires { IsMetLeaf to.old order.now met }
+fn pruned_leaf(met: &Met, to: &mut Diagrams, state: u32) -> Result<Node, AllocError>
+    requires { IsMetLeaf to.old met.now.order.now met.now.leaf }
     ensures known { IfOk result (λ leaf. leaf < length to.new) }
-    ensures top { IfOk result (λ leaf. top_track to.new leaf ≡ 20) }
-    ensures map { IfOk result (λ leaf. (letter : ℕ) → (map_at to.new leaf letter ≡ state) ⊎ (Contains order.now (map_at to.new leaf letter) × Contains order.now state)) }
+    ensures top { IfOk result (λ leaf. top_track to.new leaf ≡ MOST_TRACKS) }
+    ensures map { IfOk result (λ leaf. (letter : ℕ) → StandsFor met.now.order.now (map_at to.new leaf letter) state) }
     ensures grows { Grows to.old to.new }
 {
-    if order.has(state) {
-        return Ok(met);
+    if met.order.has(state) {
+        return Ok(met.leaf);
     }
     let leaf = to.leaf(state)?;
     Ok(leaf)
 }
 
-/// The node in `to` of a row of `from`, led to canonical states, where states that were met may stand for one another. Nodes that lead to such states alone
-/// are noted as done, and passed over from then on: `met` stands for them.
+/// The node in `to` of a row, led to canonical states, where states that were met may stand for one another. Nodes that lead to such
+/// states alone are noted as done, and passed over from then on: the leaf of such a state stands for them.
 fn pruned(
-    from: &Diagrams,
+    rows: &Rows,
     node: Node,
-    canon: &[u32],
-    order: &Order,
-    met: Node,
+    met: &Met,
     to: &mut Diagrams,
-    memo: &mut RoundMemo,
-    done: &mut Done,
+    kept: &mut Kept,
 ) -> Result<Node, AllocError>
-    requires known { node < length from.now }
-    requires leaves { (letter : ℕ) → map_at from.now node letter < length canon.now }
-    requires met { IsMetLeaf to.old order.now met }
-    requires remembered { RemembersPruned from.now to.old canon.now order.now memo.old }
-    requires done { AreDone from.now canon.now order.now done.old }
-    ensures pruned { IfOk result (λ pruned. IsPruned from.now to.new canon.now order.now node pruned) }
-    ensures remembered { OnOk result (RemembersPruned from.now to.new canon.now order.now memo.new) }
-    ensures done { OnOk result (AreDone from.now canon.now order.now done.new) }
+    requires known { node < length rows.now.from.now }
+    requires leaves { (letter : ℕ) → map_at rows.now.from.now node letter < length rows.now.canon.now }
+    requires met { IsMetLeaf to.old met.now.order.now met.now.leaf }
+    requires remembered { RemembersPruned rows.now.from.now to.old rows.now.canon.now met.now.order.now kept.old.memo }
+    requires done { AreDone rows.now.from.now rows.now.canon.now met.now.order.now kept.old.done }
+    ensures pruned { IfOk result (IsPruned rows.now.from.now to.new rows.now.canon.now met.now.order.now node) }
+    ensures remembered { OnOk result
+        (RemembersPruned rows.now.from.now to.new rows.now.canon.now met.now.order.now kept.new.memo) }
+    ensures done { OnOk result (AreDone rows.now.from.now rows.now.canon.now met.now.order.now kept.new.done) }
     ensures grows { Grows to.old to.new }
 {
-    let shape = from.shape(node);
-    if done.has(node) {
-        return Ok(met);
+    let shape = rows.from.shape(node);
+    if kept.done.has(node) {
+        return Ok(met.leaf);
     }
-    if let Some(known) = memo.get(node) {
-        return Ok(known);
+    if let Some(made) = kept.memo.answer(node) {
+        return Ok(made);
     }
     let made = match shape {
-        Shape::Leaf(state) => pruned_leaf(order, met, to, canon[state as usize])?,
+        Shape::Leaf(state) => pruned_leaf(met, to, rows.canon[state as usize])?,
         Shape::Test { track, low, high } => {
-            let low = pruned(from, low, canon, order, met, to, memo, done)?;
-            let high = pruned(from, high, canon, order, met, to, memo, done)?;
+            let low = pruned(rows, low, met, to, kept)?;
+            let high = pruned(rows, high, met, to, kept)?;
             to.node(track, low, high)?
         }
     };
-    memo.insert(node, made)?;
-    if to.same_map(made, met) {
-        done.add(node);
+    kept.memo.remember(node, made)?;
+    if to.same_map(made, met.leaf) {
+        kept.done.add(node);
     }
     Ok(made)
 }
 
-/// The same as `add_row`, by a diagram in which the states of the order stand for one another, with room for so many nodes.
+/// The same as `add_row`, by a diagram in which the states of the order stand for one another.
 fn add_several(
     alloc: Global,
-    from: &Diagrams,
+    rows: &Rows,
     row: Node,
-    canon: &[u32],
     order: &mut Order,
-    done: &mut Done,
-    memo: &mut RoundMemo,
-    room: usize,
+    kept: &mut Kept,
 ) -> Result<(), AllocError>
-    requires known { row < length from.now }
-    requires leaves { (letter : ℕ) → map_at from.now row letter < length canon.now }
+    requires known { row < length rows.now.from.now }
+    requires leaves { (letter : ℕ) → map_at rows.now.from.now row letter < length rows.now.canon.now }
     requires some { 0 < length order.old }
-    requires done { AreDone from.now canon.now order.old done.old }
-    ensures adds { OnOk result (AddsRow (entry_at canon.now from.now row) order.old order.new) }
+    requires done { AreDone rows.now.from.now rows.now.canon.now order.old kept.old.done }
+    ensures adds { OnOk result (AddsRow (entry_at rows.now.canon.now rows.now.from.now row) order.old order.new) }
     ensures different { OnOk result (AllPairs (λ j k. j ≢ k) order.new) }
-    ensures done { OnOk result (AreDone from.now canon.now order.new done.new) }
+    ensures done { OnOk result (AreDone rows.now.from.now rows.now.canon.now order.new kept.new.done) }
 {
-    let mut to = Diagrams::with_capacity(alloc, room)?;
-    let met = to.leaf(order.as_slice()[0])?;
-    memo.clear();
-    let unmet = pruned(from, row, canon, order, met, &mut to, memo, done)?;
+    let mut to = Diagrams::with_capacity(alloc, kept.passed.len())?;
+    let leaf = to.leaf(order.as_slice()[0])?;
+    kept.memo.clear();
+    let unmet = pruned(rows, row, &Met { order, leaf }, &mut to, kept)?;
     let leaves = to.leaves(unmet)?;
     order.add_all(leaves.as_slice())?;
     Ok(())
 }
 
 /// Puts the canonical states to which a row leads and that are not in the order at its end, by the least letters that lead to them.
-/// Makes a diagram only where there are several. Costs the nodes of the row that are not done. What is in `passed` and `memo` before
-/// doesn't matter: they lend their room to one row after another.
+/// Makes a diagram only where there are several. Costs the nodes of the row that are not done.
 pub fn add_row(
     alloc: Global,
-    from: &Diagrams,
+    rows: &Rows,
     row: Node,
-    canon: &[u32],
     order: &mut Order,
-    done: &mut Done,
-    passed: &mut Vec<Node>,
-    memo: &mut RoundMemo,
+    kept: &mut Kept,
 ) -> Result<(), AllocError>
-    requires known { row < length from.now }
-    requires leaves { (letter : ℕ) → map_at from.now row letter < length canon.now }
+    requires known { row < length rows.now.from.now }
+    requires leaves { (letter : ℕ) → map_at rows.now.from.now row letter < length rows.now.canon.now }
     requires some { 0 < length order.old }
-    requires done { AreDone from.now canon.now order.old done.old }
-    ensures adds { OnOk result (AddsRow (entry_at canon.now from.now row) order.old order.new) }
+    requires done { AreDone rows.now.from.now rows.now.canon.now order.old kept.old.done }
+    ensures adds { OnOk result (AddsRow (entry_at rows.now.canon.now rows.now.from.now row) order.old order.new) }
     ensures different { OnOk result (AllPairs (λ j k. j ≢ k) order.new) }
-    ensures done { OnOk result (AreDone from.now canon.now order.new done.new) }
+    ensures done { OnOk result (AreDone rows.now.from.now rows.now.canon.now order.new kept.new.done) }
 {
-    let _ = order.as_slice();
-    passed.clear();
-    let unmet = unmet_states(from, row, canon, order, Unmet::Nothing, done, passed)?;
+    let _ = order.as_slice(); // for its invariant
+    kept.passed.clear();
+    let unmet = unmet_states(rows, row, order, Unmet::Nothing, kept)?;
     match unmet {
         Unmet::Nothing => Ok(()),
         Unmet::One(state) => {
@@ -246,8 +271,8 @@ pub fn add_row(
             Ok(())
         }
         Unmet::Several => {
-            done.remove_all(passed.as_slice());
-            add_several(alloc, from, row, canon, order, done, memo, passed.len())?;
+            kept.done.remove_all(kept.passed.as_slice());
+            add_several(alloc, rows, row, order, kept)?;
             Ok(())
         }
     }

@@ -3,13 +3,14 @@ use Rattle.std.proofs.Common.{◌≡◌, ℕ, suc, ℤ, pos, ◌+ℤ◌, ◌*ℤ
 use Rattle.std.specs.Int.{int_shr}
 use Rattle.std.proofs.lemmas.Int.{ints}
 use Rattle.track_word.specs.Word.{integer_bit, letter_of, letters_below}
+use Rattle.track_word.proofs.Spelling.{integer_bit-lt}
 use Rattle.auto_core.proofs.Prefixes.{int_shr-none}
 use Rattle.auto_search.specs.declared.axis.Axis.{Axis}
 use Rattle.auto_search.specs.declared.ray.Ray.{Ray}
 use Rattle.auto_search.specs.declared.way.Way.{Way}
 use Rattle.auto_search.specs.Way.{IsWay, IsSlope, tuple_at}
 use Rattle.auto_search.specs.Bits.{number, sum_at, carry, letter_at, letters, fall, rise, IsAxis, IsRay}
-use Rattle.auto_search.proofs.Sums.{integer_bit-lt, added, int_shr-suc, each_slope, times-double, times-add, carry-step, letter_of-set2}
+use Rattle.auto_search.proofs.Sums.{added, int_shr-suc, each_slope, times-double, times-add, carry-step, letter_of-set2}
 
 -- the value at so many steps from the near end
 abbrev pub along : Axis → ℤ → ℕ → ℤ
@@ -69,7 +70,8 @@ along-is value d near track t axis slope is =
 
 module _ (way : Way) (near : ℕ) {steps : ℕ} (ray : Ray) (is_way : IsWay way) (is : IsRay way near steps ray) where
   -- the letter at sums whose bits are those of two values
-  pub letter-is : (place sx sy : ℕ) (x y : ℤ) → place ≤ ray.top → sx % 2 ≡ integer_bit x place → sy % 2 ≡ integer_bit y place → letter_at ray place sx sy ≡ letter_of (set (set way.fixed.now way.x_track x) way.y_track y) place
+  pub letter-is : (place sx sy : ℕ) (x y : ℤ) → place ≤ ray.top → sx % 2 ≡ integer_bit x place → sy % 2 ≡ integer_bit y place
+      → letter_at ray place sx sy ≡ letter_of (set (set way.fixed.now way.x_track x) way.y_track y) place
   letter-is place sx sy x y small hx hy =
       let still = is.still place small in
       let both = letter_of-set2 way.fixed.now way.x_track way.y_track place x y is_way.x_track is_way.y_track is_way.apart in
@@ -82,10 +84,14 @@ module _ (way : Way) (near : ℕ) {steps : ℕ} (ray : Ray) (is_way : IsWay way)
       rw (ex, ey) refl
 
   -- the last letters of the tuple at a distance
-  pub letters-are : (bits : List Bool) (hi : ℕ) → length bits ≤ ray.top → letters ray bits ≡ letters_below (set (set way.fixed.now way.x_track (along ray.x way.dx (whole hi bits))) way.y_track (along ray.y way.dy (whole hi bits))) (length bits)
+  pub letters-are : (bits : List Bool) (hi : ℕ) → length bits ≤ ray.top
+      → letters ray bits ≡ letters_below
+      (set (set way.fixed.now way.x_track (along ray.x way.dx (whole hi bits))) way.y_track (along ray.y way.dy (whole hi bits))) (length bits)
   letters-are [] hi small = refl
   letters-are (bit ∷ bits) hi small =
-      let first = letter-is (length bits) (sum_at ray.x (length bits) (carry ray.x bits) bit) (sum_at ray.y (length bits) (carry ray.y bits) bit) (along ray.x way.dx (whole hi (bit ∷ bits))) (along ray.y way.dy (whole hi (bit ∷ bits))) (omega (arith, small))
+      let first =
+      letter-is (length bits) (sum_at ray.x (length bits) (carry ray.x bits) bit) (sum_at ray.y (length bits) (carry ray.y bits) bit)
+      (along ray.x way.dx (whole hi (bit ∷ bits))) (along ray.y way.dy (whole hi (bit ∷ bits))) (omega (arith, small))
       (sum-bit ray.x way.dx is_way.dx is.x.zero is.x.one bit bits hi) (sum-bit ray.y way.dy is_way.dy is.y.zero is.y.one bit bits hi) in
       let others = letters-are bits (2 * hi + bit_number bit) (omega (arith, small)) in
       let same = whole-cons hi bit bits in

@@ -6,6 +6,7 @@ use Rattle.std.proofs.lemmas.List.{length-set, length-append}
 use Rattle.std.proofs.lemmas.Nat.{pow-add}
 use Rattle.std.proofs.Math.Nat.{div-eq_of_lt, mul-le-mul_left}
 use Rattle.track_word.specs.Word.{integer_bit, letter_of, letters_below, spelled, FitsBelow, BitsSpell, RepeatKeepsValues, EqualValuesEqualWords}
+use Rattle.track_word.proofs.Spelling.{integer_bit-lt}
 use Rattle.auto_core.specs.Automaton.{Automaton, IsAutomaton, Accepts, first_state, next_state, run, state_of, is_final}
 use Rattle.auto_core.specs.Integers.{DecidesIntegers, IsAccepted}
 use Rattle.auto_core.proofs.Members.{accepted-spelled}
@@ -16,7 +17,7 @@ use Rattle.auto_search.specs.Way.{IsWay, IsSlope, tuple_at, IsHit}
 use Rattle.auto_search.specs.Bits.{number, sum_at, carry, letter_at, IsAxis, IsRay}
 use Rattle.auto_search.specs.Search.{Leads, sign_of}
 use Rattle.auto_search.specs.Heads.{head_number, read, zeros, headed}
-use Rattle.auto_search.proofs.Sums.{integer_bit-lt, added, int_shr-suc, each_slope, times-double, carry-step, letter_of-set2}
+use Rattle.auto_search.proofs.Sums.{added, int_shr-suc, each_slope, times-double, carry-step, letter_of-set2}
 use Rattle.auto_search.proofs.Fronts.{pow_le, number-lt}
 use Rattle.auto_search.proofs.Carries.{along, whole, carried, bit_number, added-is, none-times, tuple-is, letters-are}
 use Rattle.auto_search.proofs.Hits.{choice-is, sign-choice, fits-sign, fits-abs, fits-past, base-fits, all-fit}
@@ -70,16 +71,19 @@ module _ (a : Automaton) (way : Way) (near : ℕ) {steps : ℕ} (ray : Ray) (is_
   abbrev pub IsCarried : Axis → ℤ → ℤ → List Bool → ℕ → ℕ → Type 0
   IsCarried axis d z head place c = int_shr z place +ℤ pos axis.zero ≡ int_shr axis.base place +ℤ (pos (head_number head) *ℤ d) +ℤ pos c
 
-  carried-more : (value d z : ℤ) (track : ℕ) (axis : Axis) (bit : Bool) (head : List Bool) (place c : ℕ) → IsSlope d → IsAxis value d near track axis → FitsBelow ray.top axis.base → ray.top ≤ place → IsCarried axis d z (bit ∷ head) place c
+  carried-more : (value d z : ℤ) (track : ℕ) (axis : Axis) (bit : Bool) (head : List Bool) (place c : ℕ) → IsSlope d → IsAxis value d near track axis
+      → FitsBelow ray.top axis.base → ray.top ≤ place → IsCarried axis d z (bit ∷ head) place c
       → IsCarried axis d z head (suc place) (sum_at axis ray.top c bit / 2) × (sum_at axis ray.top c bit % 2 ≡ integer_bit z place)
   carried-more value d z track axis bit head place c slope i short high e =
       let fixed = high-bit axis.base ray.top place high short in
       let a' = rw fixed at (int_shr-suc axis.base place) in
-      carry-step (int_shr z (suc place)) (int_shr z place) (int_shr axis.base (suc place)) (int_shr axis.base place) (pos (head_number head) *ℤ d) (pos (head_number (bit ∷ head)) *ℤ d) (pos (bit_number bit) *ℤ d)
+      carry-step (int_shr z (suc place)) (int_shr z place) (int_shr axis.base (suc place)) (int_shr axis.base place) (pos (head_number head) *ℤ d)
+      (pos (head_number (bit ∷ head)) *ℤ d) (pos (bit_number bit) *ℤ d)
       c (integer_bit axis.base ray.top) (added axis bit) (integer_bit z place) axis.zero
       e a' (int_shr-suc z place) (integer_bit-lt z place) (times-double d slope (head_number head) (bit_number bit)) (added-is axis d bit slope i.zero i.one)
 
-  sign-here : (value d z : ℤ) (track : ℕ) (axis : Axis) (place c : ℕ) → IsSlope d → IsAxis value d near track axis → FitsBelow ray.top axis.base → ray.top ≤ place → IsCarried axis d z [] place c → FitsBelow place z → sign_of axis ray.top c ≡ Some (integer_bit z place)
+  sign-here : (value d z : ℤ) (track : ℕ) (axis : Axis) (place c : ℕ) → IsSlope d → IsAxis value d near track axis → FitsBelow ray.top axis.base
+      → ray.top ≤ place → IsCarried axis d z [] place c → FitsBelow place z → sign_of axis ray.top c ≡ Some (integer_bit z place)
   sign-here value d z track axis place c slope i short high e fits =
       let fixed = high-bit axis.base ray.top place high short in
       let s = fits-sign axis.base place (fits-past axis.base ray.top place high short) in
@@ -91,7 +95,8 @@ module _ (a : Automaton) (way : Way) (near : ℕ) {steps : ℕ} (ray : Ray) (is_
       sign-choice axis ray.top c ∙ choice-is c (axis.zero + integer_bit axis.base ray.top) (integer_bit z place) b (omega (arith, ints, e'))
 
   -- a head leads to the state that the first letters lead to
-  pub read-is : (head : List Bool) (place cx cy : ℕ) → ray.top ≤ place → IsCarried ray.x way.dx x head place cx → IsCarried ray.y way.dy y head place cy → FitsBelow (place + length head) x → FitsBelow (place + length head) y
+  pub read-is : (head : List Bool) (place cx cy : ℕ) → ray.top ≤ place → IsCarried ray.x way.dx x head place cx
+      → IsCarried ray.y way.dy y head place cy → FitsBelow (place + length head) x → FitsBelow (place + length head) y
       → read a ray head cx cy ≡ Some (down a changed place (length head))
   unfolding down
   read-is [] place cx cy high ex ey fx fy =
@@ -107,7 +112,8 @@ module _ (a : Automaton) (way : Way) (near : ℕ) {steps : ℕ} (ray : Ray) (is_
       let sx = sum_at ray.x ray.top cx bit in
       let sy = sum_at ray.y ray.top cy bit in
       let before = read-is head (suc place) (sx / 2) (sy / 2) (omega (arith, high)) hx.0 hy.0 (rw next at fx) (rw next at fy) in
-      ap (option_map (λ state. next_state a state (letter_at ray ray.top sx sy))) before ∙ ap (λ l. Some (next_state a (down a changed (suc place) (length head)) l)) (letter-high place sx sy high hx.1 hy.1)
+      ap (option_map (λ state. next_state a state (letter_at ray ray.top sx sy))) before
+      ∙ ap (λ l. Some (next_state a (down a changed (suc place) (length head)) l)) (letter-high place sx sy high hx.1 hy.1)
 
 head_number-zeros : (head : List Bool) → head_number (head ++ zeros) ≡ head_number head
 head_number-zeros [] = refl
@@ -124,7 +130,8 @@ along-fits-at d axis t steps top n slope b high small =
     let w = pow_le top n high in
     let e : 2 ^ (n + 3) ≡ 2 ^ n * 8 = pow-add 2 n 3 in
     fits-abs (along axis d t) (n + 3) (each_slope (λ d. unsigned_abs (axis.base +ℤ (pos t *ℤ d)) < 2 ^ (n + 3))
-    (omega (arith, ints, b, small, w, e)) (omega (arith, ints, b, small, w, e)) (omega (arith, ints, b, small, w, e)) (omega (arith, ints, b, small, w, e)) (omega (arith, ints, b, small, w, e)) d slope)
+    (omega (arith, ints, b, small, w, e)) (omega (arith, ints, b, small, w, e)) (omega (arith, ints, b, small, w, e))
+    (omega (arith, ints, b, small, w, e)) (omega (arith, ints, b, small, w, e)) d slope)
 
 whole-lt : (head lo : List Bool) → whole (head_number head) lo < 2 ^ (length lo + length head)
 whole-lt head lo =
@@ -138,7 +145,8 @@ whole-lt head lo =
     below hi p q n l m = omega (arith, l, m)
 
 module _ (a : Automaton) (valid : IsAutomaton a) (decides : DecidesIntegers a) (spell : BitsSpell) (keeps : RepeatKeepsValues) (equal : EqualValuesEqualWords)
-    (way : Way) (near : ℕ) {steps : ℕ} (ray : Ray) (is_way : IsWay way) (is : IsRay way near steps ray) (count : length way.fixed.now ≡ length a.tracks) (head lo : List Bool) (size : length lo ≡ ray.top) where
+    (way : Way) (near : ℕ) {steps : ℕ} (ray : Ray) (is_way : IsWay way) (is : IsRay way near steps ray)
+    (count : length way.fixed.now ≡ length a.tracks) (head lo : List Bool) (size : length lo ≡ ray.top) where
   -- the state of a head decides, together with the bits after it, whether the tuple is in the set
   pub record Decided (state : ℕ) : Type 0 where
     pub reads : headed a ray head (carry ray.x lo) (carry ray.y lo) ≡ Some state
@@ -167,8 +175,10 @@ module _ (a : Automaton) (valid : IsAutomaton a) (decides : DecidesIntegers a) (
   reads-here : headed a ray head (carry ray.x lo) (carry ray.y lo) ≡ Some state-here
   unfolding state-here x-here y-here
   reads-here =
-      read-is a way near ray is_way is (along ray.x way.dx (whole (head_number head) lo)) (along ray.y way.dy (whole (head_number head) lo)) (head ++ zeros) (length lo) (carry ray.x lo) (carry ray.y lo) (omega (arith, size))
-      (carried-here (get_or way.fixed.now way.x_track (pos 0)) way.dx way.x_track ray.x is_way.dx is.x) (carried-here (get_or way.fixed.now way.y_track (pos 0)) way.dy way.y_track ray.y is_way.dy is.y)
+      read-is a way near ray is_way is (along ray.x way.dx (whole (head_number head) lo)) (along ray.y way.dy (whole (head_number head) lo))
+      (head ++ zeros) (length lo) (carry ray.x lo) (carry ray.y lo) (omega (arith, size))
+      (carried-here (get_or way.fixed.now way.x_track (pos 0)) way.dx way.x_track ray.x is_way.dx is.x)
+      (carried-here (get_or way.fixed.now way.y_track (pos 0)) way.dy way.y_track ray.y is_way.dy is.y)
       (fits-here way.dx ray.x is_way.dx is.x_fits) (fits-here way.dy ray.y is_way.dy is.y_fits)
 
   tuple-here : List ℤ
@@ -191,7 +201,9 @@ module _ (a : Automaton) (valid : IsAutomaton a) (decides : DecidesIntegers a) (
   unfolding tuple-here
   accepted-here =
       accepted-spelled a tuple-here (length lo + length (head ++ zeros)) valid
-      (length-set (set way.fixed.now way.x_track (along ray.x way.dx (whole (head_number head) lo))) way.y_track (along ray.y way.dy (whole (head_number head) lo)) ∙ length-set way.fixed.now way.x_track (along ray.x way.dx (whole (head_number head) lo)) ∙ count)
+      (length-set (set way.fixed.now way.x_track (along ray.x way.dx (whole (head_number head) lo))) way.y_track
+      (along ray.y way.dy (whole (head_number head) lo))
+      ∙ length-set way.fixed.now way.x_track (along ray.x way.dx (whole (head_number head) lo)) ∙ count)
       decides all-here spell keeps equal
 
   is-here : tuple_at way (near + whole (head_number head) lo) ≡ tuple-here

@@ -10,6 +10,7 @@ use Rattle.std.proofs.lemmas.Nat.Bits.{bit_at-zero, bit_at-pow_same}
 use Rattle.std.proofs.lemmas.Option.{option_and_then_some}
 use Rattle.std.proofs.Math.Nat.{div-eq_of_lt, lt-div-mul-add}
 use Rattle.track_word.specs.Word.{integer_bit, letter_of, letters_below, spelled, FitsBelow, BitsSpell, RepeatKeepsValues, EqualValuesEqualWords}
+use Rattle.track_word.proofs.Spelling.{integer_bit-lt, letter-lt}
 use Rattle.auto_core.specs.Automaton.{Automaton, IsAutomaton, Accepts, width, first_state}
 use Rattle.auto_core.specs.Integers.{DecidesIntegers}
 use Rattle.auto_core.proofs.Members.{accepted-spelled}
@@ -19,7 +20,7 @@ use Rattle.auto_search.specs.declared.way.Way.{Way}
 use Rattle.auto_search.specs.Way.{IsWay, IsSlope, tuple_at, IsHit, IsLeastFound}
 use Rattle.auto_search.specs.Bits.{number, carry, letter_at, letters, slot_of, fall, rise, IsAxis, IsRay}
 use Rattle.auto_search.specs.Search.{Suits, Leads, Completes, IsDead, IsLeastAhead, sign_of, started, IsStart}
-use Rattle.auto_search.proofs.Sums.{integer_bit-lt, each_slope, carry-le, letter-lt}
+use Rattle.auto_search.proofs.Sums.{each_slope, carry-le}
 use Rattle.auto_search.proofs.Fronts.{option_map-some, slot-parts, pow_le}
 use Rattle.auto_search.proofs.Carries.{along, whole, carried, none-times, letter-is, tuple-is, letters-are}
 
@@ -78,7 +79,8 @@ unfolding choice
 sign-choice axis place c = refl
 
 -- the sign bit for what all bits carry over
-module _ (value d : ℤ) (near track place : ℕ) (axis : Axis) (slope : IsSlope d) (is : IsAxis value d near track axis) (short : FitsBelow place axis.base) (bits : List Bool) (size : length bits ≡ place) where
+module _ (value d : ℤ) (near track place : ℕ) (axis : Axis) (slope : IsSlope d) (is : IsAxis value d near track axis)
+    (short : FitsBelow place axis.base) (bits : List Bool) (size : length bits ≡ place) where
   top : int_shr (along axis d (number bits)) place +ℤ pos (axis.zero + integer_bit axis.base place) ≡ pos (carry axis bits)
   top =
       let c = carried axis d slope is.zero is.one bits 0 in
@@ -153,7 +155,8 @@ module _ (a : Automaton) (valid : IsAutomaton a) (decides : DecidesIntegers a) (
           let y = pos (sy % 2 * 2 ^ place) in
           let e = letter-is way near ray is_way is place sx sy x y h (bit-at sx place) (bit-at sy place) in
           let l = letter-lt (set (set way.fixed.now way.x_track x) way.y_track y) place in
-          let s : length (set (set way.fixed.now way.x_track x) way.y_track y) ≡ length a.tracks = length-set (set way.fixed.now way.x_track x) way.y_track y ∙ length-set way.fixed.now way.x_track x ∙ count in
+          let s : length (set (set way.fixed.now way.x_track x) way.y_track y) ≡ length a.tracks =
+          length-set (set way.fixed.now way.x_track x) way.y_track y ∙ length-set way.fixed.now way.x_track x ∙ count in
           rw e (subst (λ n. letter_of (set (set way.fixed.now way.x_track x) way.y_track y) place < 2 ^ n) s l)
 
   module _ (front : List (Option ℕ)) (start : IsStart a ray front) (bits : List Bool) (size : length bits ≡ ray.top) where
@@ -207,12 +210,19 @@ module _ (a : Automaton) (valid : IsAutomaton a) (decides : DecidesIntegers a) (
     pub hit-from : Completes a ray front bits → IsHit a way (near + number bits)
     unfolding x-value y-value
     hit-from done =
-        let f = option_and_then_some (λ (sx : ℕ). option_map (λ (sy : ℕ). first_state a (letter_at ray ray.top sx sy)) (sign_of ray.y ray.top (carry ray.y bits))) (sign_of ray.x ray.top (carry ray.x bits)) done.state (sym first-is ∙ done.found) in
+        let f =
+        option_and_then_some
+        (λ (sx : ℕ). option_map (λ (sy : ℕ). first_state a (letter_at ray ray.top sx sy)) (sign_of ray.y ray.top (carry ray.y bits)))
+        (sign_of ray.x ray.top (carry ray.x bits)) done.state (sym first-is ∙ done.found) in
         f (λ sx ex e.
         let some = option_map-some (λ (sy : ℕ). first_state a (letter_at ray ray.top sx sy)) (sign_of ray.y ray.top (carry ray.y bits)) done.state e in
         let x = sign-to (get_or way.fixed.now way.x_track (pos 0)) way.dx near way.x_track ray.top ray.x is_way.dx is.x (base-fits ray.x steps ray.top is.x_fits) bits size sx ex in
         let y = sign-to (get_or way.fixed.now way.y_track (pos 0)) way.dy near way.y_track ray.top ray.y is_way.dy is.y (base-fits ray.y steps ray.top is.y_fits) bits size some.0 some.1 in
-        let state : done.state ≡ first_state a (letter_of tuple (length bits)) = sym some.2 ∙ ap (first_state a) (ap (λ s. letter_at ray ray.top s some.0) (sym x.1) ∙ ap (λ s. letter_at ray ray.top (integer_bit x-value ray.top) s) (sym y.1) ∙ top-letter) in
+        let state : done.state ≡ first_state a (letter_of tuple (length bits)) =
+        sym some.2
+        ∙ ap (first_state a)
+        (ap (λ s. letter_at ray ray.top s some.0) (sym x.1) ∙ ap (λ s. letter_at ray ray.top (integer_bit x-value ray.top) s) (sym y.1)
+        ∙ top-letter) in
         let accepted = subst (λ (T : Type 0). T) (leads-is done.state state) done.leads in
         rw is-tuple ((accepted-spelled a tuple (length bits) valid sized decides (fit x.0 y.0) spell keeps equal).0 accepted))
 

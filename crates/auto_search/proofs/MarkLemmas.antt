@@ -30,7 +30,8 @@ IsMarked-set failed cell slot small inside = record {
 }
 
 -- marks at the states of a front that no bits complete
-pub Remembers-marked : (a : Automaton) (ray : Ray) (old new : List ℕ) (place state slot : ℕ) (front : List (Option ℕ)) → Remembers a ray old → state < length a.accept → IsMarked old new (cell_of a place state) slot
+pub Remembers-marked : (a : Automaton) (ray : Ray) (old new : List ℕ) (place state slot : ℕ) (front : List (Option ℕ)) → Remembers a ray old
+    → state < length a.accept → IsMarked old new (cell_of a place state) slot
     → get_or front slot None ≡ Some state → IsDead a ray place front → Remembers a ray new
 Remembers-marked a ray old new place state slot front known small is found dead = record {
   dead = λ bits state' below marked leads. elim (is.marks (cell_of a (length bits) state') (slot_of ray bits) marked) [

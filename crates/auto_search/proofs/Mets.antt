@@ -6,11 +6,12 @@ use Rattle.std.proofs.lemmas.List.{length-set, get_or-set_same, get_or-set_other
 use Rattle.auto_core.specs.Automaton.{Automaton}
 use Rattle.auto_search.specs.declared.ray.Ray.{Ray}
 use Rattle.std.proofs.lemmas.Nat.{same_from_place}
+use Rattle.track_word.proofs.Spelling.{integer_bit-lt}
 use Rattle.auto_core.specs.Automaton.{next_state}
 use Rattle.auto_search.specs.Bits.{sum_at, letter_at}
 use Rattle.auto_search.specs.Search.{Suits, IsFront}
 use Rattle.auto_search.specs.Met.{IsAfter, Adds, Walks, HasSizes, Begins}
-use Rattle.auto_search.proofs.Sums.{integer_bit-lt, added-le}
+use Rattle.auto_search.proofs.Sums.{added-le}
 use Rattle.auto_search.proofs.Fronts.{option_map-some, slot-parts}
 use Rattle.auto_search.specs.Heads.{IsTrimmed, headed, IsOpened}
 use Rattle.auto_search.specs.Met.{Trace, up, moment, IsSlot, Entered, Once, Twice, Known, IsFirst, Follows, IsMet, HasPlace, Goes}
@@ -31,7 +32,8 @@ pub grown : Trace → ℕ → List Bool → ℕ → Bool → ℕ → Trace
 grown g n head parent bit key = record { heads = put g.heads n head; parent = put g.parent n parent; bit = put g.bit n bit; key = put g.key n key }
 
 -- what was known stays so
-module _ (g new : Trace) (states slots states' slots' : List ℕ) (len : ℕ) (goes : Goes g new len) (same_states : (j : ℕ) → j < len → get_or states' j 0 ≡ get_or states j 0) (same_slots : (j : ℕ) → j < len → get_or slots' j 0 ≡ get_or slots j 0)
+module _ (g new : Trace) (states slots states' slots' : List ℕ) (len : ℕ) (goes : Goes g new len)
+    (same_states : (j : ℕ) → j < len → get_or states' j 0 ≡ get_or states j 0) (same_slots : (j : ℕ) → j < len → get_or slots' j 0 ≡ get_or slots j 0)
     (len' : ℕ) (more : len ≤ len') where
   Entered-kept : (head : List Bool) (slot state : ℕ) → Entered g states slots len head slot state → Entered new states' slots' len' head slot state
   Entered-kept head slot state e = record {
@@ -73,7 +75,8 @@ module _ (g new : Trace) (states slots states' slots' : List ℕ) (len : ℕ) (g
 -- the moment passes, and there was nothing to enter
 pub met-wait : (a : Automaton) (ray : Ray) (g : Trace) (times states slots : List ℕ) (len starts now : ℕ) → IsMet a ray g times states slots len starts now
     → ((slot state : ℕ) → slot ≡ now → slot < 9 → IsSlot ray slot → headed a ray [] (slot / 3) (slot % 3) ≡ Some state → Entered g states slots len [] slot state)
-    → ((k slot state : ℕ) (bit : Bool) → k < len → slot < 9 → moment k bit slot ≡ now → (g.heads k ≡ [] → bit ≡ true) → IsSlot ray slot → headed a ray (bit ∷ g.heads k) (slot / 3) (slot % 3) ≡ Some state
+    → ((k slot state : ℕ) (bit : Bool) → k < len → slot < 9 → moment k bit slot ≡ now → (g.heads k ≡ [] → bit ≡ true) → IsSlot ray slot
+    → headed a ray (bit ∷ g.heads k) (slot / 3) (slot % 3) ≡ Some state
     → up ray bit slot ≡ get_or slots k 0 → Known g states slots len (bit ∷ g.heads k) slot state)
     → IsMet a ray g times states slots len starts (now + 1)
 met-wait a ray g times states slots len starts now is first here = record {
@@ -149,7 +152,9 @@ module _ (a : Automaton) (ray : Ray) (g : Trace) (times times' states slots : Li
           head = next-goes.heads j h ∙ f.head ∙ ap (λ b. b ∷ g.heads (g.parent j)) (sym nb) ∙ ap (λ l. next.bit j ∷ l) (sym (next-goes.heads (g.parent j) p) ∙ ap next.heads (sym np));
           before = let b = f.before in omega (arith, b, np);
           slot = ap (λ k. get_or (set slots len slot) k 0) np ∙ slot-below (g.parent j) p ∙ f.slot ∙ ap (λ b. up ray b (get_or slots j 0)) (sym nb) ∙ ap (up ray (next.bit j)) (sym ns);
-          key = next-goes.key j h ∙ f.key ∙ ap (λ k. moment k (g.bit j) (get_or slots j 0)) (sym np) ∙ ap (λ b. moment (next.parent j) b (get_or slots j 0)) (sym nb) ∙ ap (moment (next.parent j) (next.bit j)) (sym ns);
+          key =
+              next-goes.key j h ∙ f.key ∙ ap (λ k. moment k (g.bit j) (get_or slots j 0)) (sym np)
+              ∙ ap (λ b. moment (next.parent j) b (get_or slots j 0)) (sym nb) ∙ ap (moment (next.parent j) (next.bit j)) (sym ns);
         })
   ]
 
@@ -160,7 +165,8 @@ module _ (a : Automaton) (ray : Ray) (g : Trace) (times times' states slots : Li
       (once : (slot' state' : ℕ) → slot' < 9 → 1 ≤ get_or times' (state' * 9 + slot') 0 → Once next (set states len state) (set slots len slot) (len + 1) slot' state')
       (twice : (slot' state' : ℕ) → slot' < 9 → 2 ≤ get_or times' (state' * 9 + slot') 0 → Twice next (set states len state) (set slots len slot) (len + 1) slot' state')
       (later : (bit' : Bool) (slot' : ℕ) → now < moment len bit' slot')
-      (first : (slot' state' : ℕ) → slot' ≡ now → slot' < 9 → IsSlot ray slot' → headed a ray [] (slot' / 3) (slot' % 3) ≡ Some state' → Entered next (set states len state) (set slots len slot) (len + 1) [] slot' state')
+      (first : (slot' state' : ℕ) → slot' ≡ now → slot' < 9 → IsSlot ray slot' → headed a ray [] (slot' / 3) (slot' % 3) ≡ Some state'
+      → Entered next (set states len state) (set slots len slot) (len + 1) [] slot' state')
       (here : (k slot' state' : ℕ) (bit' : Bool) → k < len → slot' < 9 → moment k bit' slot' ≡ now → IsSlot ray slot' → headed a ray (bit' ∷ g.heads k) (slot' / 3) (slot' % 3) ≡ Some state'
       → up ray bit' slot' ≡ get_or slots k 0 → Known next (set states len state) (set slots len slot) (len + 1) (bit' ∷ g.heads k) slot' state') where
     pub met-push : IsMet a ray next times' (set states len state) (set slots len slot) (len + 1) starts' (now + 1)
@@ -194,7 +200,9 @@ module _ (a : Automaton) (ray : Ray) (g : Trace) (times times' states slots : Li
         | inr p ↦ rw (last j p h) (rw key-here (omega arith))
       ];
       firsts = λ slot' state' h s fits e. elim (cases_lt slot' now) [
-        | inl below ↦ Entered-kept g next states slots (set states len state) (set slots len slot) len next-goes state-below slot-below (len + 1) (omega arith) [] slot' state' (is.firsts slot' state' below s fits e)
+        | inl below ↦
+            Entered-kept g next states slots (set states len state) (set slots len slot) len next-goes state-below slot-below (len + 1) (omega arith)
+            [] slot' state' (is.firsts slot' state' below s fits e)
         | inr past ↦ first slot' state' (omega (arith, past, h)) s fits e
       ];
       once = once;
@@ -266,10 +274,13 @@ module _ (a : Automaton) (ray : Ray) (suits : Suits a ray) (slot0 state0 : ℕ) 
   child-from slot state small fits e h =
       let sx = sum_at ray.x ray.top (slot / 3) bit in
       let sy = sum_at ray.y ray.top (slot % 3) bit in
-      is.step.at slot small fits.0 fits.1 ∙ ap (option_map (λ (state : ℕ). next_state a state (letter_at ray ray.top sx sy))) (ap (λ k. get_or is.front k None) e ∙ is.alone.there) ∙ sym (led slot fits e) ∙ h
+      is.step.at slot small fits.0 fits.1
+      ∙ ap (option_map (λ (state : ℕ). next_state a state (letter_at ray ray.top sx sy))) (ap (λ k. get_or is.front k None) e ∙ is.alone.there)
+      ∙ sym (led slot fits e) ∙ h
 
 -- one try
-module _ (a : Automaton) (ray : Ray) (suits : Suits a ray) (g : Trace) (times states slots : List ℕ) (len starts entry slot : ℕ) (bit : Bool) (is : IsMet a ray g times states slots len starts (moment entry bit slot))
+module _ (a : Automaton) (ray : Ray) (suits : Suits a ray) (g : Trace) (times states slots : List ℕ) (len starts entry slot : ℕ) (bit : Bool)
+    (is : IsMet a ray g times states slots len starts (moment entry bit slot))
     (place : HasPlace a times states slots len) (within : entry < len) (small : slot < 9) (some : g.heads entry ≡ [] → bit ≡ true)
     (after : List (Option ℕ)) (is_after : IsAfter a ray (get_or slots entry 0) (get_or states entry 0) bit after) (front : IsFront a after) where
   now-late : (slot' : ℕ) → slot' ≡ moment entry bit slot → slot' < 9 → ⊥
@@ -280,7 +291,8 @@ module _ (a : Automaton) (ray : Ray) (suits : Suits a ray) (g : Trace) (times st
       late false slot' e h = omega (arith, e, h)
 
   -- a child at this moment is the front's state
-  child : (k slot' state' : ℕ) (bit' : Bool) → slot' < 9 → moment k bit' slot' ≡ moment entry bit slot → IsSlot ray slot' → headed a ray (bit' ∷ g.heads k) (slot' / 3) (slot' % 3) ≡ Some state' → up ray bit' slot' ≡ get_or slots k 0
+  child : (k slot' state' : ℕ) (bit' : Bool) → slot' < 9 → moment k bit' slot' ≡ moment entry bit slot → IsSlot ray slot'
+      → headed a ray (bit' ∷ g.heads k) (slot' / 3) (slot' % 3) ≡ Some state' → up ray bit' slot' ≡ get_or slots k 0
       → (k ≡ entry) × (bit' ≡ bit) × (slot' ≡ slot) × (get_or after slot None ≡ Some state')
   child k slot' state' bit' s e fits h u =
       let same = moment-same k slot' entry slot bit' bit s small e in
@@ -366,7 +378,10 @@ module _ (a : Automaton) (ray : Ray) (suits : Suits a ray) (g : Trace) (times st
       | inl e ↦
           let same = same_from_place state' slot' state slot 9 s small e in
           record { entry = len; within = omega arith; some = some-here; is_slot = sl-here ∙ sym same.1; is_state = st-here ∙ sym same.0 }
-      | inr ne ↦ Once-kept g g' states slots states' slots' len goes st-below sl-below (len + 1) (omega arith) slot' state' (is.once slot' state' s (rw (get_or-set_other times (state * 9 + slot) (state' * 9 + slot') (get_or times (state * 9 + slot) 0 + 1) 0 ne) at h))
+      | inr ne ↦
+          Once-kept g g' states slots states' slots' len goes st-below sl-below (len + 1) (omega arith) slot' state'
+          (is.once slot' state' s
+          (rw (get_or-set_other times (state * 9 + slot) (state' * 9 + slot') (get_or times (state * 9 + slot) 0 + 1) 0 ne) at h))
     ]
 
     twice' : state < length a.accept → (slot' state' : ℕ) → slot' < 9 → 2 ≤ get_or times' (state' * 9 + slot') 0 → Twice g' states' slots' (len + 1) slot' state'
@@ -390,7 +405,10 @@ module _ (a : Automaton) (ray : Ray) (suits : Suits a ray) (g : Trace) (times st
             second_slot = sl-here ∙ sym same.1;
             second_state = st-here ∙ sym same.0;
           }
-      | inr ne ↦ Twice-kept g g' states slots states' slots' len goes st-below sl-below (len + 1) (omega arith) slot' state' (is.twice slot' state' s (rw (get_or-set_other times (state * 9 + slot) (state' * 9 + slot') (get_or times (state * 9 + slot) 0 + 1) 0 ne) at h))
+      | inr ne ↦
+          Twice-kept g g' states slots states' slots' len goes st-below sl-below (len + 1) (omega arith) slot' state'
+          (is.twice slot' state' s
+          (rw (get_or-set_other times (state * 9 + slot) (state' * 9 + slot') (get_or times (state * 9 + slot) 0 + 1) 0 ne) at h))
     ]
 
     begins' : (j : ℕ) → j < len + 1 → (g'.heads j ≡ []) ↔ (j < starts)
@@ -438,7 +456,8 @@ Goes-trans f g h len len' more p q = record {
 -- a try of a walk
 module _ (a : Automaton) (ray : Ray) (suits : Suits a ray) (times states slots times' states' slots' : List ℕ) (len len' starts now entry slot : ℕ) (bit : Bool)
     (walk : Walks a ray times states slots len times' states' slots' len' starts starts now (moment entry bit slot))
-    (within : entry < len) (small : slot < 9) (may : (bit ≡ true) ⊎ (starts ≤ entry)) (after : List (Option ℕ)) (is_after : IsAfter a ray (get_or slots entry 0) (get_or states entry 0) bit after) (front : IsFront a after) where
+    (within : entry < len) (small : slot < 9) (may : (bit ≡ true) ⊎ (starts ≤ entry)) (after : List (Option ℕ))
+    (is_after : IsAfter a ray (get_or slots entry 0) (get_or states entry 0) bit after) (front : IsFront a after) where
   after-here : IsAfter a ray (get_or slots' entry 0) (get_or states' entry 0) bit after
   after-here = rw (walk.same_slots entry within, walk.same_states entry within) is_after
 
@@ -464,7 +483,8 @@ module _ (a : Automaton) (ray : Ray) (suits : Suits a ray) (times states slots t
         (w.0, rw (← moment-suc entry slot bit) n, w.2);
   }
 
-  pub walk-add : (state : ℕ) → get_or after slot None ≡ Some state → (times'' states'' slots'' : List ℕ) (len'' : ℕ) → Adds times' states' slots' len' times'' states'' slots'' len'' state slot → HasPlace a times'' states'' slots'' len''
+  pub walk-add : (state : ℕ) → get_or after slot None ≡ Some state → (times'' states'' slots'' : List ℕ) (len'' : ℕ)
+      → Adds times' states' slots' len' times'' states'' slots'' len'' state slot → HasPlace a times'' states'' slots'' len''
       → len' < length states' ⊎ (2 ≤ get_or times' (state * 9 + slot) 0) → len' < length slots' ⊎ (2 ≤ get_or times' (state * 9 + slot) 0)
       → Walks a ray times states slots len times'' states'' slots'' len'' starts starts now (moment entry bit (slot + 1))
   walk-add state found times'' states'' slots'' len'' adds place in1 in2 = elim adds [
@@ -498,7 +518,10 @@ module _ (a : Automaton) (ray : Ray) (suits : Suits a ray) (times states slots t
               let goes = push-goes a ray suits w.0 times' states' slots' len' starts entry slot bit w.1 walk.place within-here small (may-here w.0 w.1) after after-here front state found i1 i2 in (
                 g' a ray suits w.0 times' states' slots' len' starts entry slot bit w.1 walk.place within-here small (may-here w.0 w.1) after after-here front state found i1 i2,
                 rw (← moment-suc entry slot bit, more.1, more.2, more.3, more.4) n,
-                Goes-trans g w.0 (g' a ray suits w.0 times' states' slots' len' starts entry slot bit w.1 walk.place within-here small (may-here w.0 w.1) after after-here front state found i1 i2) len len' walk.longer w.2 goes,
+                Goes-trans g w.0
+                    (g' a ray suits w.0 times' states' slots' len' starts entry slot bit w.1 walk.place within-here small (may-here w.0 w.1) after
+                    after-here front state found i1 i2)
+                    len len' walk.longer w.2 goes,
               );
         }
   ]
@@ -555,7 +578,8 @@ blank : Trace
 blank = record { heads = λ j. []; parent = λ j. 0; bit = λ j. false; key = λ j. 0 }
 
 -- nothing was met
-pub begin-empty : (a : Automaton) (ray : Ray) (times states slots : List ℕ) (len : ℕ) → HasSizes a times states slots → ((k : ℕ) → get_or times k 0 ≡ 0) → len ≡ 0 → Begins a ray times states slots len 0
+pub begin-empty : (a : Automaton) (ray : Ray) (times states slots : List ℕ) (len : ℕ) → HasSizes a times states slots
+    → ((k : ℕ) → get_or times k 0 ≡ 0) → len ≡ 0 → Begins a ray times states slots len 0
 unfolding blank
 begin-empty a ray times states slots len sizes none e = rw e (record {
   sizes = sizes;
@@ -578,7 +602,8 @@ begin-empty a ray times states slots len sizes none e = rw e (record {
   };
 })
 
-module _ (a : Automaton) (ray : Ray) (times states slots : List ℕ) (len slot : ℕ) (is : Begins a ray times states slots len slot) (small : slot < 9) (front : List (Option ℕ)) (opened : IsOpened a ray front) (fits : IsFront a front) where
+module _ (a : Automaton) (ray : Ray) (times states slots : List ℕ) (len slot : ℕ) (is : Begins a ray times states slots len slot) (small : slot < 9)
+    (front : List (Option ℕ)) (opened : IsOpened a ray front) (fits : IsFront a front) where
   not-now : (k slot' : ℕ) (bit : Bool) → moment k bit slot' ≡ slot → ⊥
   not-now k slot' true e = omega (arith, e, small)
   not-now k slot' false e = omega (arith, e, small)
@@ -600,7 +625,8 @@ module _ (a : Automaton) (ray : Ray) (times states slots : List ℕ) (len slot :
         (λ k slot' state' bit' kh s e some f r u. absurd (not-now k slot' bit' e));
   }
 
-  pub begin-some : (state : ℕ) → get_or front slot None ≡ Some state → (times' states' slots' : List ℕ) (len' : ℕ) → times' ≡ times → states' ≡ set states len state → slots' ≡ set slots len slot → len' ≡ len + 1 → Begins a ray times' states' slots' len' (slot + 1)
+  pub begin-some : (state : ℕ) → get_or front slot None ≡ Some state → (times' states' slots' : List ℕ) (len' : ℕ) → times' ≡ times
+      → states' ≡ set states len state → slots' ≡ set slots len slot → len' ≡ len + 1 → Begins a ray times' states' slots' len' (slot + 1)
   begin-some state found times' states' slots' len' et es el en =
       let in_states : len < length states = let l = is.little in let z = is.sizes.states_size in omega (arith, l, z, small) in
       let in_slots : len < length slots = let l = is.little in let z = is.sizes.slots_size in omega (arith, l, z, small) in
@@ -631,7 +657,13 @@ module _ (a : Automaton) (ray : Ray) (times states slots : List ℕ) (len slot :
             (λ bit' slot'. late bit' slot')
             (λ slot' state' e h f r.
             let same : state ≡ state' = let x = sym found ∙ first-found slot' state' e h f r in cc in
-            record { entry = len; within = omega arith; is_head = here-nil g len slot; is_slot = get_or-set_same slots len slot 0 in_slots ∙ sym e; is_state = get_or-set_same states len state 0 in_states ∙ same })
+            record {
+              entry = len;
+              within = omega arith;
+              is_head = here-nil g len slot;
+              is_slot = get_or-set_same slots len slot 0 in_slots ∙ sym e;
+              is_state = get_or-set_same states len state 0 in_states ∙ same;
+            })
             (λ k slot' state' bit' kh s e f r u. absurd (not-now k slot' bit' e));
       })
     where

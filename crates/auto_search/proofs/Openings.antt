@@ -4,6 +4,7 @@ use Rattle.std.proofs.lemmas.Bool.{cases_eq}
 use Rattle.std.proofs.lemmas.Nat.{mod_below, pow_pos}
 use Rattle.std.proofs.Math.Nat.{div-add-mod, mul_comm}
 use Rattle.track_word.specs.Word.{BitsSpell, RepeatKeepsValues, EqualValuesEqualWords}
+use Rattle.track_word.proofs.Spelling.{integer_bit-lt}
 use Rattle.auto_core.specs.Automaton.{Automaton, IsAutomaton, next_state}
 use Rattle.auto_core.specs.Integers.{DecidesIntegers}
 use Rattle.auto_search.specs.declared.ray.Ray.{Ray}
@@ -15,7 +16,7 @@ use Rattle.auto_search.specs.Bits.{number, sum_at, letter_at, carry, slot_of, Is
 use Rattle.auto_search.specs.Search.{Suits, IsStep, IsStart, Leads}
 use Rattle.auto_search.specs.Heads.{IsTrimmed, head_number, read, IsOpened}
 use Rattle.auto_search.specs.Met.{IsSlot, Meets}
-use Rattle.auto_search.proofs.Sums.{integer_bit-lt, added-le, carry-le}
+use Rattle.auto_search.proofs.Sums.{added-le, carry-le}
 use Rattle.auto_search.proofs.Fronts.{slot-parts}
 use Rattle.auto_search.proofs.Carries.{whole}
 use Rattle.auto_search.proofs.Hits.{bits-for}
@@ -30,7 +31,8 @@ pub record IsHeadFront (a : Automaton) (ray : Ray) (head : List Bool) (front : L
 head-start : (a : Automaton) (ray : Ray) (front : List (Option ℕ)) → IsStart a ray front → IsHeadFront a ray [] front
 head-start a ray front is = record { at = λ slot small fits. is.at slot small }
 
-head-step : (a : Automaton) (ray : Ray) (suits : Suits a ray) (head : List Bool) (bit : Bool) (front after : List (Option ℕ)) → IsHeadFront a ray head front → IsStep a ray ray.top bit front after → IsHeadFront a ray (bit ∷ head) after
+head-step : (a : Automaton) (ray : Ray) (suits : Suits a ray) (head : List Bool) (bit : Bool) (front after : List (Option ℕ))
+    → IsHeadFront a ray head front → IsStep a ray ray.top bit front after → IsHeadFront a ray (bit ∷ head) after
 head-step a ray suits head bit front after is step = record {
   at = λ slot small fits.
       let sx = sum_at ray.x ray.top (slot / 3) bit in
@@ -51,7 +53,8 @@ head-step a ray suits head bit front after is step = record {
       step.at slot small fx fy ∙ ap (option_map (λ (state : ℕ). next_state a state (letter_at ray ray.top sx sy))) above';
 }
 
-pub opened-steps : (a : Automaton) (ray : Ray) (suits : Suits a ray) (f0 f1 f2 f3 : List (Option ℕ)) → IsStart a ray f0 → IsStep a ray ray.top false f0 f1 → IsStep a ray ray.top false f1 f2 → IsStep a ray ray.top false f2 f3 → IsOpened a ray f3
+pub opened-steps : (a : Automaton) (ray : Ray) (suits : Suits a ray) (f0 f1 f2 f3 : List (Option ℕ)) → IsStart a ray f0
+    → IsStep a ray ray.top false f0 f1 → IsStep a ray ray.top false f1 f2 → IsStep a ray ray.top false f2 f3 → IsOpened a ray f3
 opened-steps a ray suits f0 f1 f2 f3 s0 s1 s2 s3 =
     let h = head-step a ray suits (false ∷ false ∷ []) false f2 f3 (head-step a ray suits (false ∷ []) false f1 f2 (head-step a ray suits [] false f0 f1 (head-start a ray f0 s0) s1) s2) s3 in
     record { at = λ slot small x y. h.at slot small (x, y); only = s3.only }

@@ -3,16 +3,13 @@ use Rattle.std.proofs.Common.{◌≡◌, ◌≢◌, ℕ, zero, suc, ℤ, pos, ne
 use Rattle.std.specs.Int.{bit_at, int_shr}
 use Rattle.std.proofs.lemmas.Int.{ints}
 use Rattle.std.proofs.lemmas.Nat.{shr-shr}
-use Rattle.std.proofs.lemmas.Nat.Bits.{bit_at-lt, bit_at-zero}
+use Rattle.std.proofs.lemmas.Nat.Bits.{bit_at-zero}
 use Rattle.std.proofs.lemmas.List.{length-set, get_or-set_other}
 use Rattle.track_word.specs.Word.{integer_bit, letter_of}
+use Rattle.track_word.proofs.Spelling.{integer_bit-lt}
 use Rattle.auto_search.specs.declared.axis.Axis.{Axis}
 use Rattle.auto_search.specs.Way.{IsSlope}
 use Rattle.auto_search.specs.Bits.{carry}
-
-pub integer_bit-lt : (z : ℤ) (place : ℕ) → integer_bit z place < 2
-integer_bit-lt (pos n) place = bit_at-lt n place
-integer_bit-lt (negsuc n) place = omega arith
 
 -- what a bit adds
 abbrev pub added : Axis → Bool → ℕ
@@ -74,24 +71,18 @@ lifted : (v l l' g x p q : ℕ) → q ≡ 2 * p → l' + g * p ≡ l + x * p →
 lifted v l l' g x p q e h = rw e (omega (arith, h))
 
 -- a letter of values of which one is changed
-pub letter_of-set : (values : List ℤ) (i place : ℕ) (x : ℤ) → i < length values → letter_of (set values i x) place + integer_bit (get_or values i (pos 0)) place * 2 ^ i ≡ letter_of values place + integer_bit x place * 2 ^ i
+pub letter_of-set : (values : List ℤ) (i place : ℕ) (x : ℤ) → i < length values
+    → letter_of (set values i x) place + integer_bit (get_or values i (pos 0)) place * 2 ^ i ≡ letter_of values place + integer_bit x place * 2 ^ i
 letter_of-set [] i place x h = absurd (omega (arith, h))
 letter_of-set (v ∷ values) zero place x h = omega arith
 letter_of-set (v ∷ values) (suc i) place x h =
     lifted (integer_bit v place) (letter_of values place) (letter_of (set values i x) place) (integer_bit (get_or values i (pos 0)) place) (integer_bit x place) (2 ^ i) (2 ^ suc i) (omega arith)
     (letter_of-set values i place x (omega (arith, h)))
 
-pub letter-lt : (integers : List ℤ) (place : ℕ) → letter_of integers place < 2 ^ length integers
-letter-lt [] place = omega arith
-letter-lt (z ∷ integers) place =
-    let power : 2 ^ suc (length integers) ≡ 2 * 2 ^ length integers = omega arith in
-    let b = integer_bit-lt z place in
-    let r = letter-lt integers place in
-    omega (arith, power, b, r)
-
 -- a letter of values of which two are changed
 pub letter_of-set2 : (values : List ℤ) (i j place : ℕ) (x y : ℤ) → i < length values → j < length values → i ≢ j
-    → letter_of (set (set values i x) j y) place + integer_bit (get_or values i (pos 0)) place * 2 ^ i + integer_bit (get_or values j (pos 0)) place * 2 ^ j ≡ letter_of values place + integer_bit x place * 2 ^ i + integer_bit y place * 2 ^ j
+    → letter_of (set (set values i x) j y) place + integer_bit (get_or values i (pos 0)) place * 2 ^ i + integer_bit (get_or values j (pos 0))
+    place * 2 ^ j ≡ letter_of values place + integer_bit x place * 2 ^ i + integer_bit y place * 2 ^ j
 letter_of-set2 values i j place x y hi hj ne =
     let one = letter_of-set values i place x hi in
     let two = letter_of-set (set values i x) j place y (rw length-set hj) in

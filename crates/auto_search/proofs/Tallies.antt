@@ -31,7 +31,8 @@ parts-same top m n b c lb lc e =
     let s = same_from_place m (number b) n (number c) (2 ^ top) hb hc e in
     (s.0, number-same b c (lb ∙ sym lc) s.1)
 
-Yields-kept : (a : Automaton) (ray : Ray) (g h : Trace) (states slots states' slots' : List ℕ) (len end : ℕ) → end ≤ len → Goes g h len → ((j : ℕ) → j < len → get_or states' j 0 ≡ get_or states j 0) → ((j : ℕ) → j < len → get_or slots' j 0 ≡ get_or slots j 0)
+Yields-kept : (a : Automaton) (ray : Ray) (g h : Trace) (states slots states' slots' : List ℕ) (len end : ℕ) → end ≤ len → Goes g h len
+    → ((j : ℕ) → j < len → get_or states' j 0 ≡ get_or states j 0) → ((j : ℕ) → j < len → get_or slots' j 0 ≡ get_or slots j 0)
     → (n : ℕ) → Yields a ray g states slots end n → Yields a ray h states' slots' end n
 Yields-kept a ray g h states slots states' slots' len end inside goes ss sl n y =
     let w : y.entry < len = let v = y.within in omega (arith, v, inside) in
@@ -63,7 +64,8 @@ alone-yields a ray g states slots end front is n (m, e, by) =
       leads = subst (λ s. Leads a ray s by.bits) only.1 by.completes.leads;
     }
 
-module _ (a : Automaton) (ray : Ray) (suits : Suits a ray) (g : Trace) (times states slots : List ℕ) (len starts now end : ℕ) (is : IsMet a ray g times states slots len starts now) (within : end < len)
+module _ (a : Automaton) (ray : Ray) (suits : Suits a ray) (g : Trace) (times states slots : List ℕ) (len starts now end : ℕ)
+    (is : IsMet a ray g times states slots len starts now) (within : end < len)
     (front : List (Option ℕ)) (alone : IsAlone (get_or slots end 0) (get_or states end 0) front) where
   split : (n : ℕ) → Yields a ray g states slots (end + 1) n → Yields a ray g states slots end n ⊎ Raised (head_number (g.heads end) * 2 ^ ray.top) (CompletedBy a ray ray.top front) n
   split n y = elim (cases_lt y.entry end) [
@@ -89,7 +91,8 @@ module _ (a : Automaton) (ray : Ray) (suits : Suits a ray) (g : Trace) (times st
   disjoint : (n : ℕ) → Yields a ray g states slots end n → Raised (head_number (g.heads end) * 2 ^ ray.top) (CompletedBy a ray ray.top front) n → ⊥
   disjoint n y r =
       let by = r.2 in
-      let e : head_number (g.heads y.entry) * 2 ^ ray.top + number y.lo ≡ head_number (g.heads end) * 2 ^ ray.top + number by.bits = sym y.is ∙ r.1 ∙ ap (λ k. head_number (g.heads end) * 2 ^ ray.top + k) (sym by.is) in
+      let e : head_number (g.heads y.entry) * 2 ^ ray.top + number y.lo ≡ head_number (g.heads end) * 2 ^ ray.top + number by.bits =
+      sym y.is ∙ r.1 ∙ ap (λ k. head_number (g.heads end) * 2 ^ ray.top + k) (sym by.is) in
       let p = parts-same ray.top (head_number (g.heads y.entry)) (head_number (g.heads end)) y.lo by.bits y.size by.size e in
       let below : y.entry < len = let w = y.within in omega (arith, w, within) in
       let heads = trimmed-same (g.heads y.entry) (g.heads end) (is.trimmed y.entry below) (is.trimmed end within) p.0 in
@@ -104,9 +107,11 @@ module _ (a : Automaton) (ray : Ray) (suits : Suits a ray) (g : Trace) (times st
       (alone-yields a ray g states slots end front alone) split disjoint
 
 -- one more entry is counted, and followed
-pub turn-counts : (a : Automaton) (ray : Ray) (suits : Suits a ray) (times states slots times1 states1 slots1 times2 states2 slots2 : List ℕ) (len len1 len2 starts end : ℕ) (few more : Few) (front : List (Option ℕ))
+pub turn-counts : (a : Automaton) (ray : Ray) (suits : Suits a ray) (times states slots times1 states1 slots1 times2 states2 slots2 : List ℕ)
+    (len len1 len2 starts end : ℕ) (few more : Few) (front : List (Option ℕ))
     → Counting a ray times states slots len starts end few → end < len → IsAlone (get_or slots end 0) (get_or states end 0) front → HasFew more (CompletedBy a ray ray.top front)
-    → Walks a ray times states slots len times1 states1 slots1 len1 starts starts (moment end false 0) (moment end false 9) → Walks a ray times1 states1 slots1 len1 times2 states2 slots2 len2 starts starts (moment end true 0) (moment end true 9)
+    → Walks a ray times states slots len times1 states1 slots1 len1 starts starts (moment end false 0) (moment end false 9)
+    → Walks a ray times1 states1 slots1 len1 times2 states2 slots2 len2 starts starts (moment end true 0) (moment end true 9)
     → Counting a ray times2 states2 slots2 len2 starts (end + 1) (plus_of few more)
 turn-counts a ray suits times states slots times1 states1 slots1 times2 states2 slots2 len len1 len2 starts end few more front is within alone done w1 w2 =
     let m1 = w1.met is.trace is.met in
@@ -158,7 +163,9 @@ module _ (a : Automaton) (ray : Ray) (suits : Suits a ray) (times states slots :
 
   -- all are counted
   module _ (done : end ≡ len) where
-    at-once : (entry n : ℕ) (lo : List Bool) → entry < len → length lo ≡ ray.top → slot_of ray lo ≡ get_or slots entry 0 → Leads a ray (get_or states entry 0) lo → n ≡ head_number (is.trace.heads entry) * 2 ^ ray.top + number lo → Yields a ray is.trace states slots end n
+    at-once : (entry n : ℕ) (lo : List Bool) → entry < len → length lo ≡ ray.top → slot_of ray lo ≡ get_or slots entry 0
+        → Leads a ray (get_or states entry 0) lo → n ≡ head_number (is.trace.heads entry) * 2 ^ ray.top + number lo
+        → Yields a ray is.trace states slots end n
     at-once entry n lo w size slot leads e = record { entry = entry; within = omega (arith, w, done); lo = lo; size = size; is = e; slot = slot; leads = leads }
 
     in-slot : (lo : List Bool) → (slot_of ray lo < 9) × IsSlot ray (slot_of ray lo)
@@ -176,7 +183,10 @@ module _ (a : Automaton) (ray : Ray) (suits : Suits a ray) (times states slots :
         let now : moment end false 0 ≡ moment len false 0 = ap (λ k. moment k false 0) done in
         let s = in-slot m.lo in
         elim (known-all a ray suits is.trace times states slots len starts (moment end false 0) is.met now m.head (slot_of ray m.lo) m.state m.trimmed s.0 s.1 m.reads) [
-          | inl e ↦ inl (at-once e.entry n m.lo e.within m.size (sym e.is_slot) (subst (λ q. Leads a ray q m.lo) (sym e.is_state) m.leads) (m.is ∙ ap (λ l. head_number l * 2 ^ ray.top + number m.lo) (sym e.is_head)))
+          | inl e ↦
+              inl
+              (at-once e.entry n m.lo e.within m.size (sym e.is_slot) (subst (λ q. Leads a ray q m.lo) (sym e.is_state) m.leads)
+              (m.is ∙ ap (λ l. head_number l * 2 ^ ray.top + number m.lo) (sym e.is_head)))
           | inr t ↦
               let f : t.first < len = let o = t.order in let w = t.within in omega (arith, o, w) in
               let n1 = head_number (is.trace.heads t.first) * 2 ^ ray.top + number m.lo in
@@ -187,7 +197,9 @@ module _ (a : Automaton) (ray : Ray) (suits : Suits a ray) (times states slots :
                 | inl same ↦
                     let p = parts-same ray.top (head_number (is.trace.heads t.first)) (head_number (is.trace.heads t.second)) m.lo m.lo m.size m.size same in
                     let heads = trimmed-same (is.trace.heads t.first) (is.trace.heads t.second) (is.met.trimmed t.first f) (is.met.trimmed t.second t.within) p.0 in
-                    absurd (apart a ray suits is.trace times states slots len starts (moment end false 0) is.met t.second t.first t.second (omega arith) t.order t.within heads (t.first_slot ∙ sym t.second_slot))
+                    absurd
+                    (apart a ray suits is.trace times states slots len starts (moment end false 0) is.met t.second t.first t.second (omega arith)
+                    t.order t.within heads (t.first_slot ∙ sym t.second_slot))
                 | inr other ↦ elim (cases_lt n1 n2) [
                   | inl less ↦ inr (n1, n2, less, y1, y2)
                   | inr more ↦ inr (n2, n1, omega (arith, more, other), y2, y1)
@@ -216,7 +228,8 @@ module _ (a : Automaton) (ray : Ray) (suits : Suits a ray) (times states slots :
         at More h = (h.0, h.1, h.2, yields-meets h.0 h.3, yields-meets h.1 h.4)
 
 -- a state that was entered for a slot has an entry
-pub counting-entered : (a : Automaton) (ray : Ray) (times states slots : List ℕ) (len starts end : ℕ) (few : Few) → Counting a ray times states slots len starts end few → IsEntered times states slots len
+pub counting-entered : (a : Automaton) (ray : Ray) (times states slots : List ℕ) (len starts end : ℕ) (few : Few)
+    → Counting a ray times states slots len starts end few → IsEntered times states slots len
 counting-entered a ray times states slots len starts end few is =
     let inside = place-inside a times states slots len is.place in
     record {

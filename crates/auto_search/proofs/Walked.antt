@@ -1,13 +1,14 @@
 -- A walk that is done has met each head, or a state twice.
 use Rattle.std.proofs.Common.{◌≡◌, ◌≢◌, ℕ, zero, suc, ◌+◌, ◌/◌, ◌%◌, ◌^◌, ◌<◌, ◌≤◌, Bool, true, false, List, [], ◌∷◌, ◌++◌, length, get_or, Some, option_map, arith, inl, inr, refl, sym, ap, ◌∙◌, subst}
 use Rattle.std.proofs.lemmas.Bool.{cases_eq, cases_lt}
+use Rattle.track_word.proofs.Spelling.{integer_bit-lt}
 use Rattle.auto_core.specs.Automaton.{Automaton, next_state}
 use Rattle.auto_search.specs.declared.ray.Ray.{Ray}
 use Rattle.auto_search.specs.Bits.{number, sum_at, letter_at}
 use Rattle.auto_search.specs.Search.{Suits}
 use Rattle.auto_search.specs.Heads.{IsTrimmed, headed, head_number, read, zeros}
 use Rattle.auto_search.specs.Met.{Trace, up, moment, IsSlot, Entered, Twice, Known, IsMet}
-use Rattle.auto_search.proofs.Sums.{integer_bit-lt, added-le}
+use Rattle.auto_search.proofs.Sums.{added-le}
 use Rattle.auto_search.proofs.Fronts.{option_map-some, slot-parts, number-lt}
 
 -- bits of one number, and as many, are the same
@@ -57,7 +58,9 @@ module _ (a : Automaton) (ray : Ray) (suits : Suits a ray) (g : Trace) (times st
               elim (cases_eq (g.parent i) (g.parent j)) [
                 | inl same ↦
                     let k = is.increasing i j o h in
-                    let key : g.key i ≡ g.key j = wi.key ∙ ap (λ p. moment p (g.bit i) (get_or slots i 0)) same ∙ ap (λ b. moment (g.parent j) b (get_or slots i 0)) parts.0 ∙ ap (moment (g.parent j) (g.bit j)) es ∙ sym wj.key in
+                    let key : g.key i ≡ g.key j =
+                    wi.key ∙ ap (λ p. moment p (g.bit i) (get_or slots i 0)) same ∙ ap (λ b. moment (g.parent j) b (get_or slots i 0)) parts.0
+                    ∙ ap (moment (g.parent j) (g.bit j)) es ∙ sym wj.key in
                     omega (arith, k, key)
                 | inr other ↦ elim (cases_lt (g.parent i) (g.parent j)) [
                   | inl less ↦ apart fuel (g.parent i) (g.parent j) (omega (arith, bj, f)) less (omega (arith, bj, h)) parts.1 s
@@ -104,7 +107,9 @@ module _ (a : Automaton) (ray : Ray) (suits : Suits a ray) (g : Trace) (times st
         elim (known-all head (up ray bit slot) some.0 trimmed.0 above_small above_fits above) [
           | inl entered ↦
               let nontop = λ (n : g.heads entered.entry ≡ []). top-bit head bit trimmed (sym entered.is_head ∙ n) in
-              let k = is.closed entered.entry slot state bit entered.within small (moment-in entered.entry slot bit entered.within small) nontop fits (subst (λ l. headed a ray (bit ∷ l) (slot / 3) (slot % 3) ≡ Some state) (sym entered.is_head) e) (sym entered.is_slot) in
+              let k =
+              is.closed entered.entry slot state bit entered.within small (moment-in entered.entry slot bit entered.within small) nontop fits
+              (subst (λ l. headed a ray (bit ∷ l) (slot / 3) (slot % 3) ≡ Some state) (sym entered.is_head) e) (sym entered.is_slot) in
               subst (λ l. Known g states slots len (bit ∷ l) slot state) entered.is_head k
           | inr twice ↦ both twice some.1 some.2
         ]

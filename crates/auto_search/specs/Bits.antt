@@ -27,7 +27,9 @@ letter_at ray place sx sy = slice_index ray.still place + sx % 2 * ray.x.unit + 
 abbrev pub letters : Ray → List Bool → List ℕ
 letters ray [] = []
 letters ray (bit ∷ bits) =
-    letter_at ray (length bits) (sum_at ray.x (length bits) (carry ray.x bits) bit) (sum_at ray.y (length bits) (carry ray.y bits) bit) ∷ letters ray bits
+    letter_at ray (length bits) (sum_at ray.x (length bits) (carry ray.x bits) bit)
+    (sum_at ray.y (length bits) (carry ray.y bits) bit)
+    ∷ letters ray bits
 
 -- the slot of what the last bits carry over on the two tracks, one of nine
 abbrev pub slot_of : Ray → List Bool → ℕ
@@ -52,9 +54,11 @@ pub record IsAxis (value d : ℤ) (near track : ℕ) (axis : Axis) : Type 0 wher
 -- the letter of a place without the two tracks' bits
 abbrev pub IsStill : Way → ℕ → ℕ → Type 0
 IsStill way place letter =
-    letter + integer_bit (slice_index_or way.fixed.now way.x_track (pos 0)) place * 2 ^ way.x_track + integer_bit (slice_index_or way.fixed.now way.y_track (pos 0)) place * 2 ^ way.y_track ≡ letter_of way.fixed.now place
+    letter + integer_bit (slice_index_or way.fixed.now way.x_track (pos 0)) place * 2 ^ way.x_track + integer_bit
+    (slice_index_or way.fixed.now way.y_track (pos 0)) place * 2 ^ way.y_track ≡ letter_of way.fixed.now place
 
--- the ray as it is searched from its near end on, its values within so many steps having no bit but their signs from the top on
+-- the ray as it is searched from its near end on, its values within so many steps having no bit but their signs from
+-- the top on
 pub record IsRay (way : Way) (near steps : ℕ) (ray : Ray) : Type 0 where
   pub x : IsAxis (slice_index_or way.fixed.now way.x_track (pos 0)) way.dx near way.x_track ray.x
   pub y : IsAxis (slice_index_or way.fixed.now way.y_track (pos 0)) way.dy near way.y_track ray.y

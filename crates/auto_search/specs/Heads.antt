@@ -15,7 +15,8 @@ abbrev pub IsTrimmed : List Bool → Type 0
 IsTrimmed [] = Unit {0}
 IsTrimmed (bit ∷ head) = IsTrimmed head × (0 < head_number (bit ∷ head))
 
--- the state after the sign letter and the letters of these bits, at places from the top on, for what the bits after them carry over
+-- the state after the sign letter and the letters of these bits, at places from the top on, for what the bits after
+-- them carry over
 abbrev pub read : Automaton → Ray → List Bool → ℕ → ℕ → Option ℕ
 read a ray [] cx cy = started a ray cx cy
 read a ray (bit ∷ head) cx cy =
@@ -33,5 +34,7 @@ headed a ray head cx cy = read a ray (head ++ zeros) cx cy
 
 -- the front of the head 0
 pub record IsOpened (a : Automaton) (ray : Ray) (front : List (Option ℕ)) : Type 0 where
-  pub at : (slot : ℕ) → slot < 9 → (slot / 3 ≤ ray.x.zero + ray.x.one) → (slot % 3 ≤ ray.y.zero + ray.y.one) → slice_index_or front slot None ≡ headed a ray [] (slot / 3) (slot % 3)
-  pub only : (slot state : ℕ) → slice_index_or front slot None ≡ Some state → (slot / 3 ≤ ray.x.zero + ray.x.one) × (slot % 3 ≤ ray.y.zero + ray.y.one)
+  pub at : (slot : ℕ) → slot < 9 → (slot / 3 ≤ ray.x.zero + ray.x.one) → (slot % 3 ≤ ray.y.zero + ray.y.one)
+      → slice_index_or front slot None ≡ headed a ray [] (slot / 3) (slot % 3)
+  pub only : (slot state : ℕ) → slice_index_or front slot None ≡ Some state
+      → (slot / 3 ≤ ray.x.zero + ray.x.one) × (slot % 3 ≤ ray.y.zero + ray.y.one)

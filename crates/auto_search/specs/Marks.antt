@@ -22,7 +22,8 @@ pub record IsListed (failed cells : List ℕ) (listed : ℕ) : Type 0 where
 
 -- one more mark
 pub record IsMarked (old new : List ℕ) (cell slot : ℕ) : Type 0 where
-  pub marks : (k i : ℕ) → bit_at (slice_index new k) i ≡ 1 → (bit_at (slice_index old k) i ≡ 1) ⊎ ((k ≡ cell) × (i ≡ slot))
+  pub marks : (k i : ℕ) → bit_at (slice_index new k) i ≡ 1
+      → (bit_at (slice_index old k) i ≡ 1) ⊎ ((k ≡ cell) × (i ≡ slot))
 
 -- a cell for each state at each place, marked only where it leads nowhere
 pub record Serves (a : Automaton) (ray : Ray) (marks : Marks) : Type 0 where

@@ -58,7 +58,8 @@ pub record Twice (g : Trace) (states slots : List ℕ) (len slot state : ℕ) : 
 
 -- the head is entered, or its state twice
 abbrev pub Known : Trace → List ℕ → List ℕ → ℕ → List Bool → ℕ → ℕ → Type 0
-Known g states slots len head slot state = Entered g states slots len head slot state ⊎ Twice g states slots len slot state
+Known g states slots len head slot state =
+    Entered g states slots len head slot state ⊎ Twice g states slots len slot state
 
 -- an entry that the walk begins with
 pub record IsFirst (g : Trace) (slots : List ℕ) (entry : ℕ) : Type 0 where
@@ -73,19 +74,25 @@ pub record Follows (ray : Ray) (g : Trace) (slots : List ℕ) (entry : ℕ) : Ty
   pub key : g.key entry ≡ moment (g.parent entry) (g.bit entry) (slice_index slots entry)
 
 -- what was met until a moment
-pub record IsMet (a : Automaton) (ray : Ray) (g : Trace) (times states slots : List ℕ) (len starts now : ℕ) : Type 0 where
+pub record IsMet (a : Automaton) (ray : Ray) (g : Trace) (times states slots : List ℕ) (len starts now : ℕ) : Type
+    0 where
   pub trimmed : (j : ℕ) → j < len → IsTrimmed (g.heads j)
-  pub reads : (j : ℕ) → j < len → headed a ray (g.heads j) (slice_index slots j / 3) (slice_index slots j % 3) ≡ Some (slice_index states j)
+  pub reads : (j : ℕ) → j < len
+      → headed a ray (g.heads j) (slice_index slots j / 3) (slice_index slots j % 3) ≡ Some (slice_index states j)
   pub small : (j : ℕ) → j < len → (slice_index slots j < 9) × (slice_index states j < length a.accept)
   pub origin : (j : ℕ) → j < len → IsFirst g slots j ⊎ Follows ray g slots j
   pub enough : starts ≤ len
   pub begins : (j : ℕ) → j < len → (g.heads j ≡ []) ↔ (j < starts)
   pub increasing : (i j : ℕ) → i < j → j < len → g.key i < g.key j
   pub before : (j : ℕ) → j < len → g.key j < now
-  pub firsts : (slot state : ℕ) → slot < now → slot < 9 → IsSlot ray slot → headed a ray [] (slot / 3) (slot % 3) ≡ Some state → Entered g states slots len [] slot state
+  pub firsts : (slot state : ℕ) → slot < now → slot < 9 → IsSlot ray slot
+      → headed a ray [] (slot / 3) (slot % 3) ≡ Some state → Entered g states slots len [] slot state
   pub once : (slot state : ℕ) → slot < 9 → 1 ≤ slice_index times (state * 9 + slot) → Once g states slots len slot state
-  pub twice : (slot state : ℕ) → slot < 9 → 2 ≤ slice_index times (state * 9 + slot) → Twice g states slots len slot state
-  pub closed : (k slot state : ℕ) (bit : Bool) → k < len → slot < 9 → moment k bit slot < now → (g.heads k ≡ [] → bit ≡ true) → IsSlot ray slot → headed a ray (bit ∷ g.heads k) (slot / 3) (slot % 3) ≡ Some state
+  pub twice : (slot state : ℕ) → slot < 9 → 2 ≤ slice_index times (state * 9 + slot)
+      → Twice g states slots len slot state
+  pub closed : (k slot state : ℕ) (bit : Bool) → k < len → slot < 9 → moment k bit slot < now
+      → (g.heads k ≡ [] → bit ≡ true) → IsSlot ray slot
+      → headed a ray (bit ∷ g.heads k) (slot / 3) (slot % 3) ≡ Some state
       → up ray bit slot ≡ slice_index slots k → Known g states slots len (bit ∷ g.heads k) slot state
 
 -- room for all that may be met
@@ -106,8 +113,11 @@ pub record Goes (old new : Trace) (len : ℕ) : Type 0 where
 -- one more entry, where its state was not entered twice before
 abbrev pub Adds : List ℕ → List ℕ → List ℕ → ℕ → List ℕ → List ℕ → List ℕ → ℕ → ℕ → ℕ → Type 0
 Adds times states slots len times' states' slots' len' state slot =
-    ((2 ≤ slice_index times (state * 9 + slot)) × (times' ≡ times) × (states' ≡ states) × (slots' ≡ slots) × (len' ≡ len))
-    ⊎ ((slice_index times (state * 9 + slot) < 2) × (times' ≡ slice_set times (state * 9 + slot) (slice_index times (state * 9 + slot) + 1)) × (states' ≡ slice_set states len state) × (slots' ≡ slice_set slots len slot) × (len' ≡ len + 1))
+    ((2 ≤ slice_index times (state * 9 + slot)) × (times' ≡ times) × (states' ≡ states) × (slots' ≡ slots)
+    × (len' ≡ len))
+    ⊎ ((slice_index times (state * 9 + slot) < 2)
+    × (times' ≡ slice_set times (state * 9 + slot) (slice_index times (state * 9 + slot) + 1))
+    × (states' ≡ slice_set states len state) × (slots' ≡ slice_set slots len slot) × (len' ≡ len + 1))
 
 -- lists as long as before
 pub record SameSizes (times states slots times' states' slots' : List ℕ) : Type 0 where
@@ -116,13 +126,15 @@ pub record SameSizes (times states slots times' states' slots' : List ℕ) : Typ
   pub slots_kept : length slots' ≡ length slots
 
 -- what was met goes on from a moment to another
-pub record Walks (a : Automaton) (ray : Ray) (times states slots : List ℕ) (len : ℕ) (times' states' slots' : List ℕ) (len' starts starts' now now' : ℕ) : Type 0 where
+pub record Walks (a : Automaton) (ray : Ray) (times states slots : List ℕ) (len : ℕ) (times' states' slots' : List ℕ)
+    (len' starts starts' now now' : ℕ) : Type 0 where
   pub longer : len ≤ len'
   pub same_states : (j : ℕ) → j < len → slice_index states' j ≡ slice_index states j
   pub same_slots : (j : ℕ) → j < len → slice_index slots' j ≡ slice_index slots j
   pub sizes : SameSizes times states slots times' states' slots'
   pub place : HasPlace a times' states' slots' len'
-  pub met : (g : Trace) → IsMet a ray g times states slots len starts now → (new : Trace) × IsMet a ray new times' states' slots' len' starts' now' × Goes g new len
+  pub met : (g : Trace) → IsMet a ray g times states slots len starts now
+      → (new : Trace) × IsMet a ray new times' states' slots' len' starts' now' × Goes g new len
 
 -- the front of one state alone
 pub record IsAlone (slot state : ℕ) (front : List (Option ℕ)) : Type 0 where
@@ -157,7 +169,8 @@ pub record Meets (a : Automaton) (ray : Ray) (n : ℕ) : Type 0 where
   pub leads : Leads a ray state lo
 
 -- the entries before one are counted
-pub record Counting (a : Automaton) (ray : Ray) (times states slots : List ℕ) (len starts end : ℕ) (few : Few) : Type 0 where
+pub record Counting (a : Automaton) (ray : Ray) (times states slots : List ℕ) (len starts end : ℕ) (few : Few) : Type
+    0 where
   pub enough : end ≤ len
   pub place : HasPlace a times states slots len
   pub trace : Trace
@@ -183,4 +196,5 @@ pub record IsEntered (times states slots : List ℕ) (len : ℕ) : Type 0 where
   pub in_states : len ≤ length states
   pub in_slots : len ≤ length slots
   pub within : (j : ℕ) → j < len → slice_index states j * 9 + slice_index slots j < length times
-  pub each : (k : ℕ) → 0 < slice_index times k → (j : ℕ) × (j < len) × (slice_index states j * 9 + slice_index slots j ≡ k)
+  pub each : (k : ℕ) → 0 < slice_index times k
+      → (j : ℕ) × (j < len) × (slice_index states j * 9 + slice_index slots j ≡ k)

@@ -1,6 +1,7 @@
 -- States at the places of a ray: fronts, and what was found to lead nowhere.
 use Rattle.std.specs.Prelude.{◌≡◌, ℕ, ◌+◌, ◌*◌, ◌/◌, ◌%◌, ◌^◌, ◌<◌, ◌≤◌, Bool, List, length, if◌then◌else◌, slice_index, slice_index_or, Option, Some, None, option_map, option_and_then, ◌⊎◌, IsTrue, MatchOption, nat_eq}
 use Rattle.std.specs.Int.{bit_at}
+use Rattle.limits.specs.declared.numbers.TheConstants.{MOST_TRACKS}
 use Rattle.track_word.specs.Word.{integer_bit}
 use Rattle.auto_core.specs.Automaton.{Automaton, width, first_state, next_state, run, is_final}
 use Rattle.auto_search.specs.declared.axis.Axis.{Axis}
@@ -12,7 +13,7 @@ pub record Suits (a : Automaton) (ray : Ray) : Type 0 where
   pub x_small : ray.x.zero + ray.x.one ≤ 2
   pub y_small : ray.y.zero + ray.y.one ≤ 2
   pub narrow : (place sx sy : ℕ) → place ≤ ray.top → letter_at ray place sx sy < width a
-  pub few : width a ≤ 2 ^ 20
+  pub few : width a ≤ 2 ^ MOST_TRACKS
   pub few_places : ray.top ≤ 67
 
 -- a state, or none, for each slot
@@ -35,12 +36,15 @@ abbrev pub stepped : Automaton → Ray → ℕ → Bool → List (Option ℕ) �
 stepped a ray place bit front cx cy =
     let sx = sum_at ray.x place cx bit in
     let sy = sum_at ray.y place cy bit in
-    option_map (λ state. next_state a state (letter_at ray place sx sy)) (slice_index_or front (3 * (sx / 2) + sy / 2) None)
+    option_map (λ state. next_state a state (letter_at ray place sx sy))
+    (slice_index_or front (3 * (sx / 2) + sy / 2) None)
 
 -- the front after one more bit
 pub record IsStep (a : Automaton) (ray : Ray) (place : ℕ) (bit : Bool) (front after : List (Option ℕ)) : Type 0 where
-  pub only : (slot state : ℕ) → slice_index_or after slot None ≡ Some state → (slot / 3 ≤ ray.x.zero + ray.x.one) × (slot % 3 ≤ ray.y.zero + ray.y.one)
-  pub at : (slot : ℕ) → slot < 9 → slot / 3 ≤ ray.x.zero + ray.x.one → slot % 3 ≤ ray.y.zero + ray.y.one → slice_index_or after slot None ≡ stepped a ray place bit front (slot / 3) (slot % 3)
+  pub only : (slot state : ℕ) → slice_index_or after slot None ≡ Some state
+      → (slot / 3 ≤ ray.x.zero + ray.x.one) × (slot % 3 ≤ ray.y.zero + ray.y.one)
+  pub at : (slot : ℕ) → slot < 9 → slot / 3 ≤ ray.x.zero + ray.x.one → slot % 3 ≤ ray.y.zero + ray.y.one
+      → slice_index_or after slot None ≡ stepped a ray place bit front (slot / 3) (slot % 3)
 
 -- the cell of a state at a place
 abbrev pub cell_of : Automaton → ℕ → ℕ → ℕ
@@ -52,12 +56,14 @@ mark a failed place state slot = bit_at (slice_index failed (cell_of a place sta
 
 -- marked states do not lead to acceptance
 pub record Remembers (a : Automaton) (ray : Ray) (failed : List ℕ) : Type 0 where
-  pub dead : (bits : List Bool) (state : ℕ) → state < length a.accept → mark a failed (length bits) state (slot_of ray bits) ≡ 1 → Leads a ray state bits → ⊥
+  pub dead : (bits : List Bool) (state : ℕ) → state < length a.accept
+      → mark a failed (length bits) state (slot_of ray bits) ≡ 1 → Leads a ray state bits → ⊥
 
 -- the front without its marked states
 pub record IsLive (a : Automaton) (failed : List ℕ) (place : ℕ) (front live : List (Option ℕ)) : Type 0 where
   pub kept : (slot state : ℕ) → slice_index_or live slot None ≡ Some state → slice_index_or front slot None ≡ Some state
-  pub others : (slot state : ℕ) → slice_index_or front slot None ≡ Some state → (slice_index_or live slot None ≡ Some state) ⊎ (mark a failed place state slot ≡ 1)
+  pub others : (slot state : ℕ) → slice_index_or front slot None ≡ Some state
+      → (slice_index_or live slot None ≡ Some state) ⊎ (mark a failed place state slot ≡ 1)
 
 -- no last bits of this number complete the front
 pub record IsDead (a : Automaton) (ray : Ray) (place : ℕ) (front : List (Option ℕ)) : Type 0 where
@@ -85,11 +91,14 @@ pub record CompletedBy (a : Automaton) (ray : Ray) (place : ℕ) (front : List (
 -- the sign bit for what all bits carry over to a place, or none where the value is too long
 abbrev pub sign_of : Axis → ℕ → ℕ → Option ℕ
 sign_of axis place carried =
-    if nat_eq carried (axis.zero + integer_bit axis.base place) then Some 0 else (if nat_eq (carried + 1) (axis.zero + integer_bit axis.base place) then Some 1 else None)
+    if nat_eq carried (axis.zero + integer_bit axis.base place) then Some 0 else
+    (if nat_eq (carried + 1) (axis.zero + integer_bit axis.base place) then Some 1 else None)
 
 -- the state after the sign letter for what all bits carry over
 abbrev pub started : Automaton → Ray → ℕ → ℕ → Option ℕ
-started a ray cx cy = option_and_then (λ sx. option_map (λ sy. first_state a (letter_at ray ray.top sx sy)) (sign_of ray.y ray.top cy)) (sign_of ray.x ray.top cx)
+started a ray cx cy =
+    option_and_then (λ sx. option_map (λ sy. first_state a (letter_at ray ray.top sx sy)) (sign_of ray.y ray.top cy))
+    (sign_of ray.x ray.top cx)
 
 -- the front before all bits
 pub record IsStart (a : Automaton) (ray : Ray) (front : List (Option ℕ)) : Type 0 where

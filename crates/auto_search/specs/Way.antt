@@ -24,7 +24,9 @@ value_after values track slope distance = slice_index_or values track (pos 0) +�
 
 -- the tuple at a distance
 abbrev pub tuple_at : Way → ℕ → List ℤ
-tuple_at way t = slice_set (slice_set way.fixed.now way.x_track (value_after way.fixed.now way.x_track way.dx t)) way.y_track (value_after way.fixed.now way.y_track way.dy t)
+tuple_at way t =
+    slice_set (slice_set way.fixed.now way.x_track (value_after way.fixed.now way.x_track way.dx t)) way.y_track
+    (value_after way.fixed.now way.y_track way.dy t)
 
 -- the tuple at the distance is in the set
 abbrev pub IsHit : Automaton → Way → ℕ → Type 0
@@ -39,7 +41,8 @@ pub record IsLeastHit (a : Automaton) (way : Way) (near far t : ℕ) : Type 0 wh
 
 -- that distance, or that there is none
 abbrev pub IsLeastFound : Automaton → Way → ℕ → ℕ → Option ℕ → Type 0
-IsLeastFound a way near far found = MatchOption found ((t : ℕ) → near ≤ t → t ≤ far → IsHit a way t → ⊥) (IsLeastHit a way near far)
+IsLeastFound a way near far found =
+    MatchOption found ((t : ℕ) → near ≤ t → t ≤ far → IsHit a way t → ⊥) (IsLeastHit a way near far)
 
 -- so many of all positive distances have their tuple in the set
 abbrev pub HasHits : Automaton → Way → Few → Type 0

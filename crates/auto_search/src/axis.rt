@@ -6,6 +6,7 @@ ghost use Rattle.auto_search.specs.Bits.{IsAxis, fall, rise, sum_at};
 ghost use Rattle.auto_search.specs.Search.{sign_of};
 
 use crate::way::value_along;
+use limits::MOST_TRACKS;
 use track_word::bit_of;
 
 /// The value of a track at the near end of a ray, and what the bits of a distance add to it.
@@ -25,7 +26,7 @@ impl Axis {
     pub fn new(value: i64, slope: i8, near: u128, track: u8) -> Axis
         requires slope { IsSlope slope }
         requires near { near ≤ 2 ^ 64 }
-        requires track { track < 20 }
+        requires track { track < MOST_TRACKS }
         ensures axis { IsAxis value slope near track result }
         ensures small { unsigned_abs result.base < 2 ^ 66 }
     {
@@ -92,7 +93,7 @@ fn rise_of(slope: i8) -> u8
 
 /// The letter that has the bit of a track alone.
 pub fn unit_of(track: u8) -> u32
-    requires { track < 20 }
+    requires { track < MOST_TRACKS }
     ensures { result ≡ 2 ^ track }
 {
     1 << track

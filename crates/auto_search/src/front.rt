@@ -57,8 +57,12 @@ pub fn step(course: &Course, place: u8, bit: bool, front: &Front) -> Front
 fn next(course: &Course, place: u8, bit: bool, front: &Front, carry: Carry) -> Option<u32>
     requires front { IsFront course.now.auto.now front.now }
     requires place { place ≤ course.now.ray.now.top }
-    ensures next { carry.x ≤ course.now.ray.now.x.zero + course.now.ray.now.x.one → carry.y ≤ course.now.ray.now.y.zero + course.now.ray.now.y.one → result ≡ stepped course.now.auto.now course.now.ray.now place bit front.now carry.x carry.y }
-    ensures only { IfSome result (λ state. (carry.x ≤ course.now.ray.now.x.zero + course.now.ray.now.x.one) × (carry.y ≤ course.now.ray.now.y.zero + course.now.ray.now.y.one)) }
+    ensures next { carry.x ≤ course.now.ray.now.x.zero + course.now.ray.now.x.one
+        → carry.y ≤ course.now.ray.now.y.zero + course.now.ray.now.y.one
+        → result ≡ stepped course.now.auto.now course.now.ray.now place bit front.now carry.x carry.y }
+    ensures only { IfSome result
+        (λ state. (carry.x ≤ course.now.ray.now.x.zero + course.now.ray.now.x.one)
+        × (carry.y ≤ course.now.ray.now.y.zero + course.now.ray.now.y.one)) }
     ensures within { IfSome result (λ state. state < length course.now.auto.now.accept) }
 {
     if carry.x > course.ray.x.zero + course.ray.x.one {

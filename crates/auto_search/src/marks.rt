@@ -46,7 +46,8 @@ impl Marks {
         requires listed { IsListed self.old.failed.items self.old.cells.items self.old.listed }
         ensures failed { self.new.failed.items ≡ self.old.failed.items }
         ensures listed { IsListed self.new.failed.items self.new.cells.items self.new.listed }
-        ensures here { self.new.listed < length self.new.cells.items → HasCellBelow self.new.cells.items self.new.listed cell }
+        ensures here { self.new.listed < length self.new.cells.items
+            → HasCellBelow self.new.cells.items self.new.listed cell }
         ensures size { length self.new.cells.items ≡ length self.old.cells.items }
     {
         if self.failed[cell] == 0 && self.listed < self.cells.len() {

@@ -37,11 +37,14 @@ impl Met {
 
     /// Enters a state with a slot, where it was not entered twice before.
     pub fn add(&mut self, course: &Course, state: u32, slot: u8)
-        requires place { HasPlace course.now.auto.now self.old.times.items self.old.states.items self.old.slots.items self.old.len }
+        requires place { HasPlace course.now.auto.now self.old.times.items self.old.states.items self.old.slots.items
+            self.old.len }
         requires state { state < length course.now.auto.now.accept }
         requires slot { slot < 9 }
-        ensures adds { Adds self.old.times.items self.old.states.items self.old.slots.items self.old.len self.new.times.items self.new.states.items self.new.slots.items self.new.len state slot }
-        ensures place { HasPlace course.now.auto.now self.new.times.items self.new.states.items self.new.slots.items self.new.len }
+        ensures adds { Adds self.old.times.items self.old.states.items self.old.slots.items self.old.len
+            self.new.times.items self.new.states.items self.new.slots.items self.new.len state slot }
+        ensures place { HasPlace course.now.auto.now self.new.times.items self.new.states.items self.new.slots.items
+            self.new.len }
     {
         let at = state as usize * SLOTS as usize + slot as usize;
         if self.times[at] < MOST_TIMES {
@@ -56,8 +59,10 @@ impl Met {
         requires none { (k : ℕ) → slice_index self.old.times.items k ≡ 0 }
         requires front { IsFront course.now.auto.now front.now }
         requires opened { IsOpened course.now.auto.now course.now.ray.now front.now }
-        ensures sizes { SameSizes self.old.times.items self.old.states.items self.old.slots.items self.new.times.items self.new.states.items self.new.slots.items }
-        ensures begins { Begins course.now.auto.now course.now.ray.now self.new.times.items self.new.states.items self.new.slots.items self.new.len 9 }
+        ensures sizes { SameSizes self.old.times.items self.old.states.items self.old.slots.items self.new.times.items
+            self.new.states.items self.new.slots.items }
+        ensures begins { Begins course.now.auto.now course.now.ray.now self.new.times.items self.new.states.items
+            self.new.slots.items self.new.len 9 }
     {
         self.len = 0;
         for slot in 0..SLOTS {
@@ -86,11 +91,14 @@ impl Met {
 
     /// Enters the states that an entry leads to by a bit; by 0 none where the walk begins with the entry.
     pub fn follow(&mut self, course: &Course, entry: usize, bit: bool, starts: usize)
-        requires place { HasPlace course.now.auto.now self.old.times.items self.old.states.items self.old.slots.items self.old.len }
+        requires place { HasPlace course.now.auto.now self.old.times.items self.old.states.items self.old.slots.items
+            self.old.len }
         requires entry { entry < self.old.len }
         requires slot { slice_index self.old.slots.items entry < 9 }
         requires state { slice_index self.old.states.items entry < length course.now.auto.now.accept }
-        ensures { Walks course.now.auto.now course.now.ray.now self.old.times.items self.old.states.items self.old.slots.items self.old.len self.new.times.items self.new.states.items self.new.slots.items self.new.len starts starts (moment entry bit 0) (moment entry bit 9) }
+        ensures { Walks course.now.auto.now course.now.ray.now self.old.times.items self.old.states.items
+            self.old.slots.items self.old.len self.new.times.items self.new.states.items self.new.slots.items
+            self.new.len starts starts (moment entry bit 0) (moment entry bit 9) }
     {
         if bit || entry >= starts {
             let after = after_entry(course, self.slot_of(entry), self.state_of(entry), bit);
@@ -107,7 +115,8 @@ impl Met {
     pub fn clear(&mut self)
         requires { IsEntered self.old.times.items self.old.states.items self.old.slots.items self.old.len }
         ensures none { (k : ℕ) → slice_index self.new.times.items k ≡ 0 }
-        ensures sizes { SameSizes self.old.times.items self.old.states.items self.old.slots.items self.new.times.items self.new.states.items self.new.slots.items }
+        ensures sizes { SameSizes self.old.times.items self.old.states.items self.old.slots.items self.new.times.items
+            self.new.states.items self.new.slots.items }
     {
         for entry in 0..self.len {
             let at = self.states[entry] as usize * SLOTS as usize + self.slots[entry] as usize;

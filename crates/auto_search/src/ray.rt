@@ -6,6 +6,7 @@ ghost use Rattle.auto_search.specs.Bits.{IsRay, IsStill};
 
 use crate::axis::{Axis, unit_of};
 use crate::way::Way;
+use limits::MOST_TRACKS;
 use track_word::bit_of;
 
 /// The most places that a search reads, the sign's among them: a value on a ray has at most 67 bits.
@@ -26,7 +27,7 @@ impl Ray {
     /// The ray from its near end on, for so many steps.
     pub fn new(way: &Way, near: u128, steps: u128) -> Ray
         requires way { IsWay way.now }
-        requires few { length way.now.fixed.now ≤ 20 }
+        requires few { length way.now.fixed.now ≤ MOST_TRACKS }
         requires near { near ≤ 2 ^ 64 }
         requires steps { steps ≤ 2 ^ 64 }
         ensures { IsRay way.now near steps result }
@@ -82,7 +83,7 @@ fn bits_of(number: u128) -> u8
 /// The letters of the tracks that do not move, for the places up to the top.
 fn still_letters(way: &Way, top: u8) -> [u32; MOST_PLACES]
     requires way { IsWay way.now }
-    requires few { length way.now.fixed.now ≤ 20 }
+    requires few { length way.now.fixed.now ≤ MOST_TRACKS }
     requires top { top ≤ 67 }
     ensures still { (place : ℕ) → place ≤ top → IsStill way.now place (slice_index result place) }
 {
@@ -96,7 +97,7 @@ fn still_letters(way: &Way, top: u8) -> [u32; MOST_PLACES]
 /// The letter of a place without the bits of the two tracks.
 fn still_letter(way: &Way, place: u8) -> u32
     requires way { IsWay way.now }
-    requires few { length way.now.fixed.now ≤ 20 }
+    requires few { length way.now.fixed.now ≤ MOST_TRACKS }
     requires place { place ≤ 67 }
     ensures { IsStill way.now place result }
 {
@@ -119,7 +120,7 @@ fn bit_of_track(values: &[i64], track: u8, place: u8) -> u32
 
 /// The letter of the bits of one place.
 fn letter_at(values: &[i64], place: u8) -> u32
-    requires few { length values.now ≤ 20 }
+    requires few { length values.now ≤ MOST_TRACKS }
     requires place { place ≤ 67 }
     ensures letter { result ≡ letter_of values.now place }
     ensures within { result < 2 ^ length values.now }

@@ -3,4 +3,3 @@ pub mod RowLemmas
 pub mod WalkWords
 pub mod ResidueLemmas
 pub mod States
-pub mod Restricted

@@ -6,7 +6,8 @@ use Rattle.std.proofs.lemmas.List.Elements.{All-from_get_or}
 use Rattle.std.proofs.lemmas.Option.{slice_get-get_or, slice_get_within, get_or_from_slice_get}
 use Rattle.std.proofs.lemmas.Bool.{cases_lt}
 use Rattle.letter_diagram.specs.declared.diagrams.Shape.{Shape}
-use Rattle.letter_diagram.specs.Diagram.{LooksBelow, Grows}
+use Rattle.letter_diagram.specs.Diagram.{Grows}
+use Rattle.letter_diagram.proofs.Narrow.{LooksBelow-grows}
 use Rattle.auto_walk.specs.Walker.{Walker, IsReached}
 use Rattle.auto_walk.specs.Rows.{AreNumbered, Extends, IsRow, IsRowOf, LeadsOn, AreRows}
 use Rattle.auto_walk.proofs.WalkLemmas.{All-at, IsReached-first, IsReached-next}
@@ -27,9 +28,6 @@ length_le-Extends old new more = elim (cases_lt (length new) (length old)) [
   | inl shorter ↦ let l = length-Extends old new (length new) more shorter in absurd (omega arith)
   | inr longer ↦ omega arith
 ]
-
-pub LooksBelow-kept : (old new : List Shape) (node bound : ℕ) → Grows old new → node < length old → LooksBelow old node bound → LooksBelow new node bound
-LooksBelow-kept old new node bound grows known narrow = record { same = λ a b h. grows.map node a known ∙ narrow.same a b h ∙ sym (grows.map node b known) }
 
 module _ (w : Walker) where
   -- all places are reached where the new ones are led to from reached ones
@@ -60,12 +58,13 @@ module _ (w : Walker) where
       numbered-row shapes old new (w.next r.place) node (λ letter below. IsReached-next w r.place letter below from) n.reached more r.row
 
   -- a row keeps leading on as places and nodes are added
-  pub LeadsOn-kept : (old_shapes shapes : List Shape) (old new : List (List ℕ)) (number node : ℕ) → Grows old_shapes shapes → Extends old new → LeadsOn w old_shapes old number node → LeadsOn w shapes new number node
+  pub LeadsOn-kept : (old_shapes shapes : List Shape) (old new : List (List ℕ)) (number node : ℕ) → Grows old_shapes shapes → Extends old new → LeadsOn w old_shapes old number node
+      → LeadsOn w shapes new number node
   LeadsOn-kept old_shapes shapes old new number node grows more l = record {
     place = l.place;
     is = more.kept number l.place l.is;
     known = let k = l.known in let g = grows.longer in omega (arith, k, g);
-    narrow = LooksBelow-kept old_shapes shapes node (length w.tracks) grows l.known l.narrow;
+    narrow = LooksBelow-grows old_shapes shapes node (length w.tracks) l.known grows l.narrow;
     leads = λ letter below. ap (slice_get new) (grows.map node letter l.known) ∙ more.kept _ _ (l.leads letter below);
   }
 

@@ -1,30 +1,23 @@
 -- What the automaton of all rows accepts.
-use Rattle.std.proofs.Common.{◌≡◌, ℕ, ◌<◌, ◌≤◌, ◌+◌, ◌*◌, ◌/◌, ◌%◌, ◌^◌, Bool, false, List, [], ◌∷◌, length, map, slice_get, get_or, Some, Contains, arith, refl, sym, ap, ◌∙◌, subst}
+use Rattle.std.proofs.Common.{◌≡◌, ℕ, ◌<◌, ◌≤◌, ◌%◌, ◌^◌, Bool, false, List, [], ◌∷◌, length, map, slice_get, get_or, Some, Contains, arith, refl, sym, ap, ◌∙◌, subst}
 use Rattle.std.specs.List.{All, fold}
 use Rattle.std.specs.Option.{option_map}
-use Rattle.std.specs.Int.{bit_at}
 use Rattle.std.proofs.lemmas.List.{length-map}
 use Rattle.std.proofs.lemmas.List.Elements.{All-head, All-tail, All-from_get_or, All-map, All-weaker, All-contains}
 use Rattle.std.proofs.lemmas.Nat.{mod_below, pow_pos}
-use Rattle.std.proofs.lemmas.Nat.Bits.{bit_at_cat_low}
 use Rattle.std.proofs.lemmas.Option.{slice_get-get_or, slice_get_within, get_or_from_slice_get, same_Some, slice_get-map}
-use Rattle.std.proofs.lemmas.Grind.{common_steps}
+use Rattle.track_word.proofs.LetterBits.{low_bits}
 use Rattle.track_word.specs.declared.tracks.Var.{Var}
 use Rattle.track_word.specs.Word.{IsWord}
 use Rattle.letter_diagram.specs.declared.diagrams.Shape.{Shape}
 use Rattle.letter_diagram.specs.Diagram.{map_at, LooksBelow, Grows}
+use Rattle.letter_diagram.proofs.Narrow.{LooksBelow-grows}
 use Rattle.auto_core.specs.Automaton.{Automaton, next_state, run, state_of, is_final}
 use Rattle.auto_core.specs.Rows.{row_of, rows_of, dense, AreRows as AreRowsOf}
 use Rattle.auto_core.proofs.RowLemmas.{get_or-row_of, next_state-dense}
 use Rattle.auto_walk.specs.Walker.{Walker, place_of, IsReached, AreTracks, MoreThan, IsWalked}
 use Rattle.auto_walk.specs.Rows.{AreNumbered, IsRow, LeadsOn, AreRows, Extends}
 use Rattle.auto_walk.proofs.WalkLemmas.{length_le-among, All-at, apart_in_map, one_place}
-use Rattle.auto_walk.proofs.RowLemmas.{LooksBelow-kept}
-
-low_bits : (letter bound k : ℕ) → k < bound → bit_at letter k ≡ bit_at (letter % 2 ^ bound) k
-low_bits letter bound k below =
-    let whole : letter ≡ letter / 2 ^ bound * 2 ^ bound + letter % 2 ^ bound = grind (arith, common_steps) in
-    ap (λ n. bit_at n k) whole ∙ bit_at_cat_low (letter / 2 ^ bound) bound (letter % 2 ^ bound) k below
 
 -- a node that looks below a bound gives each letter the value of one of the letters below the bound's power
 pub map_at-low : (shapes : List Shape) (node bound letter : ℕ) → LooksBelow shapes node bound → map_at shapes node letter ≡ map_at shapes node (letter % 2 ^ bound)
@@ -36,10 +29,11 @@ pub record IsFirstRow (w : Walker) (shapes : List Shape) (places : List (List �
   pub narrow : LooksBelow shapes node (length w.tracks)
   pub leads : (letter : ℕ) → letter < 2 ^ length w.tracks → slice_get places (map_at shapes node letter) ≡ Some (w.first letter)
 
-pub IsFirstRow-kept : (w : Walker) (old_shapes shapes : List Shape) (none old new : List (List ℕ)) (node : ℕ) → Grows old_shapes shapes → Extends old new → IsRow w old_shapes none old w.first node → IsFirstRow w shapes new node
+pub IsFirstRow-kept : (w : Walker) (old_shapes shapes : List Shape) (none old new : List (List ℕ)) (node : ℕ) → Grows old_shapes shapes → Extends old new
+    → IsRow w old_shapes none old w.first node → IsFirstRow w shapes new node
 IsFirstRow-kept w old_shapes shapes none old new node grows more row = record {
   known = let k = row.known in let g = grows.longer in omega (arith, k, g);
-  narrow = LooksBelow-kept old_shapes shapes node (length w.tracks) grows row.known row.narrow;
+  narrow = LooksBelow-grows old_shapes shapes node (length w.tracks) row.known grows row.narrow;
   leads = λ letter below. ap (slice_get new) (grows.map node letter row.known) ∙ more.kept _ _ (row.leads letter below);
 }
 
@@ -64,7 +58,8 @@ closed-rows w more_w last_w old_shapes shapes none old places first rows accept 
 
 -- an automaton with these tables
 pub is_dense : (m : Automaton) (tracks : List Var) (shapes : List Shape) (first : ℕ) (rows : List ℕ) (accept : List Bool)
-    → m.tracks ≡ tracks → m.first ≡ row_of shapes (2 ^ length tracks) first → m.next ≡ rows_of shapes (2 ^ length tracks) rows → m.accept ≡ accept → m.shapes ≡ shapes → m.first_node ≡ first → m.row_nodes ≡ rows
+    → m.tracks ≡ tracks → m.first ≡ row_of shapes (2 ^ length tracks) first → m.next ≡ rows_of shapes (2 ^ length tracks) rows → m.accept ≡ accept → m.shapes ≡ shapes
+    → m.first_node ≡ first → m.row_nodes ≡ rows
     → m ≡ dense tracks shapes first rows accept
 is_dense m tracks shapes first rows accept t f n a s o r = λ i. record { tracks = t i; first = f i; next = n i; accept = a i; shapes = s i; first_node = o i; row_nodes = r i }
 
@@ -89,24 +84,29 @@ module _ (w : Walker) (shapes : List Shape) (places : List (List ℕ)) (first : 
         rows_size = closed.rows_size ∙ sym states;
         first_known = closed.first_row.known;
         first_narrow = closed.first_row.narrow;
-        first_within = λ letter. rw (map_at-low shapes first (length w.tracks) letter closed.first_row.narrow, states) (slice_get_within places _ _ (closed.first_row.leads (letter % 2 ^ length w.tracks) (letter_low letter)));
+        first_within =
+            λ letter. rw (map_at-low shapes first (length w.tracks) letter closed.first_row.narrow, states)
+            (slice_get_within places _ _ (closed.first_row.leads (letter % 2 ^ length w.tracks) (letter_low letter)));
         rows_known = All-from_get_or (λ node. node < length shapes) rows 0 (λ k h. (row_at k h).known);
         rows_narrow = All-from_get_or (λ node. LooksBelow shapes node (length w.tracks)) rows 0 (λ k h. (row_at k h).narrow);
         rows_within = All-from_get_or (λ node. (letter : ℕ) → map_at shapes node letter < length accept) rows 0 (λ k h letter.
-            rw (map_at-low shapes (get_or rows k 0) (length w.tracks) letter (row_at k h).narrow, states) (slice_get_within places _ _ ((row_at k h).leads (letter % 2 ^ length w.tracks) (letter_low letter))));
+            rw (map_at-low shapes (get_or rows k 0) (length w.tracks) letter (row_at k h).narrow, states)
+            (slice_get_within places _ _ ((row_at k h).leads (letter % 2 ^ length w.tracks) (letter_low letter))));
       }
 
   module _ (tracks : AreTracks w.tracks) (small : length places < 2 ^ 31) where
     m : Automaton
     m = dense w.tracks shapes first rows accept
 
-    step_leads : (state letter : ℕ) (place : List ℕ) → letter < 2 ^ length w.tracks → slice_get places state ≡ Some place → slice_get places (next_state (dense w.tracks shapes first rows accept) state letter) ≡ Some (w.next place letter)
+    step_leads : (state letter : ℕ) (place : List ℕ) → letter < 2 ^ length w.tracks → slice_get places state ≡ Some place
+        → slice_get places (next_state (dense w.tracks shapes first rows accept) state letter) ≡ Some (w.next place letter)
     step_leads state letter place below at =
         let within = slice_get_within places state place at in
         let inside : state < length rows = omega (arith, closed.rows_size, within) in
         let row = row_at state inside in
         let known : state < length accept = omega (arith, states, within) in
-        let here : get_or rows state 0 ≡ get_or rows state (get_or rows state 0) = sym (get_or_from_slice_get rows state (get_or rows state 0) (get_or rows state 0) (slice_get-get_or rows state 0 inside)) in
+        let here : get_or rows state 0 ≡ get_or rows state (get_or rows state 0) =
+        sym (get_or_from_slice_get rows state (get_or rows state 0) (get_or rows state 0) (slice_get-get_or rows state 0 inside)) in
         let entry = next_state-dense w.tracks shapes first rows accept (AreRows-closed tracks small) state letter (get_or rows state 0) known below here in
         let same : row.place ≡ place = same_Some _ _ (sym row.is ∙ at) in
         ap (slice_get places) entry ∙ row.leads letter below ∙ ap Some (ap (λ p. w.next p letter) same)
@@ -124,7 +124,8 @@ module _ (w : Walker) (shapes : List Shape) (places : List (List ℕ)) (first : 
         run_leads letters _ _ (All-tail (λ l. l < 2 ^ length w.tracks) sign letters is.letters)
         (ap (slice_get places) (get_or-row_of shapes (2 ^ length w.tracks) first sign below) ∙ closed.first_row.leads sign below)
 
-    final_is : (word : List ℕ) → IsWord (length w.tracks) word → is_final (dense w.tracks shapes first rows accept) (state_of (dense w.tracks shapes first rows accept) word) ≡ w.final (place_of w word)
+    final_is : (word : List ℕ) → IsWord (length w.tracks) word
+        → is_final (dense w.tracks shapes first rows accept) (state_of (dense w.tracks shapes first rows accept) word) ≡ w.final (place_of w word)
     final_is word is =
         let at = word_leads word is in
         let state = state_of (dense w.tracks shapes first rows accept) word in

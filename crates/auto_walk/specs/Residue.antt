@@ -27,6 +27,8 @@ ResidueHolds var modulus residue word = int_rem_euclid (word_values (var ∷ [])
 -- the node's map leads each letter by its bit to the number of one of two residues, which alone are new
 pub record IsBitRow (shapes : List Shape) (old new : List (List ℕ)) (low high node : ℕ) : Type 0 where
   pub known : node < length shapes
-  pub leads : (letter : ℕ) → slice_get new (map_at shapes node letter) ≡ Some ((if nat_eq (bit_at letter 0) 0 then low else high) ∷ [])
+  pub leads : (letter : ℕ)
+      → slice_get new (map_at shapes node letter) ≡ Some ((if nat_eq (bit_at letter 0) 0 then low else high) ∷ [])
   pub different : AllPairs (λ p q. p ≢ q) new
-  pub added : (number : ℕ) → length old ≤ number → number < length new → (slice_get new number ≡ Some (low ∷ [])) ⊎ (slice_get new number ≡ Some (high ∷ []))
+  pub added : (number : ℕ) → length old ≤ number → number < length new
+      → (slice_get new number ≡ Some (low ∷ [])) ⊎ (slice_get new number ≡ Some (high ∷ []))

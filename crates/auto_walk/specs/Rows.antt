@@ -20,10 +20,12 @@ pub record IsLed (w : Walker) (new : List (List ℕ)) (lead : ℕ → List ℕ) 
   pub leads : slice_get new number ≡ Some (lead letter)
 
 -- the node's map leads each letter to the number of its place, and what is new among the places is led to
-pub record IsRow (w : Walker) (shapes : List Shape) (old new : List (List ℕ)) (lead : ℕ → List ℕ) (node : ℕ) : Type 0 where
+pub record IsRow (w : Walker) (shapes : List Shape) (old new : List (List ℕ)) (lead : ℕ → List ℕ) (node : ℕ) : Type
+    0 where
   pub known : node < length shapes
   pub narrow : LooksBelow shapes node (length w.tracks)
-  pub leads : (letter : ℕ) → letter < 2 ^ length w.tracks → slice_get new (map_at shapes node letter) ≡ Some (lead letter)
+  pub leads : (letter : ℕ) → letter < 2 ^ length w.tracks
+      → slice_get new (map_at shapes node letter) ≡ Some (lead letter)
   pub different : AllPairs (λ p q. p ≢ q) new
   pub led : (number : ℕ) → length old ≤ number → number < length new → IsLed w new lead number
 
@@ -39,7 +41,8 @@ pub record LeadsOn (w : Walker) (shapes : List Shape) (places : List (List ℕ))
   pub is : slice_get places number ≡ Some place
   pub known : node < length shapes
   pub narrow : LooksBelow shapes node (length w.tracks)
-  pub leads : (letter : ℕ) → letter < 2 ^ length w.tracks → slice_get places (map_at shapes node letter) ≡ Some (w.next place letter)
+  pub leads : (letter : ℕ) → letter < 2 ^ length w.tracks
+      → slice_get places (map_at shapes node letter) ≡ Some (w.next place letter)
 
 -- a node for each of the first places, which leads each letter to the number of the next place
 pub record AreRows (w : Walker) (shapes : List Shape) (places : List (List ℕ)) (rows : List ℕ) : Type 0 where

@@ -1,5 +1,6 @@
 -- Places that words lead to, and the automaton whose states are these places.
 use Rattle.std.specs.Prelude.{◌≡◌, ◌≢◌, ◌↔◌, ℕ, ◌+◌, ◌<◌, ◌≤◌, Bool, IsTrue, List, [], ◌∷◌, length, fold, All, AllPairs}
+use Rattle.limits.specs.declared.numbers.TheConstants.{MOST_TRACKS}
 use Rattle.track_word.specs.declared.tracks.Var.{Var}
 use Rattle.track_word.specs.Word.{IsWord}
 use Rattle.track_word.specs.Tracks.{IsAscending}
@@ -21,7 +22,7 @@ place_of w (sign ∷ letters) = fold w.next (w.first sign) letters
 -- ascending tracks, at most 20
 pub record AreTracks (tracks : List Var) : Type 0 where
   pub ascending : IsAscending tracks
-  pub few : length tracks ≤ 20
+  pub few : length tracks ≤ MOST_TRACKS
 
 -- some word leads to the place
 pub record IsReached (w : Walker) (place : List ℕ) : Type 0 where
@@ -41,4 +42,5 @@ pub record IsWalked (w : Walker) (m : Automaton) : Type 0 where
   pub tracks : m.tracks ≡ w.tracks
   pub words : (word : List ℕ) → IsWord (length w.tracks) word → Accepts m word ↔ IsTrue (w.final (place_of w word))
   pub reached : (state : ℕ) → state < length m.accept → IsReachedState m state
-  pub same : (u v : List ℕ) → IsWord (length w.tracks) u → IsWord (length w.tracks) v → (state_of m u ≡ state_of m v) ↔ (place_of w u ≡ place_of w v)
+  pub same : (u v : List ℕ) → IsWord (length w.tracks) u → IsWord (length w.tracks) v
+      → (state_of m u ≡ state_of m v) ↔ (place_of w u ≡ place_of w v)

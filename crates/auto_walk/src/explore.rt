@@ -8,56 +8,59 @@ use crate::grown::Grown;
 use crate::walk::Walk;
 use auto_core::Auto;
 use letter_diagram::Node;
+use limits::Budget;
 use std::alloc::{AllocError, Global};
 
-// The first row, unless more places than the budget are numbered by it.
-fn first_row<W: Walk>(walk: &mut W, budget: u32) -> Result<Node, Grown>
+/// The first row, unless more places than the budget are numbered by it.
+fn first_row<W: Walk>(walk: &mut W, budget: Budget) -> Result<Node, Grown>
     requires { W.places walk.old ≡ [] }
     ensures walker { W.walker walk.new ≡ W.walker walk.old }
     ensures numbered { OnOk result (AreNumbered (W.walker walk.old) (W.places walk.new)) }
     ensures room { OnOk result (length (W.places walk.new) ≤ budget) }
-    ensures row { IfOk result (IsRow (W.walker walk.old) (W.shapes walk.new) (W.places walk.old) (W.places walk.new) ((W.walker walk.old).first)) }
+    ensures row { IfOk result
+        (IsRow (W.walker walk.old) (W.shapes walk.new) (W.places walk.old) (W.places walk.new)
+        ((W.walker walk.old).first)) }
     ensures over { result ≡ Err Grown.Over → MoreThan (W.walker walk.old) budget }
 {
     let node = walk.first_row()?;
-    if walk.count() > budget as usize {
+    if walk.count() > budget.states() as usize {
         return Err(Grown::Over);
     }
     Ok(node)
 }
 
-// The row of a numbered place, unless more places than the budget are numbered by it.
-fn next_row<W: Walk>(walk: &mut W, number: u32, budget: u32) -> Result<Node, Grown>
+/// The row of a numbered place, unless more places than the budget are numbered by it.
+fn next_row<W: Walk>(walk: &mut W, number: u32, budget: Budget) -> Result<Node, Grown>
     requires numbered { AreNumbered (W.walker walk.old) (W.places walk.old) }
     requires known { number < length (W.places walk.old) }
     requires room { length (W.places walk.old) ≤ budget }
-    requires budget { budget < 2 ^ 31 }
     ensures walker { W.walker walk.new ≡ W.walker walk.old }
     ensures kept { Extends (W.places walk.old) (W.places walk.new) }
     ensures grows { Grows (W.shapes walk.old) (W.shapes walk.new) }
     ensures numbered { OnOk result (AreNumbered (W.walker walk.old) (W.places walk.new)) }
     ensures room { OnOk result (length (W.places walk.new) ≤ budget) }
-    ensures row { IfOk result (IsRowOf (W.walker walk.old) (W.shapes walk.new) (W.places walk.old) (W.places walk.new) number) }
+    ensures row { IfOk result
+        (IsRowOf (W.walker walk.old) (W.shapes walk.new) (W.places walk.old) (W.places walk.new) number) }
     ensures over { result ≡ Err Grown.Over → MoreThan (W.walker walk.old) budget }
 {
     let node = walk.next_row(number)?;
-    if walk.count() > budget as usize {
+    if walk.count() > budget.states() as usize {
         return Err(Grown::Over);
     }
     Ok(node)
 }
 
-// The rows of the places that are numbered, and of all that these lead to.
-fn all_rows<W: Walk>(alloc: Global, walk: &mut W, budget: u32) -> Result<Vec<Node>, Grown>
+/// The rows of the places that are numbered, and of all that these lead to.
+fn all_rows<W: Walk>(alloc: Global, walk: &mut W, budget: Budget) -> Result<Vec<Node>, Grown>
     requires numbered { AreNumbered (W.walker walk.old) (W.places walk.old) }
     requires room { length (W.places walk.old) ≤ budget }
-    requires budget { budget < 2 ^ 31 }
     ensures walker { W.walker walk.new ≡ W.walker walk.old }
     ensures kept { Extends (W.places walk.old) (W.places walk.new) }
     ensures grows { Grows (W.shapes walk.old) (W.shapes walk.new) }
     ensures numbered { OnOk result (AreNumbered (W.walker walk.old) (W.places walk.new)) }
     ensures room { OnOk result (length (W.places walk.new) ≤ budget) }
-    ensures rows { IfOk result (λ rows. AreRows (W.walker walk.old) (W.shapes walk.new) (W.places walk.new) rows.items) }
+    ensures rows { IfOk result
+        (λ rows. AreRows (W.walker walk.old) (W.shapes walk.new) (W.places walk.new) rows.items) }
     ensures size { IfOk result (λ rows. vec_len rows ≡ length (W.places walk.new)) }
     ensures over { result ≡ Err Grown.Over → MoreThan (W.walker walk.old) budget }
 {
@@ -71,7 +74,7 @@ fn all_rows<W: Walk>(alloc: Global, walk: &mut W, budget: u32) -> Result<Vec<Nod
     Ok(rows)
 }
 
-// Whether each place is accepting.
+/// Whether each place is accepting.
 fn flags<W: Walk>(alloc: Global, walk: &W) -> Result<Vec<bool>, AllocError>
     requires numbered { AreNumbered (W.walker walk.now) (W.places walk.now) }
     requires room { length (W.places walk.now) < 2 ^ 31 }
@@ -85,14 +88,15 @@ fn flags<W: Walk>(alloc: Global, walk: &W) -> Result<Vec<bool>, AllocError>
 }
 
 /// The automaton whose states are the places to which words lead, or `Over` where they are more than the budget.
-pub fn walked<W: Walk>(alloc: Global, walk: W, budget: u32) -> Result<Auto, Grown>
+pub fn walked<W: Walk>(alloc: Global, walk: W, budget: Budget) -> Result<Auto, Grown>
     requires fresh { W.places walk ≡ [] }
-    requires budget { budget < 2 ^ 31 }
     ensures ok { IfOk result (IsWalked (W.walker walk)) }
+    ensures few { IfOk result (λ m. length m.accept ≤ budget) }
     ensures within { OnOk result (¬ MoreThan (W.walker walk) budget) }
     ensures over { result ≡ Err Grown.Over → MoreThan (W.walker walk) budget }
 {
     let mut walk = walk;
+    let _ = budget.states(); // for its invariant
     let first = first_row(&mut walk, budget)?;
     let rows = all_rows(alloc, &mut walk, budget)?;
     let accept = flags(alloc, &walk)?;

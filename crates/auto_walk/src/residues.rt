@@ -14,6 +14,7 @@ use crate::grown::Grown;
 use crate::walk::Walk;
 use auto_core::Auto;
 use letter_diagram::{Diagrams, Node, PairsError, Sets};
+use limits::Budget;
 use std::alloc::{AllocError, Global};
 use track_word::Var;
 use track_word::laws::repeating_first_letter_keeps_values;
@@ -97,7 +98,7 @@ fn bit_row(
 {
     let low = number_of(seen, low)?;
     let high = number_of(seen, high)?;
-    let _ = seen.len();
+    let _ = seen.len(); // for its invariant
     let low = diagrams.leaf(low)?;
     let high = diagrams.leaf(high)?;
     let node = diagrams.node(0, low, high)?;
@@ -150,12 +151,12 @@ pub fn residue(
     var: Var,
     modulus: u32,
     residue: u32,
-    budget: u32,
+    budget: Budget,
 ) -> Result<Auto, Grown>
     requires modulus { 0 < modulus }
-    requires budget { budget < 2 ^ 31 }
     ensures tracks { IfOk result (λ a. a.tracks ≡ var ∷ []) }
-    ensures words { IfOk result (λ a. (word : List ℕ) → IsWord 1 word → Accepts a word ↔ ResidueHolds var modulus residue word) }
+    ensures words { IfOk result
+        (λ a. (word : List ℕ) → IsWord 1 word → Accepts a word ↔ ResidueHolds var modulus residue word) }
     ensures integers { IfOk result (λ a. DecidesIntegers a) }
     ensures within { OnOk result (¬ MoreThan (residue_walker (var ∷ []) modulus residue) budget) }
     ensures over { result ≡ Err Grown.Over → MoreThan (residue_walker (var ∷ []) modulus residue) budget }

@@ -52,7 +52,9 @@ pub IsDiagram-push : (xs : List Shape) (y : Shape) → IsDiagram xs → FitsBelo
 IsDiagram-push xs y is fits unique = record {
   fits = λ node shape at. elim (get-push xs y node shape at) [
     | inl w ↦ FitsBelow-append xs (y ∷ []) node shape (let l = w.0 in omega arith) (is.fits node shape w.1)
-    | inr w ↦ FitsBelow-append xs (y ∷ []) node shape (let l = w.0 in omega arith) (let P : ℕ → Shape → Type 0 = λ n s. FitsBelow xs n s in subst (λ s. P node s) w.1 (subst (λ n. P n y) (sym w.0) fits))
+    | inr w ↦
+        FitsBelow-append xs (y ∷ []) node shape (let l = w.0 in omega arith)
+        (let P : ℕ → Shape → Type 0 = λ n s. FitsBelow xs n s in subst (λ s. P node s) w.1 (subst (λ n. P n y) (sym w.0) fits))
   ];
   distinct = distinct_places (xs ++ y ∷ []) (AllPairs-from_IsDistinct shape_eq-Decides (xs ++ y ∷ []) unique);
 }

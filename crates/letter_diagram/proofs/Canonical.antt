@@ -94,7 +94,8 @@ module _ (shapes : List Shape) (is : IsDiagram shapes) where
       ]
 
   -- the low sides of two tests of one track with equal maps
-  low_sides : (a b track low high low' high' letter : ℕ) → IsAt shapes a (Test track low high) → IsTest shapes a track low high → IsAt shapes b (Test track low' high') → IsTest shapes b track low' high'
+  low_sides : (a b track low high low' high' letter : ℕ) → IsAt shapes a (Test track low high) → IsTest shapes a track low high → IsAt shapes b (Test track low' high')
+      → IsTest shapes b track low' high'
       → ((l : ℕ) → map_at shapes a l ≡ map_at shapes b l) → map_at shapes low letter ≡ map_at shapes low' letter
   low_sides a b track low high low' high' letter at fits at' fits' same =
       let other = flip letter track in
@@ -107,10 +108,12 @@ module _ (shapes : List Shape) (is : IsDiagram shapes) where
         | inl z ↦ sym (low_is a track low high letter at z) ∙ same letter ∙ low_is b track low' high' letter at' z
         | inr o ↦
             let z = bit ∙ ap (λ n. (n + 1) % 2) o in
-            flipped low track letter (omega arith) fits.low_above ∙ sym (low_is a track low high other at z) ∙ same other ∙ low_is b track low' high' other at' z ∙ sym (flipped low' track letter (omega arith) fits'.low_above)
+            flipped low track letter (omega arith) fits.low_above ∙ sym (low_is a track low high other at z) ∙ same other
+            ∙ low_is b track low' high' other at' z ∙ sym (flipped low' track letter (omega arith) fits'.low_above)
       ]
 
-  high_sides : (a b track low high low' high' letter : ℕ) → IsAt shapes a (Test track low high) → IsTest shapes a track low high → IsAt shapes b (Test track low' high') → IsTest shapes b track low' high'
+  high_sides : (a b track low high low' high' letter : ℕ) → IsAt shapes a (Test track low high) → IsTest shapes a track low high → IsAt shapes b (Test track low' high')
+      → IsTest shapes b track low' high'
       → ((l : ℕ) → map_at shapes a l ≡ map_at shapes b l) → map_at shapes high letter ≡ map_at shapes high' letter
   high_sides a b track low high low' high' letter at fits at' fits' same =
       let other = flip letter track in
@@ -123,7 +126,8 @@ module _ (shapes : List Shape) (is : IsDiagram shapes) where
         | inr o ↦ sym (high_is a track low high letter at o) ∙ same letter ∙ high_is b track low' high' letter at' o
         | inl z ↦
             let o = bit ∙ ap (λ n. (n + 1) % 2) z in
-            flipped high track letter (omega arith) fits.high_above ∙ sym (high_is a track low high other at o) ∙ same other ∙ high_is b track low' high' other at' o ∙ sym (flipped high' track letter (omega arith) fits'.high_above)
+            flipped high track letter (omega arith) fits.high_above ∙ sym (high_is a track low high other at o) ∙ same other
+            ∙ high_is b track low' high' other at' o ∙ sym (flipped high' track letter (omega arith) fits'.high_above)
       ]
 
   equal : (fuel a b : ℕ) → a < fuel → b < fuel → a < length shapes → b < length shapes → ((letter : ℕ) → map_at shapes a letter ≡ map_at shapes b letter) → a ≡ b

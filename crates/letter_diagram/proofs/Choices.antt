@@ -29,7 +29,8 @@ IsChosen-grows old new track low high r grows is =
 pub RemembersChosen-grows : {S : Type 0} (old new : List Shape) (track : ℕ) (memo : HashMap (ℕ × ℕ) ℕ S) → Grows old new → RemembersChosen old track memo → RemembersChosen new track memo
 RemembersChosen-grows old new track memo grows all = record { chosen = λ low high r at. IsChosen-grows old new track low high r grows (all.chosen low high r at) }
 
-pub RemembersChosen-insert : {S : Type 0} (shapes : List Shape) (track : ℕ) (memo new : HashMap (ℕ × ℕ) ℕ S) (low high r : ℕ) → RemembersChosen shapes track memo → Updates pair_eq memo new (low, high) (Some r) → IsChosen shapes track low high r → RemembersChosen shapes track new
+pub RemembersChosen-insert : {S : Type 0} (shapes : List Shape) (track : ℕ) (memo new : HashMap (ℕ × ℕ) ℕ S) (low high r : ℕ) → RemembersChosen shapes track memo
+    → Updates pair_eq memo new (low, high) (Some r) → IsChosen shapes track low high r → RemembersChosen shapes track new
 RemembersChosen-insert shapes track memo new low high r all updates is = record { chosen = pair_answers-insert (IsChosen shapes track) memo new low high r all.chosen updates is }
 
 -- both sides of a test of one map
@@ -63,7 +64,8 @@ IsChosen-at shapes track low high r low_off low_on high_off high_on kl kh kr sl 
     sides false l h lf ln hf hn p q = sym q
 
 -- before the track, the choices between the sides of both maps
-pub IsChosen-sides : (shapes : List Shape) (track own low high r low_off low_on high_off high_on off on : ℕ) → low < length shapes → high < length shapes → r < length shapes → own < track → own ≡ top_of_both shapes low high
+pub IsChosen-sides : (shapes : List Shape) (track own low high r low_off low_on high_off high_on off on : ℕ) → low < length shapes → high < length shapes → r < length shapes
+    → own < track → own ≡ top_of_both shapes low high
     → IsSplit shapes low own low_off low_on → IsSplit shapes high own high_off high_on → IsChosen shapes track low_off high_off off → IsChosen shapes track low_on high_on on
     → ((letter : ℕ) → map_at shapes r letter ≡ chosen shapes own off on letter) → own ≤ top_track shapes r → IsChosen shapes track low high r
 IsChosen-sides shapes track own low high r low_off low_on high_off high_on off on kl kh kr before is_own sl sh is_off is_on map top = record {
@@ -74,7 +76,8 @@ IsChosen-sides shapes track own low high r low_off low_on high_off high_on off o
   top = omega arith;
 }
   where
-    cross : (first bit : Bool) (f n l h lf ln hf hn : ℕ) → f ≡ (if bit then lf else hf) → n ≡ (if bit then ln else hn) → l ≡ (if first then lf else ln) → h ≡ (if first then hf else hn) → (if first then f else n) ≡ (if bit then l else h)
+    cross : (first bit : Bool) (f n l h lf ln hf hn : ℕ) → f ≡ (if bit then lf else hf) → n ≡ (if bit then ln else hn) → l ≡ (if first then lf else ln)
+        → h ≡ (if first then hf else hn) → (if first then f else n) ≡ (if bit then l else h)
     cross true true f n l h lf ln hf hn p q s t = p ∙ sym s
     cross true false f n l h lf ln hf hn p q s t = p ∙ sym t
     cross false true f n l h lf ln hf hn p q s t = q ∙ sym s

@@ -25,7 +25,10 @@ module _ (shapes : List Shape) (node : ℕ) (firsts : BTreeMap ℕ ℕ) (ordered
   -- the i-th value, with its letter
   found_at : AreFirsts shapes node firsts → (i : ℕ) → i < length firsts.entries → IsFirst shapes node (value_at i) (key_at i)
   unfolding key_at value_at
-  found_at are i below = are.first _ _ (btree_map_get_place nat_cmp_total firsts i (get_or firsts.entries i (0, 0)).0 (get_or firsts.entries i (0, 0)).1 ordered (slice_get-get_or firsts.entries i (0, 0) below))
+  found_at are i below =
+      are.first _ _
+      (btree_map_get_place nat_cmp_total firsts i (get_or firsts.entries i (0, 0)).0 (get_or firsts.entries i (0, 0)).1 ordered
+      (slice_get-get_or firsts.entries i (0, 0) below))
 
   value_is : (i : ℕ) → i < length firsts.entries → get_or (values_of firsts.entries) i 0 ≡ value_at i
   unfolding value_at

@@ -3,14 +3,11 @@ pub mod Shapes
 pub mod Added
 pub mod Canonical
 pub mod Memos
-pub mod Mapped
 pub mod PairNumbers
 pub mod Pairings
 pub mod Choices
-pub mod Restrictions
-pub mod Bringing
 pub mod Narrow
-pub mod BroughtRelabelled
+pub mod Carryings
 pub mod Lists
 pub mod SetNumbers
 pub mod Mergings

@@ -4,7 +4,8 @@ use Rattle.std.proofs.lemmas.Bool.{cases_lt}
 use Rattle.std.proofs.lemmas.List.{length_push, get_or_push, get_or_append_left, take_more, length-take-le, get_or_read}
 use Rattle.letter_diagram.specs.Listed.{EachAnswers}
 
-pub EachAnswers-push : (R S : ℕ → ℕ → Type 0) (nodes answers : List ℕ) (i a r : ℕ) → ((x y : ℕ) → R x y → S x y) → i < length nodes → a ≡ get_or nodes i a → EachAnswers R (take i nodes) answers → S a r
+pub EachAnswers-push : (R S : ℕ → ℕ → Type 0) (nodes answers : List ℕ) (i a r : ℕ) → ((x y : ℕ) → R x y → S x y) → i < length nodes → a ≡ get_or nodes i a
+    → EachAnswers R (take i nodes) answers → S a r
     → EachAnswers S (take (i + 1) nodes) (answers ++ r ∷ [])
 EachAnswers-push R S nodes answers i a r weaker below is all last =
     let size = length-take-le i nodes (omega arith) in

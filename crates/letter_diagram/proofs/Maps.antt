@@ -63,7 +63,8 @@ map_at-push before after shape letter =
     ∙ get_or_push (values_at letter before) (value_of letter (values_at letter before) shape) 0 (length before) lengths
 
 -- the value of a shape over earlier nodes, in a longer list
-value_of-append : (before after : List Shape) (shape : Shape) (letter : ℕ) → FitsBelow (before ++ after) (length before) shape → value_of letter (values_at letter before) shape ≡ value_in (before ++ after) shape letter
+value_of-append : (before after : List Shape) (shape : Shape) (letter : ℕ) → FitsBelow (before ++ after) (length before) shape
+    → value_of letter (values_at letter before) shape ≡ value_in (before ++ after) shape letter
 unfolding map_at
 value_of-append before after (Leaf value) letter h = refl
 value_of-append before after (Test track low high) letter h =
@@ -81,7 +82,10 @@ IsAt-get shapes node shape at fits =
     let before = take node shapes in
     let after = shape ∷ drop (node + 1) shapes in
     let size = length-take-le node shapes (omega arith) in
-    let cut : shapes ≡ before ++ after = sym (take-append-drop node shapes) ∙ ap (λ l. take node shapes ++ l) (drop_more shapes node shape within ∙ ap (λ s. s ∷ drop (node + 1) shapes) (get_or_from_slice_get shapes node shape shape at)) in
+    let cut : shapes ≡ before ++ after =
+    sym (take-append-drop node shapes)
+    ∙ ap (λ l. take node shapes ++ l)
+    (drop_more shapes node shape within ∙ ap (λ s. s ∷ drop (node + 1) shapes) (get_or_from_slice_get shapes node shape shape at)) in
     record {
       is = at;
       within = within;

@@ -6,14 +6,18 @@ use Rattle.std.proofs.lemmas.Bool.{cases_lt, cases_eq}
 use Rattle.letter_diagram.specs.declared.diagrams.Shape.{Shape}
 use Rattle.letter_diagram.specs.Diagram.{map_at, top_track, chosen, IsDiagram, Grows}
 use Rattle.letter_diagram.specs.Paired.{IsSplit, top_of_both, pair_eq}
-use Rattle.letter_diagram.specs.Restricted.{IsWithBit}
 use Rattle.letter_diagram.specs.Sets.{SetsKept, IsUnion}
-use Rattle.letter_diagram.specs.Merged.{HasSets, IsUnited, AreUnions, RemembersUnited, IgnoresTrack, IsMerged, AreMerged, RemembersMerged}
+use Rattle.letter_diagram.specs.Merged.{IsWithBit, HasSets, IsUnited, AreUnions, RemembersUnited, IgnoresTrack, IsMerged, AreMerged, RemembersMerged}
 use Rattle.letter_diagram.proofs.Canonical.{flip, bit_at-flip_same, bit_at-flip_other, bit_cases, flipped, map_at-agree}
 use Rattle.letter_diagram.proofs.Memos.{answers-insert, pair_answers-insert}
 use Rattle.letter_diagram.proofs.Pairings.{top_of_both-grows, low_answer, high_answer}
-use Rattle.letter_diagram.proofs.Restrictions.{side_map}
 use Rattle.letter_diagram.proofs.SetNumbers.{IsUnion-kept, IsUnion-same, IsUnion-at}
+
+-- a side of a split does not look at the track
+side_map : (shapes : List Shape) → IsDiagram shapes → (track bit side letter other : ℕ) → side < length shapes → track < top_track shapes side → IsWithBit other letter track bit
+    → map_at shapes side letter ≡ map_at shapes side other
+side_map shapes is track bit side letter other known above with =
+    map_at-agree shapes is side known letter other (λ k from small. sym (with.same k (let ne : k ≢ track = omega arith in ne)))
 
 pub HasSets-grows : (old new : List Shape) (sets sets' : List (List ℕ)) (a : ℕ) → Grows old new → SetsKept sets sets' → HasSets old sets a → HasSets new sets' a
 HasSets-grows old new sets sets' a grows kept has =
@@ -98,7 +102,8 @@ IsUnited-sides shapes sets a b r track al ah bl bh low high ha hb kr sa sb e ul 
       };
 }
 
-pub IsUnited-leaves : (old shapes : List Shape) (before sets : List (List ℕ)) (a b r number : ℕ) → HasSets old before a → HasSets old before b → Grows old shapes → SetsKept before sets → r < length shapes
+pub IsUnited-leaves : (old shapes : List Shape) (before sets : List (List ℕ)) (a b r number : ℕ) → HasSets old before a → HasSets old before b → Grows old shapes
+    → SetsKept before sets → r < length shapes
     → ((letter : ℕ) → map_at old a letter ≡ map_at old a 0) → ((letter : ℕ) → map_at old b letter ≡ map_at old b 0)
     → IsUnion sets (map_at old a 0) (map_at old b 0) number → ((letter : ℕ) → map_at shapes r letter ≡ number) → top_track shapes r ≡ 20 → top_of_both old a b ≡ 20 → IsUnited shapes sets a b r
 IsUnited-leaves old shapes before sets a b r number ha hb grows kept kr ca cb union map top both =
@@ -113,21 +118,25 @@ IsUnited-leaves old shapes before sets a b r number ha hb grows kept kr ca cb un
       ignores = λ track below. record { same = λ x y agree. map x ∙ sym (map y) };
     }
 
-pub RemembersUnited-grows : {S : Type 0} (old new : List Shape) (sets sets' : List (List ℕ)) (memo : HashMap (ℕ × ℕ) ℕ S) → Grows old new → SetsKept sets sets' → RemembersUnited old sets memo → RemembersUnited new sets' memo
+pub RemembersUnited-grows : {S : Type 0} (old new : List Shape) (sets sets' : List (List ℕ)) (memo : HashMap (ℕ × ℕ) ℕ S) → Grows old new → SetsKept sets sets'
+    → RemembersUnited old sets memo → RemembersUnited new sets' memo
 RemembersUnited-grows old new sets sets' memo grows kept all = record { united = λ a b r at. IsUnited-grows old new sets sets' a b r grows kept (all.united a b r at) }
 
-pub RemembersUnited-insert : {S : Type 0} (shapes : List Shape) (sets : List (List ℕ)) (memo new : HashMap (ℕ × ℕ) ℕ S) (a b r : ℕ) → RemembersUnited shapes sets memo → Updates pair_eq memo new (a, b) (Some r) → IsUnited shapes sets a b r → RemembersUnited shapes sets new
+pub RemembersUnited-insert : {S : Type 0} (shapes : List Shape) (sets : List (List ℕ)) (memo new : HashMap (ℕ × ℕ) ℕ S) (a b r : ℕ) → RemembersUnited shapes sets memo
+    → Updates pair_eq memo new (a, b) (Some r) → IsUnited shapes sets a b r → RemembersUnited shapes sets new
 RemembersUnited-insert shapes sets memo new a b r all updates is = record { united = pair_answers-insert (IsUnited shapes sets) memo new a b r all.united updates is }
 
 pub AreUnions-none : (shapes : List Shape) (sets : List (List ℕ)) (a b : ℕ) → AreUnions shapes (length sets) sets a b
 AreUnions-none shapes sets a b = record { answer = λ number from below. absurd (omega arith) }
 
-pub AreUnions-leaves : (shapes : List Shape) (old new : List (List ℕ)) (a b : ℕ) → ((number : ℕ) → length old ≤ number → number < length new → IsUnion new (map_at shapes a 0) (map_at shapes b 0) number) → AreUnions shapes (length old) new a b
+pub AreUnions-leaves : (shapes : List Shape) (old new : List (List ℕ)) (a b : ℕ)
+    → ((number : ℕ) → length old ≤ number → number < length new → IsUnion new (map_at shapes a 0) (map_at shapes b 0) number) → AreUnions shapes (length old) new a b
 AreUnions-leaves shapes old new a b all = record { answer = λ number from below. (0, all number from below) }
 
 -- the sets that two sides added are unions of sets of both nodes
 pub AreUnions-sides : (shapes mid : List Shape) → IsDiagram shapes → (first second third : List (List ℕ)) (a b track al ah bl bh : ℕ) → Grows shapes mid → SetsKept first second → SetsKept second third
-    → IsSplit shapes a track al ah → IsSplit shapes b track bl bh → HasSets shapes first a → HasSets shapes first b → AreUnions shapes (length first) second al bl → AreUnions mid (length second) third ah bh
+    → IsSplit shapes a track al ah → IsSplit shapes b track bl bh → HasSets shapes first a → HasSets shapes first b → AreUnions shapes (length first) second al bl
+    → AreUnions mid (length second) third ah bh
     → AreUnions shapes (length first) third a b
 AreUnions-sides shapes mid is first second third a b track al ah bl bh grows kept kept' sa sb ha hb low high = record {
   answer = λ number from below. elim (cases_lt number (length second)) [
@@ -160,10 +169,12 @@ IsMerged-grows old new sets sets' track a r grows kept is =
       top = omega arith;
     }
 
-pub RemembersMerged-grows : {S : Type 0} (old new : List Shape) (sets sets' : List (List ℕ)) (track : ℕ) (memo : HashMap ℕ ℕ S) → Grows old new → SetsKept sets sets' → RemembersMerged old sets track memo → RemembersMerged new sets' track memo
+pub RemembersMerged-grows : {S : Type 0} (old new : List Shape) (sets sets' : List (List ℕ)) (track : ℕ) (memo : HashMap ℕ ℕ S) → Grows old new → SetsKept sets sets'
+    → RemembersMerged old sets track memo → RemembersMerged new sets' track memo
 RemembersMerged-grows old new sets sets' track memo grows kept all = record { merged = λ a r at. IsMerged-grows old new sets sets' track a r grows kept (all.merged a r at) }
 
-pub RemembersMerged-insert : {S : Type 0} (shapes : List Shape) (sets : List (List ℕ)) (track : ℕ) (memo new : HashMap ℕ ℕ S) (a r : ℕ) → RemembersMerged shapes sets track memo → Updates nat_eq memo new a (Some r) → IsMerged shapes sets track a r → RemembersMerged shapes sets track new
+pub RemembersMerged-insert : {S : Type 0} (shapes : List Shape) (sets : List (List ℕ)) (track : ℕ) (memo new : HashMap ℕ ℕ S) (a r : ℕ) → RemembersMerged shapes sets track memo
+    → Updates nat_eq memo new a (Some r) → IsMerged shapes sets track a r → RemembersMerged shapes sets track new
 RemembersMerged-insert shapes sets track memo new a r all updates is = record { merged = answers-insert (IsMerged shapes sets track) memo new a r all.merged updates is }
 
 -- a map that looks only at tracks above is merged already
@@ -172,7 +183,8 @@ IsMerged-above shapes is sets track a above has = record {
   source = has;
   known = has.known;
   map = λ letter off on z o.
-      IsUnion-at sets _ _ _ _ _ _ (side_map shapes is track 0 a letter off has.known above z) (side_map shapes is track 1 a letter on has.known above o) refl (IsUnion-same sets (map_at shapes a letter) (has.numbered letter));
+      IsUnion-at sets _ _ _ _ _ _ (side_map shapes is track 0 a letter off has.known above z)
+      (side_map shapes is track 1 a letter on has.known above o) refl (IsUnion-same sets (map_at shapes a letter) (has.numbered letter));
   ignores = IgnoresTrack-above shapes is a track has.known above;
   top = omega arith;
 }
@@ -184,7 +196,8 @@ set : (shapes : List Shape) (track low high l : ℕ) → bit_at l track ≡ 1 �
 set shapes track low high l o = ap (λ n. if nat_eq n 0 then map_at shapes low l else map_at shapes high l) o
 
 -- at the track, the sides are united: old has the sides, shapes their union
-pub IsMerged-at : (old shapes : List Shape) → IsDiagram old → (before sets : List (List ℕ)) (track a low high r : ℕ) → Grows old shapes → SetsKept before sets → HasSets old before a → top_track old a ≡ track
+pub IsMerged-at : (old shapes : List Shape) → IsDiagram old → (before sets : List (List ℕ)) (track a low high r : ℕ) → Grows old shapes → SetsKept before sets
+    → HasSets old before a → top_track old a ≡ track
     → IsSplit old a track low high → IsUnited shapes sets low high r → IsMerged shapes sets track a r
 IsMerged-at old shapes is before sets track a low high r grows kept has top_a s u =
     let low_above = s.low_above in
@@ -206,7 +219,8 @@ IsMerged-at old shapes is before sets track a low high r grows kept has top_a s 
     }
 
 -- above the track, both sides of a test are merged
-pub IsMerged-test : (shapes : List Shape) (sets : List (List ℕ)) (track a r own low high low' high' : ℕ) → HasSets shapes sets a → r < length shapes → own < track → IsSplit shapes a own low high → IsMerged shapes sets track low low' → IsMerged shapes sets track high high'
+pub IsMerged-test : (shapes : List Shape) (sets : List (List ℕ)) (track a r own low high low' high' : ℕ) → HasSets shapes sets a → r < length shapes → own < track
+    → IsSplit shapes a own low high → IsMerged shapes sets track low low' → IsMerged shapes sets track high high'
     → ((letter : ℕ) → map_at shapes r letter ≡ chosen shapes own low' high' letter) → top_track shapes a ≡ own → own ≤ top_track shapes r → IsMerged shapes sets track a r
 IsMerged-test shapes sets track a r own low high low' high' has kr before s l h map top_a top = record {
   source = has;
@@ -229,7 +243,8 @@ pub AreMerged-none : (shapes : List Shape) (sets : List (List ℕ)) (track a : �
 AreMerged-none shapes sets track a = record { answer = λ number from below. absurd (omega arith) }
 
 -- the unions of both sides are unions of the sets at two letters
-pub AreMerged-at : (shapes : List Shape) → IsDiagram shapes → (from : ℕ) (sets : List (List ℕ)) (track a low high : ℕ) → IsSplit shapes a track low high → AreUnions shapes from sets low high → AreMerged shapes from sets track a
+pub AreMerged-at : (shapes : List Shape) → IsDiagram shapes → (from : ℕ) (sets : List (List ℕ)) (track a low high : ℕ) → IsSplit shapes a track low high
+    → AreUnions shapes from sets low high → AreMerged shapes from sets track a
 AreMerged-at shapes is from sets track a low high s all = record {
   answer = λ number above below.
       let u = all.answer number above below in
@@ -241,7 +256,8 @@ AreMerged-at shapes is from sets track a low high s all = record {
               other,
               z,
               record { same = λ k ne. bit_at-flip_other u.0 track k ne; at = o },
-              IsUnion-at sets _ _ _ _ _ _ (sym (s.map u.0 ∙ clear shapes track low high u.0 z)) (flipped shapes is high track u.0 s.high_known s.high_above ∙ sym (s.map other ∙ set shapes track low high other o)) refl u.1,
+              IsUnion-at sets _ _ _ _ _ _ (sym (s.map u.0 ∙ clear shapes track low high u.0 z))
+                  (flipped shapes is high track u.0 s.high_known s.high_above ∙ sym (s.map other ∙ set shapes track low high other o)) refl u.1,
             )
         | inr o ↦
             let z = bit_at-flip_same u.0 track ∙ ap (λ n. (n + 1) % 2) o in (
@@ -249,7 +265,9 @@ AreMerged-at shapes is from sets track a low high s all = record {
               u.0,
               z,
               record { same = λ k ne. sym (bit_at-flip_other u.0 track k ne); at = o },
-              IsUnion-at sets _ _ _ _ _ _ (flipped shapes is low track u.0 s.low_known s.low_above ∙ sym (s.map other ∙ clear shapes track low high other z)) (sym (s.map u.0 ∙ set shapes track low high u.0 o)) refl u.1,
+              IsUnion-at sets _ _ _ _ _ _
+                  (flipped shapes is low track u.0 s.low_known s.low_above ∙ sym (s.map other ∙ clear shapes track low high other z))
+                  (sym (s.map u.0 ∙ set shapes track low high u.0 o)) refl u.1,
             )
       ];
 }
@@ -312,8 +330,10 @@ module _ (shapes : List Shape) (is : IsDiagram shapes) (sets : List (List ℕ)) 
   ]
 
 -- the sets that two sides added are unions of sets of the node
-pub AreMerged-sides : (shapes mid : List Shape) → IsDiagram shapes → (first second third : List (List ℕ)) (track a own low high : ℕ) → own < track → Grows shapes mid → SetsKept first second → SetsKept second third
-    → IsSplit shapes a own low high → HasSets shapes first a → AreMerged shapes (length first) second track low → AreMerged mid (length second) third track high → AreMerged shapes (length first) third track a
+pub AreMerged-sides : (shapes mid : List Shape) → IsDiagram shapes → (first second third : List (List ℕ)) (track a own low high : ℕ) → own < track → Grows shapes mid
+    → SetsKept first second → SetsKept second third
+    → IsSplit shapes a own low high → HasSets shapes first a → AreMerged shapes (length first) second track low → AreMerged mid (length second) third track high
+    → AreMerged shapes (length first) third track a
 AreMerged-sides shapes mid is first second third track a own low high before grows kept kept' s has l h = record {
   answer = λ number from below.
       let ne : own ≢ track = omega arith in

@@ -1,16 +1,15 @@
 -- Which tracks a map looks at.
-use Rattle.std.proofs.Common.{◌≡◌, ◌≢◌, ℕ, ◌<◌, ◌≤◌, ◌+◌, ◌*◌, ◌%◌, ◌/◌, zero, suc, AllPairs, List, Option, [], ◌∷◌, length, get_or, map, slice_get, nat_eq, Some, arith, refl, sym, ap, ◌∙◌, inl, inr, if◌then◌else◌}
+use Rattle.std.proofs.Common.{◌≡◌, ◌≢◌, ℕ, ◌<◌, ◌≤◌, ◌+◌, ◌*◌, ◌%◌, ◌/◌, ◌^◌, zero, suc, AllPairs, List, [], ◌∷◌, length, get_or, map, slice_get, nat_eq, Some, arith, refl, sym, ap, ◌∙◌, inl, inr, if◌then◌else◌}
 use Rattle.std.specs.Int.{bit_at}
 use Rattle.std.proofs.lemmas.Bool.{cases_eq, cases_lt}
 use Rattle.std.proofs.lemmas.Option.{get_or_from_slice_get, slice_get_within}
 use Rattle.std.proofs.lemmas.Nat.Bits.{bit_at-lt, bit_at-suc, bit_at_lowest}
 use Rattle.letter_diagram.specs.declared.diagrams.Shape.{Shape}
-use Rattle.letter_diagram.specs.declared.diagrams.Shape.TheVariants.{Leaf, Test}
+use Rattle.letter_diagram.specs.declared.diagrams.Shape.TheVariants.{Test}
 use Rattle.letter_diagram.specs.Diagram.{map_at, chosen, IsDiagram, IsTest, IsAt, Grows, LooksBelow}
-use Rattle.letter_diagram.specs.Relabelled.{relabelled, IsRelabelled, RemembersRelabelled}
-use Rattle.letter_diagram.specs.NodeMemo.{Remembers}
+use Rattle.letter_diagram.specs.Relabelled.{relabelled}
+use Rattle.letter_diagram.specs.Carried.{KeepsLetters}
 use Rattle.letter_diagram.proofs.Canonical.{flip, bit_at-flip_same, bit_at-flip_other, bit_cases, flipped, low_is, high_is, node-from_map, map_at-agree}
-use Rattle.letter_diagram.proofs.Memos.{node_answers-insert}
 
 module _ (shapes : List Shape) (is : IsDiagram shapes) (node track low high : ℕ) (at : IsAt shapes node (Test track low high)) (fits : IsTest shapes node track low high) where
   -- a side's value at a letter is the node's at a letter with that bit
@@ -93,47 +92,27 @@ bit_at-relabelled (t ∷ tracks) letter (suc k) d h =
 pub LooksBelow-grows : (old new : List Shape) (node bound : ℕ) → node < length old → Grows old new → LooksBelow old node bound → LooksBelow new node bound
 LooksBelow-grows old new node bound known grows narrow = record { same = λ a b agree. grows.map node a known ∙ narrow.same a b agree ∙ sym (grows.map node b known) }
 
-pub IsRelabelled-grows : (old new : List Shape) (tracks : List ℕ) (a r : ℕ) → Grows old new → IsRelabelled old tracks a r → IsRelabelled new tracks a r
-IsRelabelled-grows old new tracks a r grows is =
-    let known = is.known in
-    let source_known = is.source_known in
-    let longer = grows.longer in
-    record {
-      known = omega arith;
-      source_known = omega arith;
-      map = λ letter. grows.map r letter is.known ∙ is.map letter ∙ sym (grows.map a (relabelled tracks letter) is.source_known);
-    }
+-- a letter of so many tracks
+pub relabelled-below : (tracks : List ℕ) (letter : ℕ) → relabelled tracks letter < 2 ^ length tracks
+relabelled-below [] letter = omega arith
+relabelled-below (t ∷ tracks) letter =
+    let small = bit_at-lt letter t in
+    let rest = relabelled-below tracks letter in
+    doubled (bit_at letter t) (relabelled tracks letter) (length tracks) small rest
+  where
+    doubled : (b r n : ℕ) → b < 2 → r < 2 ^ n → b + 2 * r < 2 ^ suc n
+    doubled b r n small rest = omega (arith, small, rest)
 
-pub RemembersRelabelled-grows : (old new : List Shape) (tracks : List ℕ) (memo : List (Option ℕ)) → Grows old new → RemembersRelabelled old tracks memo → RemembersRelabelled new tracks memo
-RemembersRelabelled-grows old new tracks memo grows all = record { relabelled = λ a r at. IsRelabelled-grows old new tracks a r grows (all.relabelled a r at) }
+-- so some letter is not kept
+pub relabelled-moves : (tracks : List ℕ) → KeepsLetters (relabelled tracks) → ⊥
+relabelled-moves tracks keeps = let below = relabelled-below tracks (2 ^ length tracks) in let same = keeps (2 ^ length tracks) in omega (arith, below, same)
 
-pub RemembersRelabelled-insert : (shapes : List Shape) (tracks : List ℕ) (memo new : List (Option ℕ)) (a r : ℕ) → RemembersRelabelled shapes tracks memo → Remembers memo new a r → IsRelabelled shapes tracks a r → RemembersRelabelled shapes tracks new
-RemembersRelabelled-insert shapes tracks memo new a r all remembers is = record { relabelled = node_answers-insert (IsRelabelled shapes tracks) memo new a r all.relabelled remembers is }
-
--- a test at the track that its own takes its bit from, of relabelled sides
-pub relabelled-chosen : (from shapes : List Shape) (tracks : List ℕ) (a r track low high low' high' : ℕ) → ((letter : ℕ) → map_at from a letter ≡ chosen from track low high letter) → ((letter : ℕ) → map_at shapes low' letter ≡ map_at from low (relabelled tracks letter))
-    → ((letter : ℕ) → map_at shapes high' letter ≡ map_at from high (relabelled tracks letter)) → track < length tracks → ((letter : ℕ) → map_at shapes r letter ≡ chosen shapes (get_or tracks track 0) low' high' letter) → (letter : ℕ) → map_at shapes r letter ≡ map_at from a (relabelled tracks letter)
-relabelled-chosen from shapes tracks a r track low high low' high' source_map l h within map letter =
+-- the choice by the track from which another takes its bit
+pub chosen-relabelled : (shapes : List Shape) (tracks : List ℕ) (track low high letter : ℕ) → track < length tracks
+    → chosen shapes (get_or tracks track 0) low high letter ≡ (if nat_eq (bit_at (relabelled tracks letter) track) 0 then map_at shapes low letter else map_at shapes high letter)
+chosen-relabelled shapes tracks track low high letter within =
     let bit : bit_at letter (get_or tracks track 0) ≡ bit_at (relabelled tracks letter) track = sym (bit_at-relabelled tracks letter track 0 within) in
-    map letter ∙ (λ i. if nat_eq (bit i) 0 then l letter i else h letter i) ∙ sym (source_map (relabelled tracks letter))
-
-pub IsRelabelled-test : (shapes : List Shape) (tracks : List ℕ) (a r track low high low' high' : ℕ) → a < length shapes → ((letter : ℕ) → map_at shapes a letter ≡ chosen shapes track low high letter)
-    → IsRelabelled shapes tracks low low' → IsRelabelled shapes tracks high high' → r < length shapes → track < length tracks → ((letter : ℕ) → map_at shapes r letter ≡ chosen shapes (get_or tracks track 0) low' high' letter) → IsRelabelled shapes tracks a r
-IsRelabelled-test shapes tracks a r track low high low' high' source_known source_map l h known within map = record {
-  known = known;
-  source_known = source_known;
-  map = relabelled-chosen shapes shapes tracks a r track low high low' high' source_map l.map h.map within map;
-}
-
-pub IsRelabelled-leaf : (shapes : List Shape) (tracks : List ℕ) (a value : ℕ) → IsAt shapes a (Leaf value) → IsRelabelled shapes tracks a a
-IsRelabelled-leaf shapes tracks a value at = record { known = at.within; source_known = at.within; map = λ letter. at.map letter ∙ sym (at.map (relabelled tracks letter)) }
-
--- the value of a bit's test
-pub chosen-bit : (shapes : List Shape) (track low high letter : ℕ) → map_at shapes low letter ≡ 0 → map_at shapes high letter ≡ 1 → chosen shapes track low high letter ≡ bit_at letter track
-chosen-bit shapes track low high letter l h = (λ i. if nat_eq (bit_at letter track) 0 then l i else h i) ∙ elim (bit_cases letter track) [
-  | inl z ↦ ap (λ n. if nat_eq n 0 then 0 else 1) z ∙ sym z
-  | inr o ↦ ap (λ n. if nat_eq n 0 then 0 else 1) o ∙ sym o
-]
+    λ i. if nat_eq (bit i) 0 then map_at shapes low letter else map_at shapes high letter
 
 -- no map looks at a track past the twentieth
 pub LooksBelow-all : (shapes : List Shape) → IsDiagram shapes → (node bound : ℕ) → node < length shapes → 20 ≤ bound → LooksBelow shapes node bound

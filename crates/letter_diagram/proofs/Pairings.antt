@@ -86,11 +86,14 @@ IsPaired-grows old new pairs pairs' a b r grows kept is =
       known = omega arith;
       a_known = omega arith;
       b_known = omega arith;
-      map = λ letter. ap (λ n. slice_get pairs' n) (grows.map r letter is.known) ∙ kept.at _ _ (is.map letter) ∙ (λ i. Some (sym (grows.map a letter is.a_known) i, sym (grows.map b letter is.b_known) i));
+      map =
+          λ letter. ap (λ n. slice_get pairs' n) (grows.map r letter is.known) ∙ kept.at _ _ (is.map letter)
+          ∙ (λ i. Some (sym (grows.map a letter is.a_known) i, sym (grows.map b letter is.b_known) i));
       top = omega arith;
     }
 
-pick : (c : Bool) (pairs : List (ℕ × ℕ)) (x y xa ya xb yb : ℕ) → slice_get pairs x ≡ Some (xa, xb) → slice_get pairs y ≡ Some (ya, yb) → slice_get pairs (if c then x else y) ≡ Some (if c then xa else ya, if c then xb else yb)
+pick : (c : Bool) (pairs : List (ℕ × ℕ)) (x y xa ya xb yb : ℕ) → slice_get pairs x ≡ Some (xa, xb) → slice_get pairs y ≡ Some (ya, yb)
+    → slice_get pairs (if c then x else y) ≡ Some (if c then xa else ya, if c then xb else yb)
 pick true pairs x y xa ya xb yb p q = p
 pick false pairs x y xa ya xb yb p q = q
 
@@ -139,10 +142,12 @@ high_answer shapes is a b track al ah bl bh letter sa sb = elim (bit_cases lette
     set : (low high l : ℕ) → bit_at l track ≡ 1 → chosen shapes track low high l ≡ map_at shapes high l
     set low high l o = ap (λ n. if nat_eq n 0 then map_at shapes low l else map_at shapes high l) o
 
-pub RemembersPaired-grows : {S : Type 0} (old new : List Shape) (pairs pairs' : List (ℕ × ℕ)) (memo : HashMap (ℕ × ℕ) ℕ S) → Grows old new → PairsKept pairs pairs' → RemembersPaired old pairs memo → RemembersPaired new pairs' memo
+pub RemembersPaired-grows : {S : Type 0} (old new : List Shape) (pairs pairs' : List (ℕ × ℕ)) (memo : HashMap (ℕ × ℕ) ℕ S) → Grows old new → PairsKept pairs pairs'
+    → RemembersPaired old pairs memo → RemembersPaired new pairs' memo
 RemembersPaired-grows old new pairs pairs' memo grows kept all = record { paired = λ a b r at. IsPaired-grows old new pairs pairs' a b r grows kept (all.paired a b r at) }
 
-pub RemembersPaired-insert : {S : Type 0} (shapes : List Shape) (pairs : List (ℕ × ℕ)) (memo new : HashMap (ℕ × ℕ) ℕ S) (a b r : ℕ) → RemembersPaired shapes pairs memo → Updates pair_eq memo new (a, b) (Some r) → IsPaired shapes pairs a b r → RemembersPaired shapes pairs new
+pub RemembersPaired-insert : {S : Type 0} (shapes : List Shape) (pairs : List (ℕ × ℕ)) (memo new : HashMap (ℕ × ℕ) ℕ S) (a b r : ℕ) → RemembersPaired shapes pairs memo
+    → Updates pair_eq memo new (a, b) (Some r) → IsPaired shapes pairs a b r → RemembersPaired shapes pairs new
 RemembersPaired-insert shapes pairs memo new a b r all updates is = record { paired = pair_answers-insert (IsPaired shapes pairs) memo new a b r all.paired updates is }
 
 -- the pairs that two sides added are pairs of values of both nodes
@@ -163,7 +168,8 @@ AreAnswers-sides shapes mid is first second third a b track al ah bl bh grows ke
 }
 
 -- one pair that was added is a pair of values of both nodes, which are constant
-pub AreAnswers-leaves : (shapes : List Shape) (old new : List (ℕ × ℕ)) (a b number : ℕ) → slice_get new number ≡ Some (map_at shapes a 0, map_at shapes b 0) → Numbers old new (map_at shapes a 0, map_at shapes b 0) → AreAnswers shapes (length old) new a b
+pub AreAnswers-leaves : (shapes : List Shape) (old new : List (ℕ × ℕ)) (a b number : ℕ) → slice_get new number ≡ Some (map_at shapes a 0, map_at shapes b 0)
+    → Numbers old new (map_at shapes a 0, map_at shapes b 0) → AreAnswers shapes (length old) new a b
 AreAnswers-leaves shapes old new a b number at (inl e) = record { answer = λ n from below. let l = ap length e in absurd (omega arith) }
 AreAnswers-leaves shapes old new a b number at (inr (e, absent)) = record {
   answer = λ n from below.
@@ -177,7 +183,8 @@ AreAnswers-leaves shapes old new a b number at (inr (e, absent)) = record {
 
 pub IsPaired-leaves : (shapes old : List Shape) (pairs : List (ℕ × ℕ)) (a b r number : ℕ) → a < length old → b < length old → Grows old shapes → r < length shapes
     → ((letter : ℕ) → map_at old a letter ≡ map_at old a 0) → ((letter : ℕ) → map_at old b letter ≡ map_at old b 0)
-    → slice_get pairs number ≡ Some (map_at old a 0, map_at old b 0) → ((letter : ℕ) → map_at shapes r letter ≡ number) → top_track shapes r ≡ 20 → top_of_both old a b ≡ 20 → IsPaired shapes pairs a b r
+    → slice_get pairs number ≡ Some (map_at old a 0, map_at old b 0) → ((letter : ℕ) → map_at shapes r letter ≡ number) → top_track shapes r ≡ 20 → top_of_both old a b ≡ 20
+    → IsPaired shapes pairs a b r
 IsPaired-leaves shapes old pairs a b r number ka kb grows kr ca cb at map top both =
     let longer = grows.longer in
     let ta = grows.top a ka in

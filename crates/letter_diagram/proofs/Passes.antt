@@ -97,7 +97,8 @@ Meets-again m node letter earlier at le = record {
   below = λ bound under all. all;
 }
 
-pub Meets-insert : (old new : BTreeMap ℕ ℕ) (node letter : ℕ) → ((l : ℕ) → get nat_cmp old node ≡ Some l → letter ≤ l) → Updates nat_cmp old new node (Some letter) → new.entries ≡ insert_entry nat_cmp old.entries node letter → Meets old new node letter
+pub Meets-insert : (old new : BTreeMap ℕ ℕ) (node letter : ℕ) → ((l : ℕ) → get nat_cmp old node ≡ Some l → letter ≤ l) → Updates nat_cmp old new node (Some letter)
+    → new.entries ≡ insert_entry nat_cmp old.entries node letter → Meets old new node letter
 Meets-insert old new node letter least updates entries = record {
   here = (letter, get-same old new node (Some letter) updates, omega arith);
   kept = λ n l e. elim (cases_eq node n) [
@@ -157,7 +158,8 @@ high-bits l track top letter before small e =
 
 -- ---- the pass
 
-pub IsPass-start : (shapes : List Shape) (root : ℕ) (empty met firsts : BTreeMap ℕ ℕ) → root < length shapes → empty.entries ≡ [] → firsts.entries ≡ [] → Updates nat_cmp empty met root (Some 0) → IsPass shapes root met firsts
+pub IsPass-start : (shapes : List Shape) (root : ℕ) (empty met firsts : BTreeMap ℕ ℕ) → root < length shapes → empty.entries ≡ [] → firsts.entries ≡ []
+    → Updates nat_cmp empty met root (Some 0) → IsPass shapes root met firsts
 IsPass-start shapes root empty met firsts known none none_first updates = record {
   met_at = λ node letter at. elim (cases_eq root node) [
     | inl same ↦
@@ -226,7 +228,9 @@ module _ (shapes : List Shape) (is : IsDiagram shapes) (root node letter : ℕ) 
         | inr w ↦ inr (record {
           first = w.first;
           at = elim (cases_eq letter w.first) [
-            | inl same ↦ ap (get nat_cmp found) (sym same) ∙ get-same firsts found letter (Some value) updates ∙ ap Some (sym root-here ∙ ap (map_at shapes root) same ∙ pass.value_at w.first (map_at shapes root l) w.at)
+            | inl same ↦
+                ap (get nat_cmp found) (sym same) ∙ get-same firsts found letter (Some value) updates
+                ∙ ap Some (sym root-here ∙ ap (map_at shapes root) same ∙ pass.value_at w.first (map_at shapes root l) w.at)
             | inr ne ↦ get-other firsts found letter w.first (Some value) updates ne ∙ w.at
           ];
           early = w.early;
@@ -235,7 +239,8 @@ module _ (shapes : List Shape) (is : IsDiagram shapes) (root node letter : ℕ) 
     }
 
   -- a test is passed
-  module _ (track low high : ℕ) (at : IsAt shapes node (Test track low high)) (fits : IsTest shapes node track low high) (half new : BTreeMap ℕ ℕ) (first : Meets met half low letter) (second : Meets half new high (letter + 2 ^ track)) where
+  module _ (track low high : ℕ) (at : IsAt shapes node (Test track low high)) (fits : IsTest shapes node track low high) (half new : BTreeMap ℕ ℕ)
+      (first : Meets met half low letter) (second : Meets half new high (letter + 2 ^ track)) where
     small : letter < 2 ^ track
     small = let below = here.below in subst (λ t. letter < 2 ^ t) at.top below
 
@@ -249,7 +254,8 @@ module _ (shapes : List Shape) (is : IsDiagram shapes) (root node letter : ℕ) 
         record {
           known = omega arith;
           below = omega arith;
-          same = λ l e. let bits = low-bits l track (top_track shapes low) letter above_track lt e in here.same l (ap (λ t. l % 2 ^ t) at.top ∙ bits.0) ∙ low_is shapes is node track low high l at bits.1;
+          same = λ l e. let bits = low-bits l track (top_track shapes low) letter above_track lt e in
+              here.same l (ap (λ t. l % 2 ^ t) at.top ∙ bits.0) ∙ low_is shapes is node track low high l at bits.1;
         }
 
     high-is-met : IsMet shapes root high (letter + 2 ^ track)
@@ -263,7 +269,8 @@ module _ (shapes : List Shape) (is : IsDiagram shapes) (root node letter : ℕ) 
         record {
           known = omega arith;
           below = omega arith;
-          same = λ l e. let bits = high-bits l track (top_track shapes high) letter above_track lt e in here.same l (ap (λ t. l % 2 ^ t) at.top ∙ bits.0) ∙ high_is shapes is node track low high l at bits.1;
+          same = λ l e. let bits = high-bits l track (top_track shapes high) letter above_track lt e in
+              here.same l (ap (λ t. l % 2 ^ t) at.top ∙ bits.0) ∙ high_is shapes is node track low high l at bits.1;
         }
 
     -- a node that is met now is a side, or was met before
@@ -356,13 +363,16 @@ AreFirsts-passed shapes root met firsts pass none = record {
 -- ---- the pass ends
 
 -- the nodes that are left are fewer, by a bound
-pub smaller-leaf : (old new : BTreeMap ℕ ℕ) (node letter : ℕ) → old.entries ≡ new.entries ++ (node, letter) ∷ [] → All (λ key. IsLtBy nat_cmp key node) (keys_of new.entries) → above new.entries < above old.entries
+pub smaller-leaf : (old new : BTreeMap ℕ ℕ) (node letter : ℕ) → old.entries ≡ new.entries ++ (node, letter) ∷ [] → All (λ key. IsLtBy nat_cmp key node) (keys_of new.entries)
+    → above new.entries < above old.entries
 smaller-leaf old new node letter removal all =
     let le = above-le new.entries node (under new.entries node all) in
     let lt = above-last new.entries (node, letter) in
     subst (λ es. above new.entries < above es) (sym removal) (omega (arith, le, lt))
 
-pub smaller-test : (old met half new : BTreeMap ℕ ℕ) (node letter low high first second : ℕ) → old.entries ≡ met.entries ++ (node, letter) ∷ [] → All (λ key. IsLtBy nat_cmp key node) (keys_of met.entries) → low < node → high < node → Meets met half low first → Meets half new high second → above new.entries < above old.entries
+pub smaller-test : (old met half new : BTreeMap ℕ ℕ) (node letter low high first second : ℕ) → old.entries ≡ met.entries ++ (node, letter) ∷ []
+    → All (λ key. IsLtBy nat_cmp key node) (keys_of met.entries) → low < node → high < node → Meets met half low first → Meets half new high second
+    → above new.entries < above old.entries
 smaller-test old met half new node letter low high first second removal all low_before high_before a b =
     let le = above-le new.entries node (b.below node high_before (a.below node low_before (under met.entries node all))) in
     let lt = above-last met.entries (node, letter) in

@@ -112,7 +112,8 @@ pub IsUnion-same : (sets : List (List ℕ)) (x : ℕ) → x < length sets → Is
 IsUnion-same sets x known = record { known = known; members = λ element. (λ h. inl h, λ e. elim e [ inl h ↦ h | inr h ↦ h ]) }
 
 -- the number of a set that has what two sets had
-pub IsUnion-numbered : (old new : List (List ℕ)) (x y n : ℕ) (both xs ys : List ℕ) → SetsKept old new → x < length old → y < length old → slice_get new n ≡ Some both → set_at old x ≡ xs → set_at old y ≡ ys
+pub IsUnion-numbered : (old new : List (List ℕ)) (x y n : ℕ) (both xs ys : List ℕ) → SetsKept old new → x < length old → y < length old → slice_get new n ≡ Some both
+    → set_at old x ≡ xs → set_at old y ≡ ys
     → ((element : ℕ) → (Contains both element → Contains xs element ⊎ Contains ys element) × (Contains xs element ⊎ Contains ys element → Contains both element)) → IsUnion new x y n
 IsUnion-numbered old new x y n both xs ys kept kx ky at ex ey members =
     let en = get_or_from_slice_get new n both [] at in

@@ -9,7 +9,8 @@ use Rattle.letter_diagram.proofs.Maps.{IsAt-get}
 use Rattle.letter_diagram.proofs.Canonical.{node-from_map}
 use Rattle.letter_diagram.proofs.Narrow.{low_at, high_at}
 
-by_shape : (shapes : List Shape) → IsDiagram shapes → (node : ℕ) (shape : Shape) → IsAt shapes node shape → FitsBelow shapes node shape → top_track shapes node < 20 → IgnoresTrack shapes node (top_track shapes node) → ⊥
+by_shape : (shapes : List Shape) → IsDiagram shapes → (node : ℕ) (shape : Shape) → IsAt shapes node shape → FitsBelow shapes node shape → top_track shapes node < 20
+    → IgnoresTrack shapes node (top_track shapes node) → ⊥
 by_shape shapes is node (Leaf value) at fits low ignores = let top = at.top in absurd (omega arith)
 by_shape shapes is node (Test track lower higher) at fits low ignores =
     let within = at.within in

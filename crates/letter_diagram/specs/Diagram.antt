@@ -1,14 +1,15 @@
 -- The maps of nodes.
 use Rattle.std.specs.Prelude.{◌≡◌, ◌≢◌, ℕ, ◌<◌, ◌≤◌, List, [], ◌∷◌, ◌++◌, length, fold, slice_index, slice_index_or, slice_get, Some, nat_eq, if◌then◌else◌}
 use Rattle.std.specs.Int.{bit_at}
-use Rattle.std.specs.HashMap.{HashMap, get}
+use Rattle.limits.specs.declared.numbers.TheConstants.{MOST_TRACKS}
 use Rattle.letter_diagram.specs.declared.diagrams.Shape.{Shape}
 use Rattle.letter_diagram.specs.declared.diagrams.Shape.TheVariants.{Leaf, Test}
 
 -- the value that a shape gives at a letter, from the values there of the nodes before it
 abbrev pub value_of : ℕ → List ℕ → Shape → ℕ
 value_of letter values (Leaf value) = value
-value_of letter values (Test track low high) = if nat_eq (bit_at letter track) 0 then slice_index values low else slice_index values high
+value_of letter values (Test track low high) =
+    if nat_eq (bit_at letter track) 0 then slice_index values low else slice_index values high
 
 -- the values of all nodes at a letter
 unfoldable pub values_at : ℕ → List Shape → List ℕ
@@ -29,7 +30,8 @@ top_track shapes node = track_of (slice_index_or shapes node (Leaf 0))
 
 -- the map that is low where the track's bit is 0, else high
 abbrev pub chosen : List Shape → ℕ → ℕ → ℕ → ℕ → ℕ
-chosen shapes track low high letter = if nat_eq (bit_at letter track) 0 then map_at shapes low letter else map_at shapes high letter
+chosen shapes track low high letter =
+    if nat_eq (bit_at letter track) 0 then map_at shapes low letter else map_at shapes high letter
 
 -- the value of a shape over nodes that are known
 abbrev pub value_in : List Shape → Shape → ℕ → ℕ
@@ -38,7 +40,7 @@ value_in shapes (Test track low high) letter = chosen shapes track low high lett
 
 -- a test of two different nodes below a bound that look only at tracks above it
 pub record IsTest (shapes : List Shape) (bound track low high : ℕ) : Type 0 where
-  pub track_low : track < 20
+  pub track_low : track < MOST_TRACKS
   pub low_before : low < bound
   pub high_before : high < bound
   pub low_above : track < top_track shapes low
@@ -71,18 +73,10 @@ pub record Grows (old new : List Shape) : Type 0 where
 -- each value of the children of a shape is a value of the node
 abbrev pub HasChildren : List Shape → ℕ → Shape → Type 0
 HasChildren shapes node (Leaf value) = Unit {0}
-HasChildren shapes node (Test track low high) = (letter : ℕ) → ((l : ℕ) × (map_at shapes node l ≡ map_at shapes low letter)) × ((l : ℕ) × (map_at shapes node l ≡ map_at shapes high letter))
-
--- the map of r is that of a, led through the table
-pub record IsMapped (shapes : List Shape) (table : List ℕ) (a r : ℕ) : Type 0 where
-  pub known : r < length shapes
-  pub source_known : a < length shapes
-  pub map : (letter : ℕ) → map_at shapes r letter ≡ slice_index table (map_at shapes a letter)
-  pub top : top_track shapes a ≤ top_track shapes r
-
--- the nodes in a memo are led through the table
-pub record RemembersMapped {S : Type 0} (shapes : List Shape) (table : List ℕ) (memo : HashMap ℕ ℕ S) : Type 0 where
-  pub mapped : (a r : ℕ) → get nat_eq memo a ≡ Some r → IsMapped shapes table a r
+HasChildren shapes node (Test track low high) =
+    (letter : ℕ)
+    → ((l : ℕ) × (map_at shapes node l ≡ map_at shapes low letter))
+    × ((l : ℕ) × (map_at shapes node l ≡ map_at shapes high letter))
 
 -- a node's map looks only at tracks below a bound
 pub record LooksBelow (shapes : List Shape) (node bound : ℕ) : Type 0 where

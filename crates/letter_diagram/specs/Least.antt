@@ -28,7 +28,8 @@ pub record Meets (old new : BTreeMap ℕ ℕ) (node letter : ℕ) : Type 0 where
   pub here : (least : ℕ) × (get nat_cmp new node ≡ Some least) × (least ≤ letter)
   pub kept : (n l : ℕ) → get nat_cmp old n ≡ Some l → (least : ℕ) × (get nat_cmp new n ≡ Some least) × (least ≤ l)
   pub only : (n l : ℕ) → get nat_cmp new n ≡ Some l → (get nat_cmp old n ≡ Some l) ⊎ ((n ≡ node) × (l ≡ letter))
-  pub below : (bound : ℕ) → node < bound → All (λ key. key < bound) (keys_of old.entries) → All (λ key. key < bound) (keys_of new.entries)
+  pub below : (bound : ℕ) → node < bound → All (λ key. key < bound) (keys_of old.entries)
+      → All (λ key. key < bound) (keys_of new.entries)
 
 -- a node that is met and gives the root's value at a letter, no later than that letter
 pub record Awaits (shapes : List Shape) (root : ℕ) (met : BTreeMap ℕ ℕ) (letter : ℕ) : Type 0 where

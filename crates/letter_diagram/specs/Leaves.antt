@@ -7,4 +7,6 @@ use Rattle.letter_diagram.specs.Diagram.{map_at}
 pub record AreLeaves (shapes : List Shape) (node : ℕ) (values : List ℕ) : Type 0 where
   pub all : (letter : ℕ) → Contains values (map_at shapes node letter)
   pub given : (i : ℕ) → i < length values → (letter : ℕ) × (map_at shapes node letter ≡ slice_index values i)
-  pub ordered : (i j : ℕ) → i < j → j < length values → (first : ℕ) × (map_at shapes node first ≡ slice_index values i) × ((letter : ℕ) → map_at shapes node letter ≡ slice_index values j → first < letter)
+  pub ordered : (i j : ℕ) → i < j → j < length values
+      → (first : ℕ) × (map_at shapes node first ≡ slice_index values i)
+      × ((letter : ℕ) → map_at shapes node letter ≡ slice_index values j → first < letter)

@@ -1,11 +1,9 @@
 pub mod Diagram
+pub mod Carried
 pub mod Numbering
 pub mod Paired
 pub mod Chosen
-pub mod Restricted
-pub mod Brought
 pub mod Relabelled
-pub mod BroughtRelabelled
 pub mod Least
 pub mod Product
 pub mod Listed

@@ -5,8 +5,12 @@ use Rattle.std.specs.HashMap.{HashMap, get}
 use Rattle.letter_diagram.specs.declared.diagrams.Shape.{Shape}
 use Rattle.letter_diagram.specs.Diagram.{map_at, top_track}
 use Rattle.letter_diagram.specs.Paired.{top_of_both, pair_eq}
-use Rattle.letter_diagram.specs.Restricted.{IsWithBit}
 use Rattle.letter_diagram.specs.Sets.{IsUnion}
+
+-- a letter that has this bit on a track, and is the other letter elsewhere
+pub record IsWithBit (other letter track bit : ℕ) : Type 0 where
+  pub same : (k : ℕ) → k ≢ track → bit_at other k ≡ bit_at letter k
+  pub at : bit_at other track ≡ bit
 
 -- each value of a node's map is the number of a set
 pub record HasSets (shapes : List Shape) (sets : List (List ℕ)) (node : ℕ) : Type 0 where
@@ -28,24 +32,31 @@ pub record IsUnited (shapes : List Shape) (sets : List (List ℕ)) (a b r : ℕ)
 
 -- each set from a number on is a union of sets that a and b give at a letter
 pub record AreUnions (shapes : List Shape) (from : ℕ) (sets : List (List ℕ)) (a b : ℕ) : Type 0 where
-  pub answer : (number : ℕ) → from ≤ number → number < length sets → (letter : ℕ) × IsUnion sets (map_at shapes a letter) (map_at shapes b letter) number
+  pub answer : (number : ℕ) → from ≤ number → number < length sets
+      → (letter : ℕ) × IsUnion sets (map_at shapes a letter) (map_at shapes b letter) number
 
 -- the pairs of nodes in a memo are united
-pub record RemembersUnited {S : Type 0} (shapes : List Shape) (sets : List (List ℕ)) (memo : HashMap (ℕ × ℕ) ℕ S) : Type 0 where
+pub record RemembersUnited {S : Type 0} (shapes : List Shape) (sets : List (List ℕ)) (memo : HashMap (ℕ × ℕ) ℕ S) : Type
+    0 where
   pub united : (a b r : ℕ) → get pair_eq memo (a, b) ≡ Some r → IsUnited shapes sets a b r
 
--- the map of r gives the number of the union of the sets that a gives with the bit 0 and with the bit 1 of a track, and does not look at that track
+-- the map of r gives the number of the union of the sets that a gives with the bit 0 and with the bit 1 of a track, and
+-- does not look at that track
 pub record IsMerged (shapes : List Shape) (sets : List (List ℕ)) (track a r : ℕ) : Type 0 where
   pub source : HasSets shapes sets a
   pub known : r < length shapes
-  pub map : (letter off on : ℕ) → IsWithBit off letter track 0 → IsWithBit on letter track 1 → IsUnion sets (map_at shapes a off) (map_at shapes a on) (map_at shapes r letter)
+  pub map : (letter off on : ℕ) → IsWithBit off letter track 0 → IsWithBit on letter track 1
+      → IsUnion sets (map_at shapes a off) (map_at shapes a on) (map_at shapes r letter)
   pub ignores : IgnoresTrack shapes r track
   pub top : top_track shapes a ≤ top_track shapes r
 
 -- each set from a number on is a union of the sets that a gives at two letters that differ in a track alone
 pub record AreMerged (shapes : List Shape) (from : ℕ) (sets : List (List ℕ)) (track a : ℕ) : Type 0 where
-  pub answer : (number : ℕ) → from ≤ number → number < length sets → (off on : ℕ) × (bit_at off track ≡ 0) × IsWithBit on off track 1 × IsUnion sets (map_at shapes a off) (map_at shapes a on) number
+  pub answer : (number : ℕ) → from ≤ number → number < length sets
+      → (off on : ℕ) × (bit_at off track ≡ 0) × IsWithBit on off track 1
+      × IsUnion sets (map_at shapes a off) (map_at shapes a on) number
 
 -- the nodes in a memo are merged
-pub record RemembersMerged {S : Type 0} (shapes : List Shape) (sets : List (List ℕ)) (track : ℕ) (memo : HashMap ℕ ℕ S) : Type 0 where
+pub record RemembersMerged {S : Type 0} (shapes : List Shape) (sets : List (List ℕ)) (track : ℕ)
+    (memo : HashMap ℕ ℕ S) : Type 0 where
   pub merged : (a r : ℕ) → get nat_eq memo a ≡ Some r → IsMerged shapes sets track a r

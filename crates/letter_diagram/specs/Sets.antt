@@ -17,4 +17,5 @@ pub record SetsKept (old new : List (List ℕ)) : Type 0 where
 -- a number whose set has just what the sets of two numbers have
 pub record IsUnion (sets : List (List ℕ)) (x y number : ℕ) : Type 0 where
   pub known : number < length sets
-  pub members : (element : ℕ) → Contains (set_at sets number) element ↔ (Contains (set_at sets x) element ⊎ Contains (set_at sets y) element)
+  pub members : (element : ℕ)
+      → Contains (set_at sets number) element ↔ (Contains (set_at sets x) element ⊎ Contains (set_at sets y) element)

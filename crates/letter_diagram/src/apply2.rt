@@ -6,6 +6,7 @@ ghost use Rattle.letter_diagram.specs.Paired.{top_of_both, room_for, IsPaired, A
 
 use crate::diagrams::{Diagrams, Node};
 use crate::pairs::Pairs;
+use limits::MOST_TRACKS;
 use std::alloc::AllocError;
 use std::collections::HashMap;
 
@@ -16,10 +17,13 @@ impl Diagrams {
         requires b_known { b < length self.old }
         requires room { length pairs.old < 2 ^ 31 }
         ensures known { IfOk result (λ node. node < length self.new) }
-        ensures map { IfOk result (λ node. (letter : ℕ) → slice_get pairs.new (map_at self.new node letter) ≡ Some (map_at self.old a letter, map_at self.old b letter)) }
+        ensures map { IfOk result
+            (λ node. (letter : ℕ)
+            → slice_get pairs.new (map_at self.new node letter) ≡ Some
+            (map_at self.old a letter, map_at self.old b letter)) }
         ensures top { IfOk result (λ node. top_of_both self.old a b ≤ top_track self.new node) }
         ensures answers { OnOk result (AreAnswers self.old (length pairs.old) pairs.new a b) }
-        ensures few { OnOk result (length pairs.new ≤ length pairs.old + 2 ^ 20) }
+        ensures few { OnOk result (length pairs.new ≤ length pairs.old + 2 ^ MOST_TRACKS) }
         ensures pairs { PairsKept pairs.old pairs.new }
         ensures grows { Grows self.old self.new }
     {
@@ -50,7 +54,7 @@ impl Diagrams {
             return Ok(*node);
         }
         let track = self.top(a).min(self.top(b));
-        let node = if track == 20 {
+        let node = if track == MOST_TRACKS {
             self.paired_leaves(a, b, pairs)?
         } else {
             self.paired_sides(a, b, track, pairs, memo)?
@@ -62,7 +66,7 @@ impl Diagrams {
     fn paired_leaves(&mut self, a: Node, b: Node, pairs: &mut Pairs) -> Result<Node, AllocError>
         requires a_known { a < length self.old }
         requires b_known { b < length self.old }
-        requires constant { top_of_both self.old a b ≡ 20 }
+        requires constant { top_of_both self.old a b ≡ MOST_TRACKS }
         requires a_constant { (letter : ℕ) → map_at self.old a letter ≡ map_at self.old a 0 }
         requires b_constant { (letter : ℕ) → map_at self.old b letter ≡ map_at self.old b 0 }
         requires room { length pairs.old + 1 < 2 ^ 32 }
@@ -88,7 +92,7 @@ impl Diagrams {
         requires a_known { a < length self.old }
         requires b_known { b < length self.old }
         requires track { track ≡ top_of_both self.old a b }
-        requires track_low { track < 20 }
+        requires track_low { track < MOST_TRACKS }
         requires room { length pairs.old + room_for self.old a b < 2 ^ 32 }
         requires remembered { RemembersPaired self.old pairs.old memo.old }
         ensures paired { IfOk result (λ node. IsPaired self.new pairs.new a b node) }

@@ -4,6 +4,7 @@ ghost use Rattle.letter_diagram.specs.Diagram.{map_at, chosen, Grows};
 ghost use Rattle.letter_diagram.specs.Chosen.{IsChosen, RemembersChosen};
 
 use crate::diagrams::{Diagrams, Node};
+use limits::MOST_TRACKS;
 use std::alloc::AllocError;
 use std::collections::HashMap;
 
@@ -11,11 +12,12 @@ impl Diagrams {
     /// The map that is `low` where the bit of `track` is 0, else `high`, whatever tracks they look at: the operation if-then-else
     /// of Brace, Rudell and Bryant (1990), by a track. Costs the pairs of nodes that are met before the track.
     pub fn choose(&mut self, track: u8, low: Node, high: Node) -> Result<Node, AllocError>
-        requires track_low { track < 20 }
+        requires track_low { track < MOST_TRACKS }
         requires low_known { low < length self.old }
         requires high_known { high < length self.old }
         ensures known { IfOk result (λ node. node < length self.new) }
-        ensures map { IfOk result (λ node. (letter : ℕ) → map_at self.new node letter ≡ chosen self.old track low high letter) }
+        ensures map { IfOk result
+            (λ node. (letter : ℕ) → map_at self.new node letter ≡ chosen self.old track low high letter) }
         ensures grows { Grows self.old self.new }
     {
         let mut memo = HashMap::new(self.alloc());
@@ -31,7 +33,7 @@ impl Diagrams {
         high: Node,
         memo: &mut HashMap<(Node, Node), Node>,
     ) -> Result<Node, AllocError>
-        requires track_low { track < 20 }
+        requires track_low { track < MOST_TRACKS }
         requires low_known { low < length self.old }
         requires high_known { high < length self.old }
         requires remembered { RemembersChosen self.old track memo.old }

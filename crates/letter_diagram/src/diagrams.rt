@@ -4,6 +4,7 @@ ghost use Rattle.letter_diagram.specs.Diagram.{map_at, top_track, Grows, FitsBel
 ghost use Rattle.letter_diagram.specs.Paired.{IsSplit};
 
 use indexmap::IndexSet;
+use limits::MOST_TRACKS;
 use std::alloc::{AllocError, Global};
 use std::marker::Model;
 
@@ -96,13 +97,6 @@ impl Diagrams {
         self.shapes.is_empty()
     }
 
-    /// Whether a node is of these.
-    pub fn is_node(&self, node: Node) -> bool
-        ensures { IsTrue result ↔ (node < length self.now) }
-    {
-        node.number() < self.shapes.len()
-    }
-
     /// The same nodes, with the same maps.
     pub fn copy(&self) -> Result<Diagrams, AllocError>
         ensures { IfOk result (λ copy. copy ≡ self.now) }
@@ -116,7 +110,7 @@ impl Diagrams {
     pub fn leaf(&mut self, value: u32) -> Result<Node, AllocError>
         ensures known { IfOk result (λ node. node < length self.new) }
         ensures map { IfOk result (λ node. (letter : ℕ) → map_at self.new node letter ≡ value) }
-        ensures top { IfOk result (λ node. top_track self.new node ≡ 20) }
+        ensures top { IfOk result (λ node. top_track self.new node ≡ MOST_TRACKS) }
         ensures grows { Grows self.old self.new }
     {
         self.insert(Shape::Leaf(value))
@@ -124,13 +118,14 @@ impl Diagrams {
 
     /// The node of the map that is `low` where the bit of `track` is 0, else `high`.
     pub fn node(&mut self, track: u8, low: Node, high: Node) -> Result<Node, AllocError>
-        requires track_low { track < 20 }
+        requires track_low { track < MOST_TRACKS }
         requires low_known { low < length self.old }
         requires high_known { high < length self.old }
         requires low_above { track < top_track self.old low }
         requires high_above { track < top_track self.old high }
         ensures known { IfOk result (λ node. node < length self.new) }
-        ensures map { IfOk result (λ node. (letter : ℕ) → map_at self.new node letter ≡ chosen self.old track low high letter) }
+        ensures map { IfOk result
+            (λ node. (letter : ℕ) → map_at self.new node letter ≡ chosen self.old track low high letter) }
         ensures top { IfOk result (λ node. track ≤ top_track self.new node) }
         ensures grows { Grows self.old self.new }
     {
@@ -173,12 +168,12 @@ impl Diagrams {
     pub fn top(&self, node: Node) -> u8
         requires { node < length self.now }
         ensures top { result ≡ top_track self.now node }
-        ensures small { result ≤ 20 }
+        ensures small { result ≤ MOST_TRACKS }
         ensures diagram { IsDiagram self.now }
-        ensures constant { result ≡ 20 → (letter : ℕ) → map_at self.now node letter ≡ map_at self.now node 0 }
+        ensures constant { result ≡ MOST_TRACKS → (letter : ℕ) → map_at self.now node letter ≡ map_at self.now node 0 }
     {
         match self.shape(node) {
-            Shape::Leaf(_) => 20,
+            Shape::Leaf(_) => MOST_TRACKS,
             Shape::Test { track, .. } => track,
         }
     }
@@ -186,12 +181,12 @@ impl Diagrams {
     /// The node's map where the bit of a track is 0, and where it is 1.
     pub fn split(&self, node: Node, track: u8) -> (Node, Node)
         requires known { node < length self.now }
-        requires track_low { track < 20 }
+        requires track_low { track < MOST_TRACKS }
         requires below { track ≤ top_track self.now node }
         ensures sides { IsSplit self.now node track result.0 result.1 }
         ensures diagram { IsDiagram self.now }
     {
-        let _ = &self.shapes;
+        let _ = &self.shapes; // for its invariant
         match self.shape(node) {
             Shape::Test {
                 track: own,
@@ -207,9 +202,10 @@ impl Diagrams {
         requires a_known { a < length self.now }
         requires b_known { b < length self.now }
         ensures equal { IsTrue result ↔ (a ≡ b) }
-        ensures map { IsTrue result ↔ ((letter : ℕ) → letter < 2 ^ 20 → map_at self.now a letter ≡ map_at self.now b letter) }
+        ensures map { IsTrue result
+            ↔ ((letter : ℕ) → letter < 2 ^ MOST_TRACKS → map_at self.now a letter ≡ map_at self.now b letter) }
     {
-        let _ = &self.shapes;
+        let _ = &self.shapes; // for its invariant
         a == b
     }
 

@@ -7,6 +7,7 @@ ghost use Rattle.letter_diagram.specs.Least.{AreFirsts, Meets};
 ghost use Rattle.letter_diagram.specs.Leaves.{AreLeaves};
 
 use crate::diagrams::{Diagrams, Node, Shape};
+use limits::MOST_TRACKS;
 use std::alloc::{AllocError, Global};
 use std::collections::BTreeMap;
 
@@ -34,7 +35,7 @@ fn meet(met: &mut BTreeMap<Node, u32>, node: Node, letter: u32) -> Result<(), Al
 /// A letter with one more bit, that of a track after its bits.
 fn with_bit(letter: u32, track: u8) -> u32
     requires before { letter < 2 ^ track }
-    requires track_low { track < 20 }
+    requires track_low { track < MOST_TRACKS }
     ensures { result ≡ letter + 2 ^ track }
 {
     letter + (1 << track)

@@ -3,22 +3,24 @@
 
 mod apply2;
 mod bring;
-mod bring_relabelled;
+mod carry;
 mod choose;
 mod diagrams;
 pub mod laws;
 mod leaves;
 mod map_leaves;
+mod memo;
 mod merge;
 mod merger;
 mod node_memo;
 mod pairs;
 mod product;
 mod relabel;
-mod restrict;
 mod sets;
 
+pub use carry::{Carry, carried, carried_all};
 pub use diagrams::{Diagrams, Node, Shape};
+pub use memo::Memo;
 pub use merger::Merger;
 pub use node_memo::NodeMemo;
 pub use pairs::{Pairs, PairsError};

@@ -3,11 +3,12 @@ ghost use Rattle.std.specs.Prelude.{◌≡◌, ◌<◌, ◌≤◌, ◌+◌, ◌^
 ghost use Rattle.letter_diagram.specs.Diagram.{map_at, top_track, Grows};
 ghost use Rattle.letter_diagram.specs.Sets.{SetsKept, IsUnion};
 ghost use Rattle.letter_diagram.specs.Paired.{IsSplit, top_of_both, room_for};
-ghost use Rattle.letter_diagram.specs.Restricted.{IsWithBit};
+ghost use Rattle.letter_diagram.specs.Merged.{IsWithBit};
 ghost use Rattle.letter_diagram.specs.Merged.{HasSets, IsUnited, AreUnions, RemembersUnited, IgnoresTrack, IsMerged, AreMerged, RemembersMerged};
 
 use crate::diagrams::{Diagrams, Node};
 use crate::sets::Sets;
+use limits::MOST_TRACKS;
 use std::alloc::AllocError;
 use std::collections::HashMap;
 
@@ -16,15 +17,17 @@ impl Diagrams {
     /// `track`. It does not look at `track`.
     pub fn merge_track(&mut self, a: Node, track: u8, sets: &mut Sets) -> Result<Node, AllocError>
         requires known { a < length self.old }
-        requires track_low { track < 20 }
+        requires track_low { track < MOST_TRACKS }
         requires leaves { (letter : ℕ) → map_at self.old a letter < length sets.old }
         requires room { length sets.old < 2 ^ 31 }
         ensures known { IfOk result (λ node. node < length self.new) }
-        ensures map { IfOk result (λ node. (letter off on : ℕ) → IsWithBit off letter track 0 → IsWithBit on letter track 1 → IsUnion sets.new (map_at self.old a off) (map_at self.old a on) (map_at self.new node letter)) }
+        ensures map { IfOk result
+            (λ node. (letter off on : ℕ) → IsWithBit off letter track 0 → IsWithBit on letter track 1
+            → IsUnion sets.new (map_at self.old a off) (map_at self.old a on) (map_at self.new node letter)) }
         ensures ignores { IfOk result (λ node. IgnoresTrack self.new node track) }
         ensures top { IfOk result (λ node. top_track self.old a ≤ top_track self.new node) }
         ensures answers { OnOk result (AreMerged self.old (length sets.old) sets.new track a) }
-        ensures few { OnOk result (length sets.new ≤ length sets.old + 2 ^ 20) }
+        ensures few { OnOk result (length sets.new ≤ length sets.old + 2 ^ MOST_TRACKS) }
         ensures sets { SetsKept sets.old sets.new }
         ensures grows { Grows self.old self.new }
     {
@@ -42,7 +45,7 @@ impl Diagrams {
         merged: &mut HashMap<Node, Node>,
         united: &mut HashMap<(Node, Node), Node>,
     ) -> Result<Node, AllocError>
-        requires track_low { track < 20 }
+        requires track_low { track < MOST_TRACKS }
         requires source { HasSets self.old sets.old a }
         requires room { length sets.old + room_for self.old a a < 2 ^ 32 }
         requires merged { RemembersMerged self.old sets.old track merged.old }
@@ -102,7 +105,7 @@ impl Diagrams {
         if let Some(node) = memo.get(&(a, b)) {
             return Ok(*node);
         }
-        let node = if track == 20 {
+        let node = if track == MOST_TRACKS {
             self.united_leaves(a, b, sets)?
         } else {
             self.united_sides(a, b, track, sets, memo)?
@@ -114,7 +117,7 @@ impl Diagrams {
     fn united_leaves(&mut self, a: Node, b: Node, sets: &mut Sets) -> Result<Node, AllocError>
         requires a_sets { HasSets self.old sets.old a }
         requires b_sets { HasSets self.old sets.old b }
-        requires constant { top_of_both self.old a b ≡ 20 }
+        requires constant { top_of_both self.old a b ≡ MOST_TRACKS }
         requires a_constant { (letter : ℕ) → map_at self.old a letter ≡ map_at self.old a 0 }
         requires b_constant { (letter : ℕ) → map_at self.old b letter ≡ map_at self.old b 0 }
         requires room { length sets.old + 1 < 2 ^ 32 }
@@ -140,7 +143,7 @@ impl Diagrams {
         requires a_sets { HasSets self.old sets.old a }
         requires b_sets { HasSets self.old sets.old b }
         requires track { track ≡ top_of_both self.old a b }
-        requires track_low { track < 20 }
+        requires track_low { track < MOST_TRACKS }
         requires room { length sets.old + room_for self.old a b < 2 ^ 32 }
         requires remembered { RemembersUnited self.old sets.old memo.old }
         ensures united { IfOk result (λ node. IsUnited self.new sets.new a b node) }

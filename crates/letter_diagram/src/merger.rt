@@ -1,8 +1,9 @@
 //! Merged and united maps over one table of nodes, with memos that are kept from call to call.
 ghost use Rattle.std.specs.Prelude.{◌≡◌, ◌<◌, ◌≤◌, ◌+◌, ◌^◌, ℕ, length, IfOk, OnOk};
+ghost use Rattle.limits.specs.declared.numbers.TheConstants.{MOST_TRACKS};
 ghost use Rattle.letter_diagram.specs.Diagram.{map_at, top_track, Grows};
 ghost use Rattle.letter_diagram.specs.Sets.{SetsKept, IsUnion};
-ghost use Rattle.letter_diagram.specs.Restricted.{IsWithBit};
+ghost use Rattle.letter_diagram.specs.Merged.{IsWithBit};
 ghost use Rattle.letter_diagram.specs.Merged.{HasSets, IsUnited, AreUnions, IgnoresTrack, AreMerged};
 
 use crate::diagrams::{Diagrams, Node};
@@ -23,6 +24,7 @@ pub struct Merger {
 }
 
 impl Model for Merger {
+    ghost use Rattle.limits.specs.declared.numbers.TheConstants.{MOST_TRACKS};
     ghost use Rattle.std.specs.Prelude.{◌<◌};
     ghost use Rattle.letter_diagram.specs.Merger.{MergerTables};
     ghost use Rattle.letter_diagram.specs.Merged.{RemembersUnited, RemembersMerged};
@@ -31,13 +33,14 @@ impl Model for Merger {
 
     ghost view = { λ m. record { shapes = m.diagrams; sets = m.sets; track = m.track } };
 
-    ghost invariant = { λ m. (m.track < 20) × RemembersMerged m.diagrams m.sets m.track m.merged × RemembersUnited m.diagrams m.sets m.united };
+    ghost invariant = { λ m. (m.track < MOST_TRACKS) × RemembersMerged m.diagrams m.sets m.track m.merged
+        × RemembersUnited m.diagrams m.sets m.united };
 }
 
 impl Merger {
     /// Over nodes and sets that are there already, at a track.
     pub fn new(diagrams: Diagrams, sets: Sets, track: u8) -> Self
-        requires { track < 20 }
+        requires { track < MOST_TRACKS }
         ensures shapes { result.shapes ≡ diagrams }
         ensures sets { result.sets ≡ sets }
         ensures track { result.track ≡ track }
@@ -89,11 +92,15 @@ impl Merger {
         requires leaves { (letter : ℕ) → map_at self.old.shapes a letter < length self.old.sets }
         requires room { length self.old.sets < 2 ^ 31 }
         ensures known { IfOk result (λ node. node < length self.new.shapes) }
-        ensures map { IfOk result (λ node. (letter off on : ℕ) → IsWithBit off letter self.old.track 0 → IsWithBit on letter self.old.track 1 → IsUnion self.new.sets (map_at self.old.shapes a off) (map_at self.old.shapes a on) (map_at self.new.shapes node letter)) }
+        ensures map { IfOk result
+            (λ node. (letter off on : ℕ) → IsWithBit off letter self.old.track 0 → IsWithBit on letter self.old.track 1
+            → IsUnion self.new.sets (map_at self.old.shapes a off) (map_at self.old.shapes a on)
+            (map_at self.new.shapes node letter)) }
         ensures ignores { IfOk result (λ node. IgnoresTrack self.new.shapes node self.old.track) }
         ensures top { IfOk result (λ node. top_track self.old.shapes a ≤ top_track self.new.shapes node) }
-        ensures answers { OnOk result (AreMerged self.old.shapes (length self.old.sets) self.new.sets self.old.track a) }
-        ensures few { OnOk result (length self.new.sets ≤ length self.old.sets + 2 ^ 20) }
+        ensures answers { OnOk result
+            (AreMerged self.old.shapes (length self.old.sets) self.new.sets self.old.track a) }
+        ensures few { OnOk result (length self.new.sets ≤ length self.old.sets + 2 ^ MOST_TRACKS) }
         ensures sets { SetsKept self.old.sets self.new.sets }
         ensures grows { Grows self.old.shapes self.new.shapes }
         ensures track { self.new.track ≡ self.old.track }
@@ -122,7 +129,7 @@ impl Merger {
         requires room { length self.old.sets < 2 ^ 31 }
         ensures united { IfOk result (λ node. IsUnited self.new.shapes self.new.sets a b node) }
         ensures answers { OnOk result (AreUnions self.old.shapes (length self.old.sets) self.new.sets a b) }
-        ensures few { OnOk result (length self.new.sets ≤ length self.old.sets + 2 ^ 20) }
+        ensures few { OnOk result (length self.new.sets ≤ length self.old.sets + 2 ^ MOST_TRACKS) }
         ensures sets { SetsKept self.old.sets self.new.sets }
         ensures grows { Grows self.old.shapes self.new.shapes }
         ensures track { self.new.track ≡ self.old.track }

@@ -3,6 +3,7 @@ ghost use Rattle.std.specs.Prelude.{◌≡◌, ◌≤◌, ℕ, length, IfOk, OnO
 ghost use Rattle.letter_diagram.specs.NodeMemo.{answer_of, Forgets, Remembers};
 
 use crate::diagrams::Node;
+use crate::memo::Memo;
 use std::alloc::{AllocError, Global};
 use std::marker::Model;
 
@@ -66,5 +67,19 @@ impl NodeMemo {
         if let Some(place) = self.answers.get_mut(node.number()) {
             *place = None;
         }
+    }
+}
+
+/// For most nodes of a table.
+impl Memo for NodeMemo {
+    ghost answers = { answer_of };
+
+    fn answer(&self, node: Node) -> Option<Node> {
+        self.get(node)
+    }
+
+    fn remember(&mut self, node: Node, made: Node) -> Result<(), AllocError> {
+        self.insert(node, made);
+        Ok(())
     }
 }

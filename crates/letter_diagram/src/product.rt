@@ -6,6 +6,7 @@ ghost use Rattle.letter_diagram.specs.Paired.{top_of_both, AreAnswers};
 
 use crate::diagrams::{Diagrams, Node};
 use crate::pairs::Pairs;
+use limits::MOST_TRACKS;
 use std::alloc::AllocError;
 use std::collections::HashMap;
 use std::marker::Model;
@@ -77,10 +78,13 @@ impl Product {
         requires b_known { b < length self.old.shapes }
         requires room { length self.old.pairs < 2 ^ 31 }
         ensures known { IfOk result (λ node. node < length self.new.shapes) }
-        ensures map { IfOk result (λ node. (letter : ℕ) → slice_get self.new.pairs (map_at self.new.shapes node letter) ≡ Some (map_at self.old.shapes a letter, map_at self.old.shapes b letter)) }
+        ensures map { IfOk result
+            (λ node. (letter : ℕ)
+            → slice_get self.new.pairs (map_at self.new.shapes node letter) ≡ Some
+            (map_at self.old.shapes a letter, map_at self.old.shapes b letter)) }
         ensures top { IfOk result (λ node. top_of_both self.old.shapes a b ≤ top_track self.new.shapes node) }
         ensures answers { OnOk result (AreAnswers self.old.shapes (length self.old.pairs) self.new.pairs a b) }
-        ensures few { OnOk result (length self.new.pairs ≤ length self.old.pairs + 2 ^ 20) }
+        ensures few { OnOk result (length self.new.pairs ≤ length self.old.pairs + 2 ^ MOST_TRACKS) }
         ensures pairs { PairsKept self.old.pairs self.new.pairs }
         ensures grows { Grows self.old.shapes self.new.shapes }
     {

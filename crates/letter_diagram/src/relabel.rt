@@ -1,65 +1,97 @@
-//! A map whose tracks take their bits from other tracks.
-ghost use Rattle.std.specs.Prelude.{◌≡◌, ◌<◌, ℕ, length, All, IfOk, OnOk};
+//! Maps whose tracks take their bits from other tracks.
+ghost use Rattle.std.specs.Prelude.{◌≡◌, ◌<◌, ℕ, length, option_copied, All, IfOk};
+ghost use Rattle.limits.specs.declared.numbers.TheConstants.{MOST_TRACKS};
 ghost use Rattle.letter_diagram.specs.Diagram.{map_at, Grows, LooksBelow};
-ghost use Rattle.std.specs.Int.{bit_at};
-ghost use Rattle.letter_diagram.specs.Relabelled.{relabelled, IsRelabelled, RemembersRelabelled};
+ghost use Rattle.letter_diagram.specs.Carried.{IsCarried};
+ghost use Rattle.letter_diagram.specs.Listed.{EachAnswers};
+ghost use Rattle.letter_diagram.specs.Relabelled.{relabelled};
 
+use crate::carry::{Carry, carried, carried_all};
 use crate::diagrams::{Diagrams, Node, Shape};
 use crate::node_memo::NodeMemo;
 use std::alloc::AllocError;
+
+/// Carries nodes of another `Diagrams`, or of the same, to tests of other tracks.
+#[derive(Drop)]
+struct Relabelling<'a> {
+    from: Option<&'a Diagrams>,
+    tracks: &'a [u8],
+    ghost tracks_low: { All (λ track. track < MOST_TRACKS) tracks.now },
+}
+
+impl<'a> Carry for Relabelling<'a> {
+    ghost carrier = { λ s.
+        record {
+          from = option_copied s.from;
+          letters = relabelled s.tracks.now;
+          values = λ value. value;
+          tracks = length s.tracks.now;
+        } };
+
+    ghost can = { λ _ _. Unit {0} };
+
+    fn shape(&self, to: &Diagrams, node: Node) -> Shape {
+        match self.from {
+            Some(from) => from.shape(node),
+            None => to.shape(node),
+        }
+    }
+
+    fn leaf(&self, to: &mut Diagrams, value: u32) -> Result<Node, AllocError> {
+        let node = to.leaf(value)?;
+        Ok(node)
+    }
+
+    fn test(
+        &self,
+        to: &mut Diagrams,
+        track: u8,
+        low: Node,
+        high: Node,
+    ) -> Result<Node, AllocError> {
+        let node = to.choose(self.tracks[track as usize], low, high)?;
+        Ok(node)
+    }
+}
 
 impl Diagrams {
     /// The map of `a` on the letter whose bit t is the bit of `tracks[t]`.
     pub fn relabel(&mut self, a: Node, tracks: &[u8]) -> Result<Node, AllocError>
         requires known { a < length self.old }
         requires narrow { LooksBelow self.old a (length tracks.now) }
-        requires tracks { All (λ track. track < 20) tracks.now }
+        requires tracks { All (λ track. track < MOST_TRACKS) tracks.now }
         ensures known { IfOk result (λ node. node < length self.new) }
-        ensures map { IfOk result (λ node. (letter : ℕ) → map_at self.new node letter ≡ map_at self.old a (relabelled tracks.now letter)) }
+        ensures map { IfOk result
+            (λ node. (letter : ℕ) → map_at self.new node letter ≡ map_at self.old a (relabelled tracks.now letter)) }
         ensures grows { Grows self.old self.new }
     {
         let mut memo = NodeMemo::new(self.alloc(), self.len())?;
-        self.relabelled(a, tracks, &mut memo)
-    }
-
-    fn relabelled(
-        &mut self,
-        a: Node,
-        tracks: &[u8],
-        memo: &mut NodeMemo,
-    ) -> Result<Node, AllocError>
-        requires known { a < length self.old }
-        requires narrow { LooksBelow self.old a (length tracks.now) }
-        requires tracks { All (λ track. track < 20) tracks.now }
-        requires remembered { RemembersRelabelled self.old tracks.now memo.old }
-        ensures relabelled { IfOk result (λ node. IsRelabelled self.new tracks.now a node) }
-        ensures remembered { OnOk result (RemembersRelabelled self.new tracks.now memo.new) }
-        ensures grows { Grows self.old self.new }
-    {
-        if let Some(node) = memo.get(a) {
-            return Ok(node);
-        }
-        if let Shape::Test { track, low, high } = self.shape(a) {
-            let low = self.relabelled(low, tracks, memo)?;
-            let high = self.relabelled(high, tracks, memo)?;
-            let node = self.choose(tracks[track as usize], low, high)?;
-            memo.insert(a, node);
-            Ok(node)
-        } else {
-            Ok(a)
-        }
-    }
-
-    /// The map that is the bit of a track.
-    pub fn bit(&mut self, track: u8) -> Result<Node, AllocError>
-        requires track_low { track < 20 }
-        ensures known { IfOk result (λ node. node < length self.new) }
-        ensures map { IfOk result (λ node. (letter : ℕ) → map_at self.new node letter ≡ bit_at letter track) }
-        ensures grows { Grows self.old self.new }
-    {
-        let low = self.leaf(0)?;
-        let high = self.leaf(1)?;
-        let node = self.node(track, low, high)?;
+        let node = carried(&Relabelling { from: None, tracks }, a, self, &mut memo)?;
         Ok(node)
+    }
+
+    /// The nodes here that have the maps of nodes of `from` on the letter whose bit t is the bit of `tracks[t]`, in their
+    /// order: `bring` and `relabel` in one pass.
+    pub fn bring_relabelled(
+        &mut self,
+        from: &Diagrams,
+        nodes: &[Node],
+        tracks: &[u8],
+    ) -> Result<Vec<Node>, AllocError>
+        requires known { All (λ node. node < length from.now) nodes.now }
+        requires narrow { All (λ node. LooksBelow from.now node (length tracks.now)) nodes.now }
+        requires tracks { All (λ track. track < MOST_TRACKS) tracks.now }
+        ensures brought { IfOk result
+            (λ made. EachAnswers (IsCarried from.now self.new (relabelled tracks.now) (λ value. value)) nodes.now
+            made.items) }
+        ensures grows { Grows self.old self.new }
+    {
+        let mut memo = NodeMemo::new(self.alloc(), from.len())?;
+        let relabelling = Relabelling {
+            from: Some(from),
+            tracks,
+        };
+        let made = carried_all(&relabelling, nodes, self, &mut memo)?;
+        Ok(made)
     }
 }

@@ -11,7 +11,8 @@ use std::marker::Model;
 /// The elements of either of two lists, in ascending order and without repeats.
 fn union(alloc: Global, a: &[u32], b: &[u32]) -> Result<Vec<u32>, AllocError>
     ensures ascends { IfOk result (λ both. IsStrictlyIncreasing both.items) }
-    ensures members { IfOk result (λ both. (element : ℕ) → Contains both.items element ↔ (Contains a.now element ⊎ Contains b.now element)) }
+    ensures members { IfOk result
+        (λ both. (element : ℕ) → Contains both.items element ↔ (Contains a.now element ⊎ Contains b.now element)) }
 {
     let mut both = a.to_vec(alloc)?;
     both.extend_from_slice(b)?;
@@ -31,7 +32,8 @@ impl Model for Sets {
 
     ghost view = { λ s. map (λ set. set.items) s.seen.keys };
 
-    ghost invariant = { λ s. (All IsStrictlyIncreasing (map (λ set. set.items) s.seen.keys)) × (AllPairs (λ x y. x ≢ y) (map (λ set. set.items) s.seen.keys)) × (length s.seen.keys < 2 ^ 32) };
+    ghost invariant = { λ s. (All IsStrictlyIncreasing (map (λ set. set.items) s.seen.keys))
+        × (AllPairs (λ x y. x ≢ y) (map (λ set. set.items) s.seen.keys)) × (length s.seen.keys < 2 ^ 32) };
 }
 
 impl Sets {
@@ -107,7 +109,8 @@ impl Sets {
         requires b_known { b < length self.old }
         requires room { length self.old < 2 ^ 32 - 1 }
         ensures union { IfOk result (λ number. IsUnion self.new a b number) }
-        ensures answers { OnOk result ((number : ℕ) → length self.old ≤ number → number < length self.new → IsUnion self.new a b number) }
+        ensures answers { OnOk result
+            ((number : ℕ) → length self.old ≤ number → number < length self.new → IsUnion self.new a b number) }
         ensures kept { SetsKept self.old self.new }
         ensures room { length self.new ≤ length self.old + 1 }
         ensures unchanged { OnErr result (self.new ≡ self.old) }

@@ -1,1 +1,3 @@
+pub mod LetterBits
+pub mod Repeats
 pub mod Spelling

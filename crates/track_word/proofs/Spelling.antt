@@ -1,33 +1,26 @@
--- Words that spell given integers.
-use Rattle.std.proofs.Common.{◌≡◌, ℕ, zero, suc, ℤ, pos, negsuc, ◌-ℤ◌, ◌+◌, ◌-◌, ◌*◌, ◌/◌, ◌%◌, ◌^◌, ◌<◌, ◌≤◌, List, [], ◌∷◌, length, All, get_or, arith, inl, inr, ◌⊎◌, refl, sym, ap, ◌∙◌}
+-- Words that spell given integers. Other crates cite these lemmas.
+use Rattle.std.proofs.Common.{◌≡◌, ℕ, zero, suc, ℤ, pos, negsuc, ◌-ℤ◌, ◌+◌, ◌-◌, ◌*◌, ◌%◌, ◌^◌, ◌<◌, ◌≤◌, List, [], ◌∷◌, length, All, get_or, arith, inl, inr, ◌⊎◌, refl, sym, ap, ◌∙◌}
 use Rattle.std.specs.Int.{bit_at}
-use Rattle.std.proofs.lemmas.Grind.{common_steps}
 use Rattle.std.proofs.lemmas.Int.{ints}
 use Rattle.std.proofs.lemmas.Nat.{pow_pos, mod_below, mod-pow-add}
 use Rattle.std.proofs.lemmas.Nat.Bits.{bit_at-lt, bit_at-suc, bit_at_lowest, bit_at_above, same_from_bits_below}
 use Rattle.std.proofs.Math.Nat.{mod-eq_of_lt, mod-one}
+use Rattle.track_word.proofs.LetterBits.{bit_cases, half, lowest}
 use Rattle.track_word.specs.Word.{integer_bit, low_value, val, IsWord, Spells, letter_of, letters_below, spelled, FitsBelow}
 
-bit_cases : (n i : ℕ) → (bit_at n i ≡ 0) ⊎ (bit_at n i ≡ 1)
-bit_cases n i = let l = bit_at-lt n i in grind (arith, common_steps, l)
-
-integer_bit-lt : (z : ℤ) (place : ℕ) → integer_bit z place < 2
+pub integer_bit-lt : (z : ℤ) (place : ℕ) → integer_bit z place < 2
 integer_bit-lt (pos n) place = bit_at-lt n place
 integer_bit-lt (negsuc n) place = omega arith
 
-half : (b r : ℕ) → b < 2 → (b + 2 * r) / 2 ≡ r
-half b r h = omega (arith, h)
-
-rest : (b r : ℕ) → b < 2 → (b + 2 * r) % 2 ≡ b
-rest b r h = omega (arith, h)
-
 pub bit_at-letter : (integers : List ℤ) (place t : ℕ) → t < length integers → bit_at (letter_of integers place) t ≡ integer_bit (get_or integers t (pos 0)) place
 bit_at-letter [] place t h = absurd (omega (arith, h))
-bit_at-letter (z ∷ integers) place zero h = bit_at_lowest (letter_of (z ∷ integers) place) ∙ rest (integer_bit z place) (letter_of integers place) (integer_bit-lt z place)
+bit_at-letter (z ∷ integers) place zero h = bit_at_lowest (letter_of (z ∷ integers) place) ∙ lowest (integer_bit z place) (letter_of integers place) (integer_bit-lt z place)
 bit_at-letter (z ∷ integers) place (suc t) h =
-    bit_at-suc (letter_of (z ∷ integers) place) t ∙ ap (λ n. bit_at n t) (half (integer_bit z place) (letter_of integers place) (integer_bit-lt z place)) ∙ bit_at-letter integers place t (omega (arith, h))
+    bit_at-suc (letter_of (z ∷ integers) place) t
+    ∙ ap (λ n. bit_at n t) (half (integer_bit z place) (letter_of integers place) (integer_bit-lt z place))
+    ∙ bit_at-letter integers place t (omega (arith, h))
 
-letter-lt : (integers : List ℤ) (place : ℕ) → letter_of integers place < 2 ^ length integers
+pub letter-lt : (integers : List ℤ) (place : ℕ) → letter_of integers place < 2 ^ length integers
 letter-lt [] place = omega arith
 letter-lt (z ∷ integers) place =
     let power : 2 ^ suc (length integers) ≡ 2 * 2 ^ length integers = omega arith in

@@ -63,7 +63,11 @@ abbrev pub BitsSpell : Type 0
 BitsSpell = (integers : List ℤ) (place : ℕ) → All (FitsBelow place) integers → Spells integers (spelled integers place)
 
 abbrev pub TuplesHaveWords : Type 0
-TuplesHaveWords = (integers : List ℤ) → length integers ≤ 32 → (least : ℕ) × ((n : ℕ) → least ≤ n → (word : List ℕ) × Spells integers word × (length word ≡ n))
+TuplesHaveWords =
+    (integers : List ℤ) → length integers ≤ 32
+    → (least : ℕ) × ((n : ℕ) → least ≤ n → (word : List ℕ) × Spells integers word × (length word ≡ n))
 
 abbrev pub EqualValuesEqualWords : Type 0
-EqualValuesEqualWords = (tracks : ℕ) (v w : List ℕ) → IsWord tracks v → IsWord tracks w → length v ≡ length w → ((track : ℕ) → track < tracks → val v track ≡ val w track) → v ≡ w
+EqualValuesEqualWords =
+    (tracks : ℕ) (v w : List ℕ) → IsWord tracks v → IsWord tracks w → length v ≡ length w
+    → ((track : ℕ) → track < tracks → val v track ≡ val w track) → v ≡ w

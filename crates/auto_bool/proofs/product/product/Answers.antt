@@ -1,13 +1,33 @@
+use Rattle.std.proofs.Common.{IfOk, OnOk, subst}
 use Rattle.std.proofs.lemmas.Result.{on_ok_weaker}
+use Rattle.auto_walk.specs.Walker.{IsWalked, MoreThan}
+use Rattle.auto_bool.proofs.PairLemmas.{walker-same}
 use Rattle.auto_bool.proofs.Spreads.{BothSpreadExceeds-from, MoreThan-from_spread}
 use Rattle.auto_bool.proofs.product.product.Goals as goal
 
+pub returns-clause-ok : goal.returns-clause-ok
+returns-clause-ok c =
+    let made = c.in_ok-both.ensures in
+    let same = walker-same _ _ _ _ _ _ _ made.left made.right made.connective made.tracks in
+    subst (λ w. IfOk c.walked.result (IsWalked w)) same c.walked.ensures.ok
+
 pub returns-clause-within : goal.returns-clause-within
 returns-clause-within c =
-    let more = MoreThan-from_spread c.args.a.now c.args.b.now c.args.connective c.walk_pairs.ensures.a_valid c.walk_pairs.ensures.b_valid c.requires.a_reduced c.requires.b_reduced c.args.budget in
-    on_ok_weaker c.walk_pairs.result (λ few spread. few (more spread)) c.walk_pairs.ensures.within
+    let made = c.in_ok-both.ensures in
+    let same = walker-same _ _ _ _ _ _ _ made.left made.right made.connective made.tracks in
+    let few = subst (λ w. OnOk c.walked.result (MoreThan w c.args.budget → ⊥)) same c.walked.ensures.within in
+    on_ok_weaker c.walked.result (λ no spread. no (MoreThan-from_spread c.args.a.now c.args.b.now c.args.connective c.args.budget spread)) few
 
 pub returns-clause-over : goal.returns-clause-over
 returns-clause-over c =
-    λ over. BothSpreadExceeds-from c.args.a.now c.args.b.now c.args.connective c.walk_pairs.ensures.a_valid c.walk_pairs.ensures.b_valid c.requires.a_reduced c.requires.b_reduced c.args.budget
-    (c.walk_pairs.ensures.over over)
+    let made = c.in_ok-both.ensures in
+    let same = walker-same _ _ _ _ _ _ _ made.left made.right made.connective made.tracks in
+    λ a_reduced b_reduced over.
+    BothSpreadExceeds-from c.args.a.now c.args.b.now c.args.connective made.left_valid made.right_valid a_reduced b_reduced c.args.budget
+    (subst (λ w. MoreThan w c.args.budget) same (c.walked.ensures.over over))
+
+pub returns-clause-many : goal.returns-clause-many
+returns-clause-many c =
+    let made = c.in_ok-both.ensures in
+    let same = walker-same _ _ _ _ _ _ _ made.left made.right made.connective made.tracks in
+    λ over. subst (λ w. MoreThan w c.args.budget) same (c.walked.ensures.over over)

@@ -11,5 +11,8 @@ loop-state-preserved c =
     let within : (c.args.span.low +ℤ pos c.loop-state.state) ≤ℤ c.args.span.high = omega (arith, ints, below, count) in
     record {
       count = let l = c.in_ok-push.ensures.len in let n = inv.count in omega (arith, l, n);
-      tells = rw c.in_ok-push.ensures.items (AreFlagsOf-push _ _ _ _ _ _ inv.count inv.tells (flag-is _ _ c.args.span c.loop-state.state c.value_of.result _ c.requires within c.value_of.ensures c.compares.ensures));
+      tells =
+          rw c.in_ok-push.ensures.items
+          (AreFlagsOf-push _ _ _ _ _ _ inv.count inv.tells
+          (flag-is _ _ c.args.span c.loop-state.state c.value_of.result _ c.requires within c.value_of.ensures c.compares.ensures));
     }

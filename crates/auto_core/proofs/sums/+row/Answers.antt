@@ -50,14 +50,17 @@ row-requires-2 t c =
     let ne = c.if-track-weights.false in
     let few = c.requires.few in
     let below : c.args.track < length c.args.weights.now = grind (arith, ne, le) in
-    let step = stepped c.args.track c.args.sum (get_or c.args.weights.now c.args.track (pos 0)) (omega (arith, below, few)) c.requires.near (small-at c.args.weights.now c.args.track c.requires.small below) in
+    let step =
+    stepped c.args.track c.args.sum (get_or c.args.weights.now c.args.track (pos 0)) (omega (arith, below, few)) c.requires.near
+    (small-at c.args.weights.now c.args.track c.requires.small below) in
     (omega (arith, below), (c.requires.few, (c.requires.small, (c.requires.span, (omega (arith, below), (step-near _ _ _ step, c.in_ok-low.ensures.remembered))))))
 
 pub returns-then-track-weights-clause-row : goal.returns-then-track-weights-clause-row
 returns-then-track-weights-clause-row t c =
     let few = c.requires.few in
     let le = c.requires.track in
-    IsSumRow-leaf _ _ _ _ _ _ _ c.if-track-weights.true (omega (arith, le, few)) c.in_ok-node.ensures.known c.in_ok-node.ensures.map c.in_ok-node.ensures.top (subst (λ s. StandsFor c.args.span s c.state_of.result) (to_z-of_z w32 c.args.sum c.ranges.sum) c.state_of.ensures)
+    IsSumRow-leaf _ _ _ _ _ _ _ c.if-track-weights.true (omega (arith, le, few)) c.in_ok-node.ensures.known c.in_ok-node.ensures.map
+    c.in_ok-node.ensures.top (subst (λ s. StandsFor c.args.span s c.state_of.result) (to_z-of_z w32 c.args.sum c.ranges.sum) c.state_of.ensures)
 
 made : (t : ℕ) (c : goal.In_ok-insert t) → IsSumRow c.node.new.self c.args.weights.now c.args.span c.args.track c.args.sum c.in_ok-node-2.node
 made t c =
@@ -65,7 +68,9 @@ made t c =
     let ne = c.if-track-weights.false in
     let few = c.requires.few in
     let below : c.args.track < length c.args.weights.now = grind (arith, ne, le) in
-    let step = stepped c.args.track c.args.sum (get_or c.args.weights.now c.args.track (pos 0)) (omega (arith, below, few)) c.requires.near (small-at c.args.weights.now c.args.track c.requires.small below) in
+    let step =
+    stepped c.args.track c.args.sum (get_or c.args.weights.now c.args.track (pos 0)) (omega (arith, below, few)) c.requires.near
+    (small-at c.args.weights.now c.args.track c.requires.small below) in
     let from_high = c.in_ok-node-2.ensures.grows in
     let from_low = Grows-trans _ _ _ c.in_ok-high.ensures.grows from_high in
     let low = IsSumRow-grows _ _ _ _ _ _ _ from_low c.in_ok-low.ensures.row in
@@ -74,7 +79,10 @@ made t c =
     let first_known = c.in_ok-low.ensures.row.known in
     let low_known : c.in_ok-low.low < length c.row-2.new.diagrams = omega (arith, longer, first_known) in
     let high_known = c.in_ok-high.ensures.row.known in
-    IsSumRow-test _ _ _ _ _ (get_or c.args.weights.now c.args.track (pos 0)) c.in_ok-low.low c.in_ok-high.high _ below refl c.in_ok-node-2.ensures.known c.in_ok-node-2.ensures.top (λ letter. c.in_ok-node-2.ensures.map letter ∙ chosen-grows _ _ _ _ _ letter low_known high_known from_high) (rw (to_z-of_z w32 c.args.sum c.ranges.sum) at low) (rw (step-same _ _ _ step) at high)
+    IsSumRow-test _ _ _ _ _ (get_or c.args.weights.now c.args.track (pos 0)) c.in_ok-low.low c.in_ok-high.high _ below refl
+    c.in_ok-node-2.ensures.known c.in_ok-node-2.ensures.top
+    (λ letter. c.in_ok-node-2.ensures.map letter ∙ chosen-grows _ _ _ _ _ letter low_known high_known from_high)
+    (rw (to_z-of_z w32 c.args.sum c.ranges.sum) at low) (rw (step-same _ _ _ step) at high)
 
 pub returns-clause-row : goal.returns-clause-row
 returns-clause-row t c = made t c

@@ -13,7 +13,12 @@ shifted : (z : ℤ) (k : ℕ) → SFits w64 z → SFits w64 (int_shr z k)
 shifted z k fits = record { sfits = let m = mag_shr z (2 ^ k) in let f = fits.sfits in omega (arith, m, f) }
 
 read : (value : ℤ) (left bit state : ℕ) → SFits w64 value → bit < 2
-    → IsPrefixState (to_z w64 (of_z w64 value)) (to_z w128 (of_z w128 (to_z w128 (of_z w128 (pos 2 *ℤ to_z w128 (of_z w128 (to_z w64 (of_z w64 (int_shr (to_z w64 (of_z w64 value)) left)))))) +ℤ to_z w128 bit))) state
+    → IsPrefixState (to_z w64 (of_z w64 value))
+    (to_z w128
+    (of_z w128
+    (to_z w128 (of_z w128 (pos 2 *ℤ to_z w128 (of_z w128 (to_z w64 (of_z w64 (int_shr (to_z w64 (of_z w64 value)) left)))))) +ℤ to_z w128
+    bit)))
+    state
     → IsPrefixState value (int_shr value left +ℤ int_shr value left +ℤ pos bit) state
 read value left bit state fits below h =
     let same = to_z-of_z w64 value fits in

@@ -5,7 +5,8 @@ use Rattle.auto_project.proofs.closure.guarded_row.Goals as goal
 
 pub returns-clause-guarded : goal.returns-clause-guarded
 returns-clause-guarded c =
-    let at : slice_get c.args.rows.now c.args.state ≡ Some c.index-rows-state.result = slice_get-get_or c.args.rows.now c.args.state c.index-rows-state.result (omega arith) ∙ ap Some (sym c.index-rows-state.is) in
+    let at : slice_get c.args.rows.now c.args.state ≡ Some c.index-rows-state.result =
+    slice_get-get_or c.args.rows.now c.args.state c.index-rows-state.result (omega arith) ∙ ap Some (sym c.index-rows-state.is) in
     IsGuarded-joined _ _ _ _ _ _ _ at c.in_ok-row-2.ensures.joined
 
 pub returns-then-state-rows-clause-guarded : goal.returns-then-state-rows-clause-guarded

@@ -9,7 +9,9 @@ use Rattle.auto_project.proofs.rows.merged_rows.Goals as goal
 pub merged_row-requires : goal.merged_row-requires
 merged_row-requires c =
     let i = c.loop-node.invariant in
-    HasSets-grows _ _ _ _ _ i.grows i.kept (subst (HasSets c.args.merger.now.shapes c.args.merger.now.sets) (sym c.node-item.is) (c.requires c.loop-node.node-index c.node-item.result c.loop-node-test.true))
+    HasSets-grows _ _ _ _ _ i.grows i.kept
+    (subst (HasSets c.args.merger.now.shapes c.args.merger.now.sets) (sym c.node-item.is)
+    (c.requires c.loop-node.node-index c.node-item.result c.loop-node-test.true))
 
 pub loop-node-preserved : goal.loop-node-preserved
 loop-node-preserved c =
@@ -19,5 +21,8 @@ loop-node-preserved c =
       grows = Grows-trans _ _ _ i.grows e.grows;
       kept = SetsKept-trans _ _ _ i.kept e.sets;
       track = e.track ∙ i.track;
-      merged = rw (c.in_ok-push.ensures.items, e.track) (EachAnswers-push _ _ _ _ _ _ _ (λ x y is. IsMerged-grows _ _ _ _ _ x y e.grows e.sets is) c.loop-node-test.true c.node-item.is i.merged e.merged);
+      merged =
+          rw (c.in_ok-push.ensures.items, e.track)
+          (EachAnswers-push _ _ _ _ _ _ _ (λ x y is. IsMerged-grows _ _ _ _ _ x y e.grows e.sets is) c.loop-node-test.true c.node-item.is i.merged
+          e.merged);
     }

@@ -2,7 +2,7 @@ use Rattle.std.proofs.Common.{◌∙◌, sym, ◌≡◌, ◌∷◌}
 use Rattle.std.proofs.lemmas.Bool.{false≢true}
 use Rattle.letter_diagram.specs.Diagram.{Grows}
 use Rattle.letter_diagram.specs.Listed.{EachAnswers}
-use Rattle.letter_diagram.specs.Brought.{IsBrought}
+use Rattle.letter_diagram.specs.Carried.{IsCarried}
 use Rattle.auto_reduce.proofs.Flags.{flags_differ, flags_agree}
 use Rattle.auto_reduce.proofs.SameWords.{HaveEqualTables-maps, HaveEqualMaps-tables, own_known, brought_known, brought_size}
 use Rattle.auto_reduce.proofs.same.have_equal_tables.Goals as goal
@@ -20,23 +20,28 @@ flags_are c = sym c.flags.ensures ∙ flags_agree _ _ _ c.ne.ensures c.if-ne.fal
 grows : (c : goal.After-as_slice-3) → Grows c.args.a.now.shapes c.bring.new.self
 grows c = rw (c.in_ok-diagrams.ensures, c.diagrams.ensures.shapes) at c.bring.ensures.grows
 
-each : (c : goal.After-as_slice-3) → EachAnswers (IsBrought c.args.b.now.shapes c.bring.new.self) (c.args.b.now.first_node ∷ c.args.b.now.row_nodes) c.in_ok-brought.brought.items
+each : (c : goal.After-as_slice-3)
+    → EachAnswers (IsCarried c.args.b.now.shapes c.bring.new.self
+    (λ letter. letter) (λ value. value)) (c.args.b.now.first_node ∷ c.args.b.now.row_nodes) c.in_ok-brought.brought.items
 each c = rw (c.diagrams-3.ensures.shapes, c.as_slice.ensures.value, c.in_ok-others.ensures.nodes) at c.in_ok-brought.ensures.brought
 
 pub have_equal_maps-requires-clause-size : goal.have_equal_maps-requires-clause-size
 have_equal_maps-requires-clause-size c =
     rw (c.as_slice-2.ensures.value, c.as_slice-3.ensures.value, c.in_ok-nodes.ensures.nodes)
-    (brought_size c.args.a.now c.args.b.now c.requires.a_valid c.requires.b_valid c.in_ok-nodes.ensures.over c.in_ok-others.ensures.over c.requires.tracks (flags_are c) c.bring.new.self c.in_ok-brought.brought.items (grows c) (each c))
+    (brought_size c.args.a.now c.args.b.now c.requires.a_valid c.requires.b_valid c.in_ok-nodes.ensures.over c.in_ok-others.ensures.over
+    c.requires.tracks (flags_are c) c.bring.new.self c.in_ok-brought.brought.items (grows c) (each c))
 
 pub have_equal_maps-requires-clause-nodes_known : goal.have_equal_maps-requires-clause-nodes_known
 have_equal_maps-requires-clause-nodes_known c =
     rw (c.as_slice-2.ensures.value, c.in_ok-nodes.ensures.nodes)
-    (own_known c.args.a.now c.args.b.now c.requires.a_valid c.requires.b_valid c.in_ok-nodes.ensures.over c.in_ok-others.ensures.over c.requires.tracks (flags_are c) c.bring.new.self c.in_ok-brought.brought.items (grows c) (each c))
+    (own_known c.args.a.now c.args.b.now c.requires.a_valid c.requires.b_valid c.in_ok-nodes.ensures.over c.in_ok-others.ensures.over
+    c.requires.tracks (flags_are c) c.bring.new.self c.in_ok-brought.brought.items (grows c) (each c))
 
 pub have_equal_maps-requires-clause-others_known : goal.have_equal_maps-requires-clause-others_known
 have_equal_maps-requires-clause-others_known c =
     rw c.as_slice-3.ensures.value
-    (brought_known c.args.a.now c.args.b.now c.requires.a_valid c.requires.b_valid c.in_ok-nodes.ensures.over c.in_ok-others.ensures.over c.requires.tracks (flags_are c) c.bring.new.self c.in_ok-brought.brought.items (grows c) (each c))
+    (brought_known c.args.a.now c.args.b.now c.requires.a_valid c.requires.b_valid c.in_ok-nodes.ensures.over c.in_ok-others.ensures.over
+    c.requires.tracks (flags_are c) c.bring.new.self c.in_ok-brought.brought.items (grows c) (each c))
 
 pub returns : goal.returns
 returns c =
@@ -44,6 +49,8 @@ returns c =
     let more = rw (c.in_ok-diagrams.ensures, c.diagrams.ensures.shapes) at c.bring.ensures.grows in
     let all = rw (c.diagrams-3.ensures.shapes, c.as_slice.ensures.value, c.in_ok-others.ensures.nodes) at c.in_ok-brought.ensures.brought in
     let equal = rw (c.as_slice-2.ensures.value, c.as_slice-3.ensures.value, c.in_ok-nodes.ensures.nodes) at c.have_equal_maps.ensures in (
-      λ said. HaveEqualTables-maps c.args.a.now c.args.b.now c.requires.a_valid c.requires.b_valid c.in_ok-nodes.ensures.over c.in_ok-others.ensures.over c.requires.tracks flags c.bring.new.self c.in_ok-brought.brought.items more all (equal.0 said),
-      λ h. equal.1 (HaveEqualMaps-tables c.args.a.now c.args.b.now c.requires.a_valid c.requires.b_valid c.in_ok-nodes.ensures.over c.in_ok-others.ensures.over c.requires.tracks flags c.bring.new.self c.in_ok-brought.brought.items more all h),
+      λ said. HaveEqualTables-maps c.args.a.now c.args.b.now c.requires.a_valid c.requires.b_valid c.in_ok-nodes.ensures.over
+          c.in_ok-others.ensures.over c.requires.tracks flags c.bring.new.self c.in_ok-brought.brought.items more all (equal.0 said),
+      λ h. equal.1 (HaveEqualMaps-tables c.args.a.now c.args.b.now c.requires.a_valid c.requires.b_valid c.in_ok-nodes.ensures.over
+          c.in_ok-others.ensures.over c.requires.tracks flags c.bring.new.self c.in_ok-brought.brought.items more all h),
     )

@@ -27,7 +27,8 @@ loop-state-preserved c =
     let row = c.row_node-row in
     let state = get_or c.as_slice-state-items.result.now c.loop-state.state-index 0 in
     let before = c.loop-state.invariant in
-    let here : IsKept m state = IsKept-row m m.shapes c.loop-state.diagrams first.result row.result state before.grows first.ensures.known row.ensures.known first.ensures.narrow row.ensures.narrow first.ensures.map row.ensures.map
+    let here : IsKept m state = IsKept-row m m.shapes c.loop-state.diagrams first.result row.result state before.grows first.ensures.known
+    row.ensures.known first.ensures.narrow row.ensures.narrow first.ensures.map row.ensures.map
     (c.in_ok-keeps.ensures.keeps.0 c.if-not-branch.false) in
     record {
       grows = Grows-trans _ _ _ before.grows c.keeps.ensures.grows;
@@ -45,7 +46,8 @@ returns-then-not-branch c =
     let state = get_or c.as_slice-state-items.result.now c.loop-state.state-index 0 in (
       λ e. absurd (false≢true e),
       λ d. absurd (false≢true (sym c.if-not-branch.true ∙ c.in_ok-keeps.ensures.keeps.1
-          (row-IsKept m m.shapes c.loop-state.diagrams first.result row.result state c.loop-state.invariant.grows first.ensures.known row.ensures.known first.ensures.narrow row.ensures.narrow first.ensures.map row.ensures.map
+          (row-IsKept m m.shapes c.loop-state.diagrams first.result row.result state c.loop-state.invariant.grows first.ensures.known
+          row.ensures.known first.ensures.narrow row.ensures.narrow first.ensures.map row.ensures.map
           (IsKept-stable m c.requires.valid c.requires.reduced d state)))),
     )
 

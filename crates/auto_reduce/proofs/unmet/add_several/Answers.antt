@@ -1,12 +1,12 @@
 use Rattle.std.proofs.Common.{◌≡◌, get_or, Contains, sym, ap, ◌∙◌, subst}
 use Rattle.std.proofs.lemmas.List.Elements.{Contains-get_or}
-use Rattle.auto_reduce.specs.Leading.{entry_at}
+use Rattle.auto_reduce.specs.Unmet.{entry_at}
 use Rattle.auto_reduce.proofs.Unmets.{AddsRow-pruned, AreDone-more}
 use Rattle.auto_reduce.proofs.unmet.add_several.Goals as goal
 
 pub pruned-requires-clause-met : goal.pruned-requires-clause-met
 pruned-requires-clause-met c =
-    let made = c.in_ok-met.ensures in
+    let made = c.in_ok-leaf.ensures in
     let met = c.args.order.now in
     let first : get_or c.as_slice.result.now 0 0 ≡ get_or met 0 0 = ap (λ l. get_or l 0 0) c.as_slice.ensures.states in
     record {
@@ -19,7 +19,8 @@ pub returns-clause-adds : goal.returns-clause-adds
 returns-clause-adds c =
     let leaves = c.in_ok-leaves.leaves.items in
     let added = rw c.as_slice-2.ensures.value at c.in_ok-add_all.ensures.adds in
-    AddsRow-pruned c.pruned.new.to (entry_at c.args.canon.now c.args.from.now c.args.row) c.in_ok-unmet.unmet c.args.order.now c.add_all.new.self leaves c.in_ok-unmet.ensures.pruned.map c.in_ok-leaves.ensures added c.add_all.ensures.different
+    AddsRow-pruned c.pruned.new.to (entry_at c.args.rows.now.canon.now c.args.rows.now.from.now c.args.row) c.in_ok-unmet.unmet c.args.order.now c.add_all.new.self
+    leaves c.in_ok-unmet.ensures.pruned.map c.in_ok-leaves.ensures added c.add_all.ensures.different
 
 pub returns-clause-done : goal.returns-clause-done
 returns-clause-done c = AreDone-more _ _ _ _ _ _ c.in_ok-add_all.ensures.adds c.in_ok-unmet.ensures.done

@@ -19,9 +19,14 @@ returns-clause-members c = λ element.
     let first : c.in_ok-both.both.items ≡ c.args.a.now = search rules in
     let joined : c.extend_from_slice.new.self.items ≡ c.args.a.now ++ c.args.b.now = c.in_ok-extend_from_slice.ensures.items ∙ ap (λ l. l ++ c.args.b.now) first in (
       λ there.
-          Contains-append_cases _ _ _ (subst (λ l. Contains l element) joined (Contains-permutation _ _ _ (IsPermutation-sym _ _ c.in_ok-sort.ensures.permutation) (Contains-from_dedup eqb _ _ (subst (λ l. Contains l element) (is_dedup c) there)))),
+          Contains-append_cases _ _ _
+          (subst (λ l. Contains l element) joined
+          (Contains-permutation _ _ _ (IsPermutation-sym _ _ c.in_ok-sort.ensures.permutation)
+          (Contains-from_dedup eqb _ _ (subst (λ l. Contains l element) (is_dedup c) there)))),
       λ there.
-          subst (λ l. Contains l element) (sym (is_dedup c)) (Contains-dedup_nat _ _ (Contains-permutation _ _ _ c.in_ok-sort.ensures.permutation (subst (λ l. Contains l element) (sym joined) (elim there [
+          subst (λ l. Contains l element) (sym (is_dedup c))
+          (Contains-dedup_nat _ _
+          (Contains-permutation _ _ _ c.in_ok-sort.ensures.permutation (subst (λ l. Contains l element) (sym joined) (elim there [
             | inl h ↦ Contains-append_left c.args.a.now c.args.b.now element h
             | inr h ↦ Contains-append_right c.args.a.now c.args.b.now element h
           ])))),

@@ -45,7 +45,9 @@ returns-clause-row c =
     record {
       place = place_of_pair (get_or c.as_slice.result.now c.args.number (0, 0));
       is = place_in _ _ _ (c.as_slice.ensures ∙ c.pairs.ensures) c.requires.known;
-      row = IsRow-paired _ _ _ _ _ _ _ _ _ _ _ (row-reads _ _ _ _ _ _ c.args.self.now.left_side states.0 c.index-left_row.ensures) (row-reads _ _ _ _ _ _ c.args.self.now.right_side states.1 c.index-right_row.ensures) (λ letter. refl)
+      row =
+          IsRow-paired _ _ _ _ _ _ _ _ _ _ _ (row-reads _ _ _ _ _ _ c.args.self.now.left_side states.0 c.index-left_row.ensures)
+          (row-reads _ _ _ _ _ _ c.args.self.now.right_side states.1 c.index-right_row.ensures) (λ letter. refl)
           made.known made.map made.answers (subst (λ (l : List (ℕ × ℕ)). AllPairs (λ p q. p ≢ q) l) c.pairs-2.ensures c.len.ensures.unrepeated);
     }
 

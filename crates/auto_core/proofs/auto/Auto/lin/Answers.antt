@@ -8,7 +8,8 @@ use Rattle.auto_core.proofs.Linears.{AreOrdered, AreWeights-atom, tracks-atom, t
 use Rattle.auto_core.proofs.Members.{DecidesIntegers-values}
 use Rattle.auto_core.proofs.auto.Auto.lin.Goals as goal
 
-ordered-facts : (terms ordered lent lent' : List (ℤ × Var)) (tracks : List Var) (weights : List ℤ) → ordered ≡ ordered_terms terms → lent ≡ ordered → lent' ≡ ordered → tracks ≡ map (λ t. t.1) lent → weights ≡ map (λ t. t.0) lent' → AreOrdered terms ordered tracks weights
+ordered-facts : (terms ordered lent lent' : List (ℤ × Var)) (tracks : List Var) (weights : List ℤ) → ordered ≡ ordered_terms terms → lent ≡ ordered → lent' ≡ ordered
+    → tracks ≡ map (λ t. t.1) lent → weights ≡ map (λ t. t.0) lent' → AreOrdered terms ordered tracks weights
 ordered-facts terms ordered lent lent' tracks weights is l m t w = record {
   is = is;
   tracks_are = t ∙ ap (map (λ (t : ℤ × Var). t.1)) l;
@@ -56,4 +57,5 @@ returns-clause-few c =
 
 pub returns-clause-integers : goal.returns-clause-integers
 returns-clause-integers c =
-    DecidesIntegers-values c.repeating_first_letter_keeps_values.ensures c.in_ok-decided.decided (atom_tracks c.args.terms.now) (λ v. Compares c.args.rel (sum_of c.args.terms.now v) c.args.bound) (returns-clause-tracks c) (returns-clause-words c)
+    DecidesIntegers-values c.repeating_first_letter_keeps_values.ensures c.in_ok-decided.decided (atom_tracks c.args.terms.now)
+    (λ v. Compares c.args.rel (sum_of c.args.terms.now v) c.args.bound) (returns-clause-tracks c) (returns-clause-words c)

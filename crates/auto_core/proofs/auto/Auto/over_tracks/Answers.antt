@@ -16,7 +16,8 @@ from_diagrams-renamed-requires c =
 accept-end : (c : After-diagrams-2) → c.from_diagrams-renamed.result.accept ≡ c.args.self.now.accept
 accept-end c = search rules
 
-made-end : (c : After-diagrams-2) → AreRenamed c.args.self.now c.from_diagrams-renamed.result.shapes c.args.places.now c.from_diagrams-renamed.result.first_node c.from_diagrams-renamed.result.row_nodes
+made-end : (c : After-diagrams-2)
+    → AreRenamed c.args.self.now c.from_diagrams-renamed.result.shapes c.args.places.now c.from_diagrams-renamed.result.first_node c.from_diagrams-renamed.result.row_nodes
 made-end c =
     let e = c.from_diagrams-renamed.ensures in
     rw (e.shapes, e.first_node, e.row_nodes) (AreRenamed-brought _ _ _ _ _ _ c.in_ok-diagrams.ensures.brought c.remove-first.ensures.value c.remove-first.ensures.items)

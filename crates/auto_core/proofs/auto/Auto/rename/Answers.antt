@@ -1,4 +1,5 @@
-use Rattle.std.proofs.Common.{arith, [], ◌<◌, ◌∙◌, ◌↔◌, ◌≢◌, All, AllPairs, map, length, sym, ap, subst}
+use Rattle.std.proofs.Common.{◌≡◌, ◌≤◌, List, arith, [], ◌<◌, ◌∙◌, ◌↔◌, ◌≢◌, All, AllPairs, map, length, sym, ap, subst}
+use Rattle.track_word.specs.declared.tracks.Var.{Var}
 use Rattle.track_word.specs.Word.{IsWord}
 use Rattle.track_word.specs.Tracks.{with_vars, place, IsAscending}
 use Rattle.auto_core.specs.Automaton.{Accepts}
@@ -9,30 +10,33 @@ use Rattle.auto_core.proofs.Renamed.{part_of-relabelled}
 use Rattle.auto_core.proofs.Inverses.{places-different}
 use Rattle.auto_core.proofs.auto.Auto.rename.Goals as goal
 
+-- the tracks are the variables put in order among none
+sorted : (tracks none vars : List Var) → tracks ≡ with_vars vars none → none ≡ [] → tracks ≡ with_vars vars []
+sorted tracks none vars is empty = is ∙ ap (with_vars vars) empty
+
+few : (vars own tracks : List Var) → tracks ≡ with_vars vars [] → length vars ≡ length own → length own ≤ 20 → length tracks ≤ 20
+few vars own tracks is same old = let size = ap length is in let less = length-with_vars vars in omega (arith, size, less, same, old)
+
 pub places_of-requires : goal.places_of-requires
 places_of-requires c =
-    let size = ap length (c.as_slice.ensures.value ∙ c.in_ok-tracks.ensures) in
-    let few = length-with_vars c.args.vars.now in
-    let old = c.tracks.ensures.valid.few_tracks in
-    let same = c.requires in
-    omega (arith, size, few, old, same)
+    let is = c.as_slice.ensures.value ∙ sorted _ _ c.args.vars.now c.in_ok-insert_tracks.ensures c.new-tracks.ensures.items in
+    let some = few c.args.vars.now c.args.self.now.tracks c.as_slice.result.now is c.requires c.tracks.ensures.valid.few_tracks in
+    omega (arith, some)
 
 pub over_tracks-requires-clause-ascending : goal.over_tracks-requires-clause-ascending
-over_tracks-requires-clause-ascending c = subst IsAscending (sym c.in_ok-tracks.ensures) (IsAscending-with_vars c.args.vars.now)
+over_tracks-requires-clause-ascending c =
+    subst IsAscending (sym (sorted _ _ c.args.vars.now c.in_ok-insert_tracks.ensures c.new-tracks.ensures.items)) (IsAscending-with_vars c.args.vars.now)
 
 pub over_tracks-requires-clause-few : goal.over_tracks-requires-clause-few
 over_tracks-requires-clause-few c =
-    let size = ap length c.in_ok-tracks.ensures in
-    let few = length-with_vars c.args.vars.now in
-    let old = c.tracks.ensures.valid.few_tracks in
-    let same = c.requires in
-    omega (arith, size, few, old, same)
+    few c.args.vars.now c.args.self.now.tracks _ (sorted _ _ c.args.vars.now c.in_ok-insert_tracks.ensures c.new-tracks.ensures.items) c.requires c.tracks.ensures.valid.few_tracks
 
 pub over_tracks-requires-clause-places : goal.over_tracks-requires-clause-places
 over_tracks-requires-clause-places c =
-    let are = c.as_slice-2.ensures.value ∙ c.in_ok-places.ensures ∙ ap (λ t. map (place t) c.args.vars.now) (c.as_slice.ensures.value ∙ c.in_ok-tracks.ensures) in
-    subst (λ places. All (λ p. p < length c.in_ok-tracks.tracks.items) places) (sym are)
-    (subst (λ t. All (λ p. p < length t) (map (place (with_vars c.args.vars.now [])) c.args.vars.now)) (sym c.in_ok-tracks.ensures) (places-below c.args.vars.now))
+    let is = sorted _ _ c.args.vars.now c.in_ok-insert_tracks.ensures c.new-tracks.ensures.items in
+    let are = c.as_slice-2.ensures.value ∙ c.in_ok-places.ensures ∙ ap (λ t. map (place t) c.args.vars.now) (c.as_slice.ensures.value ∙ is) in
+    subst (λ places. All (λ p. p < length c.insert_tracks.new.tracks.items) places) (sym are)
+    (subst (λ t. All (λ p. p < length t) (map (place (with_vars c.args.vars.now [])) c.args.vars.now)) (sym is) (places-below c.args.vars.now))
 
 pub returns-clause-words : goal.returns-clause-words
 returns-clause-words c = λ word is.
@@ -44,6 +48,7 @@ returns-clause-words c = λ word is.
 
 pub returns-clause-reduced : goal.returns-clause-reduced
 returns-clause-reduced c = λ reduced different.
-    let are = c.as_slice-2.ensures.value ∙ c.in_ok-places.ensures ∙ ap (λ t. map (place t) c.args.vars.now) (c.as_slice.ensures.value ∙ c.in_ok-tracks.ensures) in
-    let sorted = with_vars c.args.vars.now [] in
-    c.in_ok-renamed.ensures.reduced reduced (subst (λ places. AllPairs (λ p q. p ≢ q) places) (sym are) (places-different sorted c.args.vars.now (places-below c.args.vars.now) different))
+    let is = sorted _ _ c.args.vars.now c.in_ok-insert_tracks.ensures c.new-tracks.ensures.items in
+    let are = c.as_slice-2.ensures.value ∙ c.in_ok-places.ensures ∙ ap (λ t. map (place t) c.args.vars.now) (c.as_slice.ensures.value ∙ is) in
+    c.in_ok-renamed.ensures.reduced reduced
+    (subst (λ places. AllPairs (λ p q. p ≢ q) places) (sym are) (places-different (with_vars c.args.vars.now []) c.args.vars.now (places-below c.args.vars.now) different))

@@ -14,7 +14,9 @@ pub loop-read-preserved : goal.loop-read-preserved
 loop-read-preserved c =
     let below = c.loop-read-test.true in
     record {
-      left = IsLeft-more c.args.self.now c.args.values.now (63 - c.loop-read.read) (63 - (c.loop-read.read + 1)) (62 - c.loop-read.read) c.loop-read.state c.next_of-state.result (omega (arith, below)) (omega (arith, below))
+      left =
+          IsLeft-more c.args.self.now c.args.values.now (63 - c.loop-read.read) (63 - (c.loop-read.read + 1)) (62 - c.loop-read.read)
+          c.loop-read.state c.next_of-state.result (omega (arith, below)) (omega (arith, below))
           (c.next_of-state.ensures.state ∙ ap (next_state c.args.self.now c.loop-read.state) c.letter_at-in-loop-read.ensures.letter) c.loop-read.invariant.left;
       fits = c.loop-read.invariant.fits;
       within = c.next_of-state.ensures.within;

@@ -10,7 +10,10 @@ loop-state-init c = record {
   grows = rw c.into_parts-diagrams.ensures.shapes (Grows-refl _);
   kept = rw c.into_parts-diagrams.ensures.sets (SetsKept-refl _);
   so_far = rw (c.into_parts-diagrams.ensures.shapes, c.into_parts-diagrams.ensures.sets)
-      (IsSweeping-first _ _ _ _ _ _ _ _ c.requires.rows c.requires.led (λ letter state h. subst (λ l. Contains l state) (sym c.as_slice-state-items.ensures.value) ((rw (c.diagrams.ensures, c.sets.ensures) at c.in_ok-states.ensures) letter state h)) c.in_ok-nodes.ensures.items);
+      (IsSweeping-first _ _ _ _ _ _ _ _ c.requires.rows c.requires.led
+      (λ letter state h. subst (λ l. Contains l state) (sym c.as_slice-state-items.ensures.value)
+      ((rw (c.diagrams.ensures, c.sets.ensures) at c.in_ok-states.ensures) letter state h))
+      c.in_ok-nodes.ensures.items);
 }
 
 pub guarded_row-requires-clause-rows : goal.guarded_row-requires-clause-rows
@@ -41,12 +44,14 @@ united-requires-clause-sets c = rw (c.as_slice-2.ensures.value, c.uniter-merger.
 pub returns-clause-led : goal.returns-clause-led
 returns-clause-led c =
     let e = c.in_ok-next.ensures in
-    IsLedRow-united _ _ _ _ _ _ _ _ _ _ _ (rw c.uniter-merger.ensures.shapes at e.grows) (rw c.uniter-merger.ensures.sets at e.kept) c.loop-state.invariant.so_far _ (omega (arith, c.loop-state-test.false)) (rw c.as_slice-2.ensures.value at e.united)
+    IsLedRow-united _ _ _ _ _ _ _ _ _ _ _ (rw c.uniter-merger.ensures.shapes at e.grows) (rw c.uniter-merger.ensures.sets at e.kept)
+    c.loop-state.invariant.so_far _ (omega (arith, c.loop-state-test.false)) (rw c.as_slice-2.ensures.value at e.united)
 
 pub returns-clause-swept : goal.returns-clause-swept
 returns-clause-swept c =
     let e = c.in_ok-next.ensures in
-    IsSwept-united _ _ _ _ _ _ _ _ _ _ _ (rw c.uniter-merger.ensures.shapes at e.grows) (rw c.uniter-merger.ensures.sets at e.kept) c.loop-state.invariant.so_far _ (omega (arith, c.loop-state-test.false)) (rw c.as_slice-2.ensures.value at e.united)
+    IsSwept-united _ _ _ _ _ _ _ _ _ _ _ (rw c.uniter-merger.ensures.shapes at e.grows) (rw c.uniter-merger.ensures.sets at e.kept)
+    c.loop-state.invariant.so_far _ (omega (arith, c.loop-state-test.false)) (rw c.as_slice-2.ensures.value at e.united)
 
 pub returns-clause-ascend : goal.returns-clause-ascend
 returns-clause-ascend c = rw c.sets-3.ensures at c.len.ensures.ascend

@@ -39,7 +39,8 @@ made t c = elim c.match-shape.branch [
   | in-Test+in_ok-low-in-Test+in_ok-high-in-Test+in_ok-row-in-Test w ↦ rw (w.self-is, w.row-is) (
       let e = w.in_ok-row-in-Test.ensures in
       let high = w.in_ok-high-in-Test.ensures in
-      IsPlaced-test _ _ _ _ _ _ _ _ _ _ _ _ (rw c.diagrams.ensures at w.in-Test.ensures.at) c.requires.node (IsPlaced-grows _ _ _ _ _ _ _ _ high.grows high.kept w.in_ok-low-in-Test.ensures.placed) high.placed e.known e.map e.top)
+      IsPlaced-test _ _ _ _ _ _ _ _ _ _ _ _ (rw c.diagrams.ensures at w.in-Test.ensures.at) c.requires.node
+      (IsPlaced-grows _ _ _ _ _ _ _ _ high.grows high.kept w.in_ok-low-in-Test.ensures.placed) high.placed e.known e.map e.top)
 ]
 
 pub returns-clause-placed : goal.returns-clause-placed
@@ -48,7 +49,10 @@ returns-clause-placed t c = made t c
 pub returns-clause-added : goal.returns-clause-added
 returns-clause-added t c = elim c.match-shape.branch [
   | in-Leaf+in_ok-row-in-Leaf w ↦ rw w.self-is (AddsSetsOf-leaf _ _ _ _ _ w.in-Leaf.number (rw c.diagrams.ensures at w.in-Leaf.ensures.at) (rw w.sets.ensures at w.in_ok-row-in-Leaf.ensures.added))
-  | in-Test+in_ok-low-in-Test+in_ok-high-in-Test+in_ok-row-in-Test w ↦ rw w.self-is (AddsSetsOf-test _ _ _ _ _ _ w.in-Test.track _ _ (rw c.diagrams.ensures at w.in-Test.ensures.children) w.in_ok-high-in-Test.ensures.kept w.in_ok-low-in-Test.ensures.added w.in_ok-high-in-Test.ensures.added)
+  | in-Test+in_ok-low-in-Test+in_ok-high-in-Test+in_ok-row-in-Test w ↦
+      rw w.self-is
+      (AddsSetsOf-test _ _ _ _ _ _ w.in-Test.track _ _ (rw c.diagrams.ensures at w.in-Test.ensures.children) w.in_ok-high-in-Test.ensures.kept
+      w.in_ok-low-in-Test.ensures.added w.in_ok-high-in-Test.ensures.added)
 ]
 
 pub returns-clause-remembered : goal.returns-clause-remembered
@@ -57,6 +61,8 @@ returns-clause-remembered t c =
       | in-Leaf+in_ok-row-in-Leaf w ↦ rw w.self-is (
           let e = w.in_ok-row-in-Leaf.ensures in
           rw e.placed (RemembersPlaced-grows _ _ _ _ _ _ _ e.grows e.kept c.requires.remembered))
-      | in-Test+in_ok-low-in-Test+in_ok-high-in-Test+in_ok-row-in-Test w ↦ rw w.self-is (RemembersPlaced-grows _ _ _ _ _ _ _ w.in_ok-row-in-Test.ensures.grows (SetsKept-refl _) w.in_ok-high-in-Test.ensures.remembered)
+      | in-Test+in_ok-low-in-Test+in_ok-high-in-Test+in_ok-row-in-Test w ↦
+          rw w.self-is
+          (RemembersPlaced-grows _ _ _ _ _ _ _ w.in_ok-row-in-Test.ensures.grows (SetsKept-refl _) w.in_ok-high-in-Test.ensures.remembered)
     ] in
     RemembersPlaced-insert _ _ _ _ _ _ _ _ before c.insert.ensures (made t c)

@@ -12,7 +12,10 @@ invariant_of-result c =
     let e = c.in_ok-merger-2.ensures in
     record {
       are_tracks = AreTracks-left c.args.a.now c.args.var _ c.tracks.ensures.valid tracks;
-      are_rows = HasPlaceRows-made _ _ _ c.args.var _ _ _ tracks (HasClosedRows-made _ _ _ _ _ _ _ _ _ _ c.as_slice.ensures.value c.in_ok-merger.ensures e.grows e.kept (rw c.sets.ensures at c.len.ensures.ascend) e.closed);
+      are_rows =
+          HasPlaceRows-made _ _ _ c.args.var _ _ _ tracks
+          (HasClosedRows-made _ _ _ _ _ _ _ _ _ _ c.as_slice.ensures.value c.in_ok-merger.ensures e.grows e.kept
+          (rw c.sets.ensures at c.len.ensures.ascend) e.closed);
       remembered = RemembersPlaced-none _ _ _ _ _ c.in_ok-new.ensures.none;
     }
 

@@ -16,9 +16,20 @@ pub loop-slot-preserved : goal.loop-slot-preserved
 loop-slot-preserved c =
     let here = c.loop-slot.self in
     elim c.match-front-slot.branch [
-      | in-None w ↦ rw w.self-is (record { begins = (begin-none c.args.course.now.auto.now c.args.course.now.ray.now here.times.items here.states.items here.slots.items here.len c.loop-slot.slot c.loop-slot.invariant.begins c.loop-slot-test.true c.args.front.now c.requires.opened c.requires.front w.in-None.is); sizes = c.loop-slot.invariant.sizes })
+      | in-None w ↦
+          rw w.self-is
+          (record {
+            begins =
+                (begin-none c.args.course.now.auto.now c.args.course.now.ray.now here.times.items here.states.items here.slots.items here.len
+                c.loop-slot.slot c.loop-slot.invariant.begins c.loop-slot-test.true c.args.front.now c.requires.opened c.requires.front
+                w.in-None.is);
+            sizes = c.loop-slot.invariant.sizes;
+          })
       | in-Some w ↦ rw w.self-is (record {
-        begins = (begin-some c.args.course.now.auto.now c.args.course.now.ray.now here.times.items here.states.items here.slots.items here.len c.loop-slot.slot c.loop-slot.invariant.begins c.loop-slot-test.true c.args.front.now c.requires.opened c.requires.front w.in-Some.state w.in-Some.is
+        begins =
+            (begin-some c.args.course.now.auto.now c.args.course.now.ray.now here.times.items here.states.items here.slots.items here.len
+            c.loop-slot.slot c.loop-slot.invariant.begins c.loop-slot-test.true c.args.front.now c.requires.opened c.requires.front
+            w.in-Some.state w.in-Some.is
             w.put.new.self.times.items w.put.new.self.states.items w.put.new.self.slots.items w.put.new.self.len w.put.ensures.times w.put.ensures.states w.put.ensures.slots w.put.ensures.len);
         sizes = record {
           times_kept = ap length w.put.ensures.times ∙ c.loop-slot.invariant.sizes.times_kept;

@@ -23,10 +23,18 @@ pub loop-slot-preserved : goal.loop-slot-preserved
 loop-slot-preserved c =
     let old = c.args.self.now in
     let here = c.loop-slot.self in
-    let may : (c.args.bit ≡ true) ⊎ (c.args.starts ≤ c.args.entry) = elim c.then-bit.branch [ then-bit-via-then-bit w ↦ inl w.if-bit.true | then-bit-via-else-bit+then-entry-starts w ↦ inr w.if-entry-starts.true ] in
-    let after : IsAfter c.args.course.now.auto.now c.args.course.now.ray.now (get_or old.slots.items c.args.entry 0) (get_or old.states.items c.args.entry 0) c.args.bit c.after_entry-after.result = rw (← c.slot_of.ensures, ← c.state_of.ensures) c.after_entry-after.ensures.after in
+    let may : (c.args.bit ≡ true) ⊎ (c.args.starts ≤ c.args.entry) =
+    elim c.then-bit.branch
+    [ then-bit-via-then-bit w ↦ inl w.if-bit.true | then-bit-via-else-bit+then-entry-starts w ↦ inr w.if-entry-starts.true ] in
+    let after : IsAfter c.args.course.now.auto.now c.args.course.now.ray.now (get_or old.slots.items c.args.entry 0)
+    (get_or old.states.items c.args.entry 0) c.args.bit c.after_entry-after.result =
+    rw (← c.slot_of.ensures, ← c.state_of.ensures) c.after_entry-after.ensures.after in
     elim c.match-after-slot.branch [
-      | in-None w ↦ rw w.self-is (walk-none c.args.course.now.auto.now c.args.course.now.ray.now c.args.course.now.suits old.times.items old.states.items old.slots.items here.times.items here.states.items here.slots.items old.len here.len c.args.starts (moment c.args.entry c.args.bit 0) c.args.entry c.loop-slot.slot c.args.bit
+      | in-None w ↦
+          rw w.self-is
+          (walk-none c.args.course.now.auto.now c.args.course.now.ray.now c.args.course.now.suits old.times.items old.states.items old.slots.items
+          here.times.items here.states.items here.slots.items old.len here.len c.args.starts (moment c.args.entry c.args.bit 0) c.args.entry
+          c.loop-slot.slot c.args.bit
           c.loop-slot.invariant c.requires.entry c.loop-slot-test.true may c.after_entry-after.result after c.after_entry-after.ensures.front w.in-None.is)
       | in-Some w ↦
           let state = w.in-Some.state in
@@ -36,11 +44,17 @@ loop-slot-preserved c =
           let room = place-room c.args.course.now.auto.now here.times.items here.states.items here.slots.items here.len (state * 9 + c.loop-slot.slot) c.loop-slot.invariant.place inside in
           let in1 : (here.len < length here.states.items) ⊎ (2 ≤ get_or here.times.items (state * 9 + c.loop-slot.slot) 0) = elim room [ inl y ↦ inl y.0 | inr n ↦ inr n ] in
           let in2 : (here.len < length here.slots.items) ⊎ (2 ≤ get_or here.times.items (state * 9 + c.loop-slot.slot) 0) = elim room [ inl y ↦ inl y.1 | inr n ↦ inr n ] in
-          rw w.self-is (walk-add c.args.course.now.auto.now c.args.course.now.ray.now c.args.course.now.suits old.times.items old.states.items old.slots.items here.times.items here.states.items here.slots.items old.len here.len c.args.starts (moment c.args.entry c.args.bit 0) c.args.entry c.loop-slot.slot c.args.bit
-          c.loop-slot.invariant c.requires.entry c.loop-slot-test.true may c.after_entry-after.result after c.after_entry-after.ensures.front state w.in-Some.is w.add.new.self.times.items w.add.new.self.states.items w.add.new.self.slots.items w.add.new.self.len
+          rw w.self-is
+          (walk-add c.args.course.now.auto.now c.args.course.now.ray.now c.args.course.now.suits old.times.items old.states.items old.slots.items
+          here.times.items here.states.items here.slots.items old.len here.len c.args.starts (moment c.args.entry c.args.bit 0) c.args.entry
+          c.loop-slot.slot c.args.bit
+          c.loop-slot.invariant c.requires.entry c.loop-slot-test.true may c.after_entry-after.result after c.after_entry-after.ensures.front state
+          w.in-Some.is w.add.new.self.times.items w.add.new.self.states.items w.add.new.self.slots.items w.add.new.self.len
           w.add.ensures.adds w.add.ensures.place in1 in2)
     ]
 
 pub returns-else-entry-starts : goal.returns-else-entry-starts
 returns-else-entry-starts c =
-    rw c.if-bit.false (walk-skip c.args.course.now.auto.now c.args.course.now.ray.now c.args.self.now.times.items c.args.self.now.states.items c.args.self.now.slots.items c.args.self.now.len c.args.starts c.args.entry c.requires.place c.requires.entry c.if-entry-starts.false)
+    rw c.if-bit.false
+    (walk-skip c.args.course.now.auto.now c.args.course.now.ray.now c.args.self.now.times.items c.args.self.now.states.items
+    c.args.self.now.slots.items c.args.self.now.len c.args.starts c.args.entry c.requires.place c.requires.entry c.if-entry-starts.false)

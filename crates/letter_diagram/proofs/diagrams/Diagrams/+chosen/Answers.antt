@@ -36,4 +36,18 @@ pub returns-clause-chosen : goal.returns-clause-chosen
 returns-clause-chosen t c = made t c
 
 pub returns-clause-remembered : goal.returns-clause-remembered
-returns-clause-remembered t c = RemembersChosen-insert _ _ _ _ _ _ _ (RemembersChosen-grows _ _ _ _ c.in_ok-node-2.ensures.grows c.in_ok-on.ensures.remembered) c.in_ok-insert.ensures.updates (made t c)
+returns-clause-remembered t c =
+    RemembersChosen-insert _ _ _ _ _ _ _ (RemembersChosen-grows _ _ _ _ c.in_ok-node-2.ensures.grows c.in_ok-on.ensures.remembered)
+    c.in_ok-insert.ensures.updates (made t c)
+
+pub returns-in_err-on-clause-grows : goal.returns-in_err-on-clause-grows
+returns-in_err-on-clause-grows t c = Grows-trans _ _ _ c.in_ok-off.ensures.grows c.in_err-on.ensures.grows
+
+pub returns-in_err-node-2-clause-grows : goal.returns-in_err-node-2-clause-grows
+returns-in_err-node-2-clause-grows t c = Grows-trans _ _ _ (Grows-trans _ _ _ c.in_ok-off.ensures.grows c.in_ok-on.ensures.grows) c.in_err-node-2.ensures.grows
+
+pub returns-in_err-insert-clause-grows : goal.returns-in_err-insert-clause-grows
+returns-in_err-insert-clause-grows t c = Grows-trans _ _ _ (Grows-trans _ _ _ c.in_ok-off.ensures.grows c.in_ok-on.ensures.grows) c.in_ok-node-2.ensures.grows
+
+pub returns-clause-grows : goal.returns-clause-grows
+returns-clause-grows t c = Grows-trans _ _ _ (Grows-trans _ _ _ c.in_ok-off.ensures.grows c.in_ok-on.ensures.grows) c.in_ok-node-2.ensures.grows

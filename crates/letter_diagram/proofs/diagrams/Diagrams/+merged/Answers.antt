@@ -79,7 +79,13 @@ merged-requires-2 t c =
     let used = c.in_ok-low.ensures.room in
     let e = c.in_ok-low.ensures in (
       omega arith,
-      (c.requires.track_low, (HasSets-grows _ _ _ _ _ e.grows e.sets (HasSets-high _ c.top-own.ensures.diagram _ _ _ _ _ s c.requires.source), (omega (arith, sides, same, room, used), (e.remembered, e.united)))),
+      (
+        c.requires.track_low,
+        (
+          HasSets-grows _ _ _ _ _ e.grows e.sets (HasSets-high _ c.top-own.ensures.diagram _ _ _ _ _ s c.requires.source),
+          (omega (arith, sides, same, room, used), (e.remembered, e.united)),
+        ),
+      ),
     )
 
 joined : (t : ℕ) (c : goal.In_ok-insert-2 t) → IsMerged c.node.new.self c.merged-2.new.sets c.args.track c.args.a c.in_ok-node-2.node
@@ -94,7 +100,8 @@ joined t c =
     let high_longer = c.in_ok-high.ensures.grows.longer in
     let not_above = c.if-track-own.false in
     let not_here = c.if-own-track.false in
-    IsMerged-test _ _ _ _ _ c.top-own.result _ _ c.in_ok-low.low c.in_ok-high.high (HasSets-grows _ _ _ _ _ grows kept c.requires.source) c.in_ok-node-2.ensures.known (omega (arith, not_above, not_here))
+    IsMerged-test _ _ _ _ _ c.top-own.result _ _ c.in_ok-low.low c.in_ok-high.high (HasSets-grows _ _ _ _ _ grows kept c.requires.source)
+    c.in_ok-node-2.ensures.known (omega (arith, not_above, not_here))
     (IsSplit-grows _ _ _ _ _ _ c.requires.source.known grows c.split-low.ensures.sides)
     (IsMerged-grows _ _ _ _ _ _ _ from_low c.in_ok-high.ensures.sets low) (IsMerged-grows _ _ _ _ _ _ _ from_high (SetsKept-refl _) high)
     (λ letter. c.in_ok-node-2.ensures.map letter ∙ sym (chosen-grows _ _ c.top-own.result _ _ letter (omega arith) high.known from_high))
@@ -106,7 +113,9 @@ returns-clause-merged t c = joined t c
 
 pub returns-clause-remembered : goal.returns-clause-remembered
 returns-clause-remembered t c =
-    RemembersMerged-insert _ _ _ _ _ _ _ (RemembersMerged-grows _ _ _ _ _ _ c.in_ok-node-2.ensures.grows (SetsKept-refl _) c.in_ok-high.ensures.remembered) c.in_ok-insert-2.ensures.updates (joined t c)
+    RemembersMerged-insert _ _ _ _ _ _ _
+    (RemembersMerged-grows _ _ _ _ _ _ c.in_ok-node-2.ensures.grows (SetsKept-refl _) c.in_ok-high.ensures.remembered)
+    c.in_ok-insert-2.ensures.updates (joined t c)
 
 pub returns-clause-united : goal.returns-clause-united
 returns-clause-united t c = RemembersUnited-grows _ _ _ _ _ c.in_ok-node-2.ensures.grows (SetsKept-refl _) c.in_ok-high.ensures.united
@@ -128,5 +137,30 @@ pub returns-clause-answers : goal.returns-clause-answers
 returns-clause-answers t c =
     let not_above = c.if-track-own.false in
     let not_here = c.if-own-track.false in
-    AreMerged-sides _ _ c.top-own.ensures.diagram _ _ _ c.args.track _ c.top-own.result _ _ (omega (arith, not_above, not_here)) c.in_ok-low.ensures.grows c.in_ok-low.ensures.sets c.in_ok-high.ensures.sets
+    AreMerged-sides _ _ c.top-own.ensures.diagram _ _ _ c.args.track _ c.top-own.result _ _ (omega (arith, not_above, not_here))
+    c.in_ok-low.ensures.grows c.in_ok-low.ensures.sets c.in_ok-high.ensures.sets
     c.split-low.ensures.sides c.requires.source c.in_ok-low.ensures.answers c.in_ok-high.ensures.answers
+
+pub returns-in_err-high-clause-grows : goal.returns-in_err-high-clause-grows
+returns-in_err-high-clause-grows t c = Grows-trans _ _ _ c.in_ok-low.ensures.grows c.in_err-high.ensures.grows
+
+pub returns-in_err-high-clause-sets : goal.returns-in_err-high-clause-sets
+returns-in_err-high-clause-sets t c = SetsKept-trans _ _ _ c.in_ok-low.ensures.sets c.in_err-high.ensures.sets
+
+pub returns-in_err-node-2-clause-grows : goal.returns-in_err-node-2-clause-grows
+returns-in_err-node-2-clause-grows t c = Grows-trans _ _ _ (Grows-trans _ _ _ c.in_ok-low.ensures.grows c.in_ok-high.ensures.grows) c.in_err-node-2.ensures.grows
+
+pub returns-in_err-node-2-clause-sets : goal.returns-in_err-node-2-clause-sets
+returns-in_err-node-2-clause-sets t c = SetsKept-trans _ _ _ c.in_ok-low.ensures.sets c.in_ok-high.ensures.sets
+
+pub returns-in_err-insert-2-clause-grows : goal.returns-in_err-insert-2-clause-grows
+returns-in_err-insert-2-clause-grows t c = Grows-trans _ _ _ (Grows-trans _ _ _ c.in_ok-low.ensures.grows c.in_ok-high.ensures.grows) c.in_ok-node-2.ensures.grows
+
+pub returns-in_err-insert-2-clause-sets : goal.returns-in_err-insert-2-clause-sets
+returns-in_err-insert-2-clause-sets t c = SetsKept-trans _ _ _ c.in_ok-low.ensures.sets c.in_ok-high.ensures.sets
+
+pub returns-clause-grows : goal.returns-clause-grows
+returns-clause-grows t c = Grows-trans _ _ _ (Grows-trans _ _ _ c.in_ok-low.ensures.grows c.in_ok-high.ensures.grows) c.in_ok-node-2.ensures.grows
+
+pub returns-clause-sets : goal.returns-clause-sets
+returns-clause-sets t c = SetsKept-trans _ _ _ c.in_ok-low.ensures.sets c.in_ok-high.ensures.sets

@@ -4,7 +4,7 @@ use Rattle.letter_diagram.proofs.Maps.{Grows-trans}
 use Rattle.letter_diagram.proofs.PairNumbers.{PairsKept-refl}
 use Rattle.letter_diagram.proofs.Pairings.{room_for-constant, room_for-grows, room_for-sides, top_of_both-grows, IsSplit-grows, chosen-grows, IsPaired-grows, IsPaired-sides, RemembersPaired-grows, RemembersPaired-insert, AreAnswers-sides, sides-fall}
 use Rattle.letter_diagram.proofs.diagrams.Diagrams.+paired.Goals as goal
-use Rattle.letter_diagram.proofs.diagrams.Diagrams.+paired.Goals.{paired-then-track-eq20+in_ok-node, paired-else-track-eq20+in_ok-node-2}
+use Rattle.letter_diagram.proofs.diagrams.Diagrams.+paired.Goals.{paired-then-track-eq-MOST_TRACKS+in_ok-node, paired-else-track-eq-MOST_TRACKS+in_ok-node-2}
 
 pub paired-returns-in-Some-clause-paired : goal.paired-returns-in-Some-clause-paired
 paired-returns-in-Some-clause-paired t c = c.requires.remembered.paired _ _ _ (sym c.in-Some.ensures.value)
@@ -18,29 +18,31 @@ paired-paired_leaves-requires-clause-room t c =
 
 pub paired-returns-clause-remembered : goal.paired-returns-clause-remembered
 paired-returns-clause-remembered t c =
-    let paired : IsPaired c.if-track-eq20.self c.if-track-eq20.pairs c.args.a c.args.b c.if-track-eq20.node = search rules in
-    let before : RemembersPaired c.if-track-eq20.self c.if-track-eq20.pairs c.if-track-eq20.memo = elim c.if-track-eq20.branch [
-      | paired-then-track-eq20+in_ok-node w ↦ rw (w.self-is, w.pairs-is, w.memo-is) (RemembersPaired-grows _ _ _ _ _ w.in_ok-node.ensures.grows w.in_ok-node.ensures.pairs c.requires.remembered)
-      | paired-else-track-eq20+in_ok-node-2 w ↦ rw (w.self-is, w.pairs-is, w.memo-is) w.in_ok-node-2.ensures.remembered
+    let paired : IsPaired c.if-track-eq-MOST_TRACKS.self c.if-track-eq-MOST_TRACKS.pairs c.args.a c.args.b c.if-track-eq-MOST_TRACKS.node = search rules in
+    let before : RemembersPaired c.if-track-eq-MOST_TRACKS.self c.if-track-eq-MOST_TRACKS.pairs c.if-track-eq-MOST_TRACKS.memo = elim c.if-track-eq-MOST_TRACKS.branch [
+      | paired-then-track-eq-MOST_TRACKS+in_ok-node w ↦
+          rw (w.self-is, w.pairs-is, w.memo-is)
+          (RemembersPaired-grows _ _ _ _ _ w.in_ok-node.ensures.grows w.in_ok-node.ensures.pairs c.requires.remembered)
+      | paired-else-track-eq-MOST_TRACKS+in_ok-node-2 w ↦ rw (w.self-is, w.pairs-is, w.memo-is) w.in_ok-node-2.ensures.remembered
     ] in
     RemembersPaired-insert _ _ _ _ _ _ _ before c.in_ok-insert.ensures.updates paired
 
 pub paired-returns-clause-room : goal.paired-returns-clause-room
 paired-returns-clause-room t c =
-    elim c.if-track-eq20.branch [
-      | paired-then-track-eq20+in_ok-node w ↦
+    elim c.if-track-eq-MOST_TRACKS.branch [
+      | paired-then-track-eq-MOST_TRACKS+in_ok-node w ↦
           let both : top_of_both c.args.self.now c.args.a c.args.b ≡ 20 = search rules in
           let one = room_for-constant _ _ _ both in
           let room = w.in_ok-node.ensures.room in
           rw w.pairs-is (omega (arith, one, room))
-      | paired-else-track-eq20+in_ok-node-2 w ↦ rw w.pairs-is w.in_ok-node-2.ensures.room
+      | paired-else-track-eq-MOST_TRACKS+in_ok-node-2 w ↦ rw w.pairs-is w.in_ok-node-2.ensures.room
     ]
 
 pub paired-returns-clause-answers : goal.paired-returns-clause-answers
 paired-returns-clause-answers t c =
-    elim c.if-track-eq20.branch [
-      | paired-then-track-eq20+in_ok-node w ↦ rw w.pairs-is w.in_ok-node.ensures.answers
-      | paired-else-track-eq20+in_ok-node-2 w ↦ rw w.pairs-is w.in_ok-node-2.ensures.answers
+    elim c.if-track-eq-MOST_TRACKS.branch [
+      | paired-then-track-eq-MOST_TRACKS+in_ok-node w ↦ rw w.pairs-is w.in_ok-node.ensures.answers
+      | paired-else-track-eq-MOST_TRACKS+in_ok-node-2 w ↦ rw w.pairs-is w.in_ok-node-2.ensures.answers
     ]
 
 pub paired_sides-paired-requires : goal.paired_sides-paired-requires

@@ -6,7 +6,7 @@ use Rattle.letter_diagram.proofs.SetNumbers.{SetsKept-refl, SetsKept-trans}
 use Rattle.letter_diagram.proofs.Pairings.{room_for-constant, room_for-grows, room_for-sides, top_of_both-grows, IsSplit-grows, chosen-grows, sides-fall}
 use Rattle.letter_diagram.proofs.Mergings.{HasSets-grows, HasSets-low, HasSets-high, IsUnited-grows, IsUnited-same, IsUnited-sides, RemembersUnited-grows, RemembersUnited-insert, AreUnions-sides}
 use Rattle.letter_diagram.proofs.diagrams.Diagrams.+united.Goals as goal
-use Rattle.letter_diagram.proofs.diagrams.Diagrams.+united.Goals.{united-then-track-eq20+in_ok-node, united-else-track-eq20+in_ok-node-2}
+use Rattle.letter_diagram.proofs.diagrams.Diagrams.+united.Goals.{united-then-track-eq-MOST_TRACKS+in_ok-node, united-else-track-eq-MOST_TRACKS+in_ok-node-2}
 
 pub united-returns-in-Some-clause-united : goal.united-returns-in-Some-clause-united
 united-returns-in-Some-clause-united t c = c.requires.remembered.united _ _ _ (sym c.in-Some.ensures.value)
@@ -18,10 +18,10 @@ united-united_leaves-requires-clause-room t c =
     let room = c.requires.room in
     omega (arith, one, room)
 
-made : (t : ℕ) (c : goal.united-In_ok-insert t) → IsUnited c.if-track-eq20.self c.if-track-eq20.sets c.args.a c.args.b c.if-track-eq20.node
-made t c = elim c.if-track-eq20.branch [
-  | united-then-track-eq20+in_ok-node w ↦ rw (w.self-is, w.sets-is, w.node-is) w.in_ok-node.ensures.united
-  | united-else-track-eq20+in_ok-node-2 w ↦ rw (w.self-is, w.sets-is, w.node-is) w.in_ok-node-2.ensures.united
+made : (t : ℕ) (c : goal.united-In_ok-insert t) → IsUnited c.if-track-eq-MOST_TRACKS.self c.if-track-eq-MOST_TRACKS.sets c.args.a c.args.b c.if-track-eq-MOST_TRACKS.node
+made t c = elim c.if-track-eq-MOST_TRACKS.branch [
+  | united-then-track-eq-MOST_TRACKS+in_ok-node w ↦ rw (w.self-is, w.sets-is, w.node-is) w.in_ok-node.ensures.united
+  | united-else-track-eq-MOST_TRACKS+in_ok-node-2 w ↦ rw (w.self-is, w.sets-is, w.node-is) w.in_ok-node-2.ensures.united
 ]
 
 pub united-returns-clause-united : goal.united-returns-clause-united
@@ -29,28 +29,30 @@ united-returns-clause-united t c = made t c
 
 pub united-returns-clause-remembered : goal.united-returns-clause-remembered
 united-returns-clause-remembered t c =
-    let before : RemembersUnited c.if-track-eq20.self c.if-track-eq20.sets c.if-track-eq20.memo = elim c.if-track-eq20.branch [
-      | united-then-track-eq20+in_ok-node w ↦ rw (w.self-is, w.sets-is, w.memo-is) (RemembersUnited-grows _ _ _ _ _ w.in_ok-node.ensures.grows w.in_ok-node.ensures.sets c.requires.remembered)
-      | united-else-track-eq20+in_ok-node-2 w ↦ rw (w.self-is, w.sets-is, w.memo-is) w.in_ok-node-2.ensures.remembered
+    let before : RemembersUnited c.if-track-eq-MOST_TRACKS.self c.if-track-eq-MOST_TRACKS.sets c.if-track-eq-MOST_TRACKS.memo = elim c.if-track-eq-MOST_TRACKS.branch [
+      | united-then-track-eq-MOST_TRACKS+in_ok-node w ↦
+          rw (w.self-is, w.sets-is, w.memo-is)
+          (RemembersUnited-grows _ _ _ _ _ w.in_ok-node.ensures.grows w.in_ok-node.ensures.sets c.requires.remembered)
+      | united-else-track-eq-MOST_TRACKS+in_ok-node-2 w ↦ rw (w.self-is, w.sets-is, w.memo-is) w.in_ok-node-2.ensures.remembered
     ] in
     RemembersUnited-insert _ _ _ _ _ _ _ before c.in_ok-insert.ensures.updates (made t c)
 
 pub united-returns-clause-room : goal.united-returns-clause-room
 united-returns-clause-room t c =
-    elim c.if-track-eq20.branch [
-      | united-then-track-eq20+in_ok-node w ↦
+    elim c.if-track-eq-MOST_TRACKS.branch [
+      | united-then-track-eq-MOST_TRACKS+in_ok-node w ↦
           let both : top_of_both c.args.self.now c.args.a c.args.b ≡ 20 = search rules in
           let one = room_for-constant _ _ _ both in
           let room = w.in_ok-node.ensures.room in
           rw w.sets-is (omega (arith, one, room))
-      | united-else-track-eq20+in_ok-node-2 w ↦ rw w.sets-is w.in_ok-node-2.ensures.room
+      | united-else-track-eq-MOST_TRACKS+in_ok-node-2 w ↦ rw w.sets-is w.in_ok-node-2.ensures.room
     ]
 
 pub united-returns-clause-answers : goal.united-returns-clause-answers
 united-returns-clause-answers t c =
-    elim c.if-track-eq20.branch [
-      | united-then-track-eq20+in_ok-node w ↦ rw w.sets-is w.in_ok-node.ensures.answers
-      | united-else-track-eq20+in_ok-node-2 w ↦ rw w.sets-is w.in_ok-node-2.ensures.answers
+    elim c.if-track-eq-MOST_TRACKS.branch [
+      | united-then-track-eq-MOST_TRACKS+in_ok-node w ↦ rw w.sets-is w.in_ok-node.ensures.answers
+      | united-else-track-eq-MOST_TRACKS+in_ok-node-2 w ↦ rw w.sets-is w.in_ok-node-2.ensures.answers
     ]
 
 pub united_sides-united-requires : goal.united_sides-united-requires
@@ -76,7 +78,13 @@ united_sides-united-requires-2 t c =
     let room = c.requires.room in
     let used = c.in_ok-low.ensures.room in (
       omega arith,
-      (HasSets-grows _ _ _ _ _ grows kept (HasSets-high _ is _ _ _ _ _ a c.requires.a_sets), (HasSets-grows _ _ _ _ _ grows kept (HasSets-high _ is _ _ _ _ _ b c.requires.b_sets), (omega (arith, sides, room, same, used), c.in_ok-low.ensures.remembered))),
+      (
+        HasSets-grows _ _ _ _ _ grows kept (HasSets-high _ is _ _ _ _ _ a c.requires.a_sets),
+        (
+          HasSets-grows _ _ _ _ _ grows kept (HasSets-high _ is _ _ _ _ _ b c.requires.b_sets),
+          (omega (arith, sides, room, same, used), c.in_ok-low.ensures.remembered),
+        ),
+      ),
     )
 
 pub united_sides-returns-clause-united : goal.united_sides-returns-clause-united
@@ -92,7 +100,8 @@ united_sides-returns-clause-united t c =
     let high = c.in_ok-high.ensures.united in
     let low_known = low.known in
     let high_longer = c.in_ok-high.ensures.grows.longer in
-    IsUnited-sides _ _ _ _ _ c.args.track _ _ _ _ c.in_ok-low.low c.in_ok-high.high (HasSets-grows _ _ _ _ _ grows kept c.requires.a_sets) (HasSets-grows _ _ _ _ _ grows kept c.requires.b_sets) c.in_ok-node.ensures.known
+    IsUnited-sides _ _ _ _ _ c.args.track _ _ _ _ c.in_ok-low.low c.in_ok-high.high (HasSets-grows _ _ _ _ _ grows kept c.requires.a_sets)
+    (HasSets-grows _ _ _ _ _ grows kept c.requires.b_sets) c.in_ok-node.ensures.known
     (IsSplit-grows _ _ _ _ _ _ c.requires.a_sets.known grows a) (IsSplit-grows _ _ _ _ _ _ c.requires.b_sets.known grows b)
     (c.requires.track ∙ sym (top_of_both-grows _ _ _ _ grows c.requires.a_sets.known c.requires.b_sets.known))
     (IsUnited-grows _ _ _ _ _ _ _ from_low c.in_ok-high.ensures.sets low) (IsUnited-grows _ _ _ _ _ _ _ from_high (SetsKept-refl _) high)
@@ -120,3 +129,45 @@ pub united-returns-then-eq-clause-united : goal.united-returns-then-eq-clause-un
 united-returns-then-eq-clause-united t c =
     let equal : c.args.a ≡ c.args.b = search rules in
     IsUnited-same _ c.top.ensures.diagram _ _ _ equal c.requires.a_sets
+
+pub united_sides-returns-in_err-high-clause-grows : goal.united_sides-returns-in_err-high-clause-grows
+united_sides-returns-in_err-high-clause-grows t c = Grows-trans _ _ _ c.in_ok-low.ensures.grows c.in_err-high.ensures.grows
+
+pub united_sides-returns-in_err-high-clause-sets : goal.united_sides-returns-in_err-high-clause-sets
+united_sides-returns-in_err-high-clause-sets t c = SetsKept-trans _ _ _ c.in_ok-low.ensures.sets c.in_err-high.ensures.sets
+
+pub united_sides-returns-in_err-node-clause-grows : goal.united_sides-returns-in_err-node-clause-grows
+united_sides-returns-in_err-node-clause-grows t c = Grows-trans _ _ _ (Grows-trans _ _ _ c.in_ok-low.ensures.grows c.in_ok-high.ensures.grows) c.in_err-node.ensures.grows
+
+pub united_sides-returns-in_err-node-clause-sets : goal.united_sides-returns-in_err-node-clause-sets
+united_sides-returns-in_err-node-clause-sets t c = SetsKept-trans _ _ _ c.in_ok-low.ensures.sets c.in_ok-high.ensures.sets
+
+pub united_sides-returns-clause-grows : goal.united_sides-returns-clause-grows
+united_sides-returns-clause-grows t c = Grows-trans _ _ _ (Grows-trans _ _ _ c.in_ok-low.ensures.grows c.in_ok-high.ensures.grows) c.in_ok-node.ensures.grows
+
+pub united_sides-returns-clause-sets : goal.united_sides-returns-clause-sets
+united_sides-returns-clause-sets t c = SetsKept-trans _ _ _ c.in_ok-low.ensures.sets c.in_ok-high.ensures.sets
+
+pub united-returns-clause-grows : goal.united-returns-clause-grows
+united-returns-clause-grows t c = elim c.if-track-eq-MOST_TRACKS.branch [
+  | united-then-track-eq-MOST_TRACKS+in_ok-node w ↦ rw w.self-is w.in_ok-node.ensures.grows
+  | united-else-track-eq-MOST_TRACKS+in_ok-node-2 w ↦ rw w.self-is w.in_ok-node-2.ensures.grows
+]
+
+pub united-returns-clause-sets : goal.united-returns-clause-sets
+united-returns-clause-sets t c = elim c.if-track-eq-MOST_TRACKS.branch [
+  | united-then-track-eq-MOST_TRACKS+in_ok-node w ↦ rw w.sets-is w.in_ok-node.ensures.sets
+  | united-else-track-eq-MOST_TRACKS+in_ok-node-2 w ↦ rw w.sets-is w.in_ok-node-2.ensures.sets
+]
+
+pub united-returns-in_err-insert-clause-grows : goal.united-returns-in_err-insert-clause-grows
+united-returns-in_err-insert-clause-grows t c = elim c.if-track-eq-MOST_TRACKS.branch [
+  | united-then-track-eq-MOST_TRACKS+in_ok-node w ↦ rw w.self-is w.in_ok-node.ensures.grows
+  | united-else-track-eq-MOST_TRACKS+in_ok-node-2 w ↦ rw w.self-is w.in_ok-node-2.ensures.grows
+]
+
+pub united-returns-in_err-insert-clause-sets : goal.united-returns-in_err-insert-clause-sets
+united-returns-in_err-insert-clause-sets t c = elim c.if-track-eq-MOST_TRACKS.branch [
+  | united-then-track-eq-MOST_TRACKS+in_ok-node w ↦ rw w.sets-is w.in_ok-node.ensures.sets
+  | united-else-track-eq-MOST_TRACKS+in_ok-node-2 w ↦ rw w.sets-is w.in_ok-node-2.ensures.sets
+]

@@ -14,7 +14,8 @@ loop-node-smaller-in_ok-insert-in-Leaf c = smaller-leaf c.loop-node.met c.pop_la
 pub loop-node-preserved-in_ok-insert-in-Leaf : goal.loop-node-preserved-in_ok-insert-in-Leaf
 loop-node-preserved-in_ok-insert-in-Leaf c =
     let e = c.in-Leaf.ensures in
-    IsPass-leaf _ e.diagram _ _ _ _ _ _ c.loop-node.invariant (popped _ _ _ _ c.in-Some.ensures.value c.in-Some.ensures.updates c.in-Some.ensures.greatest) _ e.at _ c.in_ok-insert-in-Leaf.ensures.updates
+    IsPass-leaf _ e.diagram _ _ _ _ _ _ c.loop-node.invariant
+    (popped _ _ _ _ c.in-Some.ensures.value c.in-Some.ensures.updates c.in-Some.ensures.greatest) _ e.at _ c.in_ok-insert-in-Leaf.ensures.updates
 
 pub with_bit-requires-clause-before : goal.with_bit-requires-clause-before
 with_bit-requires-clause-before c =
@@ -24,13 +25,16 @@ with_bit-requires-clause-before c =
 pub loop-node-smaller : goal.loop-node-smaller
 loop-node-smaller c =
     let fits = c.in-Test.ensures.fits in
-    smaller-test c.loop-node.met c.pop_last.new.self c.meet.new.met c.meet-in-Test.new.met _ _ _ _ _ _ c.in-Some.ensures.removal c.in-Some.ensures.all_below fits.low_before fits.high_before c.in_ok-meet-in-Test.ensures c.in_ok-meet-in-Test-2.ensures
+    smaller-test c.loop-node.met c.pop_last.new.self c.meet.new.met c.meet-in-Test.new.met _ _ _ _ _ _ c.in-Some.ensures.removal
+    c.in-Some.ensures.all_below fits.low_before fits.high_before c.in_ok-meet-in-Test.ensures c.in_ok-meet-in-Test-2.ensures
 
 pub loop-node-preserved : goal.loop-node-preserved
 loop-node-preserved c =
     let e = c.in-Test.ensures in
     let second : Meets c.meet.new.met c.meet-in-Test.new.met c.in-Test.high _ = rw c.with_bit.ensures at c.in_ok-meet-in-Test-2.ensures in
-    IsPass-test _ e.diagram _ _ _ _ _ _ c.loop-node.invariant (popped _ _ _ _ c.in-Some.ensures.value c.in-Some.ensures.updates c.in-Some.ensures.greatest) c.in-Test.track _ _ e.at e.fits _ _ c.in_ok-meet-in-Test.ensures second
+    IsPass-test _ e.diagram _ _ _ _ _ _ c.loop-node.invariant
+    (popped _ _ _ _ c.in-Some.ensures.value c.in-Some.ensures.updates c.in-Some.ensures.greatest) c.in-Test.track _ _ e.at e.fits _ _
+    c.in_ok-meet-in-Test.ensures second
 
 pub returns : goal.returns
 returns c = AreFirsts-passed _ _ _ _ c.loop-node.invariant (none-left c.loop-node.met.entries c.in_default.ensures.variant.1)

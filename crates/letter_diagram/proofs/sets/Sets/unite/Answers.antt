@@ -26,4 +26,5 @@ returns-clause-union c =
 
 pub returns-clause-answers : goal.returns-clause-answers
 returns-clause-answers c = λ number from below.
-    IsUnion-numbered _ _ _ _ _ _ _ _ c.in_ok-number.ensures.kept c.requires.a_known c.requires.b_known (slice_get-last _ _ _ number c.in_ok-number.ensures.sets from below) (first c) (second c) c.in_ok-both.ensures.members
+    IsUnion-numbered _ _ _ _ _ _ _ _ c.in_ok-number.ensures.kept c.requires.a_known c.requires.b_known
+    (slice_get-last _ _ _ number c.in_ok-number.ensures.sets from below) (first c) (second c) c.in_ok-both.ensures.members

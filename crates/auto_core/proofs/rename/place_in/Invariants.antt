@@ -1,6 +1,0 @@
-use Rattle.std.proofs.Common.{◌≡◌, ◌+◌, nat_eq, drop}
-use Rattle.std.specs.List.{position_or_len}
-use Rattle.auto_core.proofs.rename.place_in.Given as goal
-
-abbrev pub invariant-loop-index : goal.invariant-loop-index
-invariant-loop-index l = position_or_len (λ other. nat_eq other.0 l.var.0) l.tracks ≡ l.index + position_or_len (λ other. nat_eq other.0 l.var.0) (drop l.index l.tracks)

@@ -1,6 +1,0 @@
-use Rattle.std.proofs.Common.{◌≡◌, map, take}
-use Rattle.track_word.specs.Tracks.{place}
-use Rattle.auto_project.proofs.tracks.places_of.Given as goal
-
-abbrev pub invariant-loop-track : goal.invariant-loop-track
-invariant-loop-track l = l.places.items ≡ map (place l.all) (take l.track-index l.tracks)

@@ -1,4 +1,0 @@
-use Rattle.auto_reduce.proofs.leading.+led.Given as goal
-
-abbrev pub decreases-led : goal.decreases-led
-decreases-led l = l.node

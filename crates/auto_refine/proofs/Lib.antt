@@ -1,0 +1,9 @@
+pub mod States
+pub mod Standing
+pub mod Listings
+pub mod Splits
+pub mod Stales
+pub mod Refinings
+pub mod Counting
+pub mod Rounds
+pub mod Coarser

@@ -1,0 +1,13 @@
+use Rattle.auto_refine.proofs.Stales.{AreLedRows-first}
+use Rattle.auto_refine.proofs.stale.lead.Goals as goal
+
+pub lead_nodes-requires-clause-known : goal.lead_nodes-requires-clause-known
+lead_nodes-requires-clause-known c = rw c.diagrams.ensures.shapes c.requires.rows.known
+
+pub lead_nodes-requires-clause-leaves : goal.lead_nodes-requires-clause-leaves
+lead_nodes-requires-clause-leaves c = rw (c.diagrams.ensures.shapes, c.as_slice.ensures.value, c.requires.partition.states) c.requires.rows.within
+
+pub returns : goal.returns
+returns c =
+    let led = rw (c.diagrams.ensures.shapes, c.as_slice.ensures.value) at c.in_ok-led.ensures.led in
+    AreLedRows-first c.args.a.now _ c.args.rows.now c.args.partition.now.classes.items _ c.requires.rows c.requires.partition.states led

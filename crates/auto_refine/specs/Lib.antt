@@ -1,0 +1,12 @@
+pub use Rattle.letter_diagram.specs.Diagram
+pub use Rattle.auto_core.specs.Automaton
+pub use Rattle.auto_core.specs.Reduced
+pub use Rattle.auto_ways.specs.RowNodes
+pub mod Coarsest
+pub mod Listing
+pub mod Moves
+pub mod Led
+pub mod Put
+pub mod Refining
+pub mod Leading
+pub mod RoundMemo

@@ -1,0 +1,52 @@
+-- For each class a list in which all its states are.
+use Rattle.std.specs.Prelude.{◌≡◌, ◌⊎◌, ℕ, ◌<◌, List, [], ◌∷◌, ◌++◌, length, Contains, slice_index, slice_index_or, slice_set, map, Vec}
+use Rattle.std.specs.declared.alloc.Global.{Global}
+use Rattle.auto_refine.specs.Coarsest.{AreMembers}
+use Rattle.auto_refine.specs.declared.classes.Partition.{Partition}
+
+-- what is listed are states below a bound
+abbrev pub AreBelow : List (List ℕ) → ℕ → Type 0
+AreBelow lists bound = (class state : ℕ) → Contains (slice_index_or lists class []) state → state < bound
+
+-- for each class a state that stands for it, and states among which are all of the class
+pub record IsListing (classes : List ℕ) (count : ℕ) (representatives : List ℕ) (lists : List (List ℕ)) : Type 0 where
+  pub members : AreMembers classes count representatives
+  pub size : length lists ≡ count
+  pub within : AreBelow lists (length classes)
+  pub listed : (state : ℕ) → state < length classes
+      → Contains (slice_index_or lists (slice_index classes state) []) state
+
+-- vectors as lists
+abbrev pub lists_of : List (Vec ℕ Global) → List (List ℕ)
+lists_of lists = map (λ list. list.items) lists
+
+-- for each class of a partition a state that stands for it, and a list in which all its states are
+abbrev pub AreLists : Partition → List ℕ → List (Vec ℕ Global) → Type 0
+AreLists p representatives lists = IsListing p.classes.items p.count representatives (lists_of lists)
+
+-- a state at the end of the list of a class
+abbrev pub IsPutInto : List (List ℕ) → ℕ → ℕ → List (List ℕ) → Type 0
+IsPutInto old class state new = new ≡ slice_set old class (slice_index_or old class [] ++ state ∷ [])
+
+-- states in the lists of their classes too, with those that were there
+pub record AreListed (old : List (List ℕ)) (states classes : List ℕ) (new : List (List ℕ)) : Type 0 where
+  pub size : length new ≡ length old
+  pub kept : (class state : ℕ) → Contains (slice_index_or old class []) state
+      → Contains (slice_index_or new class []) state
+  pub added : (turn : ℕ) → turn < length states
+      → Contains (slice_index_or new (slice_index classes turn) []) (slice_index states turn)
+  pub only : (class state : ℕ) → Contains (slice_index_or new class []) state
+      → Contains (slice_index_or old class []) state ⊎ Contains states state
+
+-- some states, but for some that have another class
+pub record AreStillIn (classes : List ℕ) (class : ℕ) (states kept : List ℕ) : Type 0 where
+  pub fewer : (state : ℕ) → Contains kept state → Contains states state
+  pub stays : (state : ℕ) → Contains states state → slice_index classes state ≡ class → Contains kept state
+
+-- lists without some states that have other classes
+pub record ArePruned (classes : List ℕ) (old new : List (List ℕ)) : Type 0 where
+  pub size : length new ≡ length old
+  pub fewer : (class state : ℕ) → Contains (slice_index_or new class []) state
+      → Contains (slice_index_or old class []) state
+  pub kept : (class state : ℕ) → Contains (slice_index_or old class []) state → slice_index classes state ≡ class
+      → Contains (slice_index_or new class []) state

@@ -1,0 +1,84 @@
+-- States that move to new classes, and the partition after they moved.
+use Rattle.std.specs.Prelude.{◌≡◌, ◌≢◌, ◌↔◌, ℕ, ◌<◌, ◌≤◌, ◌+◌, ◌-◌, ◌++◌, List, [], length, replicate, All, AllPairs, Contains, slice_get, slice_index, Some}
+use Rattle.auto_refine.specs.Coarsest.{IsPartition}
+use Rattle.auto_refine.specs.Listing.{AreListed, lists_of}
+use Rattle.auto_refine.specs.Put.{IsPut}
+use Rattle.auto_refine.specs.declared.classes.Partition.{Partition}
+use Rattle.auto_refine.specs.declared.listing.Listing.{Listing}
+use Rattle.auto_refine.specs.declared.moves.Moves.{Moves}
+
+-- the node of the state that stands for the class of a state
+abbrev pub chosen_node : List ℕ → List ℕ → List ℕ → ℕ → ℕ
+chosen_node classes representatives nodes state =
+    slice_index nodes (slice_index representatives (slice_index classes state))
+
+-- each state has the node of the one that stands for its class, if neither of them is among some states
+pub record AreSettled (classes representatives nodes stale : List ℕ) : Type 0 where
+  pub at : (state : ℕ) → state < length classes → ¬ Contains stale state
+      → ¬ Contains stale (slice_index representatives (slice_index classes state))
+      → slice_index nodes state ≡ chosen_node classes representatives nodes state
+
+-- some states, and all of a class for which one of these stands
+pub record AreCandidates (classes representatives stale candidates : List ℕ) : Type 0 where
+  pub within : All (λ state. state < length classes) candidates
+  pub each : (state : ℕ) → Contains stale state → Contains candidates state
+  pub led : (state : ℕ) → state < length classes
+      → Contains stale (slice_index representatives (slice_index classes state)) → Contains candidates state
+
+-- a state whose node is not that of the one that stands for its class
+abbrev pub IsOther : List ℕ → List ℕ → List ℕ → ℕ → Type 0
+IsOther classes representatives nodes state = slice_index nodes state ≢ chosen_node classes representatives nodes state
+
+-- the number, after all classes, of the signature of a state whose node is not that of the one that stands for its
+-- class
+pub record IsMove (classes representatives nodes : List ℕ) (count : ℕ) (signatures : List (ℕ × ℕ))
+    (state number : ℕ) : Type 0 where
+  pub within : state < length classes
+  pub other : IsOther classes representatives nodes state
+  pub least : count ≤ number
+  pub is : slice_get signatures (number - count) ≡ Some (slice_index classes state, slice_index nodes state)
+
+-- states with the numbers of their signatures, and a state of each signature
+pub record AreMoves (classes representatives nodes : List ℕ) (count : ℕ) (signatures : List (ℕ × ℕ))
+    (states numbers firsts : List ℕ) : Type 0 where
+  pub unrepeated : AllPairs (λ p q. p ≢ q) signatures
+  pub size : length numbers ≡ length states
+  pub each : (turn : ℕ) → turn < length states
+      → IsMove classes representatives nodes count signatures (slice_index states turn) (slice_index numbers turn)
+  pub firsts_size : length firsts ≡ length signatures
+  pub first : (place : ℕ) → place < length signatures
+      → IsMove classes representatives nodes count signatures (slice_index firsts place) (count + place)
+
+-- the moves that are found in a partition
+abbrev pub AreFound : Partition → List ℕ → List ℕ → Moves → Type 0
+AreFound p representatives nodes m =
+    AreMoves p.classes.items representatives nodes p.count m.signatures m.states.items m.numbers.items m.firsts.items
+
+-- what moves make of a partition and its lists: each signature is a class, and one of its states stands for it
+pub record AreMoved (m : Moves) (old new : Partition) (was listing : Listing) : Type 0 where
+  pub classes : IsPut old.classes.items m.states.items m.numbers.items new.classes.items
+  pub count : new.count ≡ old.count + length m.firsts.items
+  pub representatives : listing.representatives.items ≡ was.representatives.items ++ m.firsts.items
+  pub lists : AreListed (lists_of was.lists.items ++ replicate (length m.firsts.items) []) m.states.items
+      m.numbers.items (lists_of listing.lists.items)
+
+-- no class is lost, and there are more where some states moved
+pub record CountGrows (old new : ℕ) (moved : List ℕ) : Type 0 where
+  pub kept : old ≤ new
+  pub grown : 0 < length moved → old < new
+
+-- the other states have the classes that they had
+pub record KeepsOthers (old new moved : List ℕ) : Type 0 where
+  pub kept : (state : ℕ) → state < length old → ¬ Contains moved state → slice_index new state ≡ slice_index old state
+
+-- states of one class were in one class
+pub record IsFiner (old new : List ℕ) : Type 0 where
+  pub same : (j k : ℕ) → j < length new → k < length new → slice_index new j ≡ slice_index new k
+      → slice_index old j ≡ slice_index old k
+
+-- states are in one class exactly where they were in one class before and have one node
+pub record IsSplit (current nodes classes : List ℕ) (count : ℕ) : Type 0 where
+  pub partition : IsPartition (length current) classes count
+  pub same : (j k : ℕ) → j < length current → k < length current
+      → (slice_index classes j ≡ slice_index classes k)
+      ↔ ((slice_index current j ≡ slice_index current k) × (slice_index nodes j ≡ slice_index nodes k))

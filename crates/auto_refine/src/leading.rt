@@ -1,0 +1,69 @@
+//! Nodes of one `Diagrams` with the maps of nodes of another, led through a table.
+ghost use Rattle.std.specs.Prelude.{◌<◌, ℕ, All, Some, length, slice_index, IfOk};
+ghost use Rattle.limits.specs.declared.numbers.TheConstants.{MOST_TRACKS};
+ghost use Rattle.letter_diagram.specs.Diagram.{map_at, Grows};
+ghost use Rattle.letter_diagram.specs.Listed.{EachAnswers};
+ghost use Rattle.auto_refine.specs.Leading.{IsLedFrom};
+
+use crate::round_memo::RoundMemo;
+use letter_diagram::{Carry, Diagrams, Node, Shape, carried_all};
+use std::alloc::AllocError;
+
+/// Carries nodes of another `Diagrams` to the entries of a table at their values.
+#[derive(Drop)]
+struct ByTable<'a> {
+    from: &'a Diagrams,
+    table: &'a [u32],
+}
+
+impl<'a> Carry for ByTable<'a> {
+    ghost carrier = { λ s.
+        record {
+          from = Some s.from.now;
+          letters = λ letter. letter;
+          values = slice_index s.table.now;
+          tracks = MOST_TRACKS;
+        } };
+
+    ghost can = { λ s value. value < length s.table.now };
+
+    fn shape(&self, _to: &Diagrams, node: Node) -> Shape {
+        self.from.shape(node)
+    }
+
+    fn leaf(&self, to: &mut Diagrams, value: u32) -> Result<Node, AllocError> {
+        let node = to.leaf(self.table[value as usize])?;
+        Ok(node)
+    }
+
+    fn test(
+        &self,
+        to: &mut Diagrams,
+        track: u8,
+        low: Node,
+        high: Node,
+    ) -> Result<Node, AllocError> {
+        let node = to.node(track, low, high)?;
+        Ok(node)
+    }
+}
+
+/// For each of several nodes of `from`, in their order, the node in `to` that gives the entry of `table` at each of its values.
+/// What they share is done once. `memo` serves one call after another, for which it has room for each node of `from`.
+/// Costs the nodes that are led, and those that were led before.
+pub fn lead_nodes(
+    from: &Diagrams,
+    nodes: &[Node],
+    table: &[u32],
+    to: &mut Diagrams,
+    memo: &mut RoundMemo,
+) -> Result<Vec<Node>, AllocError>
+    requires known { All (λ node. node < length from.now) nodes.now }
+    requires leaves { All (λ node. (letter : ℕ) → map_at from.now node letter < length table.now) nodes.now }
+    ensures led { IfOk result (λ answers. EachAnswers (IsLedFrom from.now to.new table.now) nodes.now answers.items) }
+    ensures grows { Grows to.old to.new }
+{
+    memo.clear();
+    let led = carried_all(&ByTable { from, table }, nodes, to, memo)?;
+    Ok(led)
+}

@@ -1,0 +1,119 @@
+//! For each class a list in which all its states are, kept while states move to new classes.
+ghost use Rattle.std.specs.Prelude.{◌≡◌, ◌<◌, ◌^◌, ◌+◌, ◌++◌, [], ℕ, All, length, replicate, slice_index, IfOk, OnOk, vec_len};
+ghost use Rattle.auto_refine.specs.Coarsest.{AreClasses};
+ghost use Rattle.auto_refine.specs.Listing.{AreBelow, AreLists, AreListed, ArePruned, AreStillIn, IsPutInto, lists_of};
+
+use crate::classes::{Partition, members};
+use std::alloc::{AllocError, Global};
+
+/// For each class a state that stands for it, and states among which are all of the class: also some that have left it since the
+/// list was last pruned.
+#[derive(Drop)]
+pub struct Listing {
+    pub representatives: Vec<u32>,
+    pub lists: Vec<Vec<u32>>,
+}
+
+/// All states, in their order.
+pub fn all_states(alloc: Global, count: usize) -> Result<Vec<u32>, AllocError>
+    requires few { count < 2 ^ 31 }
+    ensures size { IfOk result (λ states. length states.items ≡ count) }
+    ensures each { IfOk result (λ states. (state : ℕ) → state < count → slice_index states.items state ≡ state) }
+{
+    let mut states = Vec::with_capacity(alloc, count)?;
+    for state in 0..count {
+        states.push(state as u32)?;
+    }
+    Ok(states)
+}
+
+/// Adds some empty lists.
+pub fn add_lists(alloc: Global, lists: &mut Vec<Vec<u32>>, more: usize) -> Result<(), AllocError>
+    ensures { OnOk result (lists_of lists.new.items ≡ lists_of lists.old.items ++ replicate more []) }
+{
+    for _ in 0..more {
+        lists.push(Vec::new(alloc))?;
+    }
+    Ok(())
+}
+
+/// Puts a state into the list of a class.
+fn list(lists: &mut Vec<Vec<u32>>, class: usize, state: u32) -> Result<(), AllocError>
+    requires { class < vec_len lists.old }
+    ensures lists { OnOk result (IsPutInto (lists_of lists.old.items) class state (lists_of lists.new.items)) }
+    ensures size { OnOk result (vec_len lists.new ≡ vec_len lists.old) }
+{
+    lists[class].push(state)?;
+    Ok(())
+}
+
+/// Puts states into the lists of their classes.
+pub fn list_each(
+    lists: &mut Vec<Vec<u32>>,
+    states: &[u32],
+    classes: &[u32],
+) -> Result<(), AllocError>
+    requires within { All (λ class. class < vec_len lists.old) classes.now }
+    requires same { length classes.now ≡ length states.now }
+    ensures { OnOk result (AreListed (lists_of lists.old.items) states.now classes.now (lists_of lists.new.items)) }
+{
+    for turn in 0..states.len() {
+        list(lists, classes[turn] as usize, states[turn])?;
+    }
+    Ok(())
+}
+
+/// The states of each class of a partition, and one of them that stands for it.
+pub fn list_states(alloc: Global, partition: &Partition) -> Result<Listing, AllocError>
+    requires partition { AreClasses partition.now }
+    requires few { length partition.now.classes.items < 2 ^ 31 }
+    ensures { IfOk result (λ listing. AreLists partition.now listing.representatives.items listing.lists.items) }
+{
+    let representatives = members(alloc, partition)?;
+    let states = all_states(alloc, partition.classes.len())?;
+    let mut lists = Vec::with_capacity(alloc, partition.count)?;
+    add_lists(alloc, &mut lists, partition.count)?;
+    list_each(&mut lists, states.as_slice(), partition.classes.as_slice())?;
+    Ok(Listing {
+        representatives,
+        lists,
+    })
+}
+
+/// The states among some that have a class: those that a list of this class is to keep.
+fn still_in(
+    alloc: Global,
+    partition: &Partition,
+    class: u32,
+    states: &[u32],
+) -> Result<Vec<u32>, AllocError>
+    requires { All (λ state. state < length partition.now.classes.items) states.now }
+    ensures { IfOk result (λ kept. AreStillIn partition.now.classes.items class states.now kept.items) }
+{
+    let mut kept = Vec::new(alloc);
+    for state in states {
+        if partition.classes[*state as usize] == class {
+            kept.push(*state)?;
+        }
+    }
+    Ok(kept)
+}
+
+/// Drops from the list of a class the states that have left it, so that looking through the list costs the states of the class. A state
+/// that moves stays in the list of its old class until this list is looked through.
+pub fn prune(
+    alloc: Global,
+    partition: &Partition,
+    class: u32,
+    lists: &mut Vec<Vec<u32>>,
+) -> Result<(), AllocError>
+    requires class { class < vec_len lists.old }
+    requires within { AreBelow (lists_of lists.old.items) (length partition.now.classes.items) }
+    ensures pruned { OnOk result
+        (ArePruned partition.now.classes.items (lists_of lists.old.items) (lists_of lists.new.items)) }
+    ensures size { OnOk result (vec_len lists.new ≡ vec_len lists.old) }
+{
+    let kept = still_in(alloc, partition, class, lists[class as usize].as_slice())?;
+    lists[class as usize] = kept;
+    Ok(())
+}

@@ -1,0 +1,14 @@
+//! Values put at places of a list.
+ghost use Rattle.std.specs.Prelude.{◌≡◌, ◌<◌, All, length};
+ghost use Rattle.auto_refine.specs.Put.{IsPut};
+
+/// Puts values at some places.
+pub fn put<T: Copy>(list: &mut [T], places: &[u32], values: &[T])
+    requires within { All (λ place. place < length list.old) places.now }
+    requires same { length places.now ≡ length values.now }
+    ensures { IsPut list.old places.now values.now list.new }
+{
+    for i in 0..places.len() {
+        list[places[i] as usize] = values[i];
+    }
+}

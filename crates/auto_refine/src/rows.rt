@@ -1,0 +1,18 @@
+//! The rows of some states.
+ghost use Rattle.std.specs.Prelude.{◌<◌, All, length, IfOk};
+ghost use Rattle.auto_refine.specs.Led.{ArePicked};
+
+use letter_diagram::Node;
+use std::alloc::{AllocError, Global};
+
+/// The nodes of some states, in their order.
+pub fn picked(alloc: Global, rows: &[Node], order: &[u32]) -> Result<Vec<Node>, AllocError>
+    requires { All (λ state. state < length rows.now) order.now }
+    ensures { IfOk result (λ picked. ArePicked rows.now order.now picked.items) }
+{
+    let mut picked = Vec::with_capacity(alloc, order.len())?;
+    for state in order {
+        picked.push(rows[*state as usize])?;
+    }
+    Ok(picked)
+}

@@ -1,0 +1,3 @@
+pub mod RowNodes
+pub mod Placed
+pub mod Climbs

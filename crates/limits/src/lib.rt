@@ -1,0 +1,10 @@
+//! What the program takes at most, each limit named once.
+#![tactic(auto)]
+
+mod budget;
+mod numbers;
+
+pub use budget::Budget;
+pub use numbers::{
+    MOST_FILE_BYTES, MOST_LINE_BYTES, MOST_MEN, MOST_MOVES, MOST_STATES, MOST_TRACKS,
+};
