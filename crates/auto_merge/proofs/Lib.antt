@@ -1,0 +1,3 @@
+pub mod Givens
+pub mod Classes
+pub mod ClassStates

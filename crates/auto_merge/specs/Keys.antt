@@ -1,0 +1,53 @@
+-- Nodes that lead to the classes of states, of which some have none yet.
+use Rattle.std.specs.Prelude.{◌≡◌, ◌≢◌, ◌<◌, ◌⊎◌, ℕ, Bool, true, IsTrue, List, Option, Some}
+use Rattle.letter_diagram.specs.declared.diagrams.Shape.{Shape}
+use Rattle.letter_diagram.specs.Diagram.{map_at}
+use Rattle.letter_diagram.specs.NodeMemo.{answer_of}
+use Rattle.auto_refine.specs.Leading.{IsLedFrom}
+use Rattle.auto_reduce.specs.Unmet.{entry_at}
+use Rattle.auto_merge.specs.declared.keys.TheConstants.{NO_CLASS}
+use Rattle.auto_merge.specs.declared.keys.Key.{Key}
+use Rattle.auto_merge.specs.declared.keys.NoKey.{NoKey}
+use Rattle.auto_merge.specs.declared.keys.NoKey.TheVariants.{Unclassed, Memory}
+
+-- each value of a node has a class
+abbrev pub IsWhole : List Shape → List ℕ → ℕ → Type 0
+IsWhole from table a = (letter : ℕ) → entry_at table from a letter ≢ NO_CLASS
+
+-- each value of a node but one state has a class
+abbrev pub HasOwn : List Shape → List ℕ → ℕ → ℕ → Type 0
+HasOwn from table own a = (letter : ℕ) → (entry_at table from a letter ≢ NO_CLASS) ⊎ (map_at from a letter ≡ own)
+
+-- a node that leads to the classes of the values of another, of which each or all but one have a class
+pub record IsKey (from shapes : List Shape) (table : List ℕ) (own a : ℕ) (key : Key) : Type 0 where
+  pub led : IsLedFrom from shapes table a key.node
+  pub own_only : HasOwn from table own a
+  pub whole : IsTrue key.whole → IsWhole from table a
+
+-- a state without a class that a row leads to is one of so many states
+abbrev pub NamesBelow : ℕ → NoKey → Type 0
+NamesBelow states (Unclassed state) = state < states
+NamesBelow states Memory = Unit {0}
+
+-- at most one answer more, where a test holds
+pub record Adds (test : Bool) (old new : List (Option ℕ)) (node answer : ℕ) : Type 0 where
+  pub only : (a r : ℕ) → answer_of new a ≡ Some r
+      → (answer_of old a ≡ Some r) ⊎ ((test ≡ true) × (a ≡ node) × (r ≡ answer))
+
+-- a node that leads to the classes of the values of another, of which each has one
+pub record IsGiven (from shapes : List Shape) (table : List ℕ) (a r : ℕ) : Type 0 where
+  pub led : IsLedFrom from shapes table a r
+  pub whole : IsWhole from table a
+
+-- what a memo answers leads to classes alone
+pub record RemembersGiven (from shapes : List Shape) (table : List ℕ) (memo : List (Option ℕ)) : Type 0 where
+  pub given : (a r : ℕ) → answer_of memo a ≡ Some r → IsGiven from shapes table a r
+
+-- a node that leads to the classes of the values of another, of which all but one have a class
+pub record IsOwn (from shapes : List Shape) (table : List ℕ) (own a r : ℕ) : Type 0 where
+  pub led : IsLedFrom from shapes table a r
+  pub own_only : HasOwn from table own a
+
+-- what a memo answers leads to classes and to one state without one
+pub record RemembersOwn (from shapes : List Shape) (table : List ℕ) (own : ℕ) (memo : List (Option ℕ)) : Type 0 where
+  pub own_at : (a r : ℕ) → answer_of memo a ≡ Some r → IsOwn from shapes table own a r

@@ -1,0 +1,6 @@
+pub use Rattle.auto_core.specs.Automaton
+pub use Rattle.auto_core.specs.Reduced
+pub mod Keys
+pub mod Merging
+pub mod Merged
+pub mod Walk
