@@ -91,7 +91,9 @@ same_terms (s ∷ ss) (t ∷ ts) b c xs ys size hs ht hb hc e =
     let ft = term_fields ts ++ signed_decimal c ∷ ys in
     let rest = tails (signed_decimal s.0) (signed_decimal t.0) (letter s.1 ∷ fs) (letter t.1 ∷ ft) e in
     let more = same_terms ss ts b c xs ys (omega arith) (All-tail IsCoefficient s ss hs) (All-tail IsCoefficient t ts ht) hb hc (tails (letter s.1) (letter t.1) fs ft rest) in
-    let factor : s.0 ≡ t.0 = same_factor s.0 t.0 (All-head IsCoefficient s ss hs) (All-head IsCoefficient t ts ht) (heads (signed_decimal s.0) (signed_decimal t.0) (letter s.1 ∷ fs) (letter t.1 ∷ ft) e) in
+    let factor : s.0 ≡ t.0 =
+    same_factor s.0 t.0 (All-head IsCoefficient s ss hs) (All-head IsCoefficient t ts ht)
+    (heads (signed_decimal s.0) (signed_decimal t.0) (letter s.1 ∷ fs) (letter t.1 ∷ ft) e) in
     let var : s.1 ≡ t.1 = same_letter s.1 t.1 (heads (letter s.1) (letter t.1) fs ft rest) in
     (ap (λ a. (a, s.1) ∷ ss) factor ∙ (ap (λ x. (t.0, x) ∷ ss) var ∙ ap (λ l. t ∷ l) more.0), more.1, more.2)
 
@@ -99,14 +101,17 @@ same_terms (s ∷ ss) (t ∷ ts) b c xs ys size hs ht hb hc e =
 abbrev pub compared_fields : List (ℤ × Var) → ℤ → List (List ℕ) → List (List ℕ)
 compared_fields terms bound rest = signed_decimal (pos (length terms)) ∷ (term_fields terms ++ signed_decimal bound ∷ rest)
 
-pub regroup : (terms : List (ℤ × Var)) (bound : ℤ) (rest : List (List ℕ)) → signed_decimal (pos (length terms)) ∷ ((term_fields terms ++ signed_decimal bound ∷ []) ++ rest) ≡ compared_fields terms bound rest
+pub regroup : (terms : List (ℤ × Var)) (bound : ℤ) (rest : List (List ℕ))
+    → signed_decimal (pos (length terms)) ∷ ((term_fields terms ++ signed_decimal bound ∷ []) ++ rest) ≡ compared_fields terms bound rest
 regroup terms bound rest = ap (λ l. signed_decimal (pos (length terms)) ∷ l) (append_assoc (term_fields terms) (signed_decimal bound ∷ []) rest)
 
 same_comparison : (ss ts : List (ℤ × Var)) (b c : ℤ) (xs ys : List (List ℕ)) → IsAtom ss b → IsAtom ts c → compared_fields ss b xs ≡ compared_fields ts c ys → (ss ≡ ts) × (b ≡ c) × (xs ≡ ys)
 same_comparison ss ts b c xs ys hs ht e =
     let fs = term_fields ss ++ signed_decimal b ∷ xs in
     let ft = term_fields ts ++ signed_decimal c ∷ ys in
-    let size = same_count (length ss) (length ts) (let few = hs.0.1 in omega arith) (let few = ht.0.1 in omega arith) (heads (signed_decimal (pos (length ss))) (signed_decimal (pos (length ts))) fs ft e) in
+    let size =
+    same_count (length ss) (length ts) (let few = hs.0.1 in omega arith) (let few = ht.0.1 in omega arith)
+    (heads (signed_decimal (pos (length ss))) (signed_decimal (pos (length ts))) fs ft e) in
     same_terms ss ts b c xs ys size hs.1 ht.1 hs.2 ht.2 (tails (signed_decimal (pos (length ss))) (signed_decimal (pos (length ts))) fs ft e)
 
 -- no formula begins another: fields begin with one alone

@@ -115,7 +115,8 @@ no_stop_comparison : (scope : List Var) (terms : List (ℤ × Var)) (bound : ℤ
 no_stop_comparison scope terms bound rest fields left low atom known e (inl h) =
     let some = atom.0.0 in
     let few = atom.0.1 in
-    fails_there (IsNumberBetween (pos 1) (pos 8)) fields (signed_decimal (pos (length terms))) (term_fields terms ++ signed_decimal bound ∷ rest) left e (pos (length terms), omega (arith, ints), omega (arith, ints), refl) h
+    fails_there (IsNumberBetween (pos 1) (pos 8)) fields (signed_decimal (pos (length terms))) (term_fields terms ++ signed_decimal bound ∷ rest) left
+    e (pos (length terms), omega (arith, ints), omega (arith, ints), refl) h
 no_stop_comparison scope terms bound rest fields left low atom known e (inr (due, more, some, small, is, h)) =
     let few = atom.0.1 in
     let after = term_fields terms ++ signed_decimal bound ∷ rest in
@@ -150,9 +151,11 @@ terms_stop : (scope : List Var) (old : List (ℤ × Var)) (due : ℕ) (fields : 
 terms_stop scope old zero fields l m low h k = fails_same (IsNumberBetween (negsuc 999) (pos 1000)) fields l m h k
 terms_stop scope old (suc due) fields l m low (inl h) (inl k) = fails_same IsFactorField fields l m h k
 terms_stop scope old (suc due) fields l m low (inl h) (inr (inl (a, more, factor, is, k))) = absurd (fails_there IsFactorField fields (signed_decimal a) more l is (a, factor, refl) h)
-terms_stop scope old (suc due) fields l m low (inl h) (inr (inr (a, x, more, factor, there, unused, is, k))) = absurd (fails_there IsFactorField fields (signed_decimal a) (letter x ∷ more) l is (a, factor, refl) h)
+terms_stop scope old (suc due) fields l m low (inl h) (inr (inr (a, x, more, factor, there, unused, is, k))) =
+    absurd (fails_there IsFactorField fields (signed_decimal a) (letter x ∷ more) l is (a, factor, refl) h)
 terms_stop scope old (suc due) fields l m low (inr (inl (a, more, factor, is, h))) (inl k) = absurd (fails_there IsFactorField fields (signed_decimal a) more m is (a, factor, refl) k)
-terms_stop scope old (suc due) fields l m low (inr (inr (a, x, more, factor, there, unused, is, h))) (inl k) = absurd (fails_there IsFactorField fields (signed_decimal a) (letter x ∷ more) m is (a, factor, refl) k)
+terms_stop scope old (suc due) fields l m low (inr (inr (a, x, more, factor, there, unused, is, h))) (inl k) =
+    absurd (fails_there IsFactorField fields (signed_decimal a) (letter x ∷ more) m is (a, factor, refl) k)
 terms_stop scope old (suc due) fields l m low (inr (inl (a, more, factor, is, h))) (inr (inl (b, rest, factor_b, is_b, k))) =
     let same : more ≡ rest = tails (signed_decimal a) (signed_decimal b) more rest (sym is ∙ is_b) in
     fails_same (IsKnownLetter scope old) more l m h (subst (λ r. Fails (IsKnownLetter scope old) r m) (sym same) k)

@@ -10,10 +10,10 @@ use Rattle.std.proofs.lemmas.Int.{ints}
 use Rattle.track_word.specs.declared.tracks.Var.{Var}
 use Rattle.track_word.specs.declared.atoms.Rel.{Rel}
 use Rattle.track_word.specs.Atom.{IsAtom, IsCoefficient, IsDistinct}
+use Rattle.auto_core.proofs.Orders.{same-var}
 use Rattle.lin_formula.specs.Tree as tree
 use Rattle.lin_formula.specs.Tree.{Tree}
 use Rattle.lin_formula.specs.Free.{IsOneOf}
-use Rattle.lin_formula.proofs.FreeVars.{var_is}
 use Rattle.arith_desk.specs.declared.words.Connective.{Connective}
 use Rattle.arith_desk.specs.declared.words.Quantifier.{Quantifier}
 use Rattle.arith_desk.specs.declared.words.Word.TheVariants.{Not, Join, Bind, Compare}
@@ -46,7 +46,7 @@ stop_along P Q Memory along h = tt
 pub same_letter : (x y : Var) → letter x ≡ letter y → x ≡ y
 same_letter x y e =
     let first : 97 + x.0 ≡ 97 + y.0 = cc in
-    var_is x y (omega arith)
+    same-var x y (omega arith)
 
 -- 0 is no coefficient
 pub no_factor : (n : ℤ) → n ≡ pos 0 → ¬ IsFactorField (signed_decimal n)
@@ -192,12 +192,14 @@ stops_later scope terms (suc due) fields one two left a x some factor known unus
     let less : suc due - 1 ≡ due = omega arith in
     inr (inr (a, x, two, factor, known, unused, front ∙ ap (λ l. signed_decimal a ∷ l) second, subst (λ n. StopsTerms scope (terms ++ (a, x) ∷ []) n two left) less h))
 
-pub stops_joined : (connective : Connective) (scope : List Var) (fields rest : List (List ℕ)) (left : ℕ) → fields ≡ word_text (Join connective) ∷ rest → StopsJoined scope rest left → Stops scope fields left
+pub stops_joined : (connective : Connective) (scope : List Var) (fields rest : List (List ℕ)) (left : ℕ) → fields ≡ word_text (Join connective) ∷ rest
+    → StopsJoined scope rest left → Stops scope fields left
 stops_joined connective scope fields rest left front (inl h) = in_first scope connective fields rest left front h
 stops_joined connective scope fields rest left front (inr (f, more, proper, is, h)) =
     in_second scope connective f fields more left proper (front ∙ ap (λ l. word_text (Join connective) ∷ l) is) h
 
-pub stops_bound : (quantifier : Quantifier) (scope : List Var) (fields rest : List (List ℕ)) (left : ℕ) → fields ≡ word_text (Bind quantifier) ∷ rest → StopsBound scope rest left → Stops scope fields left
+pub stops_bound : (quantifier : Quantifier) (scope : List Var) (fields rest : List (List ℕ)) (left : ℕ) → fields ≡ word_text (Bind quantifier) ∷ rest
+    → StopsBound scope rest left → Stops scope fields left
 stops_bound quantifier scope fields rest left front (inl h) = at_letter scope quantifier fields rest left front h
 stops_bound quantifier scope fields rest left front (inr (x, more, low, fresh, is, h)) =
     in_body scope quantifier x fields more left low fresh (front ∙ ap (λ l. word_text (Bind quantifier) ∷ l) is) h

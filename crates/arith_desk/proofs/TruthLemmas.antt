@@ -1,10 +1,9 @@
 -- What the automata of closed formulas answer.
-use Rattle.std.proofs.Common.{◌≡◌, ◌≢◌, ◌⊎◌, inl, inr, ℕ, zero, suc, ◌^◌, ◌<◌, List, [], ◌∷◌, ◌++◌, length, map, ℤ, pos, Bool, true, false, nat_lt, ◌==◌, if◌then◌else◌, get_or, IsTrue, refl, sym, ap, ◌∙◌, subst, arith, eq-eqb, length-append}
-use Rattle.std.specs.List.{All, AllPairs}
-use Rattle.std.proofs.lemmas.Bool.{lt-ltb}
+use Rattle.std.proofs.Common.{◌≡◌, ◌≢◌, ◌⊎◌, inl, inr, ℕ, zero, suc, ◌^◌, ◌<◌, List, [], ◌∷◌, ◌++◌, length, ℤ, pos, Bool, true, false, nat_lt, ◌==◌, if◌then◌else◌, get_or, refl, sym, ap, ◌∙◌, subst, arith, eq-eqb, length-append}
+use Rattle.std.specs.List.{All}
+use Rattle.std.proofs.lemmas.Bool.{lt-ltb, cases_Bool, true≢false}
 use Rattle.std.proofs.lemmas.List.{append-nil}
 use Rattle.std.proofs.lemmas.List.Elements.{All-cons, All-head, All-nil, All-tail}
-use Rattle.std.proofs.lemmas.List.Kept.{AllPairs-from_increasing}
 use Rattle.track_word.specs.declared.tracks.Var.{Var}
 use Rattle.track_word.specs.Word.{IsWord, Spells, spelled, val}
 use Rattle.track_word.specs.Tracks.{IsAscending, place, values_at, with_var, with_vars, word_values}
@@ -12,12 +11,13 @@ use Rattle.track_word.proofs.Spelling.{Spells-spelled, bound_of, fits-bound}
 use Rattle.auto_core.specs.Automaton.{Automaton, Accepts, IsAutomaton, is_final, state_of}
 use Rattle.auto_core.specs.Integers.{IsAccepted}
 use Rattle.auto_core.specs.Reduced.{IsReduced}
+use Rattle.auto_core.proofs.Orders.{same-var}
 use Rattle.auto_reduce.proofs.Empties.{no_word}
 use Rattle.lin_formula.specs.Tree.{Tree, Ex, free_vars, memberships, steps, vars_of}
 use Rattle.lin_formula.specs.Holds.{Holds, with_value}
 use Rattle.lin_formula.specs.Free.{IsFree, IsOneOf}
 use Rattle.lin_formula.proofs.Coincide.{coincide}
-use Rattle.lin_formula.proofs.FreeVars.{free_vars-ascend, free_vars-free, one_of-with_var, one_of-with_vars, one_of-without_var, var_is}
+use Rattle.lin_formula.proofs.FreeVars.{free_vars-ascend, free_vars-free, one_of-with_var, one_of-with_vars, one_of-without_var}
 use Rattle.formula_auto.specs.Compiled.{IsCompilable, IsSetFor}
 use Rattle.formula_auto.specs.Decides.{Decides}
 use Rattle.formula_auto.specs.Step.{Says}
@@ -61,10 +61,6 @@ some_word a reduced valid some = elim (flag_or_none a.accept) [
   | inr none ↦ absurd (some (no_word a valid none))
 ]
 
-true_or_not : (b : Bool) → IsTrue b ⊎ (IsTrue b → ⊥)
-true_or_not true = inl refl
-true_or_not false = inr (λ e. cc)
-
 none_in : (vars : List Var) (x : Var) → vars ≡ [] → IsOneOf x vars → ⊥
 none_in [] x e is = is
 none_in (y ∷ ys) x e is = absurd cc
@@ -91,30 +87,28 @@ module _ (f : Tree) (a : Automaton) (decides : Decides a f no_sets) (closed : fr
   closed_false none h = none one (on_tracks one one_is) ((decides.words one one_is).1 (at one h))
 
   pub closed_true : (HasNoWord a → ⊥) → IsTrueFormula f
-  closed_true some = elim (true_or_not (is_final a (state_of a one))) [
+  closed_true some = elim (cases_Bool (is_final a (state_of a one))) [
     | inl accepts ↦ from one ((decides.words one one_is).0 accepts)
     | inr never ↦ absurd (some (λ word is accepts.
-        never ((decides.words one one_is).1 (at one (from word ((decides.words word (subst (λ (t : List Var). IsWord (length t) word) decides.tracks is)).0 accepts))))))
+        let there = at one (from word ((decides.words word (subst (λ (t : List Var). IsWord (length t) word) decides.tracks is)).0 accepts)) in
+        true≢false (sym ((decides.words one one_is).1 there) ∙ never)))
   ]
 
 pub same_or_not : (x y : Var) → (x ≡ y) ⊎ (x ≢ y)
 same_or_not x y = elim (number x.0 y.0) [
-  | inl is ↦ inl (var_is x y is)
+  | inl is ↦ inl (same-var x y is)
   | inr other ↦ inr (λ e. other (ap (λ (v : Var). v.0) e))
 ]
   where
     number : (m n : ℕ) → (m ≡ n) ⊎ ((m ≡ n) → ⊥)
     number m n = grind arith
 
-first_below : (x y : Var) (ys : List Var) → AllPairs (λ a b. a < b) (map (λ v. v.0) (x ∷ y ∷ ys)) → x.0 < y.0
-first_below x y ys h = h 0 1 0 (omega arith) (omega arith)
-
 -- ascending variables that are all one, and of which that is one, are it alone
 alone : (x : Var) (vars : List Var) → IsAscending vars → ((y : Var) → IsOneOf y vars → y ≡ x) → IsOneOf x vars → vars ≡ x ∷ []
 alone x [] ascending all is = absurd is
 alone x (y ∷ []) ascending all is = ap (λ v. v ∷ []) (all y (inl refl))
 alone x (y ∷ z ∷ vars) ascending all is =
-    let less : y.0 < z.0 = first_below y z vars (AllPairs-from_increasing (map (λ v. v.0) (y ∷ z ∷ vars)) ascending) in
+    let less : y.0 < z.0 = ascending 0 (omega arith) in
     let first : y.0 ≡ x.0 = ap (λ (v : Var). v.0) (all y (inl refl)) in
     let second : z.0 ≡ x.0 = ap (λ (v : Var). v.0) (all z (inr (inl refl))) in
     absurd (omega arith)

@@ -82,7 +82,8 @@ pub record IsReadComparison (rel : Rel) (scope : List Var) (fields : List (List 
   pub means : f ≡ tree.Lin terms rel bound
 
 -- the fields begin with so many further terms behind some terms, and with the bound behind them
-pub record IsReadTerms (scope : List Var) (old : List (ℤ × Var)) (due : ℕ) (fields : List (List ℕ)) (new : List (ℤ × Var))
+pub record IsReadTerms (scope : List Var) (old : List (ℤ × Var)) (due : ℕ) (fields : List (List ℕ))
+    (new : List (ℤ × Var))
     (bound : ℤ) (rest : List (List ℕ)) : Type 0 where
   pub added : List (ℤ × Var)
   pub count : length added ≡ due

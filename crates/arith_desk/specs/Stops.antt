@@ -1,4 +1,5 @@
--- Which field is the first that cannot stand where it stands. It is given by how many fields are left from it on, itself
+-- Which field is the first that cannot stand where it stands. It is given by how many fields are left from it on,
+-- itself
 -- counted. None are left where fields are missing.
 use Rattle.std.specs.Prelude.{◌≡◌, ◌≢◌, ◌⊎◌, ℕ, zero, suc, ◌<◌, List, [], ◌∷◌, ◌++◌, length, ℤ, pos, negsuc, ◌≤ℤ◌}
 use Rattle.std.specs.List.{All}
@@ -70,7 +71,8 @@ pub data Stops : List Var → List (List ℕ) → ℕ → Type 0 where
       → fields ≡ word_text (Bind quantifier) ∷ rest
       → Fails (IsFreshLetter scope) rest left → Stops scope fields left
   in_body : (scope : List Var) (quantifier : Quantifier) (x : Var) (fields rest : List (List ℕ)) (left : ℕ)
-      → x.0 < 16 → ¬ IsOneOf x scope → fields ≡ word_text (Bind quantifier) ∷ letter x ∷ rest → Stops (x ∷ scope) rest left → Stops scope fields left
+      → x.0 < 16 → ¬ IsOneOf x scope → fields ≡ word_text (Bind quantifier) ∷ letter x ∷ rest
+      → Stops (x ∷ scope) rest left → Stops scope fields left
   in_comparison : (scope : List Var) (rel : Rel) (fields rest : List (List ℕ)) (left : ℕ)
       → fields ≡ word_text (Compare rel) ∷ rest → StopsComparison scope rest left → Stops scope fields left
 

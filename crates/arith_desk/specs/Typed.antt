@@ -30,7 +30,8 @@ term_fields (t ∷ terms) = signed_decimal t.0 ∷ letter t.1 ∷ term_fields te
 -- the fields of a formula
 abbrev pub spelled : Typed → List (List ℕ)
 spelled (Compared rel terms bound) =
-    word_text (words.Compare rel) ∷ signed_decimal (pos (length terms)) ∷ (term_fields terms ++ signed_decimal bound ∷ [])
+    word_text (words.Compare rel) ∷ signed_decimal (pos (length terms))
+    ∷ (term_fields terms ++ signed_decimal bound ∷ [])
 spelled (Denied f) = word_text words.Not ∷ spelled f
 spelled (Joined connective f g) = word_text (words.Join connective) ∷ (spelled f ++ spelled g)
 spelled (Bound quantifier x f) = word_text (words.Bind quantifier) ∷ letter x ∷ spelled f
@@ -50,7 +51,8 @@ meaning (Denied f) = tree.Not (meaning f)
 meaning (Joined connective f g) = join connective (meaning f) (meaning g)
 meaning (Bound quantifier x f) = bind quantifier x (meaning f)
 
--- Within quantifiers of these letters: each further quantifier has a letter that none around it has, and each letter of a
+-- Within quantifiers of these letters: each further quantifier has a letter that none around it has, and each letter of
+-- a
 -- comparison is that of a quantifier around it.
 abbrev pub IsProper : List Var → Typed → Type 0
 IsProper scope (Compared rel terms bound) = IsAtom terms bound × All (λ t. IsOneOf t.1 scope) terms

@@ -20,6 +20,7 @@ use auto_core::Auto;
 use auto_reduce::is_empty;
 use auto_search::{Search, Way};
 use formula_auto::{CompileError, SetTable, compile};
+use limits::Budget;
 use lin_formula::{Formula, copy, free_vars, value};
 use std::alloc::{AllocError, Global};
 use track_word::Var;
@@ -40,9 +41,8 @@ pub enum Truth {
 }
 
 /// Whether a closed formula holds. The budget bounds the states of a step. Goes down the formula, a call a level.
-pub fn decide_closed(alloc: Global, f: &Formula, budget: u32) -> Result<Truth, CompileError>
+pub fn decide_closed(alloc: Global, f: &Formula, budget: Budget) -> Result<Truth, CompileError>
     requires question { IsQuestion (tree_of f.now) }
-    requires budget { (1 ≤ budget) × (budget ≤ 200000) }
     ensures truth { IfOk result (IsTruth (tree_of f.now)) }
     ensures within { OnOk result (IsWithin (tree_of f.now) budget) }
     ensures over { IfErr result (IsOver (tree_of f.now) budget) }
@@ -68,11 +68,11 @@ fn is_free(alloc: Global, var: Var, f: &Formula) -> Result<bool, AllocError>
 }
 
 /// Whether the formula holds, by the formula itself.
-fn decide(alloc: Global, f: &Formula, budget: u32) -> Result<Truth, CompileError>
+fn decide(alloc: Global, f: &Formula, budget: Budget) -> Result<Truth, CompileError>
     requires question { IsQuestion (tree_of f.now) }
-    requires budget { (1 ≤ budget) × (budget ≤ 200000) }
     ensures truth { IfOk result (λ truth.
-        ((truth ≡ Truth.True) × IsTrueFormula (tree_of f.now)) ⊎ ((truth ≡ Truth.False) × (¬ IsTrueFormula (tree_of f.now)))) }
+        ((truth ≡ Truth.True) × IsTrueFormula (tree_of f.now))
+        ⊎ ((truth ≡ Truth.False) × (¬ IsTrueFormula (tree_of f.now)))) }
     ensures within { OnOk result (FirstOver (steps (tree_of f.now)) no_sets budget 1 None) }
     ensures over { IfErr result (IsCompileError (tree_of f.now) (tables []) 0 budget) }
 {
@@ -86,10 +86,9 @@ fn decide(alloc: Global, f: &Formula, budget: u32) -> Result<Truth, CompileError
 }
 
 /// The number with which the body holds that is the nearest to 0, if it holds with any.
-fn seek(alloc: Global, var: Var, body: &Formula, budget: u32) -> Result<Truth, CompileError>
+fn seek(alloc: Global, var: Var, body: &Formula, budget: Budget) -> Result<Truth, CompileError>
     requires question { IsQuestion (tree.Ex var (tree_of body.now)) }
     requires free { IsFree var (tree_of body.now) }
-    requires budget { (1 ≤ budget) × (budget ≤ 200000) }
     ensures truth { IfOk result (IsTruth (tree.Ex var (tree_of body.now))) }
     ensures within { OnOk result (FirstOver (steps (with_zero_tree (tree_of body.now))) no_sets budget 1 None) }
     ensures over { IfErr result (IsCompileError (with_zero_tree (tree_of body.now)) (tables []) 0 budget) }

@@ -11,13 +11,14 @@ use crate::errors::{ArithError, Stop};
 use crate::fields::push_fields;
 use crate::slots::{Fields, count, factor, fresh_letter, front, known_letter, number, stop_at};
 use crate::words::{Connective, Quantifier, Word, word_of};
+use limits::MOST_LINE_BYTES;
 use lin_formula::Formula;
 use std::alloc::{AllocError, Global};
 use track_word::{Rel, Var};
 
 /// The formula that the line is. Goes down the formula, a call a level: fewer than there are fields.
 pub fn read_formula(alloc: Global, line: &[u8]) -> Result<Formula, ArithError>
-    requires { length line.now ≤ 200 }
+    requires { length line.now ≤ MOST_LINE_BYTES }
     ensures formula { IfOk result (λ f. IsFormulaLine line.now (tree_of f)) }
     ensures question { IfOk result (λ f. IsQuestion (tree_of f)) }
     ensures refused { IfErr result (IsRefusal line.now) }
@@ -78,7 +79,8 @@ fn joined<'a>(
     fields: Fields<'a>,
     scope: &[Var],
 ) -> Result<(Formula, Fields<'a>), Stop>
-    ensures ok { IfOk result (λ read. IsReadJoined connective scope.now (texts fields.now) (tree_of read.0) (texts read.1.now)) }
+    ensures ok { IfOk result
+        (λ read. IsReadJoined connective scope.now (texts fields.now) (tree_of read.0) (texts read.1.now)) }
     ensures err { IfErr result (IsStop (StopsJoined scope.now (texts fields.now))) }
 {
     let (f, rest) = formula(alloc, fields, scope)?;
@@ -94,7 +96,8 @@ fn bound<'a>(
     fields: Fields<'a>,
     scope: &[Var],
 ) -> Result<(Formula, Fields<'a>), Stop>
-    ensures ok { IfOk result (λ read. IsReadBound quantifier scope.now (texts fields.now) (tree_of read.0) (texts read.1.now)) }
+    ensures ok { IfOk result
+        (λ read. IsReadBound quantifier scope.now (texts fields.now) (tree_of read.0) (texts read.1.now)) }
     ensures err { IfErr result (IsStop (StopsBound scope.now (texts fields.now))) }
 {
     let (var, rest) = fresh_letter(fields, scope)?;
@@ -119,7 +122,8 @@ fn comparison<'a>(
     fields: Fields<'a>,
     scope: &[Var],
 ) -> Result<(Formula, Fields<'a>), Stop>
-    ensures ok { IfOk result (λ read. IsReadComparison rel scope.now (texts fields.now) (tree_of read.0) (texts read.1.now)) }
+    ensures ok { IfOk result
+        (λ read. IsReadComparison rel scope.now (texts fields.now) (tree_of read.0) (texts read.1.now)) }
     ensures err { IfErr result (IsStop (StopsComparison scope.now (texts fields.now))) }
 {
     let (due, rest) = count(fields)?;
@@ -135,7 +139,9 @@ fn terms_and_bound<'a>(
     fields: Fields<'a>,
     scope: &[Var],
 ) -> Result<(i32, Fields<'a>), Stop>
-    ensures ok { IfOk result (λ read. IsReadTerms scope.now terms.old.items due (texts fields.now) terms.new.items read.0 (texts read.1.now)) }
+    ensures ok { IfOk result
+        (λ read. IsReadTerms scope.now terms.old.items due (texts fields.now) terms.new.items read.0
+        (texts read.1.now)) }
     ensures err { IfErr result (IsStop (StopsTerms scope.now terms.old.items due (texts fields.now))) }
 {
     if due == 0 {

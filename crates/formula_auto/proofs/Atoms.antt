@@ -66,7 +66,8 @@ vals-at before (suc k) v w e (suc t) within =
     ap (λ n. val v n) at ∙ (vals-at (suc before) k v w rest t (omega arith) ∙ ap (λ n. val w n) (sym at))
 
 -- an automaton that decides a set of integers accepts a word just if it accepts some word of the same values
-pub accepted-values : (a : Automaton) (word : List ℕ) → DecidesIntegers a → Apart a.tracks → IsWord (length a.tracks) word → Accepts a word ↔ IsAccepted a (values_at a.tracks (word_values a.tracks word))
+pub accepted-values : (a : Automaton) (word : List ℕ) → DecidesIntegers a → Apart a.tracks → IsWord (length a.tracks) word
+    → Accepts a word ↔ IsAccepted a (values_at a.tracks (word_values a.tracks word))
 accepted-values a word integers apart is = (
   λ h. record { word = word; is_word = is; values = refl; accepts = h },
   λ r.
@@ -97,7 +98,8 @@ part-vals all (v ∷ vs) word =
     ∙ ap (λ l. val word (place all v) ∷ l) (later_vals all v vs word 0 (length vs) ∙ part-vals all vs word)
 
 -- the values of the part of a word, track by track
-pub values-part : (all vars tracks : List Var) (word : List ℕ) → Apart tracks → length vars ≡ length tracks → values_at tracks (word_values tracks (part_of all vars word)) ≡ values_at vars (word_values all word)
+pub values-part : (all vars tracks : List Var) (word : List ℕ) → Apart tracks → length vars ≡ length tracks
+    → values_at tracks (word_values tracks (part_of all vars word)) ≡ values_at vars (word_values all word)
 values-part all vars tracks word apart size =
     track-values tracks (part_of all vars word) apart ∙ (ap (λ k. vals_from 0 k (part_of all vars word)) (sym size) ∙ part-vals all vars word)
 

@@ -1,16 +1,17 @@
 -- The steps of a formula, one after the other.
 use Rattle.std.proofs.Common.{◌≡◌, ℕ, ◌+◌, [], ◌∷◌, ◌++◌, length, Option, Some, None, refl, inl, inr, sym, ap, subst, arith, length-append}
 use Rattle.track_word.specs.declared.tracks.Var.{Var}
-use Rattle.auto_core.specs.Automaton.{Automaton, Accepts}
-use Rattle.auto_core.specs.Reduced.{IsReduced}
-use Rattle.auto_core.specs.Spread.{BothSpreadExceeds, ExSpreadExceeds}
+use Rattle.auto_core.specs.Automaton.{Automaton}
+use Rattle.auto_walk.specs.declared.grown.Grown.{Grown}
+use Rattle.auto_walk.specs.declared.grown.Grown.TheVariants as grown
 use Rattle.lin_formula.specs.Tree.{Tree, Ex, Not, steps}
 use Rattle.lin_formula.specs.SetOf.{SetOf, members}
 use Rattle.formula_auto.specs.Step.{FirstOver}
 use Rattle.formula_auto.specs.Connected.{connect}
 use Rattle.formula_auto.specs.Decides.{Decides}
-use Rattle.formula_auto.specs.Compiled.{IsCompiled, IsCompileError}
-use Rattle.formula_auto.specs.StepError.{IsStepError}
+use Rattle.formula_auto.specs.Compiled.{IsMade, IsCompileError}
+use Rattle.formula_auto.specs.StepError.{step_error}
+use Rattle.formula_auto.specs.Nodes.{BothExceed, ExExceeds}
 use Rattle.formula_auto.specs.declared.connective.Connective.{Connective}
 use Rattle.formula_auto.specs.declared.errors.CompileError.{CompileError}
 use Rattle.formula_auto.specs.declared.errors.CompileError.TheVariants as compile_error
@@ -20,14 +21,16 @@ use Rattle.formula_auto.proofs.Connections.{steps-connect}
 
 module _ (e : ℕ → SetOf) (budget before : ℕ) where
   -- the steps of a second formula, counted on from those of the first
-  counted : (f g : Tree) (done : ℕ) (answer : Option ℕ) → done ≡ before + length (steps f) → FirstOver (steps g) (members e) budget (done + 1) answer → FirstOver (steps g) (members e) budget (before + 1 + length (steps f)) answer
+  counted : (f g : Tree) (done : ℕ) (answer : Option ℕ) → done ≡ before + length (steps f) → FirstOver (steps g) (members e) budget (done + 1) answer
+      → FirstOver (steps g) (members e) budget (before + 1 + length (steps f)) answer
   counted f g done answer is h =
       let At : ℕ → Type 0 = λ k. FirstOver (steps g) (members e) budget k answer in
       let same : done + 1 ≡ before + 1 + length (steps f) = omega arith in
       subst At same h
 
   module _ (connective : Connective) (f g : Tree) where
-    whole : (answer : Option ℕ) → FirstOver (steps f ++ steps g ++ connect connective f g ∷ []) (members e) budget (before + 1) answer → FirstOver (steps (connect connective f g)) (members e) budget (before + 1) answer
+    whole : (answer : Option ℕ) → FirstOver (steps f ++ steps g ++ connect connective f g ∷ []) (members e) budget (before + 1) answer
+        → FirstOver (steps (connect connective f g)) (members e) budget (before + 1) answer
     whole answer h = subst (λ fs. FirstOver fs (members e) budget (before + 1) answer) (sym (steps-connect connective f g)) h
 
     pub error_left : (why : CompileError) → IsCompileError f e before budget why → IsCompileError (connect connective f g) e before budget why
@@ -35,7 +38,7 @@ module _ (e : ℕ → SetOf) (budget before : ℕ) where
         whole (Some k) (FirstOver-over (steps f ++ steps g) (connect connective f g ∷ []) (members e) budget (before + 1) k (FirstOver-over (steps f) (steps g) (members e) budget (before + 1) k h))
     error_left compile_error.Memory h = tt
 
-    module _ (a : Automaton) (done : ℕ) (counts : done ≡ before + length (steps f)) (left : IsCompiled f e before budget a) where
+    module _ (a : Automaton) (done : ℕ) (counts : done ≡ before + length (steps f)) (left : IsMade f e before budget a) where
       of_both : (answer : Option ℕ) → FirstOver (steps g) (members e) budget (done + 1) answer → FirstOver (steps f ++ steps g) (members e) budget (before + 1) answer
       of_both answer h = FirstOver-append (steps f) (steps g) (members e) budget (before + 1) answer left.within (counted f g done answer counts h)
 
@@ -43,40 +46,38 @@ module _ (e : ℕ → SetOf) (budget before : ℕ) where
       error_right (compile_error.Over k) h = whole (Some k) (FirstOver-over (steps f ++ steps g) (connect connective f g ∷ []) (members e) budget (before + 1) k (of_both (Some k) h))
       error_right compile_error.Memory h = tt
 
-      module _ (b : Automaton) (after : ℕ) (more : after ≡ done + length (steps g)) (right : IsCompiled g e done budget b) where
-        with_last : (answer : Option ℕ) → FirstOver (connect connective f g ∷ []) (members e) budget (before + 1 + length (steps f ++ steps g)) answer → FirstOver (steps (connect connective f g)) (members e) budget (before + 1) answer
+      module _ (b : Automaton) (after : ℕ) (more : after ≡ done + length (steps g)) (right : IsMade g e done budget b) where
+        with_last : (answer : Option ℕ) → FirstOver (connect connective f g ∷ []) (members e) budget (before + 1 + length (steps f ++ steps g)) answer
+            → FirstOver (steps (connect connective f g)) (members e) budget (before + 1) answer
         with_last answer h =
             whole answer (FirstOver-append (steps f ++ steps g) (connect connective f g ∷ []) (members e) budget (before + 1) answer (of_both None right.within) h)
 
-        pub compiled_both : (c : Automaton) → IsReduced c → Decides c (connect connective f g) (members e) → (BothSpreadExceeds a.tracks b.tracks (Accepts a) (Accepts b) budget → ⊥) → IsCompiled (connect connective f g) e before budget c
-        compiled_both c reduced decides none = record {
-          reduced = reduced;
+        pub made_both : (c : Automaton) → Decides c (connect connective f g) (members e) → (BothExceed a b budget → ⊥) → IsMade (connect connective f g) e before budget c
+        made_both c decides none = record {
           decides = decides;
           within = with_last None (inr (λ over. none ((Exceeds-connect (members e) f g a b budget left.decides right.decides connective).1 over), refl));
         }
 
-        pub step_both : (step : ℕ) (why : CompileError) → step ≡ after + 1 → IsStepError step (BothSpreadExceeds a.tracks b.tracks (Accepts a) (Accepts b) budget) why → IsCompileError (connect connective f g) e before budget why
-        step_both step (compile_error.Over k) is (same, over) =
-            let at : k ≡ before + 1 + length (steps f ++ steps g) = simp length-append (omega arith) in
-            with_last (Some k) (inl ((Exceeds-connect (members e) f g a b budget left.decides right.decides connective).0 over, ap Some at))
-        step_both step compile_error.Memory is h = tt
+        pub step_both : (why : Grown) → (why ≡ grown.Over → BothExceed a b budget) → IsCompileError (connect connective f g) e before budget (step_error (after + 1) why)
+        step_both grown.Over over =
+            let at : after + 1 ≡ before + 1 + length (steps f ++ steps g) = simp length-append (omega arith) in
+            with_last (Some (after + 1)) (inl ((Exceeds-connect (members e) f g a b budget left.decides right.decides connective).0 (over refl), ap Some at))
+        step_both grown.Memory over = tt
 
-  module _ (x : Var) (f : Tree) (a : Automaton) (part : IsCompiled f e before budget a) where
-    pub compiled_ex : (c : Automaton) → IsReduced c → Decides c (Ex x f) (members e) → (ExSpreadExceeds x a.tracks (Accepts a) budget → ⊥) → IsCompiled (Ex x f) e before budget c
-    compiled_ex c reduced decides none = record {
-      reduced = reduced;
+  module _ (x : Var) (f : Tree) (a : Automaton) (part : IsMade f e before budget a) where
+    pub made_ex : (c : Automaton) → Decides c (Ex x f) (members e) → (ExExceeds x a budget → ⊥) → IsMade (Ex x f) e before budget c
+    made_ex c decides none = record {
       decides = decides;
       within = FirstOver-append (steps f) (Ex x f ∷ []) (members e) budget (before + 1) None part.within
           (inr (λ over. none ((Exceeds-Ex (members e) x f a budget part.decides).1 over), refl));
     }
 
-    pub step_ex : (done step : ℕ) (why : CompileError) → done ≡ before + length (steps f) → step ≡ done + 1 → IsStepError step (ExSpreadExceeds x a.tracks (Accepts a) budget) why → IsCompileError (Ex x f) e before budget why
-    step_ex done step (compile_error.Over k) counts is (same, over) =
-        let At : ℕ → Type 0 = λ n. FirstOver (steps (Ex x f)) (members e) budget (before + 1) (Some n) in
-        let at : step ≡ before + 1 + length (steps f) = omega arith in
-        subst At (sym same) (FirstOver-append (steps f) (Ex x f ∷ []) (members e) budget (before + 1) (Some step) part.within
-        (inl ((Exceeds-Ex (members e) x f a budget part.decides).0 over, ap Some at)))
-    step_ex done step compile_error.Memory counts is h = tt
+    pub step_ex : (done : ℕ) (why : Grown) → done ≡ before + length (steps f) → (why ≡ grown.Over → ExExceeds x a budget) → IsCompileError (Ex x f) e before budget (step_error (done + 1) why)
+    step_ex done grown.Over counts over =
+        let at : done + 1 ≡ before + 1 + length (steps f) = omega arith in
+        FirstOver-append (steps f) (Ex x f ∷ []) (members e) budget (before + 1) (Some (done + 1)) part.within
+        (inl ((Exceeds-Ex (members e) x f a budget part.decides).0 (over refl), ap Some at))
+    step_ex done grown.Memory counts over = tt
 
   pub error_ex : (x : Var) (f : Tree) (why : CompileError) → IsCompileError f e before budget why → IsCompileError (Ex x f) e before budget why
   error_ex x f (compile_error.Over k) h = FirstOver-over (steps f) (Ex x f ∷ []) (members e) budget (before + 1) k h

@@ -1,5 +1,6 @@
 -- Two formulas put together, by And or by Or.
 use Rattle.std.proofs.Common.{◌≡◌, ℕ, ◌+◌, ◌≤◌, List, [], ◌∷◌, ◌++◌, length, refl}
+use Rattle.limits.specs.declared.numbers.TheConstants.{MOST_TRACKS}
 use Rattle.track_word.specs.Tracks.{with_vars}
 use Rattle.auto_core.specs.Automaton.{Automaton}
 use Rattle.lin_formula.specs.Tree as tree
@@ -18,7 +19,8 @@ pub size-connect : (connective : Connective) (f g : Tree) → length (steps (con
 size-connect And f g = both_fit f g (tree.And f g)
 size-connect Or f g = both_fit f g (tree.Or f g)
 
-pub ready-connect : (connective : Connective) (f g : Tree) (sets : List Automaton) → IsReady (connect connective f g) sets → (length (with_vars (free_vars f) (free_vars g)) ≤ 20) × IsReady f sets × IsReady g sets
+pub ready-connect : (connective : Connective) (f g : Tree) (sets : List Automaton) → IsReady (connect connective f g) sets
+    → (length (with_vars (free_vars f) (free_vars g)) ≤ MOST_TRACKS) × IsReady f sets × IsReady g sets
 ready-connect And f g sets ready = ready
 ready-connect Or f g sets ready = ready
 

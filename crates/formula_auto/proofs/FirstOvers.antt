@@ -1,4 +1,4 @@
--- The first step past the budget of two lists of steps.
+-- The first step past the budget of two lists of steps. Other crates cite these lemmas.
 use Rattle.std.proofs.Common.{◌≡◌, ℕ, ◌+◌, arith, subst, length, add-zero, List, [], ◌∷◌, ◌++◌, Option, Some, None, sym, inl, inr}
 use Rattle.lin_formula.specs.Tree.{Tree}
 use Rattle.lin_formula.specs.Holds.{Sets}
@@ -7,7 +7,8 @@ use Rattle.formula_auto.specs.Step.{FirstOver}
 pub none_some : {A : Type 0} {a : A} {P : Type 0} → Some a ≡ None → P
 none_some e = cc
 
-pub FirstOver-append : (xs ys : List Tree) (e : Sets) (budget from : ℕ) (answer : Option ℕ) → FirstOver xs e budget from None → FirstOver ys e budget (from + length xs) answer → FirstOver (xs ++ ys) e budget from answer
+pub FirstOver-append : (xs ys : List Tree) (e : Sets) (budget from : ℕ) (answer : Option ℕ) → FirstOver xs e budget from None
+    → FirstOver ys e budget (from + length xs) answer → FirstOver (xs ++ ys) e budget from answer
 FirstOver-append [] ys e budget from answer h k =
     let At : ℕ → Type 0 = λ n. FirstOver ys e budget n answer in
     subst At (add-zero from) k

@@ -4,6 +4,7 @@ pub mod Exceedings
 pub mod FirstOvers
 pub mod Values
 pub mod Parts
+pub mod SameAutomata
 pub mod Lifts
 pub mod Projections
 pub mod Rooms
@@ -17,4 +18,3 @@ pub mod Connections
 pub mod MemoLemmas
 pub mod WithMemo
 pub mod PartLemmas
-pub mod Leaves

@@ -6,12 +6,13 @@ use Rattle.std.proofs.lemmas.Int.{ints}
 use Rattle.std.proofs.lemmas.Nat.Bits.{bit_at-lt, bit_at_above}
 use Rattle.std.proofs.lemmas.Nat.{mod-pow-add, mod_low}
 use Rattle.track_word.specs.declared.tracks.Var.{Var}
-use Rattle.track_word.specs.Word.{IsWord, val, low_value, integer_bit, repeat_first, repeated}
+use Rattle.track_word.specs.Word.{IsWord, val, low_value, integer_bit, repeated}
 use Rattle.track_word.specs.Tracks.{place, restrict, part_of, without_var}
 use Rattle.auto_core.specs.Spread.{IsLift}
 use Rattle.lin_formula.specs.Free.{IsOneOf}
 use Rattle.std.proofs.lemmas.Bool.{eqb-true}
 use Rattle.std.proofs.lemmas.List.Elements.{All-cons}
+use Rattle.track_word.proofs.Repeats.{repeated_some, repeated-letters}
 use Rattle.lin_formula.proofs.FreeVars.{if_cases, one_of-without_var}
 use Rattle.formula_auto.specs.Distinct.{Apart}
 use Rattle.formula_auto.proofs.Values.{bit_at-first, bit_at-rest, place-here, place-later, Cases, Same, Other, cases_of}
@@ -21,7 +22,8 @@ abbrev pub inserted : Var → List Var → ℕ → ℕ → ℕ
 inserted x [] letter bit = 0
 inserted x (y ∷ ys) letter bit = if y.0 == x.0 then bit + 2 * inserted x ys letter bit else letter % 2 + 2 * inserted x ys (letter / 2) bit
 
-inserted_cases : (P : ℕ → Type 0) (x y : Var) (ys : List Var) (letter bit : ℕ) → (y.0 == x.0 ≡ true → P (bit + 2 * inserted x ys letter bit)) → (y.0 == x.0 ≡ false → P (letter % 2 + 2 * inserted x ys (letter / 2) bit)) → P (inserted x (y ∷ ys) letter bit)
+inserted_cases : (P : ℕ → Type 0) (x y : Var) (ys : List Var) (letter bit : ℕ) → (y.0 == x.0 ≡ true → P (bit + 2 * inserted x ys letter bit))
+    → (y.0 == x.0 ≡ false → P (letter % 2 + 2 * inserted x ys (letter / 2) bit)) → P (inserted x (y ∷ ys) letter bit)
 inserted_cases P x y ys letter bit f g = if_cases (y.0 == x.0) (bit + 2 * inserted x ys letter bit) (letter % 2 + 2 * inserted x ys (letter / 2) bit) P f g
 
 low : (letter : ℕ) → letter % 2 < 2
@@ -41,7 +43,8 @@ same_number x y is = eq-eqb y.0 x.0 (ap (λ (v : Var). v.0) (sym is))
 same_var : (x y : Var) → y.0 == x.0 ≡ true → x ≡ y
 same_var x y e = ap (λ n. record { 0 = n }) (sym (eqb-true y.0 x.0 e))
 
-at_once : (x y : Var) (ys : List Var) (letter bit : ℕ) → bit < 2 → IsOneOf x (y ∷ ys) → Cases x y → (IsOneOf x ys → bit_at (inserted x ys (letter / 2) bit) (place ys x) ≡ bit) → bit_at (inserted x (y ∷ ys) letter bit) (place (y ∷ ys) x) ≡ bit
+at_once : (x y : Var) (ys : List Var) (letter bit : ℕ) → bit < 2 → IsOneOf x (y ∷ ys) → Cases x y
+    → (IsOneOf x ys → bit_at (inserted x ys (letter / 2) bit) (place ys x) ≡ bit) → bit_at (inserted x (y ∷ ys) letter bit) (place (y ∷ ys) x) ≡ bit
 at_once x y ys letter bit less h (Same is) rest =
     inserted_cases (λ n. bit_at n (place (y ∷ ys) x) ≡ bit) x y ys letter bit
     (λ e. ap (λ k. bit_at (bit + 2 * inserted x ys letter bit) k) (place-here x y ys is) ∙ bit_at-first bit (inserted x ys letter bit) less)
@@ -175,29 +178,10 @@ val-joined x gs n (l ∷ ls) is some less =
     rw (low_value-joined x gs n ls is, bit_at-inserted x gs l (integer_bit n (length ls)) (integer_bit-below n (length ls)) is, length-joined x gs n ls)
     (signed n (length ls) (subst (λ k. size_of n < 2 ^ k) at less))
 
-first_again : (word : List ℕ) → word ≢ [] → (length (repeat_first word) ≡ suc (length word)) × (repeat_first word ≢ [])
-first_again [] some = absurd (some refl)
-first_again (l ∷ ls) some = (refl, λ e. cc)
-
-pub repeated_some : (word : List ℕ) (k : ℕ) → word ≢ [] → (length (repeated k word) ≡ k + length word) × (repeated k word ≢ [])
-repeated_some word zero some = (omega arith, some)
-repeated_some word (suc k) some =
-    let rest = repeated_some word k some in
-    let more = first_again (repeated k word) rest.1 in
-    (omega (arith, more.0, rest.0), more.1)
-
 below_power : (m k : ℕ) → m ≤ k → m < 2 ^ k
 below_power m zero h = omega arith
 below_power zero (suc k) h = let rest = below_power zero k (omega arith) in let two : 2 ^ suc k ≡ 2 * 2 ^ k = omega arith in omega (arith, rest, two)
 below_power (suc m) (suc k) h = let rest = below_power m k (omega arith) in let two : 2 ^ suc k ≡ 2 * 2 ^ k = omega arith in omega (arith, rest, two)
-
-first_again-letters : (bound : ℕ) (word : List ℕ) → All (λ l. l < bound) word → All (λ l. l < bound) (repeat_first word)
-first_again-letters bound [] h = h
-first_again-letters bound (l ∷ ls) h = All-cons (λ l. l < bound) l (l ∷ ls) (h 0 0 (omega arith)) h
-
-pub repeated-letters : (bound : ℕ) (word : List ℕ) (k : ℕ) → All (λ l. l < bound) word → All (λ l. l < bound) (repeated k word)
-repeated-letters bound word zero h = h
-repeated-letters bound word (suc k) h = first_again-letters bound (repeated k word) (repeated-letters bound word k h)
 
 some_letter : (word : List ℕ) → word ≢ [] → 0 < length word
 some_letter [] some = absurd (some refl)
@@ -218,5 +202,6 @@ joined-joins x gs word n apart is =
         times = size_of n;
         repeats = part-joined x gs n (repeated (size_of n) word) apart letters;
       };
-      value = λ one. val-joined x gs n (repeated (size_of n) word) one more.1 (below_power (size_of n) (length (repeated (size_of n) word) - 1) (let some : 0 < length word = some_letter word is.nonempty in omega (arith, more.0)));
+      value = λ one. val-joined x gs n (repeated (size_of n) word) one more.1
+          (below_power (size_of n) (length (repeated (size_of n) word) - 1) (let some : 0 < length word = some_letter word is.nonempty in omega (arith, more.0)));
     }

@@ -11,17 +11,22 @@ use Rattle.formula_auto.specs.MemoEntries.{entry_of}
 use Rattle.std.proofs.lemmas.List.{map-append, length-map, take_all}
 use Rattle.std.proofs.Math.ListN.{get_or-map}
 use Rattle.auto_core.specs.Automaton.{Automaton}
+use Rattle.auto_core.specs.Reduced.{IsReduced}
 use Rattle.lin_formula.specs.Tree.{Tree, Lin, Value, Among, Not, And, Or, Ex, symbols, steps}
 use Rattle.lin_formula.specs.declared.formula.Formula.{Formula}
 use Rattle.lin_formula.specs.SetOf.{SetOf, members}
-use Rattle.formula_auto.specs.Compiled.{IsCompiled, IsCompileError}
+use Rattle.formula_auto.specs.Compiled.{IsMade, IsCompileError}
 use Rattle.formula_auto.specs.PlainParts.{is_plain, plain_within, plain_parts}
+use Rattle.formula_auto.specs.Recalled.{is_recalled, recalled_within, recalled_parts}
 use Rattle.formula_auto.specs.MemoState.{MemoState, IsEntry, IsMemo, IsEntryAt, known, counted, with_entry, IsMemoAfter}
 use Rattle.formula_auto.specs.Remembered.{IsStopped}
+use Rattle.formula_auto.specs.declared.course.Course.{Course}
+use Rattle.formula_auto.specs.declared.course.Recall.{Recall}
+use Rattle.formula_auto.specs.declared.course.Recall.TheVariants.{Plain, Nothing}
 use Rattle.formula_auto.specs.declared.errors.CompileError.{CompileError}
 use Rattle.formula_auto.specs.declared.errors.CompileError.TheVariants.{Over, Memory}
 use Rattle.formula_auto.proofs.NoSets.{Decides-no_set, steps-no_set, FirstOver-no_set, FirstOver-number}
-use Rattle.formula_auto.proofs.PlainLemmas.{plain_later, plain_whole, within-zero, within-all, after-none}
+use Rattle.formula_auto.proofs.PlainLemmas.{plain_later, plain_whole, within-zero, within-all, recalled-zero}
 
 and_left : (a b : Bool) → (a && b) ≡ true → a ≡ true
 and_left true b h = refl
@@ -59,44 +64,63 @@ stepless f n none =
     within-all f n 0 (omega arith) (omega arith) ∙ within-zero f
 
 module _ (f : Tree) (e : ℕ → SetOf) (before budget : ℕ) (a : Automaton) where
-  -- what is made of a plain formula may be entered
-  pub entry_of-compiled : is_plain f ≡ true → IsCompiled f e before budget a → IsEntry budget f a
-  entry_of-compiled plain made = record {
+  -- what is made of a plain formula may be entered, once it is reduced
+  pub entry_of-made : is_plain f ≡ true → IsReduced a → IsMade f e before budget a → IsEntry budget f a
+  entry_of-made plain reduced made = record {
     plain = plain;
-    reduced = made.reduced;
+    reduced = reduced;
     decides = λ d. Decides-no_set f (members e) (members d) a (plain-no_set f plain) made.decides;
     within = λ d. FirstOver-no_set (steps f) (members e) (members d) budget (before + 1) 1 (steps-no_set f (plain-no_set f plain)) made.within;
   }
 
   -- and what was entered serves again
-  pub compiled-of_entry : IsEntry budget f a → IsCompiled f e before budget a
-  compiled-of_entry entry = record {
-    reduced = entry.reduced;
+  pub made-of_entry : IsEntry budget f a → IsMade f e before budget a
+  made-of_entry entry = record {
     decides = entry.decides e;
     within = FirstOver-no_set (steps f) (members e) (members e) budget 1 (before + 1) (steps-no_set f (plain-no_set f entry.plain)) (entry.within e);
   }
 
-module _ (m : MemoState) (f : Tree) (before : ℕ) where
+-- what is looked up of a formula that is looked up itself
+pub recalled-itself : (r : Recall) (f : Tree) → is_recalled r f ≡ true → recalled_parts r f ≡ f ∷ []
+recalled-itself Plain f h = plain-itself f h
+recalled-itself Nothing f h = absurd (cc)
+
+pub recalled-later : (r : Recall) (f : Tree) (n : ℕ) → is_recalled r f ≡ true → n < length (steps f) → recalled_within r f n ≡ []
+recalled-later Plain f n h less = plain-later f n h less
+recalled-later Nothing f n h less = refl
+
+pub recalled-plain : (r : Recall) (f : Tree) → is_recalled r f ≡ true → is_plain f ≡ true
+recalled-plain Plain f h = h
+recalled-plain Nothing f h = absurd (cc)
+
+-- without a step there is nothing to look up
+pub recalled-stepless : (r : Recall) (f : Tree) (n : ℕ) → steps f ≡ [] → recalled_within r f n ≡ []
+recalled-stepless Plain f n none = stepless f n none
+recalled-stepless Nothing f n none = refl
+
+module _ {course : Course} {f : Tree} {old new : MemoState} where
   -- memory ran out before a step of the formula
-  pub stopped-memory : IsStopped m m f before Memory
-  stopped-memory = record {
+  pub stopped-memory : IsMemoAfter old new [] → IsStopped f course old new Memory
+  stopped-memory after = record {
     done = 0;
     few = omega arith;
     number = λ step over. cc;
-    after = subst (IsMemoAfter m m) (sym (within-zero f)) (after-none m);
+    after = subst (IsMemoAfter old new) (sym (recalled-zero course.recall f)) after;
   }
 
-  -- it was compiled without the memo
-  pub stopped-without : (e : ℕ → SetOf) (budget : ℕ) (why : CompileError) → ((n : ℕ) → n < length (steps f) → plain_within f n ≡ []) → IsCompileError f e before budget why → IsStopped m m f before why
-  stopped-without e budget (Over step) none h =
-      let number = FirstOver-number (steps f) (members e) budget (before + 1) step h in
+  -- it was to be entered, and nothing of its parts was looked up
+  pub stopped-inside : (e : ℕ → SetOf) (why : CompileError) → is_recalled course.recall f ≡ true → IsCompileError f e course.before old.budget why
+      → IsStopped f (record course { recall = Nothing }) old new why → IsStopped f course old new why
+  stopped-inside e (Over step) recalled error h =
+      let number = FirstOver-number (steps f) (members e) old.budget (course.before + 1) step error in
+      let at = h.number step refl in
       record {
-        done = step - before - 1;
-        few = omega (arith, number);
-        number = λ other over. (let same : step ≡ other = cc in omega (arith, number, same));
-        after = subst (IsMemoAfter m m) (sym (none (step - before - 1) (omega (arith, number)))) (after-none m);
+        done = h.done;
+        few = h.few;
+        number = h.number;
+        after = subst (IsMemoAfter old new) (sym (recalled-later course.recall f h.done recalled (omega (arith, number, at)))) h.after;
       }
-  stopped-without e budget Memory none h = stopped-memory
+  stopped-inside e Memory recalled error h = stopped-memory h.after
 
 -- a formula that is known
 pub after-known : (m : MemoState) (f : Tree) → Contains (known m) f → IsMemoAfter m (record m { found = counted m.found }) (f ∷ [])
@@ -110,7 +134,8 @@ after-known m f there = record {
 abbrev pub tree_in : Formula × Automaton → Tree
 tree_in entry = tree_of entry.0
 
-map-chosen : (b : Bool) (entries : List (Formula × Automaton)) (entry : Formula × Automaton) → map tree_in (if b then entries ++ entry ∷ [] else entries) ≡ (if b then map tree_in entries ++ tree_in entry ∷ [] else map tree_in entries)
+map-chosen : (b : Bool) (entries : List (Formula × Automaton)) (entry : Formula × Automaton)
+    → map tree_in (if b then entries ++ entry ∷ [] else entries) ≡ (if b then map tree_in entries ++ tree_in entry ∷ [] else map tree_in entries)
 map-chosen true entries entry = map-append tree_in entries (entry ∷ [])
 map-chosen false entries entry = refl
 
@@ -218,7 +243,8 @@ module _ (budget found : ℕ) (items longer : List Entry) (m : MemoState) (en : 
       let new_to : Contains (known old) (tree_of en.formula) → ⊥ = subst (λ t. Contains (known old) t → ⊥) (sym tree) (subst (λ n. Contains (known n) f → ⊥) (sym view) unknown) in
       let yes : nat_lt (length (map entry_of items)) (2 ^ 32 - 1) ≡ true = (let fits = room in grind (arith, fits)) in
       let entered : with_entry (map entry_of items) (entry_of en) ≡ map entry_of longer = ap (λ b. if b then map entry_of items ++ entry_of en ∷ [] else map entry_of items) yes ∙ sym entries_is in
-      let after : IsMemoAfter old (record { budget = budget; entries = with_entry (map entry_of items) (entry_of en); found = found }) (tree_of en.formula ∷ []) = after-with_entry old en.formula en.auto new_to in
+      let after : IsMemoAfter old (record { budget = budget; entries = with_entry (map entry_of items) (entry_of en); found = found }) (tree_of en.formula ∷ []) =
+      after-with_entry old en.formula en.auto new_to in
       let whole : IsMemoAfter old (state_of budget longer found) (tree_of en.formula ∷ []) =
       subst (λ es. IsMemoAfter old (record { budget = budget; entries = es; found = found }) (tree_of en.formula ∷ [])) entered after in
       subst (λ t. IsMemoAfter m (state_of budget longer found) (t ∷ [])) tree (subst (λ n. IsMemoAfter n (state_of budget longer found) (tree_of en.formula ∷ [])) view whole)

@@ -6,10 +6,9 @@ use Rattle.std.proofs.lemmas.Int.{ints}
 use Rattle.std.proofs.lemmas.List.Elements.{All-tail}
 use Rattle.std.proofs.lemmas.Nat.Bits.{bit_at-lt, same_from_bits_below}
 use Rattle.track_word.specs.Word.{IsWord, val, low_value, repeated}
+use Rattle.track_word.proofs.Repeats.{val-repeated, repeated_some, IsWord-repeated}
 use Rattle.auto_core.specs.Automaton.{Automaton, Accepts}
 use Rattle.auto_core.specs.Integers.{DecidesIntegers}
-use Rattle.formula_auto.proofs.Lifts.{repeated_some, repeated-letters}
-use Rattle.formula_auto.proofs.Projections.{val-repeated}
 
 top : (bit power low whole : ℕ) → bit < 2 → low < power → whole ≡ 2 * power → bit * power + low < whole
 top zero power low whole less below is = omega arith
@@ -71,9 +70,6 @@ same_word k (l ∷ ls) (m ∷ ms) p q size h =
     let rest : ls ≡ ms = same_letters k ls ms (All-tail (λ l. l < 2 ^ k) l ls p.letters) (All-tail (λ l. l < 2 ^ k) m ms q.letters) less (λ t within. (parts t within).1) in
     ap (λ n. n ∷ ls) first ∙ ap (λ r. m ∷ r) rest
 
-IsWord-repeated : (k : ℕ) (word : List ℕ) (n : ℕ) → IsWord k word → IsWord k (repeated n word)
-IsWord-repeated k word n is = record { nonempty = (repeated_some word n is.nonempty).1; letters = repeated-letters (2 ^ k) word n is.letters }
-
 -- an automaton that decides a set of integers takes no heed of how often a first letter stands
 accepts-repeated : (a : Automaton) (word : List ℕ) (n : ℕ) → DecidesIntegers a → IsWord (length a.tracks) word → Accepts a word ↔ Accepts a (repeated n word)
 accepts-repeated a word zero integers is = (λ h. h, λ h. h)
@@ -83,7 +79,8 @@ accepts-repeated a word (suc n) integers is =
     (λ h. more.0 (rest.0 h), λ h. rest.1 (more.1 h))
 
 -- it accepts both or neither of two words that spell the same integers
-pub accepts-same : (a : Automaton) (v w : List ℕ) → DecidesIntegers a → IsWord (length a.tracks) v → IsWord (length a.tracks) w → ((t : ℕ) → t < length a.tracks → val v t ≡ val w t) → Accepts a v → Accepts a w
+pub accepts-same : (a : Automaton) (v w : List ℕ) → DecidesIntegers a → IsWord (length a.tracks) v → IsWord (length a.tracks) w
+    → ((t : ℕ) → t < length a.tracks → val v t ≡ val w t) → Accepts a v → Accepts a w
 accepts-same a v w integers is_v is_w values accepts =
     let long_v = repeated_some v (length w) is_v.nonempty in
     let long_w = repeated_some w (length v) is_w.nonempty in

@@ -28,7 +28,8 @@ module _ (e : Sets) (f g : Tree) (a b m : Automaton) (left : Decides a f e) (rig
   tracks_is = tracks ∙ (ap (λ t. with_vars t b.tracks) left.tracks ∙ ap (λ t. with_vars (free_vars f) t) right.tracks)
 
   -- what an automaton accepts of the part of a word
-  pub left_part : (word : List ℕ) → IsWord (length (with_vars (free_vars f) (free_vars g))) word → Accepts a (part_of m.tracks a.tracks word) ↔ Holds f e (word_values (with_vars (free_vars f) (free_vars g)) word)
+  pub left_part : (word : List ℕ) → IsWord (length (with_vars (free_vars f) (free_vars g))) word
+      → Accepts a (part_of m.tracks a.tracks word) ↔ Holds f e (word_values (with_vars (free_vars f) (free_vars g)) word)
   left_part word is =
       let same : part_of m.tracks a.tracks word ≡ part_of (with_vars (free_vars f) (free_vars g)) (free_vars f) word =
       ap (λ t. part_of t a.tracks word) tracks_is ∙ ap (λ t. part_of (with_vars (free_vars f) (free_vars g)) t word) left.tracks in
@@ -36,7 +37,8 @@ module _ (e : Sets) (f g : Tree) (a b m : Automaton) (left : Decides a f e) (rig
       let says = left.words (part_of (with_vars (free_vars f) (free_vars g)) (free_vars f) word) (IsWord-part (with_vars (free_vars f) (free_vars g)) (free_vars f) word is) in
       (λ h. holds.1 (says.0 (subst (Accepts a) same h)), λ h. subst (Accepts a) (sym same) (says.1 (holds.0 h)))
 
-  pub right_part : (word : List ℕ) → IsWord (length (with_vars (free_vars f) (free_vars g))) word → Accepts b (part_of m.tracks b.tracks word) ↔ Holds g e (word_values (with_vars (free_vars f) (free_vars g)) word)
+  pub right_part : (word : List ℕ) → IsWord (length (with_vars (free_vars f) (free_vars g))) word
+      → Accepts b (part_of m.tracks b.tracks word) ↔ Holds g e (word_values (with_vars (free_vars f) (free_vars g)) word)
   right_part word is =
       let same : part_of m.tracks b.tracks word ≡ part_of (with_vars (free_vars f) (free_vars g)) (free_vars g) word =
       ap (λ t. part_of t b.tracks word) tracks_is ∙ ap (λ t. part_of (with_vars (free_vars f) (free_vars g)) t word) right.tracks in
@@ -47,7 +49,8 @@ module _ (e : Sets) (f g : Tree) (a b m : Automaton) (left : Decides a f e) (rig
   over_tracks : (word : List ℕ) → IsWord (length (with_vars (free_vars f) (free_vars g))) word → IsWord (length m.tracks) word
   over_tracks word is = subst (λ t. IsWord (length t) word) (sym tracks_is) is
 
-  pub Decides-And : ((word : List ℕ) → IsWord (length m.tracks) word → Accepts m word ↔ (Accepts a (part_of m.tracks a.tracks word) × Accepts b (part_of m.tracks b.tracks word))) → Decides m (And f g) e
+  pub Decides-And : ((word : List ℕ) → IsWord (length m.tracks) word → Accepts m word ↔ (Accepts a (part_of m.tracks a.tracks word) × Accepts b (part_of m.tracks b.tracks word)))
+      → Decides m (And f g) e
   Decides-And words = record {
     tracks = tracks_is;
     words = λ word is.
@@ -67,7 +70,8 @@ module _ (e : Sets) (f g : Tree) (a b m : Automaton) (left : Decides a f e) (rig
         (λ h. elim (w.0 h) [ inl p ↦ inl (l.0 p) | inr p ↦ inr (r.0 p) ], λ h. w.1 (elim h [ inl p ↦ inl (l.1 p) | inr p ↦ inr (r.1 p) ]));
   }
 
-pub Decides-Not : (e : Sets) (f : Tree) (a n : Automaton) → Decides a f e → n.tracks ≡ a.tracks → ((word : List ℕ) → IsWord (length a.tracks) word → Accepts n word ↔ (¬ Accepts a word)) → Decides n (Not f) e
+pub Decides-Not : (e : Sets) (f : Tree) (a n : Automaton) → Decides a f e → n.tracks ≡ a.tracks
+    → ((word : List ℕ) → IsWord (length a.tracks) word → Accepts n word ↔ (¬ Accepts a word)) → Decides n (Not f) e
 Decides-Not e f a n decides tracks words = record {
   tracks = tracks ∙ decides.tracks;
   words = λ word is.
@@ -77,7 +81,8 @@ Decides-Not e f a n decides tracks words = record {
 }
 
 -- the same words over the same tracks
-pub Decides-same : (e : Sets) (f : Tree) (a r : Automaton) → Decides a f e → r.tracks ≡ a.tracks → ((word : List ℕ) → IsWord (length a.tracks) word → Accepts r word ↔ Accepts a word) → Decides r f e
+pub Decides-same : (e : Sets) (f : Tree) (a r : Automaton) → Decides a f e → r.tracks ≡ a.tracks
+    → ((word : List ℕ) → IsWord (length a.tracks) word → Accepts r word ↔ Accepts a word) → Decides r f e
 Decides-same e f a r decides tracks words = record {
   tracks = tracks ∙ decides.tracks;
   words = λ word is.

@@ -2,11 +2,15 @@
 use Rattle.std.proofs.Common.{◌≡◌, ℕ, ◌+◌, ◌-◌, ◌≤◌, ◌<◌, Bool, true, false, ◌&&◌, nat_eq, nat_lt, nat_le, List, [], ◌∷◌, ◌++◌, length, refl, sym, ap, ◌∙◌, subst, inl, inr, arith, length-append, append_assoc, append-nil}
 use Rattle.lin_formula.specs.Tree.{Tree, Lin, Value, Among, Not, And, Or, Ex, symbols, steps}
 use Rattle.formula_auto.specs.PlainParts.{is_plain, plain_or, plain_within}
+use Rattle.formula_auto.specs.Recalled.{is_recalled, recalled_within, recalled_parts}
 use Rattle.formula_auto.specs.MemoState.{MemoState, known, counted, with_entry, Passes, IsMemoAfter}
 use Rattle.formula_auto.specs.Remembered.{IsStopped}
 use Rattle.formula_auto.specs.Connected.{connect}
 use Rattle.formula_auto.specs.declared.connective.Connective.{Connective}
 use Rattle.formula_auto.specs.declared.connective.Connective.TheVariants as connective
+use Rattle.formula_auto.specs.declared.course.Course.{Course}
+use Rattle.formula_auto.specs.declared.course.Recall.{Recall}
+use Rattle.formula_auto.specs.declared.course.Recall.TheVariants as recall
 use Rattle.formula_auto.specs.declared.errors.CompileError.{CompileError}
 use Rattle.formula_auto.specs.declared.errors.CompileError.TheVariants.{Over}
 use Rattle.track_word.specs.declared.tracks.Var.{Var}
@@ -111,28 +115,41 @@ after-append a b c xs ys first second = record {
 pub after-none : (a : MemoState) → IsMemoAfter a a []
 after-none a = record { budget = refl; added = []; entries = sym (append-nil a.entries); passes = (refl, refl) }
 
--- a formula that is not plain, of two parts
-pub record IsOfTwo (h f g : Tree) : Type 0 where
-  pub parts : (n : ℕ) → plain_within h n ≡ plain_within f n ++ plain_within g (n - length (steps f))
+-- what is looked up of a formula, before its first step and after its last
+pub recalled-zero : (r : Recall) (f : Tree) → recalled_within r f 0 ≡ []
+recalled-zero recall.Plain f = within-zero f
+recalled-zero recall.Nothing f = refl
+
+pub recalled-all : (r : Recall) (f : Tree) (n m : ℕ) → length (steps f) ≤ n → length (steps f) ≤ m → recalled_within r f n ≡ recalled_within r f m
+recalled-all recall.Plain f n m fits also = within-all f n m fits also
+recalled-all recall.Nothing f n m fits also = refl
+
+-- of a formula of two parts, not looked up itself, what is looked up of these
+pub record IsOfTwo (r : Recall) (h f g : Tree) : Type 0 where
+  pub parts : (n : ℕ) → recalled_within r h n ≡ recalled_within r f n ++ recalled_within r g (n - length (steps f))
   pub size : length (steps h) ≡ length (steps f) + length (steps g) + 1
 
-pub of_two : (connective : Connective) (f g : Tree) → is_plain (connect connective f g) ≡ false → IsOfTwo (connect connective f g) f g
-of_two connective.And f g h = record { parts = λ n. not_plain (And f g) n (plain_within f n ++ plain_within g (n - length (steps f))) h; size = both_fit f g (And f g) }
-of_two connective.Or f g h = record { parts = λ n. not_plain (Or f g) n (plain_within f n ++ plain_within g (n - length (steps f))) h; size = both_fit f g (Or f g) }
+pub of_two : (r : Recall) (connective : Connective) (f g : Tree) → is_recalled r (connect connective f g) ≡ false → IsOfTwo r (connect connective f g) f g
+of_two recall.Plain connective.And f g h = record { parts = λ n. not_plain (And f g) n (plain_within f n ++ plain_within g (n - length (steps f))) h; size = both_fit f g (And f g) }
+of_two recall.Plain connective.Or f g h = record { parts = λ n. not_plain (Or f g) n (plain_within f n ++ plain_within g (n - length (steps f))) h; size = both_fit f g (Or f g) }
+of_two recall.Nothing connective.And f g h = record { parts = λ n. refl; size = both_fit f g (And f g) }
+of_two recall.Nothing connective.Or f g h = record { parts = λ n. refl; size = both_fit f g (Or f g) }
 
--- a formula that is not plain, of one part
-pub record IsOfOne (h f : Tree) : Type 0 where
-  pub parts : (n : ℕ) → plain_within h n ≡ plain_within f n
+-- of a formula of one part
+pub record IsOfOne (r : Recall) (h f : Tree) : Type 0 where
+  pub parts : (n : ℕ) → recalled_within r h n ≡ recalled_within r f n
   pub size : length (steps f) ≤ length (steps h)
 
-pub of_one-not : (f : Tree) → is_plain (Not f) ≡ false → IsOfOne (Not f) f
-of_one-not f h = record { parts = λ n. not_plain (Not f) n (plain_within f n) h; size = omega arith }
+pub of_one-not : (r : Recall) (f : Tree) → is_recalled r (Not f) ≡ false → IsOfOne r (Not f) f
+of_one-not recall.Plain f h = record { parts = λ n. not_plain (Not f) n (plain_within f n) h; size = omega arith }
+of_one-not recall.Nothing f h = record { parts = λ n. refl; size = omega arith }
 
-pub of_one-ex : (x : Var) (f : Tree) → is_plain (Ex x f) ≡ false → IsOfOne (Ex x f) f
-of_one-ex x f h = record { parts = λ n. not_plain (Ex x f) n (plain_within f n) h; size = omega (arith, length-append (steps f) (Ex x f ∷ [])) }
+pub of_one-ex : (r : Recall) (x : Var) (f : Tree) → is_recalled r (Ex x f) ≡ false → IsOfOne r (Ex x f) f
+of_one-ex recall.Plain x f h = record { parts = λ n. not_plain (Ex x f) n (plain_within f n) h; size = omega (arith, length-append (steps f) (Ex x f ∷ [])) }
+of_one-ex recall.Nothing x f h = record { parts = λ n. refl; size = omega (arith, length-append (steps f) (Ex x f ∷ [])) }
 
-module _ (a b : MemoState) (before : ℕ) (why : CompileError) (h f : Tree) (one : IsOfOne h f) where
-  pub stopped_one : IsStopped a b f before why → IsStopped a b h before why
+module _ {course : Course} {h f : Tree} {a b : MemoState} {why : CompileError} (one : IsOfOne course.recall h f) where
+  pub stopped_one : IsStopped f course a b why → IsStopped h course a b why
   stopped_one part = record {
     done = part.done;
     few = omega (arith, part.few, one.size);
@@ -140,7 +157,7 @@ module _ (a b : MemoState) (before : ℕ) (why : CompileError) (h f : Tree) (one
     after = subst (IsMemoAfter a b) (sym (one.parts part.done)) part.after;
   }
 
-  pub stopped_at_one : IsMemoAfter a b (plain_within f (length (steps f))) → ((step : ℕ) → why ≡ Over step → step ≡ before + length (steps f) + 1) → IsStopped a b h before why
+  pub stopped_at_one : IsMemoAfter a b (recalled_parts course.recall f) → ((step : ℕ) → why ≡ Over step → step ≡ course.before + length (steps f) + 1) → IsStopped h course a b why
   stopped_at_one after number = record {
     done = length (steps f);
     few = one.size;
@@ -148,53 +165,61 @@ module _ (a b : MemoState) (before : ℕ) (why : CompileError) (h f : Tree) (one
     after = subst (IsMemoAfter a b) (sym (one.parts (length (steps f)))) after;
   }
 
-pub after_one : (a b : MemoState) (h f : Tree) → IsOfOne h f → IsMemoAfter a b (plain_within f (length (steps f))) → IsMemoAfter a b (plain_within h (length (steps h)))
-after_one a b h f one after =
-    let all : plain_within f (length (steps f)) ≡ plain_within f (length (steps h)) = within-all f (length (steps f)) (length (steps h)) (omega arith) one.size in
+pub after_one : {r : Recall} {h f : Tree} {a b : MemoState} → IsOfOne r h f → IsMemoAfter a b (recalled_parts r f) → IsMemoAfter a b (recalled_parts r h)
+after_one {r = r} {h = h} {f = f} {a = a} {b = b} one after =
+    let all : recalled_parts r f ≡ recalled_within r f (length (steps h)) = recalled-all r f (length (steps f)) (length (steps h)) (omega arith) one.size in
     subst (IsMemoAfter a b) (all ∙ sym (one.parts (length (steps h)))) after
 
-module _ (h f g : Tree) (two : IsOfTwo h f g) where
-  two_left : (n : ℕ) → n ≤ length (steps f) → plain_within f n ≡ plain_within h n
+module _ {r : Recall} {h f g : Tree} (two : IsOfTwo r h f g) where
+  two_left : (n : ℕ) → n ≤ length (steps f) → recalled_within r f n ≡ recalled_within r h n
   two_left n few =
       let at : n - length (steps f) ≡ 0 = omega arith in
-      let none : plain_within g (n - length (steps f)) ≡ [] = ap (plain_within g) at ∙ within-zero g in
-      sym (two.parts n ∙ (ap (λ ys. plain_within f n ++ ys) none ∙ append-nil (plain_within f n)))
+      let none : recalled_within r g (n - length (steps f)) ≡ [] = ap (recalled_within r g) at ∙ recalled-zero r g in
+      sym (two.parts n ∙ (ap (λ ys. recalled_within r f n ++ ys) none ∙ append-nil (recalled_within r f n)))
 
-  two_right : (n m : ℕ) → m ≡ length (steps f) + n → plain_within f (length (steps f)) ++ plain_within g n ≡ plain_within h m
+  two_right : (n m : ℕ) → m ≡ length (steps f) + n → recalled_parts r f ++ recalled_within r g n ≡ recalled_within r h m
   two_right n m is =
       let at : n ≡ m - length (steps f) = omega arith in
-      let all : plain_within f (length (steps f)) ≡ plain_within f m = within-all f (length (steps f)) m (omega arith) (omega arith) in
-      ap (λ xs. xs ++ plain_within g n) all ∙ (ap (λ k. plain_within f m ++ plain_within g k) at ∙ sym (two.parts m))
+      let all : recalled_parts r f ≡ recalled_within r f m = recalled-all r f (length (steps f)) m (omega arith) (omega arith) in
+      ap (λ xs. xs ++ recalled_within r g n) all ∙ (ap (λ k. recalled_within r f m ++ recalled_within r g k) at ∙ sym (two.parts m))
 
-  two_all : plain_within f (length (steps f)) ++ plain_within g (length (steps g)) ≡ plain_within h (length (steps h))
+  two_all : recalled_parts r f ++ recalled_parts r g ≡ recalled_parts r h
   two_all =
-      let more : plain_within g (length (steps g)) ≡ plain_within g (length (steps g) + 1) = within-all g (length (steps g)) (length (steps g) + 1) (omega arith) (omega arith) in
-      ap (λ ys. plain_within f (length (steps f)) ++ ys) more ∙ two_right (length (steps g) + 1) (length (steps h)) (omega (arith, two.size))
+      let more : recalled_parts r g ≡ recalled_within r g (length (steps g) + 1) = recalled-all r g (length (steps g)) (length (steps g) + 1) (omega arith) (omega arith) in
+      ap (λ ys. recalled_parts r f ++ ys) more ∙ two_right (length (steps g) + 1) (length (steps h)) (omega (arith, two.size))
 
-  pub after_two : (a b c : MemoState) → IsMemoAfter a b (plain_within f (length (steps f))) → IsMemoAfter b c (plain_within g (length (steps g))) → IsMemoAfter a c (plain_within h (length (steps h)))
-  after_two a b c left right = subst (IsMemoAfter a c) two_all (after-append a b c (plain_within f (length (steps f))) (plain_within g (length (steps g))) left right)
+  module _ {a b c : MemoState} (left : IsMemoAfter a b (recalled_parts r f)) where
+    -- the memo after so many steps of the second part
+    after_some : (n : ℕ) → IsMemoAfter b c (recalled_within r g n) → IsMemoAfter a c (recalled_within r h (length (steps f) + n))
+    after_some n right =
+        subst (IsMemoAfter a c) (two_right n (length (steps f) + n) refl) (after-append a b c (recalled_parts r f) (recalled_within r g n) left right)
 
-  pub stopped_left : (a b : MemoState) (before : ℕ) (why : CompileError) → IsStopped a b f before why → IsStopped a b h before why
-  stopped_left a b before why part = record {
+    pub after_two : IsMemoAfter b c (recalled_parts r g) → IsMemoAfter a c (recalled_parts r h)
+    after_two right = subst (IsMemoAfter a c) two_all (after-append a b c (recalled_parts r f) (recalled_parts r g) left right)
+
+module _ {course : Course} {h f g : Tree} (two : IsOfTwo course.recall h f g) where
+  pub stopped_left : {a b : MemoState} {why : CompileError} → IsStopped f course a b why → IsStopped h course a b why
+  stopped_left {a = a} {b = b} part = record {
     done = part.done;
     few = omega (arith, part.few, two.size);
     number = part.number;
-    after = subst (IsMemoAfter a b) (two_left part.done part.few) part.after;
+    after = subst (IsMemoAfter a b) (two_left two part.done part.few) part.after;
   }
 
-  pub stopped_right : (a b c : MemoState) (before done : ℕ) (why : CompileError) → done ≡ before + length (steps f) → IsMemoAfter a b (plain_within f (length (steps f))) → IsStopped b c g done why → IsStopped a c h before why
-  stopped_right a b c before done why counts left part = record {
-    done = length (steps f) + part.done;
-    few = omega (arith, part.few, two.size);
-    number = λ step over. omega (arith, part.number step over, counts);
-    after = subst (IsMemoAfter a c) (two_right part.done (length (steps f) + part.done) refl) (after-append a b c (plain_within f (length (steps f))) (plain_within g part.done) left part.after);
-  }
+  module _ {a b c : MemoState} {why : CompileError} (left : IsMemoAfter a b (recalled_parts course.recall f)) where
+    pub stopped_right : {last : ℕ} → last ≡ course.before + length (steps f) → IsStopped g (record course { before = last }) b c why → IsStopped h course a c why
+    stopped_right counts part = record {
+      done = length (steps f) + part.done;
+      few = omega (arith, part.few, two.size);
+      number = λ step over. omega (arith, part.number step over, counts);
+      after = after_some two left part.done part.after;
+    }
 
-  pub stopped_at_two : (a b c : MemoState) (before : ℕ) (why : CompileError) → IsMemoAfter a b (plain_within f (length (steps f))) → IsMemoAfter b c (plain_within g (length (steps g)))
-      → ((step : ℕ) → why ≡ Over step → step ≡ before + length (steps f) + length (steps g) + 1) → IsStopped a c h before why
-  stopped_at_two a b c before why left right number = record {
-    done = length (steps f) + length (steps g);
-    few = omega (arith, two.size);
-    number = λ step over. omega (arith, number step over);
-    after = subst (IsMemoAfter a c) (two_right (length (steps g)) (length (steps f) + length (steps g)) refl) (after-append a b c (plain_within f (length (steps f))) (plain_within g (length (steps g))) left right);
-  }
+    pub stopped_at_two : IsMemoAfter b c (recalled_parts course.recall g)
+        → ((step : ℕ) → why ≡ Over step → step ≡ course.before + length (steps f) + length (steps g) + 1) → IsStopped h course a c why
+    stopped_at_two right number = record {
+      done = length (steps f) + length (steps g);
+      few = omega (arith, two.size);
+      number = λ step over. omega (arith, number step over);
+      after = after_some two left (length (steps g)) right;
+    }

@@ -1,13 +1,12 @@
--- What "some integer" says of a word: that some lift of it is accepted.
-use Rattle.std.proofs.Common.{◌≡◌, ◌≢◌, ◌↔◌, ℕ, zero, suc, ◌+◌, ◌<◌, List, [], ◌∷◌, length, map, Bool, true, false, if◌then◌else◌, ◌==◌, ℤ, pos, ◌-ℤ◌, ◌*◌, ◌^◌, refl, sym, ap, ◌∙◌, subst, inl, inr, arith, eq-eqb}
-use Rattle.std.specs.Int.{bit_at}
+-- What "some integer" says of a word: that some lift of it is accepted. Other crates cite these lemmas.
+use Rattle.std.proofs.Common.{◌≡◌, ◌≢◌, ◌↔◌, ℕ, suc, ◌<◌, List, [], ◌∷◌, length, map, Bool, true, false, if◌then◌else◌, ◌==◌, ℤ, refl, sym, ap, ◌∙◌, subst, inl, inr, arith, eq-eqb}
 use Rattle.std.specs.List.{AllPairs, slice_index_or}
 use Rattle.std.proofs.lemmas.Bool.{eqb-true}
-use Rattle.std.proofs.lemmas.Int.{ints}
 use Rattle.std.proofs.lemmas.List.Kept.{AllPairs-from_increasing}
 use Rattle.track_word.specs.declared.tracks.Var.{Var}
-use Rattle.track_word.specs.Word.{IsWord, val, low_value, repeat_first, repeated}
+use Rattle.track_word.specs.Word.{IsWord, val, repeated}
 use Rattle.track_word.specs.Tracks.{IsAscending, place, without_var, word_values}
+use Rattle.track_word.proofs.Repeats.{val-repeated}
 use Rattle.auto_core.specs.Automaton.{Automaton, Accepts}
 use Rattle.auto_core.specs.Spread.{IsLift}
 use Rattle.lin_formula.specs.Tree.{Tree, Ex, free_vars}
@@ -21,7 +20,7 @@ use Rattle.formula_auto.specs.Distinct.{Apart}
 use Rattle.formula_auto.proofs.Values.{val-part, Cases, Same, Other, cases_of}
 use Rattle.formula_auto.proofs.Lifts.{joined, size_of, joined-joins}
 
-above : (x : ℕ) (ys : List Var) → ((j : ℕ) → j < length (map (λ v. v.0) ys) → x < slice_index_or (map (λ v. v.0) ys) j 0) → (y : Var) → IsOneOf y ys → x < y.0
+pub above : (x : ℕ) (ys : List Var) → ((j : ℕ) → j < length (map (λ v. v.0) ys) → x < slice_index_or (map (λ v. v.0) ys) j 0) → (y : Var) → IsOneOf y ys → x < y.0
 above x [] h y is = absurd is
 above x (z ∷ zs) h y (inl is) =
     let first : x < z.0 = h 0 (omega arith) in
@@ -41,19 +40,6 @@ apart-ascending ys h = apart-pairs ys (AllPairs-from_increasing (map (λ v. v.0)
 
 pub apart-free : (f : Tree) → Apart (free_vars f)
 apart-free f = apart-ascending (free_vars f) (free_vars-ascend f)
-
-doubled : (bit power low : ℕ) → pos (bit * power + low) -ℤ pos (bit * (2 * power)) ≡ pos low -ℤ pos (bit * power)
-doubled bit power low = omega (arith, ints)
-
-kept : (word : List ℕ) (track : ℕ) → val (repeat_first word) track ≡ val word track
-kept [] track = refl
-kept (sign ∷ letters) track =
-    let power : 2 ^ suc (length letters) ≡ 2 * 2 ^ length letters = omega arith in
-    rw power (doubled (bit_at sign track) (2 ^ length letters) (low_value letters track))
-
-pub val-repeated : (word : List ℕ) (track k : ℕ) → val (repeated k word) track ≡ val word track
-val-repeated word track zero = refl
-val-repeated word track (suc k) = kept (repeated k word) track ∙ val-repeated word track k
 
 pick : (b : Bool) (n p q : ℤ) → (b ≡ true → n ≡ q) → (b ≡ false → p ≡ q) → (if b then n else p) ≡ q
 pick true n p q f g = f refl
@@ -81,7 +67,8 @@ module _ (x : Var) (gs : List Var) (word lift : List ℕ) (is_lift : IsLift (wit
   pub lift_values : (n : ℤ) → (IsOneOf x gs → val lift (place gs x) ≡ n) → (y : Var) → IsOneOf y gs → with_value (word_values (without_var x gs) word) x n y.0 ≡ word_values gs lift y.0
   lift_values n value y one = at_track n value y one (cases_of y x)
 
-module _ (e : Sets) (x : Var) (g : Tree) (word lift : List ℕ) (n : ℤ) (is_lift : IsLift (without_var x (free_vars g)) (free_vars g) word lift) (value : IsOneOf x (free_vars g) → val lift (place (free_vars g) x) ≡ n) where
+module _ (e : Sets) (x : Var) (g : Tree) (word lift : List ℕ) (n : ℤ) (is_lift : IsLift (without_var x (free_vars g)) (free_vars g) word lift)
+    (value : IsOneOf x (free_vars g) → val lift (place (free_vars g) x) ≡ n) where
   agree : (y : Var) → IsFree y g → with_value (word_values (without_var x (free_vars g)) word) x n y.0 ≡ word_values (free_vars g) lift y.0
   agree y is = lift_values x (free_vars g) word lift is_lift n value y ((free_vars-free g y).1 is)
 
@@ -92,7 +79,8 @@ module _ (e : Sets) (x : Var) (g : Tree) (word lift : List ℕ) (n : ℤ) (is_li
   )
 
 -- some lift of the word is one of which the body holds
-pub Says-Ex : (e : Sets) (x : Var) (g : Tree) (word : List ℕ) → IsWord (length (without_var x (free_vars g))) word → Says (Ex x g) e word ↔ ((lift : List ℕ) × IsLift (without_var x (free_vars g)) (free_vars g) word lift × Says g e lift)
+pub Says-Ex : (e : Sets) (x : Var) (g : Tree) (word : List ℕ) → IsWord (length (without_var x (free_vars g))) word
+    → Says (Ex x g) e word ↔ ((lift : List ℕ) × IsLift (without_var x (free_vars g)) (free_vars g) word lift × Says g e lift)
 Says-Ex e x g word is = (
   λ (n, h).
       let lift = joined x (free_vars g) n (repeated (size_of n) word) in
@@ -113,10 +101,12 @@ Decides-Ex e x g a m decides tracks words =
           let w = words word (subst (λ t. IsWord (length t) word) (sym tracks_is) is) in
           let says = Says-Ex e x g word is in (
             λ h. let (lift, is_lift, accepts) = w.0 h in
-                let there : IsLift (without_var x (free_vars g)) (free_vars g) word lift = subst (λ t. IsLift t (free_vars g) word lift) tracks_is (subst (λ t. IsLift m.tracks t word lift) decides.tracks is_lift) in
+                let there : IsLift (without_var x (free_vars g)) (free_vars g) word lift =
+                subst (λ t. IsLift t (free_vars g) word lift) tracks_is (subst (λ t. IsLift m.tracks t word lift) decides.tracks is_lift) in
                 says.1 (lift, there, (decides.words lift there.is_word).0 accepts),
             λ h. let (lift, is_lift, holds) = says.0 h in
-                let there : IsLift m.tracks a.tracks word lift = subst (λ t. IsLift m.tracks t word lift) (sym decides.tracks) (subst (λ t. IsLift t (free_vars g) word lift) (sym tracks_is) is_lift) in
+                let there : IsLift m.tracks a.tracks word lift =
+                subst (λ t. IsLift m.tracks t word lift) (sym decides.tracks) (subst (λ t. IsLift t (free_vars g) word lift) (sym tracks_is) is_lift) in
                 w.1 (lift, there, (decides.words lift is_lift.is_word).1 holds),
           );
     }

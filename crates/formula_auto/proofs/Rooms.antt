@@ -3,8 +3,8 @@ use Rattle.std.proofs.Common.{◌≡◌, ◌≢◌, ℕ, suc, ◌≤◌, List, [
 use Rattle.std.specs.List.{All, slice_get}
 use Rattle.std.proofs.lemmas.List.Elements.{All-cons, All-tail}
 use Rattle.std.proofs.lemmas.Option.{same_Some, slice_get_past}
+use Rattle.limits.specs.declared.numbers.TheConstants.{MOST_TRACKS}
 use Rattle.auto_core.specs.Integers.{DecidesIntegers}
-use Rattle.auto_core.specs.Reduced.{IsReduced}
 use Rattle.track_word.specs.declared.tracks.Var.{Var}
 use Rattle.track_word.specs.Tracks.{with_vars}
 use Rattle.auto_core.specs.Automaton.{Automaton}
@@ -56,7 +56,7 @@ All-right P (x ∷ xs) ys h = All-right P xs ys (All-tail P x (xs ++ ys) h)
 -- well made, with sets for what it names, and any different variables of it are few
 record Fits (f : Tree) (sets : List Automaton) : Type 0 where
   pub well_made : IsWellMade f
-  pub few : (vars : List Var) → Apart vars → ((x : Var) → IsOneOf x vars → IsOneOf x (vars_of f)) → length vars ≤ 20
+  pub few : (vars : List Var) → Apart vars → ((x : Var) → IsOneOf x vars → IsOneOf x (vars_of f)) → length vars ≤ MOST_TRACKS
   pub has_sets : HasSets sets f
 
 fits : (f : Tree) (sets : List Automaton) → IsCompilable f sets → Fits f sets
@@ -94,7 +94,7 @@ free_among (Or f g) z h =
     (elim ((one_of-with_vars z (free_vars f) (free_vars g)).0 h) [ inl l ↦ inl (free_among f z l) | inr r ↦ inr (free_among g z r) ])
 free_among (Ex x f) z h = (one_of-with_var z x (vars_of f)).1 (inr (free_among f z ((one_of-without_var z x (free_vars f)).0 h).1))
 
-few_tracks : (f g : Tree) (sets : List Automaton) → Fits (And f g) sets → length (with_vars (free_vars f) (free_vars g)) ≤ 20
+few_tracks : (f g : Tree) (sets : List Automaton) → Fits (And f g) sets → length (with_vars (free_vars f) (free_vars g)) ≤ MOST_TRACKS
 few_tracks f g sets h = h.few (with_vars (free_vars f) (free_vars g)) (apart-free (And f g)) (free_among (And f g))
 
 fits-ready : (f : Tree) (sets : List Automaton) → Fits f sets → IsReady f sets
@@ -118,10 +118,10 @@ ready f sets h = fits-ready f sets (fits f sets h)
 
 module _ (sets : List Automaton) (number : ℕ) (vars : List Var) (named : IsSetFor sets number (length vars)) where
   -- the set that is named has a track for each variable, decides a set of integers, and is reduced
-  pub set_fits : (a : Automaton) → slice_get sets number ≡ Some a → (length vars ≡ length a.tracks) × DecidesIntegers a × IsReduced a
+  pub set_fits : (a : Automaton) → slice_get sets number ≡ Some a → (length vars ≡ length a.tracks) × DecidesIntegers a
   set_fits a there =
       let is : named.set ≡ a = same_Some named.set a (sym named.is_there ∙ there) in
-      (sym named.arity ∙ ap (λ b. length b.tracks) is, subst DecidesIntegers is named.integers, subst IsReduced is named.reduced)
+      (sym named.arity ∙ ap (λ b. length b.tracks) is, subst DecidesIntegers is named.integers)
 
   pub set_there : length sets ≤ number → ⊥
   set_there past =

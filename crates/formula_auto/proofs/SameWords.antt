@@ -1,20 +1,17 @@
 -- A spread depends on the sets of words alone.
-use Rattle.std.proofs.Common.{◌≢◌, ◌↔◌, ℕ, ◌^◌, ◌<◌, List, [], ◌∷◌, ◌++◌, length, map, refl, arith, lit<, pow-suc}
-use Rattle.std.proofs.lemmas.Nat.Bits.{bit_at-lt}
+use Rattle.std.proofs.Common.{◌≢◌, ◌↔◌, ℕ, ◌^◌, ◌<◌, List, [], ◌∷◌, ◌++◌, length, refl, arith}
 use Rattle.std.specs.List.{All}
 use Rattle.std.proofs.lemmas.List.Elements.{All-append, All-map, All-weaker}
 use Rattle.track_word.specs.declared.tracks.Var.{Var}
 use Rattle.track_word.specs.Word.{IsWord}
-use Rattle.track_word.specs.Tracks.{with_vars, without_var, part_of, restrict, place}
+use Rattle.track_word.specs.Tracks.{with_vars, without_var, part_of, restrict}
 use Rattle.auto_core.specs.Spread.{SameResidual, AlikeInBoth, LiftsInto, AlikeLifted, HasMoreClasses, BothSpreadExceeds, ExSpreadExceeds}
+use Rattle.auto_core.proofs.Restricted.{restrict-below}
+use Rattle.auto_bool.proofs.Spreads.{not_nil-map}
 
 pub not_nil-append : (v letters : List ℕ) → v ≢ [] → v ++ letters ≢ []
 not_nil-append [] letters h e = h refl
 not_nil-append (x ∷ v) letters h e = cc
-
-pub not_nil-map : (f : ℕ → ℕ) (v : List ℕ) → v ≢ [] → map f v ≢ []
-not_nil-map f [] h e = h refl
-not_nil-map f (x ∷ v) h e = cc
 
 pub IsWord-append : (k : ℕ) (v letters : List ℕ) → IsWord k v → All (λ l. l < 2 ^ k) letters → IsWord k (v ++ letters)
 IsWord-append k v letters is are = record {
@@ -22,17 +19,11 @@ IsWord-append k v letters is are = record {
   letters = All-append (λ l. l < 2 ^ k) v letters is.letters are;
 }
 
-pub restrict_below : (all some : List Var) (letter : ℕ) → restrict all some letter < 2 ^ length some
-restrict_below all [] letter = lit< tt
-restrict_below all (x ∷ some) letter =
-    let bit = bit_at-lt letter (place all x) in
-    let rest = restrict_below all some letter in
-    rw pow-suc (omega (arith, bit, rest))
-
 pub IsWord-part : (all some : List Var) (v : List ℕ) → IsWord (length all) v → IsWord (length some) (part_of all some v)
 IsWord-part all some v is = record {
   nonempty = not_nil-map (restrict all some) v is.nonempty;
-  letters = All-map (λ l. l < 2 ^ length some) (restrict all some) v (All-weaker (λ l. l < 2 ^ length all) (λ l. restrict all some l < 2 ^ length some) (λ l h. restrict_below all some l) v is.letters);
+  letters = All-map (λ l. l < 2 ^ length some) (restrict all some) v
+      (All-weaker (λ l. l < 2 ^ length all) (λ l. restrict all some l < 2 ^ length some) (λ l h. restrict-below all some l) v is.letters);
 }
 
 -- the same words over so many tracks
@@ -47,7 +38,8 @@ SameResidual-same k F G v w same is_v is_w h = record {
       (λ p. at_w.1 ((h.same letters are).0 (at_v.0 p)), λ p. at_v.1 ((h.same letters are).1 (at_w.0 p)));
 }
 
-pub more_classes : (tracks : ℕ) (P Q : List ℕ → List ℕ → Type 0) (budget : ℕ) → ((v w : List ℕ) → IsWord tracks v → IsWord tracks w → Q v w → P v w) → HasMoreClasses tracks P budget → HasMoreClasses tracks Q budget
+pub more_classes : (tracks : ℕ) (P Q : List ℕ → List ℕ → Type 0) (budget : ℕ) → ((v w : List ℕ) → IsWord tracks v → IsWord tracks w → Q v w → P v w)
+    → HasMoreClasses tracks P budget → HasMoreClasses tracks Q budget
 more_classes tracks P Q budget back h = record {
   words = h.words;
   count = h.count;
@@ -55,7 +47,8 @@ more_classes tracks P Q budget back h = record {
   apart = λ i j d less within alike. h.apart i j d less within (back _ _ (h.are_words i d (omega arith)) (h.are_words j d within) alike);
 }
 
-pub BothSpread-same : (fs gs : List Var) (F F' G G' : List ℕ → Type 0) (budget : ℕ) → SameWords (length fs) F F' → SameWords (length gs) G G' → BothSpreadExceeds fs gs F G budget → BothSpreadExceeds fs gs F' G' budget
+pub BothSpread-same : (fs gs : List Var) (F F' G G' : List ℕ → Type 0) (budget : ℕ) → SameWords (length fs) F F' → SameWords (length gs) G G'
+    → BothSpreadExceeds fs gs F G budget → BothSpreadExceeds fs gs F' G' budget
 BothSpread-same fs gs F F' G G' budget same_f same_g h =
     more_classes (length (with_vars fs gs)) (AlikeInBoth (with_vars fs gs) fs gs F G) (AlikeInBoth (with_vars fs gs) fs gs F' G') budget
     (λ v w is_v is_w alike. record {

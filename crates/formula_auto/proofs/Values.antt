@@ -1,10 +1,10 @@
 -- The values of a word's part are the word's values.
-use Rattle.std.proofs.Common.{◌≡◌, ◌≢◌, ℕ, zero, suc, ◌+◌, ◌*◌, ◌/◌, ◌<◌, List, [], ◌∷◌, length, Bool, true, false, ◌==◌, refl, sym, ap, ◌∙◌, inl, inr, arith, eq-eqb}
+use Rattle.std.proofs.Common.{◌≡◌, ◌≢◌, ℕ, suc, ◌+◌, ◌*◌, ◌/◌, ◌<◌, List, [], ◌∷◌, length, Bool, true, false, ◌==◌, refl, sym, ap, ◌∙◌, inl, inr, arith, eq-eqb}
 use Rattle.std.specs.Int.{bit_at}
 use Rattle.std.proofs.lemmas.Nat.Bits.{bit_at-lt, bit_at-suc, bit_at_lowest}
 use Rattle.std.proofs.lemmas.Bool.{eqb-true}
 use Rattle.track_word.specs.declared.tracks.Var.{Var}
-use Rattle.track_word.specs.Word.{val, low_value, repeated, RepeatKeepsValues}
+use Rattle.track_word.specs.Word.{val, low_value}
 use Rattle.track_word.specs.Tracks.{place, restrict, part_of}
 use Rattle.lin_formula.specs.Free.{IsOneOf}
 
@@ -70,7 +70,8 @@ cases_at x y false e = Other (λ is. let t : x.0 == y.0 ≡ true = eq-eqb x.0 y.
 pub cases_of : (x y : Var) → Cases x y
 cases_of x y = cases_at x y (x.0 == y.0) refl
 
-restrict_cases : (all : List Var) (x : Var) (some : List Var) (y : Var) (letter : ℕ) → IsOneOf y (x ∷ some) → Cases y x → (IsOneOf y some → bit_at (restrict all some letter) (place some y) ≡ bit_at letter (place all y)) → bit_at (restrict all (x ∷ some) letter) (place (x ∷ some) y) ≡ bit_at letter (place all y)
+restrict_cases : (all : List Var) (x : Var) (some : List Var) (y : Var) (letter : ℕ) → IsOneOf y (x ∷ some) → Cases y x
+    → (IsOneOf y some → bit_at (restrict all some letter) (place some y) ≡ bit_at letter (place all y)) → bit_at (restrict all (x ∷ some) letter) (place (x ∷ some) y) ≡ bit_at letter (place all y)
 restrict_cases all x some y letter h (Same is) rest =
     ap (λ k. bit_at (restrict all (x ∷ some) letter) k) (place-here y x some is)
     ∙ (bit_at-first (bit_at letter (place all x)) (restrict all some letter) (bit_at-lt letter (place all x)) ∙ ap (λ v. bit_at letter (place all v)) (sym is))
@@ -91,7 +92,3 @@ same_bits-part all some y (l ∷ ls) h = (bit_at-restrict all some y l h, same_b
 -- the values of a word's part are the word's values
 pub val-part : (all some : List Var) (y : Var) (word : List ℕ) → IsOneOf y some → val (part_of all some word) (place some y) ≡ val word (place all y)
 val-part all some y word h = val-same_bits (part_of all some word) word (place some y) (place all y) (same_bits-part all some y word h)
-
-pub val-repeated : (word : List ℕ) (track : ℕ) (k : ℕ) → RepeatKeepsValues → val (repeated k word) track ≡ val word track
-val-repeated word track zero law = refl
-val-repeated word track (suc k) law = law (repeated k word) track ∙ val-repeated word track k law

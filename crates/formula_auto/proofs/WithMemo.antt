@@ -1,144 +1,185 @@
--- What compiling with a memo makes of a formula, from what it made of its parts.
-use Rattle.std.proofs.Common.{◌≡◌, ℕ, ◌+◌, ◌-◌, false, true, [], ◌∷◌, length, refl, sym, ◌∙◌, subst, arith, length-append}
+-- What compiling makes of a formula, from what it made of its parts.
+use Rattle.std.proofs.Common.{◌≡◌, ℕ, ◌+◌, ◌-◌, true, false, [], ◌∷◌, length, None, refl, sym, ap, ◌∙◌, subst, arith, length-append}
 use Rattle.std.specs.List.{Contains}
 use Rattle.track_word.specs.declared.tracks.Var.{Var}
-use Rattle.auto_core.specs.Automaton.{Automaton, Accepts}
+use Rattle.auto_core.specs.Automaton.{Automaton}
 use Rattle.auto_core.specs.Reduced.{IsReduced}
-use Rattle.auto_core.specs.Spread.{BothSpreadExceeds, ExSpreadExceeds}
+use Rattle.auto_walk.specs.declared.grown.Grown.{Grown}
+use Rattle.auto_walk.specs.declared.grown.Grown.TheVariants as grown
 use Rattle.lin_formula.specs.Tree.{Tree, Not, Ex, steps}
 use Rattle.lin_formula.specs.SetOf.{SetOf, members}
-use Rattle.formula_auto.specs.Connected.{connect}
+use Rattle.lin_formula.specs.TreeOf.{tree_of}
+use Rattle.formula_auto.specs.Connected.{connected}
 use Rattle.formula_auto.specs.Decides.{Decides}
-use Rattle.formula_auto.specs.Compiled.{IsCompiled, IsCompileError}
-use Rattle.formula_auto.specs.StepError.{IsStepError}
-use Rattle.formula_auto.specs.PlainParts.{is_plain, plain_within}
+use Rattle.formula_auto.specs.Compiled.{IsMade, IsCompileError}
+use Rattle.formula_auto.specs.StepError.{step_error}
+use Rattle.formula_auto.specs.Nodes.{AcceptSame, DecidesNot, DecidesEx, DecidesBoth, BothExceed, ExExceeds}
+use Rattle.formula_auto.specs.PlainParts.{plain_within}
+use Rattle.formula_auto.specs.Recalled.{is_recalled, start}
+use Rattle.formula_auto.specs.Step.{FirstOver}
 use Rattle.formula_auto.specs.MemoState.{MemoState, IsEntry, known, counted, IsMemoAfter, IsMemoStopped}
 use Rattle.formula_auto.specs.Remembered.{IsRemembered, IsStopped, IsInterrupted}
-use Rattle.formula_auto.specs.declared.connective.Connective.{Connective}
+use Rattle.formula_auto.specs.declared.connective.Pair.{Pair}
+use Rattle.formula_auto.specs.declared.course.Course.{Course}
+use Rattle.formula_auto.specs.declared.course.Recall.{Recall}
+use Rattle.formula_auto.specs.declared.course.Recall.TheVariants.{Plain, Nothing}
 use Rattle.formula_auto.specs.declared.errors.CompileError.{CompileError}
 use Rattle.formula_auto.specs.declared.errors.CompileError.TheVariants.{Over, Memory}
-use Rattle.formula_auto.proofs.Compiles.{compiled_both, compiled_ex, step_both, step_ex, error_left, error_right, error_ex, error_not}
+use Rattle.formula_auto.proofs.Compiles.{made_both, made_ex, step_both, step_ex, error_left, error_right, error_ex, error_not}
 use Rattle.formula_auto.proofs.Connections.{size-connect}
-use Rattle.formula_auto.proofs.PlainLemmas.{of_one-not, of_one-ex, of_two, after_one, after_two, stopped_one, stopped_at_one, stopped_left, stopped_right, stopped_at_two, after-none}
-use Rattle.formula_auto.proofs.MemoLemmas.{plain-later, plain-itself, stepless, compiled-of_entry, stopped-memory, stopped-without, after-known}
+use Rattle.formula_auto.proofs.SameAutomata.{still_decides}
+use Rattle.formula_auto.proofs.PlainLemmas.{IsOfTwo, of_one-not, of_one-ex, of_two, after_one, after_two, stopped_one, stopped_at_one, stopped_left, stopped_right, stopped_at_two, after-none, after-append}
+use Rattle.formula_auto.proofs.MemoLemmas.{recalled-itself, recalled-plain, recalled-stepless, entry_of-made, made-of_entry, stopped-memory, stopped-inside, after-known}
 
--- the number of a step that is over, by why it is
-number_of : (step : ℕ) (P : Type 0) (why : CompileError) → IsStepError step P why → (k : ℕ) → why ≡ Over k → k ≡ step
-number_of step P (Over n) (same, over) k is = let e : n ≡ k = cc in cc
-number_of step P Memory h k is = absurd (cc)
+-- the number of a step that is over
+number_of : (step : ℕ) (why : Grown) (k : ℕ) → step_error step why ≡ Over k → k ≡ step
+number_of step grown.Over k is = cc
+number_of step grown.Memory k is = absurd (cc)
 
-module _ (e : ℕ → SetOf) (before : ℕ) where
-  module _ (f : Tree) (m0 m1 : MemoState) (not_plain : is_plain (Not f) ≡ false) where
-    pub remembered_not : (a c : Automaton) (last : ℕ) → IsRemembered f e before m0 m1 a last → IsReduced c → Decides c (Not f) (members e) → IsRemembered (Not f) e before m0 m1 c last
-    remembered_not a c last part reduced decides = record {
-      counts = part.counts;
-      compiled = record { reduced = reduced; decides = decides; within = part.compiled.within };
-      after = after_one m0 m1 (Not f) f (of_one-not f not_plain) part.after;
+module _ {e : ℕ → SetOf} {course : Course} {f : Tree} {m0 m1 : MemoState} where
+  module _ (outside : is_recalled course.recall (Not f) ≡ false) where
+    pub interrupted_not : {why : CompileError} → IsInterrupted f e course m0 m1 why → IsInterrupted (Not f) e course m0 m1 why
+    interrupted_not {why = why} part = record {
+      error = error_not e m0.budget course.before f why part.error;
+      stopped = stopped_one (of_one-not course.recall f outside) part.stopped;
     }
 
-    pub interrupted_not : (why : CompileError) → IsInterrupted f e before m0 m1 why → IsInterrupted (Not f) e before m0 m1 why
-    interrupted_not why (error, stopped) = (error_not e m0.budget before f why error, stopped_one m0 m1 before why (Not f) f (of_one-not f not_plain) stopped)
-
-    pub interrupted_at_not : (a : Automaton) (last : ℕ) (why : CompileError) → IsRemembered f e before m0 m1 a last → why ≡ Memory → IsInterrupted (Not f) e before m0 m1 why
-    interrupted_at_not a last why part is =
-        subst (IsInterrupted (Not f) e before m0 m1) (sym is) (tt, stopped_at_one m0 m1 before Memory (Not f) f (of_one-not f not_plain) part.after (λ step over. absurd (cc)))
-
-  module _ (x : Var) (f : Tree) (m0 m1 : MemoState) (not_plain : is_plain (Ex x f) ≡ false) where
-    pub interrupted_ex : (why : CompileError) → IsInterrupted f e before m0 m1 why → IsInterrupted (Ex x f) e before m0 m1 why
-    interrupted_ex why (error, stopped) = (error_ex e m0.budget before x f why error, stopped_one m0 m1 before why (Ex x f) f (of_one-ex x f not_plain) stopped)
-
-    module _ (a : Automaton) (last : ℕ) (part : IsRemembered f e before m0 m1 a last) where
-      pub remembered_ex : (c : Automaton) → IsReduced c → Decides c (Ex x f) (members e) → (ExSpreadExceeds x a.tracks (Accepts a) m1.budget → ⊥) → IsRemembered (Ex x f) e before m0 m1 c (last + 1)
-      remembered_ex c reduced decides none = record {
-        counts = omega (arith, part.counts, length-append (steps f) (Ex x f ∷ []));
-        compiled = compiled_ex e m0.budget before x f a part.compiled c reduced decides (subst (λ b. ExSpreadExceeds x a.tracks (Accepts a) b → ⊥) part.after.budget none);
-        after = after_one m0 m1 (Ex x f) f (of_one-ex x f not_plain) part.after;
+    module _ {a : Automaton} {last : ℕ} (part : IsRemembered f e course m0 m1 a last) where
+      pub remembered_not : {c : Automaton} → DecidesNot a c → IsRemembered (Not f) e course m0 m1 c last
+      remembered_not decides = record {
+        counts = part.counts;
+        made = record { decides = decides f e part.made.decides; within = part.made.within };
+        after = after_one (of_one-not course.recall f outside) part.after;
       }
 
-      pub interrupted_at_ex : (why : CompileError) → IsStepError (last + 1) (ExSpreadExceeds x a.tracks (Accepts a) m1.budget) why → IsInterrupted (Ex x f) e before m0 m1 why
-      interrupted_at_ex why error =
-          let here : IsStepError (last + 1) (ExSpreadExceeds x a.tracks (Accepts a) m0.budget) why = subst (λ b. IsStepError (last + 1) (ExSpreadExceeds x a.tracks (Accepts a) b) why) part.after.budget error in (
-            step_ex e m0.budget before x f a part.compiled last (last + 1) why part.counts refl here,
-            stopped_at_one m0 m1 before why (Ex x f) f (of_one-ex x f not_plain) part.after
-                (λ step over. let at = number_of (last + 1) (ExSpreadExceeds x a.tracks (Accepts a) m1.budget) why error step over in omega (arith, at, part.counts)),
-          )
+      pub interrupted_at_not : {why : CompileError} → why ≡ Memory → IsInterrupted (Not f) e course m0 m1 why
+      interrupted_at_not is =
+          let stopped : IsStopped (Not f) course m0 m1 Memory = stopped_at_one (of_one-not course.recall f outside) part.after (λ step over. absurd (cc)) in
+          subst (IsInterrupted (Not f) e course m0 m1) (sym is) (record { error = tt; stopped = stopped })
 
-  module _ (connective : Connective) (f g : Tree) (not_plain : is_plain (connect connective f g) ≡ false) (m0 m1 : MemoState) where
-    pub interrupted_left : (why : CompileError) → IsInterrupted f e before m0 m1 why → IsInterrupted (connect connective f g) e before m0 m1 why
-    interrupted_left why (error, stopped) = (
-      error_left e m0.budget before connective f g why error,
-      stopped_left (connect connective f g) f g (of_two connective f g not_plain) m0 m1 before why stopped,
-    )
-
-    module _ (m2 : MemoState) (a : Automaton) (last : ℕ) (left : IsRemembered f e before m0 m1 a last) where
-      pub interrupted_right : (why : CompileError) → IsInterrupted g e last m1 m2 why → IsInterrupted (connect connective f g) e before m0 m2 why
-      interrupted_right why (error, stopped) = (
-        error_right e m0.budget before connective f g a last left.counts left.compiled why (subst (λ b. IsCompileError g e last b why) left.after.budget error),
-        stopped_right (connect connective f g) f g (of_two connective f g not_plain) m0 m1 m2 before last why left.counts left.after stopped,
-      )
-
-      module _ (b : Automaton) (end : ℕ) (right : IsRemembered g e last m1 m2 b end) where
-        same_budget : m2.budget ≡ m0.budget
-        same_budget = right.after.budget ∙ left.after.budget
-
-        right_compiled : IsCompiled g e last m0.budget b
-        right_compiled = subst (λ n. IsCompiled g e last n b) left.after.budget right.compiled
-
-        pub remembered_both : (c : Automaton) → IsReduced c → Decides c (connect connective f g) (members e) → (BothSpreadExceeds a.tracks b.tracks (Accepts a) (Accepts b) m2.budget → ⊥) → IsRemembered (connect connective f g) e before m0 m2 c (end + 1)
-        remembered_both c reduced decides none = record {
-          counts = omega (arith, left.counts, right.counts, size-connect connective f g);
-          compiled = compiled_both e m0.budget before connective f g a last left.counts left.compiled b end right.counts right_compiled c reduced decides (subst (λ n. BothSpreadExceeds a.tracks b.tracks (Accepts a) (Accepts b) n → ⊥) same_budget none);
-          after = after_two (connect connective f g) f g (of_two connective f g not_plain) m0 m1 m2 left.after right.after;
-        }
-
-        pub interrupted_at_both : (why : CompileError) → IsStepError (end + 1) (BothSpreadExceeds a.tracks b.tracks (Accepts a) (Accepts b) m2.budget) why → IsInterrupted (connect connective f g) e before m0 m2 why
-        interrupted_at_both why error =
-            let here : IsStepError (end + 1) (BothSpreadExceeds a.tracks b.tracks (Accepts a) (Accepts b) m0.budget) why = subst (λ n. IsStepError (end + 1) (BothSpreadExceeds a.tracks b.tracks (Accepts a) (Accepts b) n) why) same_budget error in (
-              step_both e m0.budget before connective f g a last left.counts left.compiled b end right.counts right_compiled (end + 1) why refl here,
-              stopped_at_two (connect connective f g) f g (of_two connective f g not_plain) m0 m1 m2 before why left.after right.after
-                  (λ step over. let at = number_of (end + 1) (BothSpreadExceeds a.tracks b.tracks (Accepts a) (Accepts b) m2.budget) why error step over in omega (arith, at, left.counts, right.counts)),
-            )
-
-  module _ (f : Tree) (m : MemoState) (budget : ℕ) (same : budget ≡ m.budget) where
-    -- without a step nothing is entered and nothing taken
-    pub remembered_leaf : (a : Automaton) (last : ℕ) → steps f ≡ [] → last ≡ before + length (steps f) → IsCompiled f e before budget a → IsRemembered f e before m m a last
-    remembered_leaf a last none counts made = record {
-      counts = counts;
-      compiled = subst (λ b. IsCompiled f e before b a) same made;
-      after = subst (IsMemoAfter m m) (sym (stepless f (length (steps f)) none)) (after-none m);
+  module _ {x : Var} (outside : is_recalled course.recall (Ex x f) ≡ false) where
+    pub interrupted_ex : {why : CompileError} → IsInterrupted f e course m0 m1 why → IsInterrupted (Ex x f) e course m0 m1 why
+    interrupted_ex {why = why} part = record {
+      error = error_ex e m0.budget course.before x f why part.error;
+      stopped = stopped_one (of_one-ex course.recall x f outside) part.stopped;
     }
 
-    pub interrupted_leaf : (why : CompileError) → steps f ≡ [] → IsCompileError f e before budget why → IsInterrupted f e before m m why
-    interrupted_leaf why none error = (
-      subst (λ b. IsCompileError f e before b why) same error,
-      stopped-without m f before e budget why (λ n less. stepless f n none) error,
-    )
+    module _ {a : Automaton} {last : ℕ} (part : IsRemembered f e course m0 m1 a last) where
+      pub remembered_ex : {c : Automaton} → DecidesEx x a c → (ExExceeds x a m1.budget → ⊥) → IsRemembered (Ex x f) e course m0 m1 c (last + 1)
+      remembered_ex {c = c} decides none = record {
+        counts = omega (arith, part.counts, length-append (steps f) (Ex x f ∷ []));
+        made = made_ex e m0.budget course.before x f a part.made c (decides f e part.made.decides)
+            (subst (λ b. ExExceeds x a b → ⊥) part.after.budget none);
+        after = after_one (of_one-ex course.recall x f outside) part.after;
+      }
 
-    pub remembered_made : (a : Automaton) (last : ℕ) (new : MemoState) → is_plain f ≡ true → last ≡ before + length (steps f) → IsCompiled f e before budget a → IsMemoAfter m new (f ∷ []) → IsRemembered f e before m new a last
-    remembered_made a last new plain counts made after = record {
-      counts = counts;
-      compiled = subst (λ b. IsCompiled f e before b a) same made;
-      after = subst (IsMemoAfter m new) (sym (plain-itself f plain)) after;
-    }
+      pub interrupted_at_ex : (why : Grown) → (why ≡ grown.Over → ExExceeds x a m1.budget) → IsInterrupted (Ex x f) e course m0 m1 (step_error (last + 1) why)
+      interrupted_at_ex why over = record {
+        error = step_ex e m0.budget course.before x f a part.made last why part.counts (subst (λ b. why ≡ grown.Over → ExExceeds x a b) part.after.budget over);
+        stopped = stopped_at_one (of_one-ex course.recall x f outside) part.after
+            (λ step is. let at = number_of (last + 1) why step is in omega (arith, at, part.counts));
+      }
 
-    pub interrupted_made : (why : CompileError) → is_plain f ≡ true → IsCompileError f e before budget why → IsInterrupted f e before m m why
-    interrupted_made why plain error = (
-      subst (λ b. IsCompileError f e before b why) same error,
-      stopped-without m f before e budget why (λ n less. plain-later f n plain less) error,
-    )
+-- another automaton of the same words serves as well
+made_same : {f : Tree} {e : ℕ → SetOf} {before budget : ℕ} {a c : Automaton} → AcceptSame a c → IsMade f e before budget a → IsMade f e before budget c
+made_same same made = record { decides = still_decides same made.decides; within = made.within }
 
-  pub remembered_found : (f : Tree) (m : MemoState) (a : Automaton) (last : ℕ) → last ≡ before + length (steps f) → Contains (known m) f → IsEntry m.budget f a → IsRemembered f e before m (record m { found = counted m.found }) a last
-  remembered_found f m a last counts there entry = record {
-    counts = counts;
-    compiled = compiled-of_entry f e before m.budget a entry;
-    after = subst (IsMemoAfter m (record m { found = counted m.found })) (sym (plain-itself f entry.plain)) (after-known m f there);
+abbrev left_of : Pair → Tree
+left_of pair = tree_of pair.left.now
+
+abbrev right_of : Pair → Tree
+right_of pair = tree_of pair.right.now
+
+of_pair : (r : Recall) (pair : Pair) → is_recalled r (connected pair) ≡ false → IsOfTwo r (connected pair) (left_of pair) (right_of pair)
+of_pair r pair outside = of_two r pair.connective (left_of pair) (right_of pair) outside
+
+module _ (pair : Pair) {e : ℕ → SetOf} {course : Course} {m0 m1 : MemoState} (outside : is_recalled course.recall (connected pair) ≡ false) where
+  pub interrupted_left : {why : CompileError} → IsInterrupted (left_of pair) e course m0 m1 why → IsInterrupted (connected pair) e course m0 m1 why
+  interrupted_left {why = why} part = record {
+    error = error_left e m0.budget course.before pair.connective (left_of pair) (right_of pair) why part.error;
+    stopped = stopped_left (of_pair course.recall pair outside) part.stopped;
   }
 
-  pub interrupted_memory : (f : Tree) (m : MemoState) (why : CompileError) → why ≡ Memory → IsInterrupted f e before m m why
-  interrupted_memory f m why is = subst (IsInterrupted f e before m m) (sym is) (tt, stopped-memory m f before)
+  module _ {m2 : MemoState} {a : Automaton} {last : ℕ} (left : IsRemembered (left_of pair) e course m0 m1 a last) where
+    pub interrupted_right : {why : CompileError} → IsInterrupted (right_of pair) e (record course { before = last }) m1 m2 why → IsInterrupted (connected pair) e course m0 m2 why
+    interrupted_right {why = why} part = record {
+      error = error_right e m0.budget course.before pair.connective (left_of pair) (right_of pair) a last left.counts left.made why
+          (subst (λ b. IsCompileError (right_of pair) e last b why) left.after.budget part.error);
+      stopped = stopped_right (of_pair course.recall pair outside) left.after left.counts part.stopped;
+    }
+
+    module _ {b : Automaton} {end : ℕ} (right : IsRemembered (right_of pair) e (record course { before = last }) m1 m2 b end) where
+      same_budget : m2.budget ≡ m0.budget
+      same_budget = right.after.budget ∙ left.after.budget
+
+      right_made : IsMade (right_of pair) e last m0.budget b
+      right_made = subst (λ n. IsMade (right_of pair) e last n b) left.after.budget right.made
+
+      pub remembered_both : {c : Automaton} → DecidesBoth pair.connective a b c → (BothExceed a b m2.budget → ⊥) → IsRemembered (connected pair) e course m0 m2 c (end + 1)
+      remembered_both {c = c} decides none = record {
+        counts = omega (arith, left.counts, right.counts, size-connect pair.connective (left_of pair) (right_of pair));
+        made = made_both e m0.budget course.before pair.connective (left_of pair) (right_of pair) a last left.counts left.made b end right.counts right_made c
+            (decides (left_of pair) (right_of pair) e left.made.decides right.made.decides) (subst (λ n. BothExceed a b n → ⊥) same_budget none);
+        after = after_two (of_pair course.recall pair outside) left.after right.after;
+      }
+
+      pub interrupted_at_both : (why : Grown) → (why ≡ grown.Over → BothExceed a b m2.budget) → IsInterrupted (connected pair) e course m0 m2 (step_error (end + 1) why)
+      interrupted_at_both why over = record {
+        error = step_both e m0.budget course.before pair.connective (left_of pair) (right_of pair) a last left.counts left.made b end right.counts right_made why
+            (subst (λ n. why ≡ grown.Over → BothExceed a b n) same_budget over);
+        stopped = stopped_at_two (of_pair course.recall pair outside) left.after right.after
+            (λ step is. let at = number_of (end + 1) why step is in omega (arith, at, left.counts, right.counts));
+      }
+
+module _ {e : ℕ → SetOf} {course : Course} {f : Tree} {m : MemoState} where
+  -- without a step nothing is entered and nothing taken
+  pub remembered_leaf : {a : Automaton} → steps f ≡ [] → Decides a f (members e) → IsRemembered f e course m m a course.before
+  remembered_leaf none decides = record {
+    counts = (let size : length (steps f) ≡ 0 = ap length none in omega (arith, size));
+    made = record { decides = decides; within = subst (λ fs. FirstOver fs (members e) m.budget (course.before + 1) None) (sym none) refl };
+    after = subst (IsMemoAfter m m) (sym (recalled-stepless course.recall f (length (steps f)) none)) (after-none m);
+  }
+
+  pub interrupted_memory : {why : CompileError} → why ≡ Memory → IsInterrupted f e course m m why
+  interrupted_memory is = subst (IsInterrupted f e course m m) (sym is) (record { error = tt; stopped = stopped-memory (after-none m) })
+
+  pub remembered_found : {a : Automaton} {last : ℕ} → is_recalled course.recall f ≡ true → last ≡ course.before + length (steps f) → Contains (known m) f → IsEntry m.budget f a
+      → IsRemembered f e course m (record m { found = counted m.found }) a last
+  remembered_found {a = a} recalled counts there entry = record {
+    counts = counts;
+    made = made-of_entry f e course.before m.budget a entry;
+    after = subst (IsMemoAfter m (record m { found = counted m.found })) (sym (recalled-itself course.recall f recalled)) (after-known m f there);
+  }
+
+  -- memory ran out after the last step
+  pub interrupted_last : {m1 : MemoState} {a : Automaton} {last : ℕ} {why : CompileError} → IsRemembered f e course m m1 a last → why ≡ Memory → IsInterrupted f e course m m1 why
+  interrupted_last {m1 = m1} made is =
+      let stopped : IsStopped f course m m1 Memory = record { done = length (steps f); few = omega arith; number = λ step over. absurd (cc); after = made.after } in
+      subst (IsInterrupted f e course m m1) (sym is) (record { error = tt; stopped = stopped })
+
+-- nothing of its parts was looked up, and it is to be entered
+module _ (course : Course) {e : ℕ → SetOf} {f : Tree} {m m1 : MemoState} (recalled : is_recalled course.recall f ≡ true) where
+  pub interrupted_inside : {why : CompileError} → IsInterrupted f e (record course { recall = Nothing }) m m1 why → IsInterrupted f e course m m1 why
+  interrupted_inside {why = why} part = record { error = part.error; stopped = stopped-inside e why recalled part.error part.stopped }
+
+  module _ {a : Automaton} {last : ℕ} (made : IsRemembered f e (record course { recall = Nothing }) m m1 a last) where
+    pub remembered_entered : {new : MemoState} {c : Automaton} → AcceptSame a c → IsMemoAfter m1 new (f ∷ []) → IsRemembered f e course m new c last
+    remembered_entered {new = new} same entered = record {
+      counts = made.counts;
+      made = made_same same made.made;
+      after = subst (IsMemoAfter m new) (sym (recalled-itself course.recall f recalled)) (after-append m m1 new [] (f ∷ []) made.after entered);
+    }
+
+    pub may_enter : {c : Automaton} → AcceptSame a c → IsReduced c → IsEntry m1.budget f c
+    may_enter {c = c} same reduced =
+        subst (λ b. IsEntry b f c) (sym made.after.budget)
+        (entry_of-made f e course.before m.budget c (recalled-plain course.recall f recalled) reduced (made_same same made.made))
+
+    pub unknown_still : (Contains (known m) f → ⊥) → Contains (known m1) f → ⊥
+    unknown_still unknown there = unknown (subst (λ fs. Contains fs f) made.after.passes.0 there)
 
 -- counted from the first step
-pub stopped-first : (f : Tree) (old new : MemoState) (why : CompileError) → IsStopped old new f 0 why → IsMemoStopped old new f why
+pub stopped-first : (f : Tree) (old new : MemoState) (why : CompileError) → IsStopped f (start Plain) old new why → IsMemoStopped old new f why
 stopped-first f old new (Over step) h =
     let at : h.done ≡ step - 1 = (let number = h.number step refl in omega (arith, number)) in
     subst (λ n. IsMemoAfter old new (plain_within f n)) at h.after

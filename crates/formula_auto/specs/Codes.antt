@@ -9,5 +9,6 @@ use Rattle.formula_auto.specs.MemoState.{MemoState}
 
 abbrev pub coded_state : Coded MemoState
 coded_state =
-    code_by (ℕ × (List (Formula × Automaton) × ℕ)) (coded× coded_ℕ (coded× (coded_list (coded× formula.the_row.coded auto.the_row.coded)) coded_ℕ))
+    code_by (ℕ × (List (Formula × Automaton) × ℕ))
+    (coded× coded_ℕ (coded× (coded_list (coded× formula.the_row.coded auto.the_row.coded)) coded_ℕ))
     (λ m. (m.budget, (m.entries, m.found))) (λ p. record { budget = p.0; entries = p.1.0; found = p.1.1 }) (λ _. refl)

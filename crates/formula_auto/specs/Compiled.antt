@@ -1,5 +1,6 @@
 -- What a formula asks of the table of sets, and what compiling it answers.
 use Rattle.std.specs.Prelude.{◌≡◌, ℕ, ◌+◌, ◌≤◌, List, length, All, Result, Ok, Err, Some, None, slice_get}
+use Rattle.limits.specs.declared.numbers.TheConstants.{MOST_TRACKS}
 use Rattle.auto_core.specs.Automaton.{Automaton}
 use Rattle.auto_core.specs.Reduced.{IsReduced}
 use Rattle.auto_core.specs.Integers.{DecidesIntegers}
@@ -25,10 +26,15 @@ HasSets sets f = All (λ m. IsSetFor sets m.0 (length m.1)) (memberships f)
 -- well made, with few variables, and with sets for what it names
 pub record IsCompilable (f : Tree) (sets : List Automaton) : Type 0 where
   pub well_made : IsWellMade f
-  pub few_vars : length (vars_of f) ≤ 20
+  pub few_vars : length (vars_of f) ≤ MOST_TRACKS
   pub has_sets : HasSets sets f
 
--- reduced, decides the formula, and no step exceeds the budget
+-- decides the formula, and no step exceeds the budget
+pub record IsMade (f : Tree) (e : ℕ → SetOf) (before budget : ℕ) (a : Automaton) : Type 0 where
+  pub decides : Decides a f (members e)
+  pub within : FirstOver (steps f) (members e) budget (before + 1) None
+
+-- and it is reduced
 pub record IsCompiled (f : Tree) (e : ℕ → SetOf) (before budget : ℕ) (a : Automaton) : Type 0 where
   pub reduced : IsReduced a
   pub decides : Decides a f (members e)
@@ -36,7 +42,8 @@ pub record IsCompiled (f : Tree) (e : ℕ → SetOf) (before budget : ℕ) (a : 
 
 -- the step, counted on from the steps before, is the first that exceeds the budget
 abbrev pub IsCompileError : Tree → (ℕ → SetOf) → ℕ → ℕ → CompileError → Type 0
-IsCompileError f e before budget (compile_error.Over step) = FirstOver (steps f) (members e) budget (before + 1) (Some step)
+IsCompileError f e before budget (compile_error.Over step) =
+    FirstOver (steps f) (members e) budget (before + 1) (Some step)
 IsCompileError f e before budget compile_error.Memory = Unit {0}
 
 abbrev pub Compiles : Tree → (ℕ → SetOf) → ℕ → ℕ → Result Automaton CompileError → Type 0

@@ -17,7 +17,9 @@ pub mod Compiled
 pub mod Distinct
 pub mod Ready
 pub mod StepError
+pub mod Nodes
 pub mod PlainParts
+pub mod Recalled
 pub mod MemoState
 pub mod Remembered
 pub mod PartOf

@@ -1,5 +1,6 @@
 -- What a memo keeps, and how that changes.
 use Rattle.std.specs.Prelude.{◌≡◌, ◌⊎◌, ℕ, ◌+◌, ◌-◌, ◌≤◌, ◌<◌, ◌^◌, min, nat_lt, if◌then◌else◌, IsTrue, List, [], ◌∷◌, ◌++◌, map, length, All, Contains, Some, None, slice_get}
+use Rattle.limits.specs.declared.numbers.TheConstants.{MOST_STATES}
 use Rattle.auto_core.specs.Automaton.{Automaton}
 use Rattle.auto_core.specs.Reduced.{IsReduced}
 use Rattle.lin_formula.specs.Tree.{Tree, steps}
@@ -18,7 +19,8 @@ pub record MemoState : Type 0 where
   pub entries : List (Formula × Automaton)
   pub found : ℕ
 
--- a plain formula whose steps are all within the budget, and a reduced automaton that decides it, whatever sets there are
+-- a plain formula whose steps are all within the budget, and a reduced automaton that decides it, whatever sets there
+-- are
 pub record IsEntry (budget : ℕ) (f : Tree) (a : Automaton) : Type 0 where
   pub plain : IsTrue (is_plain f)
   pub reduced : IsReduced a
@@ -27,7 +29,7 @@ pub record IsEntry (budget : ℕ) (f : Tree) (a : Automaton) : Type 0 where
 
 pub record IsMemo (m : MemoState) : Type 0 where
   pub least : 1 ≤ m.budget
-  pub most : m.budget ≤ 200000
+  pub most : m.budget ≤ MOST_STATES
   pub few : length m.entries < 2 ^ 32
   pub entries : All (λ entry. IsEntry m.budget (tree_of entry.0) entry.1) m.entries
 
@@ -51,11 +53,13 @@ counted n = min (n + 1) (2 ^ 64 - 1)
 abbrev pub with_entry : {X : Type 0} → List X → X → List X
 with_entry xs x = if nat_lt (length xs) (2 ^ 32 - 1) then xs ++ x ∷ [] else xs
 
--- from what is known and the count of what was found to the same after these formulas in order: one that is known counts as found, another one is entered
+-- from what is known and the count of what was found to the same after these formulas in order: one that is known
+-- counts as found, another one is entered
 abbrev pub Passes : List Tree → ℕ → List Tree → List Tree → ℕ → Type 0
 Passes fs found [] gs then_found = (gs ≡ fs) × (then_found ≡ found)
 Passes fs found (f ∷ more) gs then_found =
-    (Contains fs f × Passes fs (counted found) more gs then_found) ⊎ ((¬ Contains fs f) × Passes (with_entry fs f) found more gs then_found)
+    (Contains fs f × Passes fs (counted found) more gs then_found)
+    ⊎ ((¬ Contains fs f) × Passes (with_entry fs f) found more gs then_found)
 
 -- the memo after these formulas in order: the same budget, the old entries and more after them
 pub record IsMemoAfter (old new : MemoState) (fs : List Tree) : Type 0 where
@@ -64,7 +68,8 @@ pub record IsMemoAfter (old new : MemoState) (fs : List Tree) : Type 0 where
   pub entries : new.entries ≡ old.entries ++ added
   pub passes : Passes (known old) old.found fs (known new) new.found
 
--- where a step is over the budget, the plain subformulas that ended before it have passed; where memory ran out, those that ended within some steps
+-- where a step is over the budget, the plain subformulas that ended before it have passed; where memory ran out, those
+-- that ended within some steps
 abbrev pub IsMemoStopped : MemoState → MemoState → Tree → CompileError → Type 0
 IsMemoStopped old new f (compile_error.Over step) = IsMemoAfter old new (plain_within f (step - 1))
 IsMemoStopped old new f compile_error.Memory = (done : ℕ) × IsMemoAfter old new (plain_within f done)

@@ -1,5 +1,6 @@
 -- What a formula has to be, so that each part of it can be compiled.
 use Rattle.std.specs.Prelude.{◌≤◌, List, length}
+use Rattle.limits.specs.declared.numbers.TheConstants.{MOST_TRACKS}
 use Rattle.track_word.specs.Tracks.{with_vars}
 use Rattle.track_word.specs.Atom.{IsAtom}
 use Rattle.auto_core.specs.Automaton.{Automaton}
@@ -12,6 +13,7 @@ IsReady (Lin terms rel bound) sets = IsAtom terms bound
 IsReady (Value x n) sets = Unit {0}
 IsReady (Among number vars) sets = IsSetFor sets number (length vars)
 IsReady (Not f) sets = IsReady f sets
-IsReady (And f g) sets = (length (with_vars (free_vars f) (free_vars g)) ≤ 20) × IsReady f sets × IsReady g sets
-IsReady (Or f g) sets = (length (with_vars (free_vars f) (free_vars g)) ≤ 20) × IsReady f sets × IsReady g sets
+IsReady (And f g) sets =
+    (length (with_vars (free_vars f) (free_vars g)) ≤ MOST_TRACKS) × IsReady f sets × IsReady g sets
+IsReady (Or f g) sets = (length (with_vars (free_vars f) (free_vars g)) ≤ MOST_TRACKS) × IsReady f sets × IsReady g sets
 IsReady (Ex x f) sets = IsReady f sets

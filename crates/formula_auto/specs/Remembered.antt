@@ -1,27 +1,31 @@
--- What compiling a part of a formula with a memo makes, and how the memo stands then.
+-- What compiling a part of a formula makes, and how the memo stands then.
 use Rattle.std.specs.Prelude.{◌≡◌, ℕ, ◌+◌, ◌≤◌, length}
 use Rattle.auto_core.specs.Automaton.{Automaton}
 use Rattle.lin_formula.specs.Tree.{Tree, steps}
 use Rattle.lin_formula.specs.SetOf.{SetOf}
-use Rattle.formula_auto.specs.Compiled.{IsCompiled, IsCompileError}
-use Rattle.formula_auto.specs.PlainParts.{plain_within, plain_parts}
+use Rattle.formula_auto.specs.Compiled.{IsMade, IsCompileError}
+use Rattle.formula_auto.specs.Recalled.{recalled_within, recalled_parts}
 use Rattle.formula_auto.specs.MemoState.{MemoState, IsMemoAfter}
+use Rattle.formula_auto.specs.declared.course.Course.{Course}
 use Rattle.formula_auto.specs.declared.errors.CompileError.{CompileError}
 use Rattle.formula_auto.specs.declared.errors.CompileError.TheVariants as compile_error
 
--- the automaton of the part, the number of its last step, and a memo that all its plain subformulas have passed
-pub record IsRemembered (f : Tree) (e : ℕ → SetOf) (before : ℕ) (old new : MemoState) (a : Automaton) (last : ℕ) : Type 0 where
-  pub counts : last ≡ before + length (steps f)
-  pub compiled : IsCompiled f e before old.budget a
-  pub after : IsMemoAfter old new (plain_parts f)
+-- an automaton of the part, the number of its last step, and a memo that all of the part that is looked up has passed
+pub record IsRemembered (f : Tree) (e : ℕ → SetOf) (course : Course) (old new : MemoState) (a : Automaton)
+    (last : ℕ) : Type 0 where
+  pub counts : last ≡ course.before + length (steps f)
+  pub made : IsMade f e course.before old.budget a
+  pub after : IsMemoAfter old new (recalled_parts course.recall f)
 
 -- the memo after so many steps of the part, which are counted on from the steps before
-pub record IsStopped (old new : MemoState) (f : Tree) (before : ℕ) (why : CompileError) : Type 0 where
+pub record IsStopped (f : Tree) (course : Course) (old new : MemoState) (why : CompileError) : Type 0 where
   pub done : ℕ
   pub few : done ≤ length (steps f)
-  pub number : (step : ℕ) → why ≡ compile_error.Over step → step ≡ before + done + 1
-  pub after : IsMemoAfter old new (plain_within f done)
+  pub number : (step : ℕ) → why ≡ compile_error.Over step → step ≡ course.before + done + 1
+  pub after : IsMemoAfter old new (recalled_within course.recall f done)
 
 -- why the part has no automaton, and the memo then
-abbrev pub IsInterrupted : Tree → (ℕ → SetOf) → ℕ → MemoState → MemoState → CompileError → Type 0
-IsInterrupted f e before old new why = IsCompileError f e before old.budget why × IsStopped old new f before why
+pub record IsInterrupted (f : Tree) (e : ℕ → SetOf) (course : Course) (old new : MemoState) (why : CompileError) : Type
+    0 where
+  pub error : IsCompileError f e course.before old.budget why
+  pub stopped : IsStopped f course old new why

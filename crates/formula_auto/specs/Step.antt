@@ -20,4 +20,5 @@ Exceeds _ e budget = ⊥
 abbrev pub FirstOver : List Tree → Sets → ℕ → ℕ → Option ℕ → Type 0
 FirstOver [] e budget from answer = answer ≡ None
 FirstOver (step ∷ rest) e budget from answer =
-    (Exceeds step e budget × (answer ≡ Some from)) ⊎ ((¬ Exceeds step e budget) × FirstOver rest e budget (from + 1) answer)
+    (Exceeds step e budget × (answer ≡ Some from))
+    ⊎ ((¬ Exceeds step e budget) × FirstOver rest e budget (from + 1) answer)

@@ -1,9 +1,10 @@
--- Why a step has no automaton.
-use Rattle.std.specs.Prelude.{◌≡◌, ℕ}
+-- Why a step has no automaton, with its number.
+use Rattle.std.specs.Prelude.{ℕ}
+use Rattle.auto_walk.specs.declared.grown.Grown.{Grown}
+use Rattle.auto_walk.specs.declared.grown.Grown.TheVariants as grown
 use Rattle.formula_auto.specs.declared.errors.CompileError.{CompileError}
 use Rattle.formula_auto.specs.declared.errors.CompileError.TheVariants as compile_error
 
--- the step is over for this reason
-abbrev pub IsStepError : ℕ → Type 0 → CompileError → Type 0
-IsStepError step P (compile_error.Over number) = (number ≡ step) × P
-IsStepError step P compile_error.Memory = Unit {0}
+abbrev pub step_error : ℕ → Grown → CompileError
+step_error step grown.Over = compile_error.Over step
+step_error step grown.Memory = compile_error.Memory

@@ -1,7 +1,9 @@
 //! Why a formula has no automaton.
 ghost use Rattle.std.specs.Prelude.{◌≡◌};
 ghost use Rattle.formula_auto.specs.declared.errors.CompileError.TheVariants.{Memory};
+ghost use Rattle.formula_auto.specs.StepError.{step_error};
 
+use auto_walk::Grown;
 use std::alloc::AllocError;
 
 /// Why a formula has no automaton.
@@ -11,6 +13,18 @@ pub enum CompileError {
     Over { step: u32 },
     /// Memory ran out.
     Memory,
+}
+
+impl CompileError {
+    /// The error of the step of this number.
+    pub(crate) fn at(step: u32, why: Grown) -> CompileError
+        ensures { result ≡ step_error step why }
+    {
+        match why {
+            Grown::Over => CompileError::Over { step },
+            Grown::Memory => CompileError::Memory,
+        }
+    }
 }
 
 impl From<AllocError> for CompileError {

@@ -5,11 +5,11 @@
 
 mod compiling;
 mod connective;
+mod course;
 mod errors;
 mod memo;
 mod part;
 mod plain;
-mod remembering;
 mod steps;
 mod table;
 

@@ -1,12 +1,16 @@
 //! Automata of plain formulas, kept from one compilation to the next.
 ghost use Rattle.std.specs.Prelude.{◌≡◌, ◌≤◌, [], ◌∷◌, length, Contains, MatchOption, IfOk, OnOk, OnErr};
 ghost use Rattle.auto_core.specs.Automaton.{Automaton};
+ghost use Rattle.auto_core.specs.Reduced.{IsReduced};
 ghost use Rattle.lin_formula.specs.TreeOf.{tree_of};
 ghost use Rattle.formula_auto.specs.MemoState.{IsMemo, IsMemoAfter, IsEntry, IsEntryAt, known, counted};
 ghost use Rattle.formula_auto.specs.PartOf.{IsPart};
+ghost use Rattle.formula_auto.specs.Nodes.{AcceptSame};
 
 use crate::part::Part;
+use crate::steps::reduced;
 use auto_core::Auto;
+use limits::Budget;
 use lin_formula::{Formula, copy, same};
 use std::alloc::{AllocError, Global};
 use std::marker::Model;
@@ -22,7 +26,7 @@ pub struct Entry {
 /// It is searched from its start, formula by formula.
 #[derive(Drop)]
 pub struct Memo {
-    budget: u32,
+    budget: Budget,
     entries: Vec<Entry>,
     found: u64,
 }
@@ -40,13 +44,13 @@ impl Model for Memo {
 
     ghost view = { λ m. record { budget = m.budget; entries = map entry_of m.entries.items; found = m.found } };
 
-    ghost invariant = { λ m. IsMemo (record { budget = m.budget; entries = map entry_of m.entries.items; found = m.found }) };
+    ghost invariant = { λ m.
+        IsMemo (record { budget = m.budget; entries = map entry_of m.entries.items; found = m.found }) };
 }
 
 impl Memo {
     /// A memo without entries. Each formula that it compiles has this budget of states for a step.
-    pub fn new(alloc: Global, budget: u32) -> Memo
-        requires { (1 ≤ budget) × (budget ≤ 200000) }
+    pub fn new(alloc: Global, budget: Budget) -> Memo
         ensures budget { result.budget ≡ budget }
         ensures entries { result.entries ≡ [] }
         ensures found { result.found ≡ 0 }
@@ -74,10 +78,8 @@ impl Memo {
     }
 
     /// The greatest number of states that a step may need.
-    pub fn budget(&self) -> u32
+    pub fn budget(&self) -> Budget
         ensures is { result ≡ self.now.budget }
-        ensures low { 1 ≤ result }
-        ensures high { result ≤ 200000 }
         ensures valid { IsMemo self.now }
     {
         self.budget
@@ -85,7 +87,8 @@ impl Memo {
 
     /// The place of the entry of a formula.
     pub(crate) fn find(&self, f: &Formula) -> Option<usize>
-        ensures { MatchOption result (¬ Contains (known self.now) (tree_of f.now)) (IsEntryAt self.now (tree_of f.now)) }
+        ensures { MatchOption result
+            (¬ Contains (known self.now) (tree_of f.now)) (IsEntryAt self.now (tree_of f.now)) }
     {
         for (place, entry) in self.entries.iter().enumerate() {
             if same(&entry.formula, f) {
@@ -96,11 +99,9 @@ impl Memo {
     }
 
     /// The automaton of a part, lent.
-    #[tactic(auto, using(crate::proofs::PartLemmas::one_automaton))]
     pub(crate) fn automaton<'a>(&'a self, part: &'a Part) -> &'a Auto
         requires { (a : Automaton) × IsPart self.now part.now a }
-        ensures has { IsPart self.now part.now result.now }
-        ensures only { (a : Automaton) → IsPart self.now part.now a → a ≡ result.now }
+        ensures { IsPart self.now part.now result.now }
     {
         match part {
             Part::Fresh(auto) => auto,
@@ -108,13 +109,24 @@ impl Memo {
         }
     }
 
-    /// The automaton of a part, to keep.
-    pub(crate) fn taken(&self, part: Part) -> Result<Auto, AllocError>
+    /// The automata of two parts, lent.
+    pub(crate) fn automata<'a>(&'a self, left: &'a Part, right: &'a Part) -> (&'a Auto, &'a Auto)
+        requires left { (a : Automaton) × IsPart self.now left.now a }
+        requires right { (a : Automaton) × IsPart self.now right.now a }
+        ensures left { IsPart self.now left.now result.0.now }
+        ensures right { IsPart self.now right.now result.1.now }
+    {
+        (self.automaton(left), self.automaton(right))
+    }
+
+    /// The automaton of a part, reduced, to keep. That of an entry is reduced already.
+    pub(crate) fn taken(&self, alloc: Global, part: Part) -> Result<Auto, AllocError>
         requires { (a : Automaton) × IsPart self.now part a }
-        ensures { IfOk result (IsPart self.now part) }
+        ensures reduced { IfOk result IsReduced }
+        ensures same { IfOk result (λ taken. (a : Automaton) → IsPart self.now part a → AcceptSame a taken) }
     {
         match part {
-            Part::Fresh(auto) => Ok(auto),
+            Part::Fresh(auto) => reduced(alloc, &auto),
             Part::Kept(place) => self.entries[place].auto.copy(),
         }
     }

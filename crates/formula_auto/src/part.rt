@@ -1,4 +1,6 @@
-//! What compiling a part of a formula with a memo gives.
+//! What compiling a part of a formula gives.
+ghost use Rattle.std.specs.Prelude.{◌≡◌};
+
 use auto_core::Auto;
 
 /// The automaton of a part of a formula.
@@ -15,4 +17,16 @@ pub enum Part {
 pub struct Remembered {
     pub part: Part,
     pub done: u32,
+}
+
+impl Remembered {
+    /// What was made for the part.
+    pub fn fresh(auto: Auto, done: u32) -> Remembered
+        ensures { result ≡ record { part = Part.Fresh auto; done = done } }
+    {
+        Remembered {
+            part: Part::Fresh(auto),
+            done,
+        }
+    }
 }

@@ -1,26 +1,23 @@
-//! One node of a formula each: the automaton of it, with no state too many, from the automata of its parts.
-ghost use Rattle.std.specs.Prelude.{◌≡◌, ◌≢◌, ◌↔◌, ◌⊎◌, ◌≤◌, ℕ, List, length, AllPairs, IsTrue, IfOk, IfErr, OnOk};
+//! One node of a formula each: an automaton of it, from automata of its parts, which need not be reduced. What is made is merged in one
+//! pass. Only a step that is not within the budget on the automata as they are is taken on the reduced ones.
+ghost use Rattle.std.specs.Prelude.{◌≡◌, ◌≤◌, ℕ, length, IfOk, OnOk, Err};
 ghost use Rattle.track_word.specs.Tracks.{with_vars};
 ghost use Rattle.track_word.specs.Atom.{IsAtom};
-ghost use Rattle.auto_core.specs.Automaton.{Accepts};
 ghost use Rattle.auto_core.specs.Integers.{DecidesIntegers};
 ghost use Rattle.auto_core.specs.Reduced.{IsReduced};
-ghost use Rattle.auto_core.specs.Spread.{BothSpreadExceeds, ExSpreadExceeds};
 ghost use Rattle.lin_formula.specs.Tree as tree;
-ghost use Rattle.lin_formula.specs.Tree.{Tree};
 ghost use Rattle.lin_formula.specs.SetOf.{SetOf, members};
-ghost use Rattle.lin_formula.specs.SetOf as set_of;
 ghost use Rattle.formula_auto.specs.Decides.{Decides};
-ghost use Rattle.formula_auto.specs.Connected.{connect};
-ghost use Rattle.formula_auto.specs.StepError.{IsStepError};
+ghost use Rattle.formula_auto.specs.Nodes.{AcceptSame, DecidesAmong, DecidesNot, DecidesEx, DecidesBoth, BothExceed, ExExceeds};
 
 use crate::connective::Connective;
-use crate::errors::CompileError;
-use auto_bool::{join, meet, not};
+use auto_bool::{join, join_within, meet, meet_within, not};
 use auto_core::Auto;
-use auto_project::forget;
+use auto_merge::merge;
+use auto_project::{forget, forget_within};
 use auto_reduce::reduce;
 use auto_walk::Grown;
+use limits::{Budget, MOST_TRACKS};
 use std::alloc::{AllocError, Global};
 use track_word::{Rel, Var};
 
@@ -31,90 +28,115 @@ pub fn comparison(
     bound: i32,
 ) -> Result<Auto, AllocError>
     requires { IsAtom terms.now bound }
-    ensures reduced { IfOk result IsReduced }
-    ensures decides { IfOk result (λ a. (e : ℕ → SetOf) → Decides a (tree.Lin terms.now rel bound) (members e)) }
+    ensures { IfOk result (λ a. (e : ℕ → SetOf) → Decides a (tree.Lin terms.now rel bound) (members e)) }
 {
     let a = Auto::lin(alloc, terms, rel, bound)?;
-    reduce(alloc, &a)
+    merged(alloc, &a)
 }
 
 pub fn value_of(alloc: Global, var: Var, value: i64) -> Result<Auto, AllocError>
-    ensures reduced { IfOk result IsReduced }
-    ensures decides { IfOk result (λ a. (e : ℕ → SetOf) → Decides a (tree.Value var value) (members e)) }
+    ensures { IfOk result (λ a. (e : ℕ → SetOf) → Decides a (tree.Value var value) (members e)) }
 {
     let a = Auto::value(alloc, var, value)?;
-    reduce(alloc, &a)
+    merged(alloc, &a)
 }
 
-/// Where no variable stands in two places, the set is renamed and nothing else.
+/// The set is renamed and nothing else.
 pub fn membership(alloc: Global, set: &Auto, vars: &[Var]) -> Result<Auto, AllocError>
     requires size { length vars.now ≡ length set.now.tracks }
     requires integers { DecidesIntegers set.now }
-    requires reduced { IsReduced set.now }
-    ensures reduced { IfOk result IsReduced }
-    ensures decides { IfOk result (λ a. (e : ℕ → SetOf) (number : ℕ) → e number ≡ set_of.Table set.now → Decides a (tree.Among number vars.now) (members e)) }
+    ensures { IfOk result (DecidesAmong set.now vars.now) }
 {
-    let _ = set.tracks();
+    let _ = set.tracks(); // for its invariant
     let a = set.rename(alloc, vars)?;
-    if are_distinct(vars) {
-        return Ok(a);
-    }
-    reduce(alloc, &a)
+    Ok(a)
 }
 
-/// Whether no variable stands in two places.
-fn are_distinct(vars: &[Var]) -> bool
-    ensures { IsTrue result ↔ AllPairs (λ x y. x ≢ y) vars.now }
-{
-    match vars.split_first() {
-        None => true,
-        Some((var, rest)) => {
-            if rest.contains(var) {
-                return false;
-            }
-            are_distinct(rest)
-        }
-    }
-}
-
+/// And or Or.
 pub fn joined(
     alloc: Global,
     connective: Connective,
     a: &Auto,
     b: &Auto,
-    budget: u32,
-    step: u32,
-) -> Result<Auto, CompileError>
-    requires a_reduced { IsReduced a.now }
-    requires b_reduced { IsReduced b.now }
-    requires tracks { length (with_vars a.now.tracks b.now.tracks) ≤ 20 }
-    requires budget { (1 ≤ budget) × (budget ≤ 200000) }
-    ensures reduced { IfOk result IsReduced }
-    ensures decides { IfOk result (λ c. (f g : Tree) (e : ℕ → SetOf) → Decides a.now f (members e) → Decides b.now g (members e) → Decides c (connect connective f g) (members e)) }
-    ensures within { IfOk result (λ c. ¬ BothSpreadExceeds a.now.tracks b.now.tracks (Accepts a.now) (Accepts b.now) budget) }
-    ensures over { IfErr result (IsStepError step (BothSpreadExceeds a.now.tracks b.now.tracks (Accepts a.now) (Accepts b.now) budget)) }
+    budget: Budget,
+) -> Result<Auto, Grown>
+    requires { length (with_vars a.now.tracks b.now.tracks) ≤ MOST_TRACKS }
+    ensures decides { IfOk result (DecidesBoth connective a.now b.now) }
+    ensures within { OnOk result (¬ BothExceed a.now b.now budget) }
+    ensures over { result ≡ Err Grown.Over → BothExceed a.now b.now budget }
 {
-    match product(alloc, connective, a, b, budget) {
-        Ok(c) => reduced(alloc, &c),
-        Err(Grown::Over) => Err(CompileError::Over { step }),
-        Err(Grown::Memory) => Err(CompileError::Memory),
-    }
+    let c = product(alloc, connective, a, b, budget)?;
+    Ok(merged(alloc, &c)?)
 }
 
+/// The product of the automata as they are, or else of the reduced ones.
 fn product(
     alloc: Global,
     connective: Connective,
     a: &Auto,
     b: &Auto,
-    budget: u32,
+    budget: Budget,
+) -> Result<Auto, Grown>
+    requires { length (with_vars a.now.tracks b.now.tracks) ≤ MOST_TRACKS }
+    ensures decides { IfOk result (DecidesBoth connective a.now b.now) }
+    ensures within { OnOk result (¬ BothExceed a.now b.now budget) }
+    ensures over { result ≡ Err Grown.Over → BothExceed a.now b.now budget }
+{
+    match product_within(alloc, connective, a, b, budget) {
+        Ok(c) => Ok(c),
+        Err(Grown::Memory) => Err(Grown::Memory),
+        Err(Grown::Over) => reduced_product(alloc, connective, a, b, budget),
+    }
+}
+
+/// `Over` says nothing of the spread.
+fn product_within(
+    alloc: Global,
+    connective: Connective,
+    a: &Auto,
+    b: &Auto,
+    budget: Budget,
+) -> Result<Auto, Grown>
+    requires { length (with_vars a.now.tracks b.now.tracks) ≤ MOST_TRACKS }
+    ensures decides { IfOk result (DecidesBoth connective a.now b.now) }
+    ensures within { OnOk result (¬ BothExceed a.now b.now budget) }
+{
+    match connective {
+        Connective::And => meet_within(alloc, a, b, budget),
+        Connective::Or => join_within(alloc, a, b, budget),
+    }
+}
+
+fn reduced_product(
+    alloc: Global,
+    connective: Connective,
+    a: &Auto,
+    b: &Auto,
+    budget: Budget,
+) -> Result<Auto, Grown>
+    requires { length (with_vars a.now.tracks b.now.tracks) ≤ MOST_TRACKS }
+    ensures decides { IfOk result (DecidesBoth connective a.now b.now) }
+    ensures within { OnOk result (¬ BothExceed a.now b.now budget) }
+    ensures over { result ≡ Err Grown.Over → BothExceed a.now b.now budget }
+{
+    let left = reduced(alloc, a)?;
+    let right = reduced(alloc, b)?;
+    exact_product(alloc, connective, &left, &right, budget)
+}
+
+fn exact_product(
+    alloc: Global,
+    connective: Connective,
+    a: &Auto,
+    b: &Auto,
+    budget: Budget,
 ) -> Result<Auto, Grown>
     requires a_reduced { IsReduced a.now }
     requires b_reduced { IsReduced b.now }
-    requires tracks { length (with_vars a.now.tracks b.now.tracks) ≤ 20 }
-    requires budget { (1 ≤ budget) × (budget ≤ 200000) }
-    ensures decides { IfOk result (λ c. (f g : Tree) (e : ℕ → SetOf) → Decides a.now f (members e) → Decides b.now g (members e) → Decides c (connect connective f g) (members e)) }
-    ensures within { OnOk result (¬ BothSpreadExceeds a.now.tracks b.now.tracks (Accepts a.now) (Accepts b.now) budget) }
-    ensures over { result ≡ Err Grown.Over → BothSpreadExceeds a.now.tracks b.now.tracks (Accepts a.now) (Accepts b.now) budget }
+    requires tracks { length (with_vars a.now.tracks b.now.tracks) ≤ MOST_TRACKS }
+    ensures decides { IfOk result (DecidesBoth connective a.now b.now) }
+    ensures within { OnOk result (¬ BothExceed a.now b.now budget) }
+    ensures over { result ≡ Err Grown.Over → BothExceed a.now b.now budget }
 {
     match connective {
         Connective::And => meet(alloc, a, b, budget),
@@ -122,47 +144,56 @@ fn product(
     }
 }
 
-pub fn projection(
-    alloc: Global,
-    var: Var,
-    a: &Auto,
-    budget: u32,
-    step: u32,
-) -> Result<Auto, CompileError>
-    requires reduced { IsReduced a.now }
-    requires budget { (1 ≤ budget) × (budget ≤ 200000) }
-    ensures reduced { IfOk result IsReduced }
-    ensures decides { IfOk result (λ c. (f : Tree) (e : ℕ → SetOf) → Decides a.now f (members e) → Decides c (tree.Ex var f) (members e)) }
-    ensures within { IfOk result (λ c. ¬ ExSpreadExceeds var a.now.tracks (Accepts a.now) budget) }
-    ensures over { IfErr result (IsStepError step (ExSpreadExceeds var a.now.tracks (Accepts a.now) budget)) }
+/// Ex.
+pub fn projection(alloc: Global, var: Var, a: &Auto, budget: Budget) -> Result<Auto, Grown>
+    ensures decides { IfOk result (DecidesEx var a.now) }
+    ensures within { OnOk result (¬ ExExceeds var a.now budget) }
+    ensures over { result ≡ Err Grown.Over → ExExceeds var a.now budget }
 {
-    match forget(alloc, a, var, budget) {
-        Ok(c) => reduced(alloc, &c),
-        Err(Grown::Over) => Err(CompileError::Over { step }),
-        Err(Grown::Memory) => Err(CompileError::Memory),
+    let c = forgotten(alloc, var, a, budget)?;
+    Ok(merged(alloc, &c)?)
+}
+
+/// The projection of the automaton as it is, or else of the reduced one.
+fn forgotten(alloc: Global, var: Var, a: &Auto, budget: Budget) -> Result<Auto, Grown>
+    ensures decides { IfOk result (DecidesEx var a.now) }
+    ensures within { OnOk result (¬ ExExceeds var a.now budget) }
+    ensures over { result ≡ Err Grown.Over → ExExceeds var a.now budget }
+{
+    match forget_within(alloc, a, var, budget) {
+        Ok(c) => Ok(c),
+        Err(Grown::Memory) => Err(Grown::Memory),
+        Err(Grown::Over) => reduced_forgotten(alloc, var, a, budget),
     }
 }
 
-pub fn complement(alloc: Global, a: &Auto) -> Result<Auto, CompileError>
-    requires { IsReduced a.now }
-    ensures reduced { IfOk result IsReduced }
-    ensures decides { IfOk result (λ c. (f : Tree) (e : ℕ → SetOf) → Decides a.now f (members e) → Decides c (tree.Not f) (members e)) }
-    ensures over { IfErr result (λ why. why ≡ CompileError.Memory) }
+fn reduced_forgotten(alloc: Global, var: Var, a: &Auto, budget: Budget) -> Result<Auto, Grown>
+    ensures decides { IfOk result (DecidesEx var a.now) }
+    ensures within { OnOk result (¬ ExExceeds var a.now budget) }
+    ensures over { result ≡ Err Grown.Over → ExExceeds var a.now budget }
 {
-    match not(alloc, a) {
-        Ok(c) => Ok(c),
-        Err(_) => Err(CompileError::Memory),
-    }
+    let inner = reduced(alloc, a)?;
+    forget(alloc, &inner, var, budget)
+}
+
+/// Not.
+pub fn complement(alloc: Global, a: &Auto) -> Result<Auto, AllocError>
+    ensures { IfOk result (DecidesNot a.now) }
+{
+    not(alloc, a)
 }
 
 /// The same words, with no state too many.
-fn reduced(alloc: Global, a: &Auto) -> Result<Auto, CompileError>
+pub fn reduced(alloc: Global, a: &Auto) -> Result<Auto, AllocError>
     ensures reduced { IfOk result IsReduced }
-    ensures decides { IfOk result (λ c. (f : Tree) (e : ℕ → SetOf) → Decides a.now f (members e) → Decides c f (members e)) }
-    ensures over { IfErr result (λ why. why ≡ CompileError.Memory) }
+    ensures same { IfOk result (AcceptSame a.now) }
 {
-    match reduce(alloc, a) {
-        Ok(c) => Ok(c),
-        Err(_) => Err(CompileError::Memory),
-    }
+    reduce(alloc, a)
+}
+
+/// The same words, with the states merged that one pass finds to be alike.
+fn merged(alloc: Global, a: &Auto) -> Result<Auto, AllocError>
+    ensures { IfOk result (AcceptSame a.now) }
+{
+    merge(alloc, a)
 }

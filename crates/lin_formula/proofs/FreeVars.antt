@@ -9,15 +9,13 @@ use Rattle.std.proofs.lemmas.List.Kept.{AllPairs-cons}
 use Rattle.track_word.specs.declared.tracks.Var.{Var}
 use Rattle.track_word.specs.Tracks.{IsAscending, with_var, with_vars, without_var}
 use Rattle.track_word.specs.Atom.{term_vars}
+pub use Rattle.auto_core.proofs.Orders.{same-var}
 use Rattle.lin_formula.specs.Tree.{Tree, Lin, Value, Among, Not, And, Or, Ex, free_vars}
 use Rattle.lin_formula.specs.Free.{IsOneOf, IsFree}
 
 pub if_cases : {A : Type 0} (b : Bool) (s t : A) (P : A → Type 0) → (b ≡ true → P s) → (b ≡ false → P t) → P (if b then s else t)
 if_cases true s t P f g = f refl
 if_cases false s t P f g = g refl
-
-pub var_is : (x y : Var) → x.0 ≡ y.0 → x ≡ y
-var_is x y e = ap (λ n. record { 0 = n }) e
 
 -- one of a list with one more
 pub one_of-with_var : (z x : Var) (ys : List Var) → IsOneOf z (with_var x ys) ↔ ((z ≡ x) ⊎ IsOneOf z ys)
@@ -26,7 +24,7 @@ one_of-with_var z x (y ∷ ys) =
     if_cases (nat_lt x.0 y.0) (x ∷ y ∷ ys) (if x.0 == y.0 then y ∷ ys else y ∷ with_var x ys) (λ l. IsOneOf z l ↔ ((z ≡ x) ⊎ IsOneOf z (y ∷ ys)))
     (λ e. (λ h. h, λ h. h))
     (λ e. if_cases (x.0 == y.0) (y ∷ ys) (y ∷ with_var x ys) (λ l. IsOneOf z l ↔ ((z ≡ x) ⊎ IsOneOf z (y ∷ ys)))
-    (λ same. (λ h. inr h, λ h. elim h [ inl is ↦ inl (is ∙ var_is x y (eqb-true x.0 y.0 same)) | inr k ↦ k ]))
+    (λ same. (λ h. inr h, λ h. elim h [ inl is ↦ inl (is ∙ same-var x y (eqb-true x.0 y.0 same)) | inr k ↦ k ]))
     (λ other.
     let rest = one_of-with_var z x ys in (
       λ h. elim h [ inl is ↦ inr (inl is) | inr k ↦ elim (rest.0 k) [ inl is ↦ inl is | inr l ↦ inr (inr l) ] ],
@@ -76,7 +74,7 @@ one_of-without_var z x (y ∷ ys) =
     ))
     (λ e. (
       λ h. let r = rest.0 h in (r.0, inr r.1),
-      λ h. elim h.1 [ inl is ↦ absurd (h.0 (is ∙ var_is y x (eqb-true y.0 x.0 (let back : not (not (y.0 == x.0)) ≡ true = ap not e in twice (y.0 == x.0) back)))) | inr k ↦ rest.1 (h.0, k) ],
+      λ h. elim h.1 [ inl is ↦ absurd (h.0 (is ∙ same-var y x (eqb-true y.0 x.0 (let back : not (not (y.0 == x.0)) ≡ true = ap not e in twice (y.0 == x.0) back)))) | inr k ↦ rest.1 (h.0, k) ],
     ))
 
 pub free_vars-free : (f : Tree) (x : Var) → IsOneOf x (free_vars f) ↔ IsFree x f

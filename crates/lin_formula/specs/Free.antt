@@ -29,4 +29,5 @@ FreeVarsAscend = (f : Tree) → IsAscending (free_vars f)
 
 abbrev pub MeaningRestsOnFreeVars : Type 0
 MeaningRestsOnFreeVars =
-    (f : Tree) (e : ℕ → SetOf) (v w : Values) → ((x : Var) → IsFree x f → v x.0 ≡ w x.0) → Holds f (members e) v → Holds f (members e) w
+    (f : Tree) (e : ℕ → SetOf) (v w : Values) → ((x : Var) → IsFree x f → v x.0 ≡ w x.0) → Holds f (members e) v
+    → Holds f (members e) w

@@ -65,7 +65,8 @@ symbols (And f g) = symbols f ++ symbols g
 symbols (Or f g) = symbols f ++ symbols g
 symbols (Ex x f) = symbols f
 
--- each linear comparison in it is of one to eight terms with different variables and small coefficients, with a small bound
+-- each linear comparison in it is of one to eight terms with different variables and small coefficients, with a small
+-- bound
 abbrev pub IsWellMade : Tree → Type 0
 IsWellMade (Lin terms rel bound) = IsAtom terms bound
 IsWellMade (Value x n) = Unit {0}

@@ -9,7 +9,6 @@ ghost use Rattle.lin_formula.specs.Refused.{IsWhy};
 
 use crate::formula::{Formula, SetId};
 use crate::lists::{Terms, Vars};
-use smallvec::SmallVec;
 use std::alloc::{AllocError, Global};
 use track_word::{Rel, Var};
 
@@ -46,7 +45,7 @@ pub fn lin(alloc: Global, terms: &[(i8, Var)], rel: Rel, bound: i32) -> Result<F
     if bound < -1000 || bound > 1000 {
         return Err(LinWhy::Bound);
     }
-    match SmallVec::from_slice(alloc, terms) {
+    match Vec::from_slice(alloc, terms) {
         Ok(items) => Ok(Formula::Lin {
             terms: Terms::new(items),
             rel,

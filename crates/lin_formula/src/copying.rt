@@ -4,7 +4,6 @@ ghost use Rattle.lin_formula.specs.TreeOf.{tree_of};
 
 use crate::formula::Formula;
 use crate::lists::{Terms, Vars};
-use smallvec::SmallVec;
 use std::alloc::{AllocError, Global};
 
 /// The same formula again.
@@ -13,7 +12,7 @@ pub fn copy(alloc: Global, f: &Formula) -> Result<Formula, AllocError>
 {
     match f {
         Formula::Lin { terms, rel, bound } => Ok(Formula::Lin {
-            terms: Terms::new(SmallVec::from_slice(alloc, terms.as_slice())?),
+            terms: Terms::new(Vec::from_slice(alloc, terms.as_slice())?),
             rel: *rel,
             bound: *bound,
         }),

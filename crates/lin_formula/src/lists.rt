@@ -1,14 +1,13 @@
 //! The lists that stand in formulas.
 ghost use Rattle.std.specs.Prelude.{◌≡◌, ◌↔◌, IsTrue};
 
-use smallvec::SmallVec;
 use std::marker::Model;
 use track_word::Var;
 
 /// The terms of a linear comparison, each a coefficient and a variable.
 #[derive(Drop)]
 pub struct Terms {
-    items: SmallVec<(i8, Var), 4>,
+    items: Vec<(i8, Var)>,
 }
 
 impl Model for Terms {
@@ -27,7 +26,7 @@ impl Terms {
     ghost use Rattle.lin_formula.specs.Terms.{IsTerms};
 
     /// The terms of a list: one to eight, of different variables, with coefficients from -64 to 64 that are not 0.
-    pub fn new(items: SmallVec<(i8, Var), 4>) -> Terms
+    pub fn new(items: Vec<(i8, Var)>) -> Terms
         requires { IsTerms items.items }
         ensures { result ≡ items.items }
     {

@@ -20,7 +20,8 @@ elsewhere m mask x y other = by (m == mask) refl
     by false e = refl
 
 -- the set at the first place of the mask
-pub set_of-place : (masks : List ℕ) (sets : List Automaton) (mask k : ℕ) → k < length masks → get_or masks k 0 ≡ mask → ((j : ℕ) → j < k → get_or masks j 0 ≡ mask → ⊥) → set_of masks sets mask ≡ slice_get sets k
+pub set_of-place : (masks : List ℕ) (sets : List Automaton) (mask k : ℕ) → k < length masks → get_or masks k 0 ≡ mask
+    → ((j : ℕ) → j < k → get_or masks j 0 ≡ mask → ⊥) → set_of masks sets mask ≡ slice_get sets k
 set_of-place [] sets mask k within is before = absurd (omega (arith, within))
 set_of-place (m ∷ masks) [] mask k within is before = refl
 set_of-place (m ∷ masks) (a ∷ sets) mask zero within is before = here m mask (Some a) (set_of masks sets mask) is

@@ -1,5 +1,5 @@
 -- How men of a placed position bear.
-use Rattle.std.proofs.Common.{◌≡◌, ◌⊎◌, ◌↔◌, ℕ, zero, suc, ◌<◌, ◌≤◌, ◌-ℤ◌, Bool, true, false, List, length, get_or, Some, inl, inr, refl, subst, sym, arith}
+use Rattle.std.proofs.Common.{◌≡◌, ◌↔◌, ℕ, zero, suc, ◌<◌, ◌≤◌, ◌-ℤ◌, Bool, true, false, List, [], ◌∷◌, length, get_or, Some, inl, inr, refl, subst, sym, arith}
 use Rattle.std.specs.Prelude.{IsSomeAnd}
 use Rattle.std.specs.List.{All}
 use Rattle.std.proofs.lemmas.Option.{slice_get_within, slice_get-get_or}
@@ -9,6 +9,7 @@ use Rattle.game_rules.specs.declared.men.Square.{Square}
 use Rattle.game_rules.specs.Game.{Bears, HasReach, IsBetween, IsLiveAnd, IsOpen, IsSlider, Position, StandsOn, place_square}
 use Rattle.game_rules.specs.declared.men.Ray.{Ray}
 use Rattle.game_rules.specs.Rays.{serves_captures}
+use Rattle.game_laws.proofs.RayLemmas.{true_or_not}
 use Rattle.rule_formula.proofs.RayLemmas.{LiesOn, IsSteps, IsFair, IsWithin, along_moves, far, near, slide_steps_same}
 use Rattle.rule_formula.specs.Placed.{place_at, placed, stock_man}
 use Rattle.rule_formula.proofs.KindLemmas.{IsRayOf, between_is, reach_along}
@@ -18,7 +19,8 @@ use Rattle.rule_formula.proofs.PlacedLemmas.{all_men, from_placed, placed_man}
 abbrev pub man_placed : (ℕ → Bool) → (ℕ → Square) → ℕ → Man → Man
 man_placed live f k m = record m { place = place_at (live k) (f k) }
 
-pub each_placed : (stock : List Man) (live : ℕ → Bool) (turn : Side) (f : ℕ → Square) (P : Man → Type 0) → All P (placed stock live turn f).men ↔ ((k : ℕ) (m : Man) → stock_man stock k ≡ Some m → P (man_placed live f k m))
+pub each_placed : (stock : List Man) (live : ℕ → Bool) (turn : Side) (f : ℕ → Square) (P : Man → Type 0)
+    → All P (placed stock live turn f).men ↔ ((k : ℕ) (m : Man) → stock_man stock k ≡ Some m → P (man_placed live f k m))
 each_placed stock live turn f P =
     let men = all_men (placed stock live turn f) P in (
       λ h k m is. men.0 h k (man_placed live f k m) (placed_man stock live turn f k m is),
@@ -37,9 +39,10 @@ stands_at true z e = refl
 stands_at false z e = absurd (cc)
 
 -- the stock has each man up to its length
-pub stock_has : (stock : List Man) (k : ℕ) → 0 < k → k ≤ length stock → (d : Man) → (m : Man) × (stock_man stock k ≡ Some m)
-stock_has stock zero low high d = absurd (omega arith)
-stock_has stock (suc k) low high d = (get_or stock k d, slice_get-get_or stock k d (omega arith))
+pub stock_has : (stock : List Man) (k : ℕ) → 0 < k → k ≤ length stock → (m : Man) × (stock_man stock k ≡ Some m)
+stock_has stock zero low high = absurd (omega (arith, low))
+stock_has [] (suc k) low high = absurd (omega (arith, high))
+stock_has (m ∷ ms) (suc k) low high = (get_or (m ∷ ms) k m, slice_get-get_or (m ∷ ms) k m (omega (arith, high)))
 
 pub record IsNumber (stock : List Man) (k : ℕ) : Type 0 where
   pub low : 0 < k
@@ -51,7 +54,8 @@ stock_number stock (suc k) m is =
     let within : k < length stock = slice_get_within stock k m is in record { low = omega arith; high = omega arith }
 
 -- the way is open exactly where no live man's square is between
-pub open_is : (stock : List Man) (live : ℕ → Bool) (turn : Side) (f : ℕ → Square) (a b : Square) → IsOpen (placed stock live turn f) a b ↔ ((k : ℕ) (m : Man) → stock_man stock k ≡ Some m → live k ≡ true → IsBetween a b (f k) → ⊥)
+pub open_is : (stock : List Man) (live : ℕ → Bool) (turn : Side) (f : ℕ → Square) (a b : Square)
+    → IsOpen (placed stock live turn f) a b ↔ ((k : ℕ) (m : Man) → stock_man stock k ≡ Some m → live k ≡ true → IsBetween a b (f k) → ⊥)
 open_is stock live turn f a b =
     let each = each_placed stock live turn f (λ m. IsLiveAnd m (IsBetween a b) → ⊥) in (
       λ h k m is on between. each.0 h k m is ((live_and (live k) (f k) (IsBetween a b)).1 (on, between)),
@@ -73,7 +77,8 @@ bears_from p m a z stands h =
 abbrev pub IsClearTo : List Man → (ℕ → Bool) → (ℕ → Square) → Ray → Square → ℕ → Type 0
 IsClearTo stock live f r a t = (k : ℕ) (m : Man) → stock_man stock k ≡ Some m → live k ≡ true → IsWithin r a (f k) t → ⊥
 
-open_along : (stock : List Man) (live : ℕ → Bool) (turn : Side) (f : ℕ → Square) (r : Ray) → IsFair r → r.far ≡ true → (a b : Square) (w : LiesOn r a b) → IsOpen (placed stock live turn f) a b ↔ IsClearTo stock live f r a w.distance
+open_along : (stock : List Man) (live : ℕ → Bool) (turn : Side) (f : ℕ → Square) (r : Ray) → IsFair r → r.far ≡ true
+    → (a b : Square) (w : LiesOn r a b) → IsOpen (placed stock live turn f) a b ↔ IsClearTo stock live f r a w.distance
 open_along stock live turn f r (far x y some) is_far a b w =
     let o = open_is stock live turn f a b in (
       λ h k m is on within. o.0 h k m is on ((between_is x y some a b (f k) w.distance w.positive w.steps).1 within),
@@ -81,12 +86,10 @@ open_along stock live turn f r (far x y some) is_far a b w =
     )
 open_along stock live turn f r (near dx dy some) is_far a b w = absurd (cc)
 
-pub far_or_near : (b : Bool) → (b ≡ true) ⊎ (b ≡ false)
-far_or_near true = inl refl
-far_or_near false = inr refl
-
 -- a man bears along his ray exactly where a far ray is clear
-pub bears_along : (stock : List Man) (live : ℕ → Bool) (turn : Side) (f : ℕ → Square) (m : Man) (n : ℕ) (r : Ray) (a b : Square) → IsRayOf m.side m.kind n r → serves_captures m.kind n ≡ true → StandsOn m a → (w : LiesOn r a b) → Bears (placed stock live turn f) m b ↔ (r.far ≡ true → IsClearTo stock live f r a w.distance)
+pub bears_along : (stock : List Man) (live : ℕ → Bool) (turn : Side) (f : ℕ → Square) (m : Man) (n : ℕ) (r : Ray) (a b : Square)
+    → IsRayOf m.side m.kind n r → serves_captures m.kind n ≡ true → StandsOn m a → (w : LiesOn r a b)
+    → Bears (placed stock live turn f) m b ↔ (r.far ≡ true → IsClearTo stock live f r a w.distance)
 bears_along stock live turn f m n r a b is serves stands w =
     let p : Position = placed stock live turn f in (
       λ h is_far. (open_along stock live turn f r is.fair is_far a b w).0 ((bears_from p m a b stands h).1 (is.slides is_far)),
@@ -94,7 +97,7 @@ bears_along stock live turn f m n r a b is serves stands w =
           bears_at p m a b stands (
             reach_along m.side m.kind n r a b is serves w,
             λ slider.
-                elim (far_or_near r.far) [
+                elim (true_or_not r.far) [
                   | inl is_far ↦ (open_along stock live turn f r is.fair is_far a b w).1 (h is_far)
                   | inr is_near ↦ absurd (is.leaps is_near slider)
                 ],

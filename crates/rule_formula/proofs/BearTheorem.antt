@@ -19,7 +19,8 @@ use Rattle.rule_formula.proofs.MoveLemmas.{same_man, same_number, some_number}
 use Rattle.rule_formula.proofs.PlacedLemmas.{placed_man, stands_placed}
 use Rattle.lin_formula.specs.Tree as tree
 
-bears_of : (stock : List Man) (turn : Side) (mask k n g : ℕ) (man target : Man) (r : Ray) → IsBearing stock mask k n g man target r → (f : ℕ → Square) → SeesAlong stock (is_live mask) k g r f → BearsAlong r k g (placed stock (is_live mask) turn f)
+bears_of : (stock : List Man) (turn : Side) (mask k n g : ℕ) (man target : Man) (r : Ray) → IsBearing stock mask k n g man target r → (f : ℕ → Square)
+    → SeesAlong stock (is_live mask) k g r f → BearsAlong r k g (placed stock (is_live mask) turn f)
 bears_of stock turn mask k n g man target r b f (along, clear) =
     let ray : IsRayOf man.side man.kind n r = ray_is man.side man.kind n r b.ray in
     let stands : StandsOn (man_placed (is_live mask) f k man) (f k) = stands_at (is_live mask k) (f k) b.live in
@@ -45,7 +46,8 @@ bears_of stock turn mask k n g man target r b f (along, clear) =
       bears = (bears_along stock (is_live mask) turn f (man_placed (is_live mask) f k man) n r (f k) (f g) ray b.serves stands along).1 open_to;
     }
 
-sees_of : (stock : List Man) (turn : Side) (mask k n g : ℕ) (man target : Man) (r : Ray) → IsBearing stock mask k n g man target r → (f : ℕ → Square) → BearsAlong r k g (placed stock (is_live mask) turn f) → SeesAlong stock (is_live mask) k g r f
+sees_of : (stock : List Man) (turn : Side) (mask k n g : ℕ) (man target : Man) (r : Ray) → IsBearing stock mask k n g man target r → (f : ℕ → Square)
+    → BearsAlong r k g (placed stock (is_live mask) turn f) → SeesAlong stock (is_live mask) k g r f
 sees_of stock turn mask k n g man target r b f h =
     let p : Position = placed stock (is_live mask) turn f in
     let ray : IsRayOf man.side man.kind n r = ray_is man.side man.kind n r b.ray in
@@ -62,7 +64,10 @@ sees_of stock turn mask k n g man target r b f h =
     )
 
 -- bear holds of the positions of the set in which the man bears along the ray
-pub bear_holds : (stock : List Man) (turn : Side) (mask k n g : ℕ) (man target : Man) (r : Ray) → IsBearing stock mask k n g man target r → (s : ℕ) (e : Sets) (v : Values) → Holds (bear_tree (length stock) mask k r g s) e v ↔ (IsMember e s (placed stock (is_live mask) turn (squares v)) × BearsAlong r k g (placed stock (is_live mask) turn (squares v)))
+pub bear_holds : (stock : List Man) (turn : Side) (mask k n g : ℕ) (man target : Man) (r : Ray) → IsBearing stock mask k n g man target r
+    → (s : ℕ) (e : Sets) (v : Values)
+    → Holds (bear_tree (length stock) mask k r g s) e v
+    ↔ (IsMember e s (placed stock (is_live mask) turn (squares v)) × BearsAlong r k g (placed stock (is_live mask) turn (squares v)))
 bear_holds stock turn mask k n g man target r b s e v =
     let ray : IsRayOf man.side man.kind n r = ray_is man.side man.kind n r b.ray in
     let suits = own_apart k g r (some_number stock k man b.is_man) (some_number stock g target b.is_target) b.apart in
@@ -73,7 +78,10 @@ bear_holds stock turn mask k n g man target r b s e v =
     )
 
 -- safe holds of the others
-pub safe_holds : (stock : List Man) (turn : Side) (mask k n g : ℕ) (man target : Man) (r : Ray) → IsBearing stock mask k n g man target r → (s : ℕ) (e : Sets) (v : Values) → Holds (safe_tree (length stock) mask k r g s) e v ↔ (IsMember e s (placed stock (is_live mask) turn (squares v)) × (¬ BearsAlong r k g (placed stock (is_live mask) turn (squares v))))
+pub safe_holds : (stock : List Man) (turn : Side) (mask k n g : ℕ) (man target : Man) (r : Ray) → IsBearing stock mask k n g man target r
+    → (s : ℕ) (e : Sets) (v : Values)
+    → Holds (safe_tree (length stock) mask k r g s) e v
+    ↔ (IsMember e s (placed stock (is_live mask) turn (squares v)) × (¬ BearsAlong r k g (placed stock (is_live mask) turn (squares v))))
 safe_holds stock turn mask k n g man target r b s e v =
     let among = among_holds stock (is_live mask) turn own s e v in
     let bear = bear_holds stock turn mask k n g man target r b s e v in (

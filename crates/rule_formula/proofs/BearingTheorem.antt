@@ -1,6 +1,6 @@
 -- The list of bearings has each bearing on the king, and nothing else; and a check is one by a bearing.
-use Rattle.std.proofs.Common.{◌≡◌, ◌≢◌, ◌↔◌, ℕ, zero, suc, ◌<◌, ◌≤◌, Bool, true, false, ◌&&◌, List, [], ◌∷◌, length, Some, None, inl, inr, refl, subst, sym, ap, ◌∙◌, arith}
-use Rattle.std.specs.Prelude.{if◌then◌else◌, slice_get, IsSomeAnd}
+use Rattle.std.proofs.Common.{◌≡◌, ◌≢◌, ◌↔◌, ℕ, zero, suc, ◌<◌, ◌≤◌, Bool, true, false, ◌&&◌, List, length, Some, None, inl, inr, refl, subst, sym, ap, ◌∙◌, arith}
+use Rattle.std.specs.Prelude.{if◌then◌else◌, IsSomeAnd}
 use Rattle.std.specs.List.{Contains}
 use Rattle.std.proofs.lemmas.Option.{slice_get_within}
 use Rattle.game_rules.specs.declared.men.Kind.{Kind}
@@ -12,21 +12,21 @@ use Rattle.game_rules.specs.declared.men.Place.TheVariants.{Gone}
 use Rattle.game_rules.specs.declared.men.Square.{Square}
 use Rattle.game_rules.specs.Game.{Attacked, Bears, HasOneKing, InCheck, IsLiveAnd, Position, StandsOn, man_at, other, place_square, square_of}
 use Rattle.game_rules.specs.Rays.{ray_of, rays_of, serves_captures}
+use Rattle.game_laws.proofs.SoundLemmas.{any_at, live_at, other_differs, other_other}
+use Rattle.game_laws.proofs.CheckLemmas.{any_is}
 use Rattle.rule_formula.specs.declared.opt.Bearing.{Bearing}
 use Rattle.rule_formula.specs.Bearings.{IsBearingOf, along_rays, bearing, bearings_of, bearings_to, is_king_man, king_number, king_to, man_bearings}
 use Rattle.rule_formula.specs.Fits.{Fits, IsGameMask, mask_of}
 use Rattle.rule_formula.specs.Meaning.{BearsBy}
 use Rattle.rule_formula.specs.Options.{is_king, is_side}
 use Rattle.rule_formula.specs.Placed.{is_live, stock_man}
-use Rattle.rule_formula.proofs.BearLemmas.{stock_number}
+use Rattle.rule_formula.proofs.BearLemmas.{stock_has, stock_number}
 use Rattle.rule_formula.proofs.ChainLemmas.{last_or_before}
 use Rattle.rule_formula.proofs.FitLemmas.{AreAlike, alike_back, alike_of}
 use Rattle.rule_formula.proofs.GameTheorem.{live_in_mask}
-use Rattle.rule_formula.proofs.LawTheorem.{other_other}
 use Rattle.rule_formula.proofs.ListTheorem.{appended, both_true, get_some, is_his_side, nothing, only_if, pushed_if, side_is, some_or_none, true_both}
-use Rattle.rule_formula.proofs.MoveLemmas.{other_differs}
 use Rattle.rule_formula.proofs.OptionTheorem.{bears_lives, some_square, way_of_bears}
-use Rattle.rule_formula.proofs.PlacedLemmas.{any_man, from_any, stock_man-men}
+use Rattle.rule_formula.proofs.PlacedLemmas.{stock_man-men}
 use Rattle.rule_formula.proofs.RayLemmas.{is_along}
 
 record IsAlongRays (sort : Kind) (k g n : ℕ) (b : Bearing) : Type 0 where
@@ -98,7 +98,8 @@ bearing_is b g e = ap (bearing b.man b.ray) (sym e)
 man_lists : (stock : List Man) (mask : ℕ) (s : Side) (g : ℕ) (b : Bearing) → IsListed stock mask s g b → Contains (man_bearings mask s g b.man (stock_man stock b.man)) b
 man_lists stock mask s g b h =
     let along : IsAlongRays h.man.kind b.man g (length (rays_of h.man.kind h.man.side)) b = record { is = bearing_is b g h.king; low = h.low; serves = h.serves } in
-    let inside : Contains (man_bearings mask s g b.man (Some h.man)) b = (only_if (is_live mask b.man && is_side h.man.side s) (along_rays h.man.kind b.man g (length (rays_of h.man.kind h.man.side))) b).1
+    let inside : Contains (man_bearings mask s g b.man (Some h.man)) b =
+    (only_if (is_live mask b.man && is_side h.man.side s) (along_rays h.man.kind b.man g (length (rays_of h.man.kind h.man.side))) b).1
     (true_both (is_live mask b.man) (is_side h.man.side s) h.live (is_his_side h.man.side s h.side), (along_are h.man.kind b.man g (length (rays_of h.man.kind h.man.side)) b).1 along)
     in
     subst (λ x. Contains (man_bearings mask s g b.man x) b) (sym h.is_man) inside
@@ -157,7 +158,8 @@ king_to_is p s had (suc n) high =
     elim (last_or_before had.number n high) [
       | inl earlier ↦ king_to_is p s had n earlier
       | inr last ↦
-          let there : is_king_man s (stock_man p.men (suc n)) ≡ true = subst (λ j. is_king_man s (stock_man p.men j) ≡ true) last (is_kingly p.men s had.number had.king (stock_man-men p had.number ∙ had.is_man) had.is_king.0 had.is_king.1) in
+          let there : is_king_man s (stock_man p.men (suc n)) ≡ true =
+          subst (λ j. is_king_man s (stock_man p.men j) ≡ true) last (is_kingly p.men s had.number had.king (stock_man-men p had.number ∙ had.is_man) had.is_king.0 had.is_king.1) in
           absurd (cc)
     ])
 
@@ -221,20 +223,12 @@ pub alike_man : (ms ns : List Man) → AreAlike ms ns → (k : ℕ) (m : Man) �
 alike_man ms ns h zero m is = absurd (cc)
 alike_man ms ns h (suc i) m is =
     let within : i < length ns = omega (arith, h.count, slice_get_within ms i m is) in
-    let (n, there) = some_there ns i within in
+    let (n, there) = stock_has ns (suc i) (omega arith) (omega (arith, within)) in
     let same = h.men i m n is there in (n, there, same.0, same.1)
-  where
-    some_there : (xs : List Man) (i : ℕ) → i < length xs → (n : Man) × (slice_get xs i ≡ Some n)
-    some_there [] i low = absurd (omega (arith, low))
-    some_there (x ∷ xs) zero low = (x, refl)
-    some_there (x ∷ xs) (suc i) low = some_there xs i (omega (arith, low))
 
 -- men of one side and kind have the same rays
 pub alike_ray : (m n : Man) (j : ℕ) (r : Ray) → n.side ≡ m.side → n.kind ≡ m.kind → ray_of m.kind m.side j ≡ Some r → ray_of n.kind n.side j ≡ Some r
 alike_ray m n j r side sort is = ap (λ k. ray_of k n.side j) sort ∙ ap (λ s. ray_of m.kind s j) side ∙ is
-
-live_where : (m : Man) (z : Square) (P : Square → Type 0) → StandsOn m z → P z → IsLiveAnd m P
-live_where m z P stands h = subst (λ o. IsSomeAnd o P) (sym stands) h
 
 stands_live : (m : Man) (z : Square) → StandsOn m z → m.place ≢ Gone
 stands_live m z stands gone =
@@ -259,11 +253,11 @@ record IsCheck (q : Position) (s : Side) : Type 0 where
 
 check_of : (q : Position) (s : Side) → InCheck q (other s) → IsCheck q s
 check_of q s h =
-    let (g, king, is, (side, sort, live)) = from_any q (λ m. (m.side ≡ other s) × (m.kind ≡ King) × IsLiveAnd m (Attacked q (other (other s)))) h in
+    let (g, king, is, (side, sort, live)) = any_is q (λ m. (m.side ≡ other s) × (m.kind ≡ King) × IsLiveAnd m (Attacked q (other (other s)))) h in
     let (z, stands) = some_square (square_of king) (Attacked q (other (other s))) live in
     let attacked' : Attacked q (other (other s)) z = subst (λ o. IsSomeAnd o (Attacked q (other (other s)))) stands live in
     let attacked : Attacked q s z = subst (λ t. Attacked q t z) (other_other s) attacked' in
-    let (k, man, is_man, (his, bears)) = from_any q (λ m. (m.side ≡ s) × Bears q m z) attacked in
+    let (k, man, is_man, (his, bears)) = any_is q (λ m. (m.side ≡ s) × Bears q m z) attacked in
     let (from, from_stands) = bears_lives q man z bears in
     record {
       number = g;
@@ -337,10 +331,10 @@ check_by p side s q fits b is by =
     let w = by.bears in
     let man = fits.stock.men b.man is.bearer.man w.man is.bearer.is.is_man w.is_man in
     let king = fits.stock.men b.king is.bearer.target w.target is.bearer.is.is_target w.is_target in
-    let attacked : Attacked q s w.to = any_man q (λ m. (m.side ≡ s) × Bears q m w.to) b.man w.man w.is_man (man.0 ∙ is.side, w.bears) in
+    let attacked : Attacked q s w.to = any_at q (λ m. (m.side ≡ s) × Bears q m w.to) b.man w.man w.is_man (man.0 ∙ is.side, w.bears) in
     let attacked' : Attacked q (other (other s)) w.to = subst (λ t. Attacked q t w.to) (sym (other_other s)) attacked in
-    any_man q (λ m. (m.side ≡ other s) × (m.kind ≡ King) × IsLiveAnd m (Attacked q (other (other s)))) b.king w.target w.is_target
-    (king.0 ∙ is.other_side, king.1 ∙ is.king, live_where w.target w.to (Attacked q (other (other s))) w.target_stands attacked')
+    any_at q (λ m. (m.side ≡ other s) × (m.kind ≡ King) × IsLiveAnd m (Attacked q (other (other s)))) b.king w.target w.is_target
+    (king.0 ∙ is.other_side, king.1 ∙ is.king, live_at w.target w.to (Attacked q (other (other s))) w.target_stands attacked')
 
 -- the king is in check exactly where some bearing on him bears
 pub checks_are : (p : Position) (side s : Side) (q : Position) → Fits p side q → InCheck q (other s) ↔ ((b : Bearing) × IsBearingOf p.men (mask_of q) s b × BearsBy b.man b.ray b.king q)

@@ -38,7 +38,8 @@ each_more P n = (
   λ h k low high. elim (last_or_before k n high) [ inl before ↦ h.0 k low before | inr last ↦ subst P (sym last) h.1 ],
 )
 
-pub clear_holds : (f : Tree) (hit : ℕ → Tree) (live : ℕ → Bool) (i j n : ℕ) (e : Sets) (v : Values) → Holds (clear f hit live i j n) e v ↔ (Holds f e v × Each (λ k. IsTrue (is_other live i j k) → ¬ Holds (hit k) e v) n)
+pub clear_holds : (f : Tree) (hit : ℕ → Tree) (live : ℕ → Bool) (i j n : ℕ) (e : Sets) (v : Values)
+    → Holds (clear f hit live i j n) e v ↔ (Holds f e v × Each (λ k. IsTrue (is_other live i j k) → ¬ Holds (hit k) e v) n)
 clear_holds f hit live i j zero e v = (λ h. (h, λ k low high. absurd (omega arith)), λ h. h.0)
 clear_holds f hit live i j (suc n) e v =
     let before : Holds (clear f hit live i j n) e v ↔ (Holds f e v × Each (λ k. IsTrue (is_other live i j k) → ¬ Holds (hit k) e v) n) = clear_holds f hit live i j n e v in

@@ -111,7 +111,8 @@ parity x y even odd e =
     let both : 0 ≡ 1 = sym even ∙ ap (λ n. n % 2) same ∙ odd in absurd (omega (arith, both))
 
 -- two differences
-pub four_atom : (b d : ℤ) (c e : ℤ) (p q r s : Var) → p.0 ≢ q.0 → r.0 ≢ s.0 → q.0 % 2 ≡ 0 → p.0 % 2 ≡ 0 → s.0 % 2 ≡ 1 → r.0 % 2 ≡ 1 → IsUnit b → IsUnit d → IsUnit c → IsUnit e → IsAtom ((b, p) ∷ (d, q) ∷ (c, r) ∷ (e, s) ∷ []) (pos 0)
+pub four_atom : (b d : ℤ) (c e : ℤ) (p q r s : Var) → p.0 ≢ q.0 → r.0 ≢ s.0 → q.0 % 2 ≡ 0 → p.0 % 2 ≡ 0 → s.0 % 2 ≡ 1 → r.0 % 2 ≡ 1 → IsUnit b
+    → IsUnit d → IsUnit c → IsUnit e → IsAtom ((b, p) ∷ (d, q) ∷ (c, r) ∷ (e, s) ∷ []) (pos 0)
 four_atom b d c e p q r s across along q_even p_even s_odd r_odd ub ud uc ue =
     let C = λ (t : ℤ × Var). IsCoefficient t in
     let D = λ (z : Var) (t : ℤ × Var). t.1 ≢ z in (

@@ -10,15 +10,15 @@ use Rattle.game_rules.specs.declared.men.Place.{Place}
 use Rattle.game_rules.specs.declared.men.Place.TheVariants.{Gone, At}
 use Rattle.game_rules.specs.declared.men.Square.{Square}
 use Rattle.game_rules.specs.Game.{IsMaskOf, Position, place_square, square_of}
+use Rattle.rule_formula.proofs.BearLemmas.{stock_has}
 use Rattle.track_word.specs.declared.tracks.Var.{Var}
 use Rattle.track_word.specs.Tracks.{Values, values_at}
 use Rattle.lin_formula.specs.Free.{IsOneOf}
-use Rattle.rule_formula.specs.Fits.{Fits, HasStock, live_bit, mask_of, mask_of_men}
-use Rattle.rule_formula.specs.Placed.{is_live, men_from, place_at, placed, tuple_of, tuple_to}
+use Rattle.rule_formula.specs.Fits.{HasStock, live_bit, mask_of, mask_of_men}
+use Rattle.rule_formula.specs.Placed.{men_from, place_at, placed, tuple_of, tuple_to}
 use Rattle.rule_formula.specs.Seats.{own, squares}
 use Rattle.rule_formula.specs.Trees.{tracks_of}
 use Rattle.rule_formula.proofs.FormulaLemmas.{tuple_is}
-use Rattle.rule_formula.proofs.LawTheorem.{self_placed, squares_of}
 use Rattle.rule_formula.proofs.MoveTheorem.{if_other, if_same}
 use Rattle.rule_formula.proofs.PlacedLemmas.{length_placed}
 use Rattle.rule_formula.proofs.RayLemmas.{square_at}
@@ -66,7 +66,9 @@ values_same (x ∷ xs) v w e z (inr is) =
     let rest : values_at xs v ≡ values_at xs w = cc in values_same xs v w rest z is
 
 -- positions of a stock with the same men live and the same tuple are one
-pub placed_unique : (stock : List Man) (live : ℕ → Bool) (turn : Side) (v w : Values) → values_at (tracks_of stock live) v ≡ values_at (tracks_of stock live) w → placed stock live turn (squares v) ≡ placed stock live turn (squares w)
+pub placed_unique : (stock : List Man) (live : ℕ → Bool) (turn : Side) (v w : Values)
+    → values_at (tracks_of stock live) v ≡ values_at (tracks_of stock live) w
+    → placed stock live turn (squares v) ≡ placed stock live turn (squares w)
 placed_unique stock live turn v w e =
     placed_same stock live turn (squares v) (squares w)
     (λ k low high on.
@@ -89,7 +91,7 @@ man_alike : (m n : Man) (x : Place) → n.side ≡ m.side → n.kind ≡ m.kind 
 man_alike m n x side sort =
     ap (λ s. record { side = s; kind = m.kind; place = x }) (sym side) ∙ ap (λ k. record { side = n.side; kind = k; place = x }) (sym sort)
 
-men_alike : (i : ℕ) (ms ns : List Man) (live : ℕ → Bool) (f : ℕ → Square) → AreAlike ms ns → men_from i ms live f ≡ men_from i ns live f
+pub men_alike : (i : ℕ) (ms ns : List Man) (live : ℕ → Bool) (f : ℕ → Square) → AreAlike ms ns → men_from i ms live f ≡ men_from i ns live f
 men_alike i [] [] live f h = refl
 men_alike i [] (n ∷ ns) live f h = absurd (omega (arith, h.count))
 men_alike i (m ∷ ms) [] live f h = absurd (omega (arith, h.count))
@@ -167,38 +169,5 @@ mask_one q mask h =
     let tells = mask_tells q in
     same_from_bits_below (length q.men) mask (mask_of q) h.no_more tells.no_more
     (λ i low.
-    let (m, is) = man_there q.men i low in
+    let (m, is) = stock_has q.men (suc i) (omega arith) (omega (arith, low)) in
     same_bit (bit_at mask i) (bit_at (mask_of q) i) (m.place ≢ Gone) (bit_at-lt mask i) (bit_at-lt (mask_of q) i) (h.live i m is) (tells.live i m is))
-  where
-    man_there : (ms : List Man) (i : ℕ) → i < length ms → (m : Man) × (slice_get ms i ≡ Some m)
-    man_there [] i low = absurd (omega (arith, low))
-    man_there (x ∷ xs) zero low = (x, refl)
-    man_there (x ∷ xs) (suc i) low = man_there xs i (omega (arith, low))
-
--- a position of the game is that of the stock, with its men on their squares
-pub fits_placed : (p : Position) (side : Side) (q : Position) → Fits p side q → placed p.men (is_live (mask_of q)) side (squares_of q) ≡ q
-fits_placed p side q fits =
-    let live : ℕ → Bool = is_live (mask_of q) in
-    let men : men_from 1 p.men live (squares_of q) ≡ men_from 1 q.men live (squares_of q) = men_alike 1 p.men q.men live (squares_of q) (alike_of p.men q fits.stock) in
-    ap (λ xs. record { men = xs; turn = side }) men
-    ∙ ap (λ s. record { men = men_from 1 q.men live (squares_of q); turn = s }) (sym fits.turn)
-    ∙ self_placed q (mask_of q) (mask_tells q)
-
--- positions of the game with one mask and one tuple are one
-pub fits_unique : (p : Position) (side : Side) (q r : Position) → Fits p side q → Fits p side r → mask_of q ≡ mask_of r → tuple_of q ≡ tuple_of r → q ≡ r
-fits_unique p side q r fits_q fits_r mask tuple =
-    let live : ℕ → Bool = is_live (mask_of r) in
-    let v : Values = values_of (squares_of q) in
-    let w : Values = values_of (squares_of r) in
-    let q_is : placed p.men live side (squares v) ≡ q = placed_values p.men live side (squares_of q) ∙ ap (λ m. placed p.men (is_live m) side (squares_of q)) (sym mask) ∙ fits_placed p side q fits_q in
-    let r_is : placed p.men live side (squares w) ≡ r = placed_values p.men live side (squares_of r) ∙ fits_placed p side r fits_r in
-    let same : values_at (tracks_of p.men live) v ≡ values_at (tracks_of p.men live) w = tuple_placed p.men live side v ∙ ap tuple_of q_is ∙ tuple ∙ sym (ap tuple_of r_is) ∙ sym (tuple_placed p.men live side w) in
-    sym q_is ∙ placed_unique p.men live side v w same ∙ r_is
-
--- values of the tuple of a position of the game are those of its squares
-pub fits_values : (p : Position) (side : Side) (q : Position) (v : Values) → Fits p side q → values_at (tracks_of p.men (is_live (mask_of q))) v ≡ tuple_of q → placed p.men (is_live (mask_of q)) side (squares v) ≡ q
-fits_values p side q v fits tuple =
-    let live : ℕ → Bool = is_live (mask_of q) in
-    let w : Values = values_of (squares_of q) in
-    let q_is : placed p.men live side (squares w) ≡ q = placed_values p.men live side (squares_of q) ∙ fits_placed p side q fits in
-    placed_unique p.men live side v w (tuple ∙ sym (ap tuple_of q_is) ∙ sym (tuple_placed p.men live side w)) ∙ q_is

@@ -7,18 +7,19 @@ use Rattle.game_rules.specs.declared.men.Place.TheVariants.{Gone}
 use Rattle.game_rules.specs.declared.men.Ray.{Ray}
 use Rattle.game_rules.specs.declared.men.Square.{Square}
 use Rattle.game_rules.specs.Game.{HasOneKing, IsApart, IsMaskOf, Position, Sound, StandsOn, man_at, other}
+use Rattle.game_laws.proofs.RayLemmas.{true_or_not}
+use Rattle.rule_formula.proofs.StockLemmas.{fits_placed}
 use Rattle.rule_formula.specs.declared.opt.Opt.{Opt}
 use Rattle.rule_formula.specs.Fits.{Fits, HasStock, IsGameMask, mask_of, target_of}
 use Rattle.rule_formula.specs.Meaning.{IsOptionOf, IsOptionOfSide, IsPrey, StepsBy, TakesOption}
 use Rattle.rule_formula.specs.Placed.{is_live, place_at, placed, stock_man, without}
 use Rattle.rule_formula.proofs.AfterTheorem.{after_is, moved, moved_other, moved_same}
-use Rattle.rule_formula.proofs.BearLemmas.{far_or_near, man_placed, stands_at, stock_has, stock_number}
-use Rattle.rule_formula.proofs.FitLemmas.{fits_placed, mask_one, mask_small, mask_tells}
+use Rattle.rule_formula.proofs.BearLemmas.{man_placed, stands_at, stock_has, stock_number}
+use Rattle.rule_formula.proofs.FitLemmas.{mask_one, mask_small, mask_tells}
 use Rattle.rule_formula.proofs.LawTheorem.{live_at, squares_of}
 use Rattle.rule_formula.proofs.MaskLemmas.{live_bit_is, without_is, without_less}
 use Rattle.rule_formula.proofs.MeaningLemmas.{takes_is}
-use Rattle.rule_formula.proofs.MoveLemmas.{kept_live, nobody_there, place_gone, same_man, same_number}
-use Rattle.rule_formula.proofs.MoveTheorem.{was_live}
+use Rattle.rule_formula.proofs.MoveLemmas.{kept_live, nobody_there, place_gone, same_man, same_number, was_live}
 use Rattle.rule_formula.proofs.PlacedLemmas.{from_placed, length_placed, placed_man, stands_placed, stock_man-men}
 
 -- each king is live
@@ -57,14 +58,15 @@ placed_king p live turn g keeps s had =
           had.only k w.man (sym (stock_man-men p k) ∙ w.is_man) (sym (ap (λ (a : Man). a.side) w.is) ∙ side) (sym (ap (λ (a : Man). a.kind) w.is) ∙ king);
     }
 
-pub placed_fits : (p : Position) (live : ℕ → Bool) (turn : Side) (g : ℕ → Square) → IsApart (placed p.men live turn g) → ((s : Side) → HasOneKing p s) → KeepsKings p.men live → KeepsGone p.men live → Fits p turn (placed p.men live turn g)
+pub placed_fits : (p : Position) (live : ℕ → Bool) (turn : Side) (g : ℕ → Square) → IsApart (placed p.men live turn g) → ((s : Side) → HasOneKing p s)
+    → KeepsKings p.men live → KeepsGone p.men live → Fits p turn (placed p.men live turn g)
 placed_fits p live turn g apart kings keeps gone =
     record {
       stock = placed_stock p.men live turn g;
       none_back = λ k m n was is off.
           let in_stock : stock_man p.men k ≡ Some m = stock_man-men p k ∙ was in
           let same : n ≡ man_placed live g k m = same_man p.men live turn g k m n in_stock is in
-          elim (far_or_near (live k)) [
+          elim (true_or_not (live k)) [
             | inl on ↦ absurd (gone k m in_stock on off)
             | inr dead ↦ ap (λ (a : Man). a.place) same ∙ place_gone (live k) (g k) dead
           ];
@@ -74,7 +76,8 @@ placed_fits p live turn g apart kings keeps gone =
     }
 
 -- the mask of a placed position is the one with the same men
-pub placed_mask : (stock : List Man) (live : ℕ → Bool) (turn : Side) (g : ℕ → Square) (m : ℕ) → m < 2 ^ length stock → ((k : ℕ) → 0 < k → k ≤ length stock → is_live m k ≡ live k) → m ≡ mask_of (placed stock live turn g)
+pub placed_mask : (stock : List Man) (live : ℕ → Bool) (turn : Side) (g : ℕ → Square) (m : ℕ) → m < 2 ^ length stock
+    → ((k : ℕ) → 0 < k → k ≤ length stock → is_live m k ≡ live k) → m ≡ mask_of (placed stock live turn g)
 placed_mask stock live turn g m small tells = mask_one (placed stock live turn g) m tells_it
   where
     tells_it : IsMaskOf (placed stock live turn g) m
@@ -88,7 +91,7 @@ placed_mask stock live turn g m small tells = mask_one (placed stock live turn g
                 λ bit gone.
                     let on : live (suc i) ≡ true = sym same ∙ live_at m i (suc i) (omega arith) bit in
                     let off : live (suc i) ≡ false = at_gone (live (suc i)) (g (suc i)) (sym place ∙ gone) in cc,
-                λ there. elim (far_or_near (live (suc i))) [
+                λ there. elim (true_or_not (live (suc i))) [
                   | inl on ↦ live_bit_is m i (same ∙ on)
                   | inr off ↦ absurd (there (place ∙ place_gone (live (suc i)) (g (suc i)) off))
                 ],
@@ -110,7 +113,7 @@ pub man_of_stock : (stock : List Man) (q : Position) → HasStock stock q → (k
 man_of_stock stock q has k m is =
     let at = stock_number stock k m is in
     let high : k ≤ length q.men = omega (arith, at.high, has.count) in
-    let (n, there) = stock_has q.men k at.low high m in
+    let (n, there) = stock_has q.men k at.low high in
     (n, sym (stock_man-men q k) ∙ there)
 
 pub fits_kings : (p : Position) (side : Side) (q : Position) → Fits p side q → KeepsKings p.men (is_live (mask_of q))
@@ -150,7 +153,9 @@ sound_fits p sound =
     }
 
 -- no two live men stand on one square after the step
-moved_apart : (stock : List Man) (mask i t : ℕ) (r : Ray) (side turn : Side) (f : ℕ → Square) → IsApart (placed stock (is_live mask) side f) → (q : Position) → (h : StepsBy i r t (placed stock (is_live mask) side f) q) → IsApart (placed stock (without (is_live mask) t) turn (moved f i h.to))
+moved_apart : (stock : List Man) (mask i t : ℕ) (r : Ray) (side turn : Side) (f : ℕ → Square) → IsApart (placed stock (is_live mask) side f)
+    → (q : Position) → (h : StepsBy i r t (placed stock (is_live mask) side f) q)
+    → IsApart (placed stock (without (is_live mask) t) turn (moved f i h.to))
 moved_apart stock mask i t r side turn f apart q h a b ma mb z is_a is_b on_a on_b =
     let live : ℕ → Bool = is_live mask in
     let p : Position = placed stock live side f in
@@ -166,12 +171,14 @@ moved_apart stock mask i t r side turn f apart q h a b ma mb z is_a is_b on_a on
         | inl eb ↦ ea ∙ sym eb
         | inr nb ↦
             let here : f b ≡ h.to = sym (moved_other f i b h.to nb) ∙ sb.1 ∙ sym sa.1 ∙ moved_same f i a h.to ea in
-            absurd (nobody_there t p h.to h.takes apart b (man_placed live f b wb.man) (placed_man stock live side f b wb.man wb.is_man) (stands_at (live b) (f b) lb.0 ∙ ap (λ (y : Square). Some y) here) lb.1)
+            absurd (nobody_there t p h.to h.takes apart b (man_placed live f b wb.man) (placed_man stock live side f b wb.man wb.is_man)
+            (stands_at (live b) (f b) lb.0 ∙ ap (λ (y : Square). Some y) here) lb.1)
       ]
       | inr na ↦ elim (same_number b i) [
         | inl eb ↦
             let here : f a ≡ h.to = sym (moved_other f i a h.to na) ∙ sa.1 ∙ sym sb.1 ∙ moved_same f i b h.to eb in
-            absurd (nobody_there t p h.to h.takes apart a (man_placed live f a wa.man) (placed_man stock live side f a wa.man wa.is_man) (stands_at (live a) (f a) la.0 ∙ ap (λ (y : Square). Some y) here) la.1)
+            absurd (nobody_there t p h.to h.takes apart a (man_placed live f a wa.man) (placed_man stock live side f a wa.man wa.is_man)
+            (stands_at (live a) (f a) la.0 ∙ ap (λ (y : Square). Some y) here) la.1)
         | inr nb ↦
             let at_a : f a ≡ z = sym (moved_other f i a h.to na) ∙ sa.1 in
             let at_b : f b ≡ z = sym (moved_other f i b h.to nb) ∙ sb.1 in
@@ -218,7 +225,8 @@ pub record Arrives (p : Position) (side : Side) (m : ℕ) (o : Opt) (r : Positio
   pub fits : Fits p (other side) r
   pub mask : mask_of r ≡ target_of m o
 
-pub arrives : (p : Position) (side : Side) (o : Opt) (q r : Position) → ((s : Side) → HasOneKing p s) → Fits p side q → IsOptionOfSide p.men (mask_of q) side o → TakesOption o q r → Arrives p side (mask_of q) o r
+pub arrives : (p : Position) (side : Side) (o : Opt) (q r : Position) → ((s : Side) → HasOneKing p s) → Fits p side q
+    → IsOptionOfSide p.men (mask_of q) side o → TakesOption o q r → Arrives p side (mask_of q) o r
 arrives p side o q r kings fits (w, his) takes =
     let m : ℕ = mask_of q in
     let live : ℕ → Bool = is_live m in
@@ -234,7 +242,9 @@ arrives p side o q r kings fits (w, his) takes =
     let bits : (k : ℕ) → 0 < k → is_live (target_of m o) k ≡ without live o.taken k = λ k low. without_is m o.taken k low (prey_live p.men m w.man.side o.taken w.is.prey) in
     let keeps : KeepsKings p.men (without live o.taken) = λ k a is king. sym (bits k (stock_number p.men k a is).low) ∙ game.kings k a (sym (stock_man-men p k) ∙ is) king in
     let gone : KeepsGone p.men (without live o.taken) = λ k a is on. game.live k a (sym (stock_man-men p k) ∙ is) (bits k (stock_number p.men k a is).low ∙ on) in
-    let here : Fits p (other side) (placed p.men (without live o.taken) (other side) g) = placed_fits p (without live o.taken) (other side) g (moved_apart p.men m o.man o.taken w.ray w.man.side (other side) f apart r steps) kings keeps gone in
+    let here : Fits p (other side) (placed p.men (without live o.taken) (other side) g) =
+    placed_fits p (without live o.taken) (other side) g
+    (moved_apart p.men m o.man o.taken w.ray w.man.side (other side) f apart r steps) kings keeps gone in
     record {
       squares = g;
       is = r_is;

@@ -1,34 +1,18 @@
 -- How the rays of a kind bear.
-use Rattle.std.proofs.Common.{◌≡◌, ◌↔◌, ℕ, zero, suc, ◌+◌, ◌<◌, ◌≤◌, ◌∙◌, ℤ, pos, negsuc, ◌+ℤ◌, ◌*ℤ◌, ◌-ℤ◌, unsigned_abs, true, false, List, [], ◌∷◌, Option, Some, None, inl, inr, refl, subst, sym, ap, arith}
-use Rattle.std.specs.Prelude.{slice_get, IfSome, ◌≢◌}
+use Rattle.std.proofs.Common.{◌≡◌, ◌↔◌, ℕ, zero, suc, ◌<◌, ◌≤◌, ◌∙◌, max, ℤ, pos, ◌+ℤ◌, ◌*ℤ◌, ◌-ℤ◌, unsigned_abs, Bool, true, false, Option, Some, None, inl, inr, refl, subst, sym, ap, arith}
+use Rattle.std.specs.Prelude.{IfSome, ◌≢◌}
 use Rattle.std.proofs.lemmas.Int.{ints}
 use Rattle.game_rules.specs.declared.men.Kind.{Kind}
 use Rattle.game_rules.specs.declared.men.Kind.TheVariants.{King, Queen, Rook, Bishop, Knight, Pawn}
 use Rattle.game_rules.specs.declared.men.Side.{Side}
 use Rattle.game_rules.specs.declared.men.Side.TheVariants.{White, Black}
 use Rattle.game_rules.specs.declared.men.Square.{Square}
-use Rattle.game_rules.specs.Game.{after_steps, forward, HasReach, IsBetween, IsDirection, IsDiagonal, IsSlider, IsStraight}
+use Rattle.game_rules.specs.Game.{after_steps, forward, HasReach, IsBetween, IsDirection, IsSlider}
 use Rattle.game_rules.specs.declared.men.Ray.{Ray}
-use Rattle.game_rules.specs.Rays.{leap, ray_of, rays_of, serves_captures, slide}
+use Rattle.game_rules.specs.Rays.{leap, ray_of, serves_captures, slide}
+use Rattle.game_laws.proofs.RayLemmas.{true_or_not}
+use Rattle.game_laws.proofs.TableLemmas.{ray_is as table_ray}
 use Rattle.rule_formula.proofs.RayLemmas.{LiesOn, IsSteps, IsFair, IsSome, IsWithin, Minus, Plus, Sign, Zero, far, near, num, slide_steps_same, small_sign, square_at}
-
--- what a slide of these signs reaches
-abbrev pub LineReach : Sign → Sign → ℤ → ℤ → Type 0
-LineReach Zero y dx dy = IsStraight dx dy
-LineReach Plus Zero dx dy = IsStraight dx dy
-LineReach Minus Zero dx dy = IsStraight dx dy
-LineReach _ _ dx dy = IsDiagonal dx dy
-
-pub slide_reach : (x y : Sign) → IsSome x y → (t : ℕ) → 0 < t → LineReach x y (pos t *ℤ num x) (pos t *ℤ num y)
-slide_reach Zero Zero some t low = absurd some
-slide_reach Zero Plus some t low = inl (omega (arith, ints), λ e. omega (arith, ints, e))
-slide_reach Zero Minus some t low = inl (omega (arith, ints), λ e. omega (arith, ints, e))
-slide_reach Plus Zero some t low = inr (λ e. omega (arith, ints, e), omega (arith, ints))
-slide_reach Minus Zero some t low = inr (λ e. omega (arith, ints, e), omega (arith, ints))
-slide_reach Plus Plus some t low = (grind (arith, ints), grind (arith, ints))
-slide_reach Plus Minus some t low = (grind (arith, ints), grind (arith, ints))
-slide_reach Minus Plus some t low = (grind (arith, ints), grind (arith, ints))
-slide_reach Minus Minus some t low = (grind (arith, ints), grind (arith, ints))
 
 -- what holds of ray number n of a kind
 pub record IsRayOf (s : Side) (k : Kind) (n : ℕ) (r : Ray) : Type 0 where
@@ -38,50 +22,71 @@ pub record IsRayOf (s : Side) (k : Kind) (n : ℕ) (r : Ray) : Type 0 where
   pub reaches : serves_captures k n ≡ true → (t : ℕ) → 0 < t → (r.far ≡ false → t ≡ 1) → HasReach s k (pos t *ℤ r.dx) (pos t *ℤ r.dy)
   pub quiet : serves_captures k n ≡ false → r ≡ leap (pos 0) (forward s)
 
-leap_is : (s : Side) (k : Kind) (n : ℕ) (dx dy : ℤ) → (dx ≡ pos 0 → dy ≡ pos 0 → ⊥) → (IsSlider k → ⊥) → (serves_captures k n ≡ true → HasReach s k (pos 1 *ℤ dx) (pos 1 *ℤ dy)) → (serves_captures k n ≡ false → leap dx dy ≡ leap (pos 0) (forward s)) → IsRayOf s k n (leap dx dy)
-leap_is s k n dx dy some never reach quiet =
-    record {
-      fair = near dx dy some;
-      slides = λ e. absurd (cc);
-      leaps = λ e. never;
-      reaches = λ c t low one. subst (λ j. HasReach s k (pos j *ℤ dx) (pos j *ℤ dy)) (sym (one refl)) (reach c);
-      quiet = quiet;
-    }
+-- only the pawn's first ray does not serve captures
+quiet_is : (s : Side) (k : Kind) (n : ℕ) (r : Ray) → ray_of k s n ≡ Some r → serves_captures k n ≡ false → r ≡ leap (pos 0) (forward s)
+quiet_is s King n r is quiet = absurd (cc)
+quiet_is s Queen n r is quiet = absurd (cc)
+quiet_is s Rook n r is quiet = absurd (cc)
+quiet_is s Bishop n r is quiet = absurd (cc)
+quiet_is s Knight n r is quiet = absurd (cc)
+quiet_is White Pawn zero r is quiet = cc
+quiet_is Black Pawn zero r is quiet = cc
+quiet_is s Pawn (suc n) r is quiet = absurd (cc)
 
-slide_is : (s : Side) (k : Kind) (n : ℕ) (x y : Sign) → IsSome x y → IsSlider k → serves_captures k n ≡ true → ((t : ℕ) → 0 < t → HasReach s k (pos t *ℤ num x) (pos t *ℤ num y)) → IsRayOf s k n (slide (num x) (num y))
-slide_is s k n x y some slider serves reach =
-    record {
-      fair = far x y some;
-      slides = λ e. slider;
-      leaps = λ e. absurd (cc);
-      reaches = λ c t low one. reach t low;
-      quiet = λ no. absurd (cc);
-    }
+-- nobody reaches his own square
+reach_moves : (s : Side) (k : Kind) → HasReach s k (pos 0) (pos 0) → ⊥
+reach_moves s King h = absurd (cc)
+reach_moves s Queen (inl (inl h)) = h.1 refl
+reach_moves s Queen (inl (inr h)) = h.0 refl
+reach_moves s Queen (inr h) = omega (arith, h.1)
+reach_moves s Rook (inl h) = h.1 refl
+reach_moves s Rook (inr h) = h.0 refl
+reach_moves s Bishop h = omega (arith, h.1)
+reach_moves s Knight (inl h) = omega (arith, h.0)
+reach_moves s Knight (inr h) = omega (arith, h.0)
+reach_moves s Pawn h = omega (arith, h.0)
 
-abbrev AreRaysOf : Side → Kind → ℕ → List Ray → Type 0
-AreRaysOf s k n [] = Unit {0}
-AreRaysOf s k n (r ∷ rs) = IsRayOf s k n r × AreRaysOf s k (suc n) rs
+forward_moves : (s : Side) → forward s ≢ pos 0
+forward_moves White e = omega (arith, ints, e)
+forward_moves Black e = omega (arith, ints, e)
 
-rays_are : (s : Side) (k : Kind) → AreRaysOf s k 0 (rays_of k s)
-rays_are s King = (leap_is s King 0 (pos 1) (pos 0) (λ a b. omega (arith, ints)) (λ w. w) (λ c. refl) (λ w. absurd (cc)), (leap_is s King 1 (pos 1) (pos 1) (λ a b. omega (arith, ints)) (λ w. w) (λ c. refl) (λ w. absurd (cc)), (leap_is s King 2 (pos 0) (pos 1) (λ a b. omega (arith, ints)) (λ w. w) (λ c. refl) (λ w. absurd (cc)), (leap_is s King 3 (negsuc 0) (pos 1) (λ a b. omega (arith, ints)) (λ w. w) (λ c. refl) (λ w. absurd (cc)), (leap_is s King 4 (negsuc 0) (pos 0) (λ a b. omega (arith, ints)) (λ w. w) (λ c. refl) (λ w. absurd (cc)), (leap_is s King 5 (negsuc 0) (negsuc 0) (λ a b. omega (arith, ints)) (λ w. w) (λ c. refl) (λ w. absurd (cc)), (leap_is s King 6 (pos 0) (negsuc 0) (λ a b. omega (arith, ints)) (λ w. w) (λ c. refl) (λ w. absurd (cc)), (leap_is s King 7 (pos 1) (negsuc 0) (λ a b. omega (arith, ints)) (λ w. w) (λ c. refl) (λ w. absurd (cc)), tt))))))))
-rays_are s Queen = (slide_is s Queen 0 Plus Zero tt tt refl (λ t low. inl (slide_reach Plus Zero tt t low)), (slide_is s Queen 1 Plus Plus tt tt refl (λ t low. inr (slide_reach Plus Plus tt t low)), (slide_is s Queen 2 Zero Plus tt tt refl (λ t low. inl (slide_reach Zero Plus tt t low)), (slide_is s Queen 3 Minus Plus tt tt refl (λ t low. inr (slide_reach Minus Plus tt t low)), (slide_is s Queen 4 Minus Zero tt tt refl (λ t low. inl (slide_reach Minus Zero tt t low)), (slide_is s Queen 5 Minus Minus tt tt refl (λ t low. inr (slide_reach Minus Minus tt t low)), (slide_is s Queen 6 Zero Minus tt tt refl (λ t low. inl (slide_reach Zero Minus tt t low)), (slide_is s Queen 7 Plus Minus tt tt refl (λ t low. inr (slide_reach Plus Minus tt t low)), tt))))))))
-rays_are s Rook = (slide_is s Rook 0 Plus Zero tt tt refl (λ t low. slide_reach Plus Zero tt t low), (slide_is s Rook 1 Zero Plus tt tt refl (λ t low. slide_reach Zero Plus tt t low), (slide_is s Rook 2 Minus Zero tt tt refl (λ t low. slide_reach Minus Zero tt t low), (slide_is s Rook 3 Zero Minus tt tt refl (λ t low. slide_reach Zero Minus tt t low), tt))))
-rays_are s Bishop = (slide_is s Bishop 0 Plus Plus tt tt refl (λ t low. slide_reach Plus Plus tt t low), (slide_is s Bishop 1 Minus Plus tt tt refl (λ t low. slide_reach Minus Plus tt t low), (slide_is s Bishop 2 Minus Minus tt tt refl (λ t low. slide_reach Minus Minus tt t low), (slide_is s Bishop 3 Plus Minus tt tt refl (λ t low. slide_reach Plus Minus tt t low), tt))))
-rays_are s Knight = (leap_is s Knight 0 (pos 2) (pos 1) (λ a b. omega (arith, ints)) (λ w. w) (λ c. inr (refl, refl)) (λ w. absurd (cc)), (leap_is s Knight 1 (pos 1) (pos 2) (λ a b. omega (arith, ints)) (λ w. w) (λ c. inl (refl, refl)) (λ w. absurd (cc)), (leap_is s Knight 2 (negsuc 0) (pos 2) (λ a b. omega (arith, ints)) (λ w. w) (λ c. inl (refl, refl)) (λ w. absurd (cc)), (leap_is s Knight 3 (negsuc 1) (pos 1) (λ a b. omega (arith, ints)) (λ w. w) (λ c. inr (refl, refl)) (λ w. absurd (cc)), (leap_is s Knight 4 (negsuc 1) (negsuc 0) (λ a b. omega (arith, ints)) (λ w. w) (λ c. inr (refl, refl)) (λ w. absurd (cc)), (leap_is s Knight 5 (negsuc 0) (negsuc 1) (λ a b. omega (arith, ints)) (λ w. w) (λ c. inl (refl, refl)) (λ w. absurd (cc)), (leap_is s Knight 6 (pos 1) (negsuc 1) (λ a b. omega (arith, ints)) (λ w. w) (λ c. inl (refl, refl)) (λ w. absurd (cc)), (leap_is s Knight 7 (pos 2) (negsuc 0) (λ a b. omega (arith, ints)) (λ w. w) (λ c. inr (refl, refl)) (λ w. absurd (cc)), tt))))))))
-rays_are White Pawn = (leap_is White Pawn 0 (pos 0) (pos 1) (λ a b. omega (arith, ints)) (λ w. w) (λ c. absurd (cc)) (λ w. refl), (leap_is White Pawn 1 (negsuc 0) (pos 1) (λ a b. omega (arith, ints)) (λ w. w) (λ c. (refl, refl)) (λ w. absurd (cc)), (leap_is White Pawn 2 (pos 1) (pos 1) (λ a b. omega (arith, ints)) (λ w. w) (λ c. (refl, refl)) (λ w. absurd (cc)), tt)))
-rays_are Black Pawn = (leap_is Black Pawn 0 (pos 0) (negsuc 0) (λ a b. omega (arith, ints)) (λ w. w) (λ c. absurd (cc)) (λ w. refl), (leap_is Black Pawn 1 (negsuc 0) (negsuc 0) (λ a b. omega (arith, ints)) (λ w. w) (λ c. (refl, refl)) (λ w. absurd (cc)), (leap_is Black Pawn 2 (pos 1) (negsuc 0) (λ a b. omega (arith, ints)) (λ w. w) (λ c. (refl, refl)) (λ w. absurd (cc)), tt)))
+-- a ray of the table leads away from where it starts
+moves_away : (s : Side) (k : Kind) (n : ℕ) (r : Ray) → ray_of k s n ≡ Some r → r.far ≡ false → r.dx ≡ pos 0 → r.dy ≡ pos 0 → ⊥
+moves_away s k n r is e across along =
+    elim (true_or_not (serves_captures k n)) [
+      | inl serves ↦
+          reach_moves s k (subst (λ d. HasReach s k d (pos 0)) (ap (λ d. pos 1 *ℤ d) across) (subst (λ d. HasReach s k (pos 1 *ℤ r.dx) d) (ap (λ d. pos 1 *ℤ d) along)
+          ((table_ray s k n r is).reaches serves 1 (omega arith) (λ e. refl))))
+      | inr quiet ↦ forward_moves s (sym (ap (λ (q : Ray). q.dy) (quiet_is s k n r is quiet)) ∙ along)
+    ]
 
-ray_in : (s : Side) (k : Kind) (n i j : ℕ) (rs : List Ray) (r : Ray) → j ≡ n + i → AreRaysOf s k n rs → slice_get rs i ≡ Some r → IsRayOf s k j r
-ray_in s k n i j [] r e h is = absurd (cc)
-ray_in s k n zero j (x ∷ rs) r e h is =
-    let here : n ≡ j = omega arith in
-    let same : x ≡ r = cc in
-    subst (λ m. IsRayOf s k m r) here (subst (IsRayOf s k n) same h.0)
-ray_in s k n (suc i) j (x ∷ rs) r e h is = ray_in s k (suc n) i j rs r (omega arith) h.1 is
+some_sign : (x y : Sign) → max (unsigned_abs (num x)) (unsigned_abs (num y)) ≡ 1 → IsSome x y
+some_sign Zero Zero h = absurd (cc)
+some_sign Zero Plus h = tt
+some_sign Zero Minus h = tt
+some_sign Plus y h = tt
+some_sign Minus y h = tt
+
+fair_is : (b : Bool) (dx dy : ℤ) → (b ≡ true → IsDirection dx dy) → (b ≡ false → dx ≡ pos 0 → dy ≡ pos 0 → ⊥) → IsFair (record { dx = dx; dy = dy; far = b })
+fair_is true dx dy direction moves =
+    let h : max (unsigned_abs dx) (unsigned_abs dy) ≡ 1 = direction refl in
+    let (x, is_x) = small_sign dx (omega (arith, h)) in
+    let (y, is_y) = small_sign dy (omega (arith, h)) in
+    let some = some_sign x y (subst (λ d. max (unsigned_abs (num x)) (unsigned_abs d) ≡ 1) is_y (subst (λ d. max (unsigned_abs d) (unsigned_abs dy) ≡ 1) is_x h)) in
+    subst (λ d. IsFair (slide dx d)) (sym is_y) (subst (λ d. IsFair (slide d (num y))) (sym is_x) (far x y some))
+fair_is false dx dy direction moves = near dx dy (moves refl)
 
 -- each ray of the table is as its kind wants it
 pub ray_is : (s : Side) (k : Kind) (n : ℕ) (r : Ray) → ray_of k s n ≡ Some r → IsRayOf s k n r
-ray_is s k n r is = ray_in s k 0 n n (rays_of k s) r (omega arith) (rays_are s k) is
+ray_is s k n r is =
+    let table = table_ray s k n r is in
+    record {
+      fair = fair_is r.far r.dx r.dy table.direction (moves_away s k n r is);
+      slides = table.slider;
+      leaps = table.leaper;
+      reaches = λ serves t low one. table.reaches serves t (omega (arith, low)) one;
+      quiet = quiet_is s k n r is;
+    }
 
 pub offset_is : (a b : ℤ) (m : ℤ) → b ≡ a +ℤ m → b -ℤ a ≡ m
 offset_is a b m h = omega (arith, ints)
@@ -135,7 +140,11 @@ between_is x y some a b z t low steps = (
       let whole_up : b.y ≡ a.y +ℤ (pos h.whole *ℤ h.dy) = ap (λ (s : Square). s.y) h.to_b in
       let is_x : h.dx ≡ num x = one_way h.dx x a.x b.x h.whole t (omega (arith, h.direction)) (omega arith) low whole_right steps.right in
       let is_y : h.dy ≡ num y = one_way h.dy y a.y b.y h.whole t (omega (arith, h.direction)) (omega arith) low whole_up steps.up in
-      let whole : IsSteps (slide (num x) (num y)) a b h.whole = record { right = subst (λ d. b.x ≡ a.x +ℤ (pos h.whole *ℤ d)) is_x whole_right; up = subst (λ d. b.y ≡ a.y +ℤ (pos h.whole *ℤ d)) is_y whole_up } in
+      let whole : IsSteps (slide (num x) (num y)) a b h.whole = record {
+        right = subst (λ d. b.x ≡ a.x +ℤ (pos h.whole *ℤ d)) is_x whole_right;
+        up = subst (λ d. b.y ≡ a.y +ℤ (pos h.whole *ℤ d)) is_y whole_up;
+      }
+      in
       let same : h.whole ≡ t = slide_steps_same x y some a b h.whole t whole steps in
       record {
         distance = h.part;

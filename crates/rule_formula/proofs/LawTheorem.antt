@@ -4,13 +4,12 @@ use Rattle.std.specs.Prelude.{◌==◌, slice_get, IsSomeAnd}
 use Rattle.std.specs.Int.{bit_at}
 use Rattle.std.proofs.lemmas.Bool.Decides.{nat_tests}
 use Rattle.game_rules.specs.declared.men.Kind.TheVariants.{King}
-use Rattle.game_rules.specs.declared.men.Side.{Side}
-use Rattle.game_rules.specs.declared.men.Side.TheVariants.{White, Black}
 use Rattle.game_rules.specs.declared.men.Man.{Man}
 use Rattle.game_rules.specs.declared.men.Place.{Place}
 use Rattle.game_rules.specs.declared.men.Place.TheVariants.{Gone, At}
 use Rattle.game_rules.specs.declared.men.Square.{Square}
 use Rattle.game_rules.specs.Game.{Attacked, Bears, InCheck, IsEmptySquare, IsLiveAnd, IsMaskOf, Position, Sound, StandsOn, Step, other, place_square}
+use Rattle.game_laws.proofs.SoundLemmas.{any_at, other_other}
 use Rattle.rule_formula.specs.declared.opt.Opt.{Opt}
 use Rattle.rule_formula.specs.Laws.{SomeOptionLeads, StepsTo}
 use Rattle.rule_formula.specs.Placed.{is_live, men_from, place_at, placed, stock_man}
@@ -20,7 +19,7 @@ use Rattle.rule_formula.proofs.BearLemmas.{man_placed}
 use Rattle.rule_formula.proofs.ListTheorem.{options_are}
 use Rattle.rule_formula.proofs.MoveLemmas.{same_man}
 use Rattle.rule_formula.proofs.OptionTheorem.{IsNoKing, goes_capture, option_of_step}
-use Rattle.rule_formula.proofs.PlacedLemmas.{all_men, any_man}
+use Rattle.rule_formula.proofs.PlacedLemmas.{all_men}
 
 pub square_or : Option Square → Square
 square_or None = record { x = pos 0; y = pos 0 }
@@ -82,18 +81,14 @@ self_placed p mask h =
     in
     ap (λ xs. record { men = xs; turn = p.turn }) men
 
-pub other_other : (s : Side) → other (other s) ≡ s
-other_other White = refl
-other_other Black = refl
-
 -- in a sound position no step takes a king
 pub no_king_taken : (p : Position) (i : ℕ) (z : Square) (q : Position) → Sound p → Step p i z q → IsNoKing p (other p.turn) z
 no_king_taken p i z q sound step k m is enemy stands king =
     let full : IsEmptySquare p z → ⊥ = λ empty. (all_men p (λ m. StandsOn m z → ⊥)).0 empty k m is stands in
     let bears : Bears p step.man z = goes_capture step.man.kind p step.man z full step.goes in
-    let attacked : Attacked p (other (other p.turn)) z = any_man p (λ m. (m.side ≡ other (other p.turn)) × Bears p m z) i step.man step.is_man (step.his_turn ∙ sym (other_other p.turn), bears) in
+    let attacked : Attacked p (other (other p.turn)) z = any_at p (λ m. (m.side ≡ other (other p.turn)) × Bears p m z) i step.man step.is_man (step.his_turn ∙ sym (other_other p.turn), bears) in
     let live : IsLiveAnd m (Attacked p (other (other p.turn))) = subst (λ o. IsSomeAnd o (Attacked p (other (other p.turn)))) (sym stands) attacked in
-    let check : InCheck p (other p.turn) = any_man p (λ m. (m.side ≡ other p.turn) × (m.kind ≡ King) × IsLiveAnd m (Attacked p (other (other p.turn)))) k m is (enemy, king, live) in
+    let check : InCheck p (other p.turn) = any_at p (λ m. (m.side ≡ other p.turn) × (m.kind ≡ King) × IsLiveAnd m (Attacked p (other (other p.turn)))) k m is (enemy, king, live) in
     sound.other_safe check
 
 side_of_option : (p : Position) (mask : ℕ) (f : ℕ → Square) (q : Position) (o : Opt) (w : IsOptionOf p.men mask o) → TakesOption o (placed p.men (is_live mask) p.turn f) q → w.man.side ≡ p.turn

@@ -29,3 +29,4 @@ pub mod StockLemmas
 pub mod SweptLemmas
 pub mod TracksTheorem
 pub mod TwinsTheorem
+pub mod ApartLemmas

@@ -186,7 +186,8 @@ prey_from stock mask (suc t) s h =
 prey_to : (stock : List Man) (mask t : ℕ) (s : Side) → 0 < t → IsPrey stock mask s t → (is_prey stock mask s t ≡ true) × (t ≤ length stock)
 prey_to stock mask zero s low h = absurd (omega (arith, low))
 prey_to stock mask (suc t) s low (m, is, live, enemy, piece) =
-    let man : is_prey_man s (stock_man stock (suc t)) ≡ true = subst (λ x. is_prey_man s x ≡ true) (sym is) (true_both (not (is_side m.side s)) (not (is_king m.kind)) (is_enemy m.side s enemy) (not_king m.kind piece)) in
+    let man : is_prey_man s (stock_man stock (suc t)) ≡ true =
+    subst (λ x. is_prey_man s x ≡ true) (sym is) (true_both (not (is_side m.side s)) (not (is_king m.kind)) (is_enemy m.side s enemy) (not_king m.kind piece)) in
     (true_both (is_live mask (suc t)) (is_prey_man s (stock_man stock (suc t))) live man, (stock_number stock (suc t) m is).high)
 
 serves_from : (k : Kind) (n t : ℕ) → 0 < t → serves_captures k n ≡ true → Serves k n t
@@ -243,7 +244,8 @@ along_from stock mask s sort i n (suc t) serves prey =
     let w = prey_to stock mask (suc t) s (omega arith) prey in
     inr (serves, record { is = refl; low = omega arith; high = w.1; prey = w.0 })
 
-man_lists : (stock : List Man) (mask : ℕ) (s : Side) (o : Opt) (m : Man) (r : Ray) → IsOption stock mask o.man o.ray o.taken m r → m.side ≡ s → Contains (man_options stock mask s o.man (stock_man stock o.man)) o
+man_lists : (stock : List Man) (mask : ℕ) (s : Side) (o : Opt) (m : Man) (r : Ray) → IsOption stock mask o.man o.ray o.taken m r → m.side ≡ s
+    → Contains (man_options stock mask s o.man (stock_man stock o.man)) o
 man_lists stock mask s o m r is his =
     let within : o.ray < length (rays_of m.kind m.side) = slice_get_within (rays_of m.kind m.side) o.ray r is.ray in
     let along : IsAlongRay stock mask s m.kind o.man o.ray o = along_from stock mask s m.kind o.man o.ray o.taken is.serves (subst (λ x. IsPrey stock mask x o.taken) his is.prey) in

@@ -61,9 +61,6 @@ live_bit_is m t on = ap (bit_at m) (sym (less_one t)) ∙ eqb-true (bit_at m (su
 live_test : (m t : ℕ) → is_live m (suc t) ≡ (bit_at m t == 1)
 live_test m t = ap (λ j. bit_at m j == 1) (less_one t)
 
-off_same : (b : Bool) (k t : ℕ) → k ≡ t → (b && not (k == t)) ≡ false
-off_same b k t e = taken_gone b k t e
-
 kept_other : (b : Bool) (k t : ℕ) → k ≢ t → (b && not (k == t)) ≡ b
 kept_other true k t ne = kept_live true k t refl ne
 kept_other false k t ne = refl
@@ -77,7 +74,7 @@ without_is m (suc t) (suc i) low on =
     elim (same_number i t) [
       | inl e ↦
           let gone : bit_at (m - 2 ^ t) i ≡ 0 = ap (bit_at (m - 2 ^ t)) e ∙ minus_same t m bit in
-          live_test (m - 2 ^ t) i ∙ tested (bit_at (m - 2 ^ t) i) 0 gone ∙ sym (off_same (is_live m (suc i)) (suc i) (suc t) (ap suc e))
+          live_test (m - 2 ^ t) i ∙ tested (bit_at (m - 2 ^ t) i) 0 gone ∙ sym (taken_gone (is_live m (suc i)) (suc i) (suc t) (ap suc e))
       | inr ne ↦
           live_test (m - 2 ^ t) i ∙ tested (bit_at (m - 2 ^ t) i) (bit_at m i) (minus_other t m i bit ne) ∙ sym (live_test m i)
           ∙ sym (kept_other (is_live m (suc i)) (suc i) (suc t) (λ e. ne (omega (arith, e))))

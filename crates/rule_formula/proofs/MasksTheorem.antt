@@ -1,6 +1,6 @@
 -- The list of masks has each mask of the game, and nothing else.
-use Rattle.std.proofs.Common.{◌≡◌, ◌≢◌, ◌⊎◌, ◌↔◌, ℕ, zero, suc, ◌+◌, ◌^◌, ◌<◌, ◌≤◌, Bool, true, false, ◌&&◌, ◌||◌, not, List, [], ◌∷◌, length, Some, None, inl, inr, refl, subst, sym, ap, ◌∙◌, arith}
-use Rattle.std.specs.Prelude.{min, slice_get, Contains}
+use Rattle.std.proofs.Common.{◌≡◌, ◌≢◌, ◌⊎◌, ◌↔◌, ℕ, zero, suc, ◌+◌, ◌^◌, ◌<◌, ◌≤◌, Bool, true, false, ◌&&◌, ◌||◌, not, List, length, Some, None, inl, inr, refl, subst, sym, ap, ◌∙◌, arith}
+use Rattle.std.specs.Prelude.{min, Contains}
 use Rattle.std.specs.Int.{bit_at}
 use Rattle.std.specs.Int.Bits.{bit_and}
 use Rattle.std.proofs.Math.Nat.{zero-min}
@@ -15,7 +15,7 @@ use Rattle.game_rules.specs.Game.{Position, man_at}
 use Rattle.rule_formula.specs.Fits.{IsGameMask, has_kings, is_king_at, is_part, mask_of, masks_of, masks_to}
 use Rattle.rule_formula.specs.Options.{is_king}
 use Rattle.rule_formula.specs.Placed.{is_live, stock_man}
-use Rattle.rule_formula.proofs.BearLemmas.{stock_number}
+use Rattle.rule_formula.proofs.BearLemmas.{stock_has, stock_number}
 use Rattle.rule_formula.proofs.ChainLemmas.{last_or_before}
 use Rattle.rule_formula.proofs.FitLemmas.{mask_tells}
 use Rattle.rule_formula.proofs.MaskLemmas.{live_bit_is}
@@ -100,11 +100,6 @@ in_kings stock mask (suc n) h =
     let (m, is, king) = king_there stock (suc n) test in h (suc n) m is king (omega arith)))
     (in_kings stock mask n (λ k m is king high. h k m is king (omega (arith, high))))
 
-man_there : (ms : List Man) (i : ℕ) → i < length ms → (m : Man) × (slice_get ms i ≡ Some m)
-man_there [] i low = absurd (omega (arith, low))
-man_there (x ∷ xs) zero low = (x, refl)
-man_there (x ∷ xs) (suc i) low = man_there xs i (omega (arith, low))
-
 record IsListed (p : Position) (n m : ℕ) : Type 0 where
   low : m < n
   part : is_part m (mask_of p) ≡ true
@@ -129,7 +124,11 @@ masks_in p (suc n) m =
           elim (less_or_same m n h.low) [
             | inl earlier ↦ step.1 (inl (before.1 (record { low = earlier; part = h.part; kings = h.kings })))
             | inr same ↦
-                step.1 (inr (subst (λ k. (is_part k (mask_of p) && has_kings p.men k (length p.men)) ≡ true) same (true_both (is_part m (mask_of p)) (has_kings p.men m (length p.men)) h.part h.kings), sym same))
+                step.1 (inr (
+                  subst (λ k. (is_part k (mask_of p) && has_kings p.men k (length p.men)) ≡ true) same
+                      (true_both (is_part m (mask_of p)) (has_kings p.men m (length p.men)) h.part h.kings),
+                  sym same,
+                ))
           ],
     )
 
@@ -153,7 +152,7 @@ listed_of_mask p m h =
     let tells = mask_tells p in
     let part : is_part m (mask_of p) ≡ true = bits_part (length p.men) m (mask_of p) h.no_more
     (λ i low one.
-    let (a, is) = man_there p.men i low in (tells.live i a is).1 (h.live (suc i) a is (live_at m i (suc i) (omega arith) one)))
+    let (a, is) = stock_has p.men (suc i) (omega arith) (omega (arith, low)) in (tells.live i a is).1 (h.live (suc i) a is (live_at m i (suc i) (omega arith) one)))
     in
     let less = and_le_r m (mask_of p) in
     let same : bit_and m (mask_of p) ≡ m = eqb-true (bit_and m (mask_of p)) m part in

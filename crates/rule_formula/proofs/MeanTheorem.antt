@@ -5,6 +5,7 @@ use Rattle.game_rules.specs.declared.men.Side.{Side}
 use Rattle.game_rules.specs.declared.men.Man.{Man}
 use Rattle.game_rules.specs.declared.men.Square.{Square}
 use Rattle.game_rules.specs.Game.{HasOneKing, IsApart, Position, Sound, StandsOn, other}
+use Rattle.rule_formula.proofs.StockLemmas.{fits_placed, fits_unique, fits_values}
 use Rattle.track_word.specs.Tracks.{Values, values_at}
 use Rattle.lin_formula.specs.Tree.{Tree, free_vars}
 use Rattle.lin_formula.specs.Holds.{Holds}
@@ -19,9 +20,9 @@ use Rattle.rule_formula.specs.Options.{options_of}
 use Rattle.rule_formula.specs.Placed.{HoldsApart, IsLiveIn, is_live, placed, stock_man, tuple_of, without}
 use Rattle.rule_formula.specs.Seats.{squares}
 use Rattle.rule_formula.specs.Trees.{bear_of, image_of, point_of, pre_of, safe_of, tracks_of}
-use Rattle.rule_formula.proofs.BearLemmas.{stock_number}
+use Rattle.rule_formula.proofs.BearLemmas.{stock_has, stock_number}
 use Rattle.rule_formula.proofs.BearingTheorem.{alike_man, alike_ray, bearings_are, checks_are}
-use Rattle.rule_formula.proofs.FitLemmas.{AreAlike, alike_back, alike_of, fits_placed, fits_unique, fits_values, mask_tells, placed_values, tuple_placed, values_of, squares_values}
+use Rattle.rule_formula.proofs.FitLemmas.{AreAlike, alike_back, alike_of, mask_tells, placed_values, tuple_placed, values_of, squares_values}
 use Rattle.rule_formula.proofs.GameTheorem.{Arrives, arrives, fits_mask, live_by_mask, prey_live, sound_fits, target_mask}
 use Rattle.rule_formula.proofs.LawTheorem.{self_placed, square_stands, squares_of, steps_by_options}
 use Rattle.rule_formula.proofs.ListTheorem.{options_are}
@@ -31,7 +32,6 @@ use Rattle.rule_formula.proofs.PlacedLemmas.{stock_man-men}
 use Rattle.rule_formula.proofs.PairTheorem.{pairs_are, pairs_mean}
 use Rattle.rule_formula.proofs.PointTheorem.{point_means}
 use Rattle.rule_formula.proofs.PointTracks.{place_there, point_tracks}
-use Rattle.rule_formula.proofs.FormulaLemmas.{stock_there}
 use Rattle.rule_formula.proofs.MaskLemmas.{without_is}
 use Rattle.rule_formula.proofs.SweptLemmas.{placed_same}
 use Rattle.rule_formula.proofs.TracksTheorem.{bear_tracks, image_tracks, pre_tracks, safe_tracks, tracks_alike, tracks_twice}
@@ -116,7 +116,8 @@ valued stock live turn f q e =
     let is : placed stock live turn (squares (values_of f)) ≡ q = placed_values stock live turn f ∙ e in
     record { values = values_of f; is = is; tuple = tuple_placed stock live turn (values_of f) ∙ ap tuple_of is }
 
-placed_is : (p : Position) (side : Side) (m : ℕ) (q : Position) (f : ℕ → Square) → Fits p side q → mask_of q ≡ m → tuple_of q ≡ tuple_of (placed p.men (is_live m) side f) → q ≡ placed p.men (is_live m) side f
+placed_is : (p : Position) (side : Side) (m : ℕ) (q : Position) (f : ℕ → Square) → Fits p side q → mask_of q ≡ m
+    → tuple_of q ≡ tuple_of (placed p.men (is_live m) side f) → q ≡ placed p.men (is_live m) side f
 placed_is p side m q f fits mask tuple =
     let v = valued p.men (is_live m) side f (placed p.men (is_live m) side f) refl in
     let at : placed p.men (is_live m) side (squares v.values) ≡ q =
@@ -136,7 +137,8 @@ image_tracks_are p m o a few w =
     ∙ tracks_alike (without (is_live m) o.taken) (is_live (target_of m o)) (length p.men)
     (λ k low. sym (without_is m o.taken k low (prey_live p.men m w.man.side o.taken w.is.prey)))
 
-arrives_at : (p : Position) (side : Side) (m : ℕ) (o : Opt) (q r : Position) → ((s : Side) → HasOneKing p s) → Fits p side q → mask_of q ≡ m → IsOptionOfSide p.men m side o → TakesOption o q r → Arrives p side m o r
+arrives_at : (p : Position) (side : Side) (m : ℕ) (o : Opt) (q r : Position) → ((s : Side) → HasOneKing p s) → Fits p side q → mask_of q ≡ m
+    → IsOptionOfSide p.men m side o → TakesOption o q r → Arrives p side m o r
 arrives_at p side m o q r kings fits mask w takes =
     subst (λ n. IsOptionOfSide p.men n side o → Arrives p side n o r) mask (λ x. arrives p side o q r kings fits x takes) w
 
@@ -144,7 +146,8 @@ placed_at : (p : Position) (side : Side) (m : ℕ) (q : Position) → Fits p sid
 placed_at p side m q fits mask = subst (λ n. placed p.men (is_live n) side (squares_of q) ≡ q) mask (fits_placed p side q fits)
 
 -- the image has the tuples of the positions that are reached
-image_from : (p : Position) → IsGame p → (m : ℕ) (o : Opt) (w : IsOptionOf p.men m o) (a : ℕ) (e : ℕ → SetOf) (tuple : List ℤ) → HoldsFitting p w.man.side m (e a) → Member (Where (image_of p.men m o a) e) tuple → IsImageOf p w.man.side m o (e a) tuple
+image_from : (p : Position) → IsGame p → (m : ℕ) (o : Opt) (w : IsOptionOf p.men m o) (a : ℕ) (e : ℕ → SetOf) (tuple : List ℤ)
+    → HoldsFitting p w.man.side m (e a) → Member (Where (image_of p.men m o a) e) tuple → IsImageOf p w.man.side m o (e a) tuple
 image_from p game m o w a e tuple holds h =
     let side : Side = w.man.side in
     let told = image_told p.men m o a (image_of p.men m o a) game.few w refl (members e) w.man h.values w.is.is_man (apart_of p side m e a holds) in
@@ -153,10 +156,12 @@ image_from p game m o w a e tuple holds h =
     let r : Position = placed p.men (without (is_live m) o.taken) (other side) (squares h.values) in
     let (q, fits, mask, same_tuple) = holds (tuple_of q_at) member in
     let same : q ≡ q_at = placed_is p side m q f fits mask same_tuple in
-    let tuple_is : tuple_of r ≡ tuple = sym (tuple_placed p.men (without (is_live m) o.taken) (other side) h.values) ∙ ap (λ vars. values_at vars h.values) (sym (image_tracks p.men m o a game.few w)) ∙ h.is_tuple in
+    let tuple_is : tuple_of r ≡ tuple =
+    sym (tuple_placed p.men (without (is_live m) o.taken) (other side) h.values) ∙ ap (λ vars. values_at vars h.values) (sym (image_tracks p.men m o a game.few w)) ∙ h.is_tuple in
     (q, r, fits, mask, subst (λ x. TakesOption o x r) (sym same) takes, subst (λ x. Member (e a) (tuple_of x)) (sym same) member, tuple_is)
 
-image_into : (p : Position) → IsGame p → (m : ℕ) (o : Opt) (w : IsOptionOf p.men m o) (a : ℕ) (e : ℕ → SetOf) (tuple : List ℤ) → HoldsFitting p w.man.side m (e a) → IsImageOf p w.man.side m o (e a) tuple → Member (Where (image_of p.men m o a) e) tuple
+image_into : (p : Position) → IsGame p → (m : ℕ) (o : Opt) (w : IsOptionOf p.men m o) (a : ℕ) (e : ℕ → SetOf) (tuple : List ℤ)
+    → HoldsFitting p w.man.side m (e a) → IsImageOf p w.man.side m o (e a) tuple → Member (Where (image_of p.men m o a) e) tuple
 image_into p game m o w a e tuple holds (q, r, fits, mask, takes, member, same_tuple) =
     let side : Side = w.man.side in
     let live : ℕ → Bool = is_live m in
@@ -174,7 +179,9 @@ image_into p game m o w a e tuple holds (q, r, fits, mask, takes, member, same_t
     }
 
 -- a formula over the live men at a position of the game
-member_is : (p : Position) (side : Side) (q : Position) → Fits p side q → (t : Tree) (e : ℕ → SetOf) (P : Type 0) → free_vars t ≡ tracks_of p.men (is_live (mask_of q)) → ((v : Values) → placed p.men (is_live (mask_of q)) side (squares v) ≡ q → Holds t (members e) v ↔ P) → Member (Where t e) (tuple_of q) ↔ P
+member_is : (p : Position) (side : Side) (q : Position) → Fits p side q → (t : Tree) (e : ℕ → SetOf) (P : Type 0)
+    → free_vars t ≡ tracks_of p.men (is_live (mask_of q))
+    → ((v : Values) → placed p.men (is_live (mask_of q)) side (squares v) ≡ q → Holds t (members e) v ↔ P) → Member (Where t e) (tuple_of q) ↔ P
 member_is p side q fits t e P tracks told = (
   λ h.
       let tuple : values_at (tracks_of p.men (is_live (mask_of q))) h.values ≡ tuple_of q = ap (λ vars. values_at vars h.values) (sym tracks) ∙ h.is_tuple in
@@ -184,7 +191,9 @@ member_is p side q fits t e P tracks told = (
       record { values = v.values; is_tuple = ap (λ vars. values_at vars v.values) tracks ∙ v.tuple; holds = (told v.values v.is).1 h },
 )
 
-pre_holds_at : (p : Position) → IsGame p → (o : Opt) (q : Position) (w : IsOptionOf p.men (mask_of q) o) → Fits p w.man.side q → (a b : ℕ) (e : ℕ → SetOf) (v : Values) → placed p.men (is_live (mask_of q)) w.man.side (squares v) ≡ q → Holds (pre_of p.men (mask_of q) o a b) (members e) v ↔ IsBefore o (e a) (e b) q
+pre_holds_at : (p : Position) → IsGame p → (o : Opt) (q : Position) (w : IsOptionOf p.men (mask_of q) o) → Fits p w.man.side q
+    → (a b : ℕ) (e : ℕ → SetOf) (v : Values) → placed p.men (is_live (mask_of q)) w.man.side (squares v) ≡ q
+    → Holds (pre_of p.men (mask_of q) o a b) (members e) v ↔ IsBefore o (e a) (e b) q
 pre_holds_at p game o q w fits a b e v at =
     let side : Side = w.man.side in
     let here : Position = placed p.men (is_live (mask_of q)) side (squares v) in
@@ -200,7 +209,8 @@ pre_holds_at p game o q w fits a b e v at =
           main.1 (subst (λ x. Member (e a) (tuple_of x)) (sym at) member, (arrived.squares, subst (λ x. Member (e b) (tuple_of x)) arrived.is there, steps)),
     )
 
-pre_here : (p : Position) → IsGame p → (side : Side) (o : Opt) (q : Position) → Fits p side q → (a b : ℕ) (e : ℕ → SetOf) → IsOptionOfSide p.men (mask_of q) side o → Member (Where (pre_of p.men (mask_of q) o a b) e) (tuple_of q) ↔ IsBefore o (e a) (e b) q
+pre_here : (p : Position) → IsGame p → (side : Side) (o : Opt) (q : Position) → Fits p side q → (a b : ℕ) (e : ℕ → SetOf)
+    → IsOptionOfSide p.men (mask_of q) side o → Member (Where (pre_of p.men (mask_of q) o a b) e) (tuple_of q) ↔ IsBefore o (e a) (e b) q
 pre_here p game side o q fits a b e (w, his) =
     let mine : Fits p w.man.side q = subst (λ s. Fits p s q) (sym his) fits in
     member_is p w.man.side q mine (pre_of p.men (mask_of q) o a b) e (IsBefore o (e a) (e b) q) (pre_tracks p.men (mask_of q) o a b game.few w)
@@ -220,7 +230,9 @@ options_mean p game side m o (w, his) =
           subst (λ n. IsOptionOfSide p.men n side o → Member (Where (pre_of p.men n o a b) e) (tuple_of q) ↔ IsBefore o (e a) (e b) q) mask (pre_here p game side o q fits a b e) (w, his);
     }
 
-bear_here : (p : Position) (side : Side) (q : Position) (b : Bearing) → Fits p side q → (a : ℕ) (e : ℕ → SetOf) → IsBearer p.men (mask_of q) b.man b.ray b.king → Member (Where (bear_of p.men (mask_of q) b.man b.ray b.king a) e) (tuple_of q) ↔ (Member (e a) (tuple_of q) × BearsOnKing b q)
+bear_here : (p : Position) (side : Side) (q : Position) (b : Bearing) → Fits p side q → (a : ℕ) (e : ℕ → SetOf)
+    → IsBearer p.men (mask_of q) b.man b.ray b.king
+    → Member (Where (bear_of p.men (mask_of q) b.man b.ray b.king a) e) (tuple_of q) ↔ (Member (e a) (tuple_of q) × BearsOnKing b q)
 bear_here p side q b fits a e w =
     let t : Tree = bear_of p.men (mask_of q) b.man b.ray b.king a in
     member_is p side q fits t e (Member (e a) (tuple_of q) × BearsOnKing b q) (bear_tracks p.men (mask_of q) b.man b.ray b.king a w)
@@ -230,7 +242,9 @@ bear_here p side q b fits a e w =
       λ h. main.1 (subst (λ x. Member (e a) (tuple_of x)) (sym at) h.0, subst (BearsOnKing b) (sym at) h.1),
     ))
 
-safe_here : (p : Position) (side : Side) (q : Position) (b : Bearing) → Fits p side q → (a : ℕ) (e : ℕ → SetOf) → IsBearer p.men (mask_of q) b.man b.ray b.king → Member (Where (safe_of p.men (mask_of q) b.man b.ray b.king a) e) (tuple_of q) ↔ (Member (e a) (tuple_of q) × (¬ BearsOnKing b q))
+safe_here : (p : Position) (side : Side) (q : Position) (b : Bearing) → Fits p side q → (a : ℕ) (e : ℕ → SetOf)
+    → IsBearer p.men (mask_of q) b.man b.ray b.king
+    → Member (Where (safe_of p.men (mask_of q) b.man b.ray b.king a) e) (tuple_of q) ↔ (Member (e a) (tuple_of q) × (¬ BearsOnKing b q))
 safe_here p side q b fits a e w =
     let t : Tree = safe_of p.men (mask_of q) b.man b.ray b.king a in
     member_is p side q fits t e (Member (e a) (tuple_of q) × (¬ BearsOnKing b q)) (safe_tracks p.men (mask_of q) b.man b.ray b.king a w)
@@ -245,10 +259,12 @@ bearings_mean p m b w =
     record {
       bear_tracks = λ a. bear_tracks p.men m b.man b.ray b.king a w;
       bear = λ a e side q fits mask.
-          subst (λ n. IsBearer p.men n b.man b.ray b.king → Member (Where (bear_of p.men n b.man b.ray b.king a) e) (tuple_of q) ↔ (Member (e a) (tuple_of q) × BearsOnKing b q)) mask (bear_here p side q b fits a e) w;
+          subst (λ n. IsBearer p.men n b.man b.ray b.king → Member (Where (bear_of p.men n b.man b.ray b.king a) e) (tuple_of q) ↔ (Member (e a) (tuple_of q) × BearsOnKing b q)) mask
+          (bear_here p side q b fits a e) w;
       safe_tracks = λ a. safe_tracks p.men m b.man b.ray b.king a w;
       safe = λ a e side q fits mask.
-          subst (λ n. IsBearer p.men n b.man b.ray b.king → Member (Where (safe_of p.men n b.man b.ray b.king a) e) (tuple_of q) ↔ (Member (e a) (tuple_of q) × (¬ BearsOnKing b q))) mask (safe_here p side q b fits a e) w;
+          subst (λ n. IsBearer p.men n b.man b.ray b.king → Member (Where (safe_of p.men n b.man b.ray b.king a) e) (tuple_of q) ↔ (Member (e a) (tuple_of q) × (¬ BearsOnKing b q))) mask
+          (safe_here p side q b fits a e) w;
       safe_within = λ a e tuple h.
           subst (Member (e a)) (ap (λ vars. values_at vars h.values) (sym (safe_tracks p.men m b.man b.ray b.king a w)) ∙ h.is_tuple) h.holds.0;
     }
@@ -258,7 +274,7 @@ placed_point : (p : Position) (v : Values) → ((k : ℕ) (m : Man) (z : Square)
 placed_point p v h =
     placed_same p.men (is_live (mask_of p)) p.turn (squares v) (squares_of p)
     (λ k low high on.
-    let (m, is) = stock_there p.men k low high in
+    let (m, is) = stock_has p.men k low high in
     let (z, stands) = place_there m (live_by_mask p k m (sym (stock_man-men p k) ∙ is) on) in
     h k m z is stands ∙ sym (square_stands p k m z is stands))
     ∙ self_placed p (mask_of p) (mask_tells p)
@@ -274,7 +290,9 @@ point_is p t e tuple is =
           let v = valued p.men live p.turn (squares_of p) p (self_placed p (mask_of p) (mask_tells p)) in
           record {
             values = values_of (squares_of p);
-            is_tuple = ap (λ vars. values_at vars (values_of (squares_of p))) tracks ∙ tuple_placed p.men live p.turn (values_of (squares_of p)) ∙ ap tuple_of (placed_values p.men live p.turn (squares_of p) ∙ self_placed p (mask_of p) (mask_tells p)) ∙ sym same;
+            is_tuple =
+                ap (λ vars. values_at vars (values_of (squares_of p))) tracks ∙ tuple_placed p.men live p.turn (values_of (squares_of p))
+                ∙ ap tuple_of (placed_values p.men live p.turn (squares_of p) ∙ self_placed p (mask_of p) (mask_tells p)) ∙ sym same;
             holds = (point_means p.men t is (members e) (values_of (squares_of p))).1
                 (λ k m z is_man stands. squares_values (squares_of p) k (stock_number p.men k m is_man).low ∙ square_stands p k m z is_man stands);
           },

@@ -21,19 +21,24 @@ use Rattle.rule_formula.proofs.MoveTheorem.{image_holds, pre_holds}
 use Rattle.rule_formula.proofs.PlacedLemmas.{placed_man}
 
 -- a man of the position has the rays of the man of the stock
-ray_placed : (stock : List Man) (live : ℕ → Bool) (turn : Side) (f : ℕ → Square) (k n : ℕ) (m q : Man) (r y : Ray) → stock_man stock k ≡ Some m → man_at (placed stock live turn f) k ≡ Some q → ray_of m.kind m.side n ≡ Some r → ray_of q.kind q.side n ≡ Some y → y ≡ r
+ray_placed : (stock : List Man) (live : ℕ → Bool) (turn : Side) (f : ℕ → Square) (k n : ℕ) (m q : Man) (r y : Ray) → stock_man stock k ≡ Some m
+    → man_at (placed stock live turn f) k ≡ Some q → ray_of m.kind m.side n ≡ Some r → ray_of q.kind q.side n ≡ Some y → y ≡ r
 ray_placed stock live turn f k n m q r y is at ray his =
     let same : q ≡ man_placed live f k m = same_man stock live turn f k m q is at in
     let there : ray_of q.kind q.side n ≡ Some r = subst (λ (a : Man). ray_of a.kind a.side n ≡ Some r) (sym same) ray in
     let both : Some y ≡ Some r = sym his ∙ there in cc
 
-pub takes_is : (stock : List Man) (live : ℕ → Bool) (turn : Side) (f : ℕ → Square) (o : Opt) (man : Man) (r : Ray) (q : Position) → stock_man stock o.man ≡ Some man → ray_of man.kind man.side o.ray ≡ Some r → StepsBy o.man r o.taken (placed stock live turn f) q ↔ TakesOption o (placed stock live turn f) q
+pub takes_is : (stock : List Man) (live : ℕ → Bool) (turn : Side) (f : ℕ → Square) (o : Opt) (man : Man) (r : Ray) (q : Position)
+    → stock_man stock o.man ≡ Some man → ray_of man.kind man.side o.ray ≡ Some r
+    → StepsBy o.man r o.taken (placed stock live turn f) q ↔ TakesOption o (placed stock live turn f) q
 takes_is stock live turn f o man r q is ray = (
   λ h. record { man = man_placed live f o.man man; ray = r; is_man = placed_man stock live turn f o.man man is; is_ray = ray; steps = h },
   λ h. subst (λ y. StepsBy o.man y o.taken (placed stock live turn f) q) (ray_placed stock live turn f o.man o.ray man h.man r h.ray is h.is_man ray h.is_ray) h.steps,
 )
 
-pub image_means : (stock : List Man) (mask : ℕ) (o : Opt) (s : ℕ) (man : Man) (r : Ray) (t : Tree) → length stock ≤ 8 → IsOption stock mask o.man o.ray o.taken man r → t ≡ image_tree (length stock) mask o.man r o.taken s → (e : Sets) → ImageHolds e stock mask o s t
+pub image_means : (stock : List Man) (mask : ℕ) (o : Opt) (s : ℕ) (man : Man) (r : Ray) (t : Tree) → length stock ≤ 8
+    → IsOption stock mask o.man o.ray o.taken man r → t ≡ image_tree (length stock) mask o.man r o.taken s → (e : Sets)
+    → ImageHolds e stock mask o s t
 image_means stock mask o s man r t short is tree e man' v is' apart =
     let both : Some man ≡ Some man' = sym is.is_man ∙ is' in
     let same : man ≡ man' = cc in
@@ -47,7 +52,8 @@ image_means stock mask o s man r t short is tree e man' v is' apart =
     in
     subst (λ (m : Man). Holds t e v ↔ IsReached e s stock mask m.side o (placed stock (without (is_live mask) o.taken) (other m.side) (squares v))) same told
 
-pub bear_means : (stock : List Man) (mask k n g : ℕ) (s : ℕ) (man target : Man) (r : Ray) (t : Tree) → IsBearing stock mask k n g man target r → t ≡ bear_tree (length stock) mask k r g s → (e : Sets) → BearHolds e stock mask k n g s t
+pub bear_means : (stock : List Man) (mask k n g : ℕ) (s : ℕ) (man target : Man) (r : Ray) (t : Tree) → IsBearing stock mask k n g man target r
+    → t ≡ bear_tree (length stock) mask k r g s → (e : Sets) → BearHolds e stock mask k n g s t
 bear_means stock mask k n g s man target r t is tree e turn v =
     let main = bear_holds stock turn mask k n g man target r is s e v in (
       λ h.
@@ -59,7 +65,12 @@ bear_means stock mask k n g s man target r t is tree e turn v =
     )
 
 -- pre, at values whose position has its live men on distinct squares if it is in the set
-pub pre_at : (stock : List Man) (mask : ℕ) (o : Opt) (s q : ℕ) (man : Man) (r : Ray) (t : Tree) → length stock ≤ 8 → IsOption stock mask o.man o.ray o.taken man r → t ≡ pre_tree (length stock) mask o.man r o.taken s q → (e : Sets) (v : Values) → (IsMember e s (placed stock (is_live mask) man.side (squares v)) → IsApart (placed stock (is_live mask) man.side (squares v))) → Holds t e v ↔ (IsMember e s (placed stock (is_live mask) man.side (squares v)) × Reaches e q stock mask man.side o (placed stock (is_live mask) man.side (squares v)))
+pub pre_at : (stock : List Man) (mask : ℕ) (o : Opt) (s q : ℕ) (man : Man) (r : Ray) (t : Tree) → length stock ≤ 8
+    → IsOption stock mask o.man o.ray o.taken man r → t ≡ pre_tree (length stock) mask o.man r o.taken s q → (e : Sets) (v : Values)
+    → (IsMember e s (placed stock (is_live mask) man.side (squares v)) → IsApart (placed stock (is_live mask) man.side (squares v)))
+    → Holds t e v
+    ↔ (IsMember e s (placed stock (is_live mask) man.side (squares v))
+    × Reaches e q stock mask man.side o (placed stock (is_live mask) man.side (squares v)))
 pre_at stock mask o s q man r t short is tree e v apart =
     let main = pre_holds stock mask o.man o.ray o.taken man r short is s q e v apart in
     let takes = λ (g : ℕ → Square). takes_is stock (is_live mask) man.side (squares v) o man r (placed stock (without (is_live mask) o.taken) (other man.side) g) is.is_man is.ray in (
@@ -67,7 +78,9 @@ pre_at stock mask o s q man r t short is tree e v apart =
       λ (member, (g, there, steps)). subst (λ t. Holds t e v) (sym tree) (main.1 (member, (g, there, (takes g).1 steps))),
     )
 
-pub pre_means : (stock : List Man) (mask : ℕ) (o : Opt) (s q : ℕ) (man : Man) (r : Ray) (t : Tree) → length stock ≤ 8 → IsOption stock mask o.man o.ray o.taken man r → t ≡ pre_tree (length stock) mask o.man r o.taken s q → (e : Sets) → PreHolds e stock mask o s q t
+pub pre_means : (stock : List Man) (mask : ℕ) (o : Opt) (s q : ℕ) (man : Man) (r : Ray) (t : Tree) → length stock ≤ 8
+    → IsOption stock mask o.man o.ray o.taken man r → t ≡ pre_tree (length stock) mask o.man r o.taken s q → (e : Sets)
+    → PreHolds e stock mask o s q t
 pre_means stock mask o s q man r t short is tree e man' v is' apart =
     let both : Some man ≡ Some man' = sym is.is_man ∙ is' in
     let same : man ≡ man' = cc in
@@ -75,7 +88,8 @@ pre_means stock mask o s q man r t short is tree e man' v is' apart =
     let told = pre_at stock mask o s q man r t short is tree e v (here (squares v)) in
     subst (λ (m : Man). Holds t e v ↔ (IsMember e s (placed stock (is_live mask) m.side (squares v)) × Reaches e q stock mask m.side o (placed stock (is_live mask) m.side (squares v)))) same told
 
-pub safe_means : (stock : List Man) (mask k n g : ℕ) (s : ℕ) (man target : Man) (r : Ray) (t : Tree) → IsBearing stock mask k n g man target r → t ≡ safe_tree (length stock) mask k r g s → (e : Sets) → SafeHolds e stock mask k n g s t
+pub safe_means : (stock : List Man) (mask k n g : ℕ) (s : ℕ) (man target : Man) (r : Ray) (t : Tree) → IsBearing stock mask k n g man target r
+    → t ≡ safe_tree (length stock) mask k r g s → (e : Sets) → SafeHolds e stock mask k n g s t
 safe_means stock mask k n g s man target r t is tree e turn v =
     let main = safe_holds stock turn mask k n g man target r is s e v in (
       λ h.
@@ -87,12 +101,30 @@ safe_means stock mask k n g s man target r t is tree e turn v =
           ),
       λ h.
           subst (λ t. Holds t e v) (sym tree)
-          (main.1 (h.0, λ b. h.1 (record { man = man_placed (is_live mask) (squares v) k man; ray = r; is_man = placed_man stock (is_live mask) turn (squares v) k man is.is_man; is_ray = is.ray; bears = b }))),
+          (main.1 (
+            h.0,
+            λ b. h.1 (record {
+              man = man_placed (is_live mask) (squares v) k man;
+              ray = r;
+              is_man = placed_man stock (is_live mask) turn (squares v) k man is.is_man;
+              is_ray = is.ray;
+              bears = b;
+            }),
+          )),
     )
 
 -- where the man has that ray, it is his
 pub ray_at_is : (stock : List Man) (k n : ℕ) (m : Man) (r : Ray) → stock_man stock k ≡ Some m → ray_of m.kind m.side n ≡ Some r → r ≡ ray_at stock k n
 ray_at_is stock k n m r is ray = sym (ap (man_ray n) is ∙ ap ray_or_none ray)
+
+-- the ray that the code finds is the man's
+pub found_ray : (stock : List Man) (k n : ℕ) (m : Man) (found r : Ray) → stock_man stock k ≡ Some m → ray_of m.kind m.side n ≡ Some r → Some found ≡ ray_of m.kind m.side n → found ≡ ray_at stock k n
+found_ray stock k n m found r is ray here =
+    let both : Some found ≡ Some r = here ∙ ray in let same : found ≡ r = cc in same ∙ ray_at_is stock k n m r is ray
+
+-- a tree by the count and the ray of the code
+pub tree_at : (make : ℕ → Ray → Tree) (t : Tree) (n m : ℕ) (r q : Ray) → t ≡ make n r → n ≡ m → r ≡ q → t ≡ make m q
+tree_at make t n m r q is count ray = is ∙ ap (λ k. make k r) count ∙ ap (make m) ray
 
 pub image_told : (stock : List Man) (mask : ℕ) (o : Opt) (s : ℕ) (t : Tree) → length stock ≤ 8 → IsOptionOf stock mask o → t ≡ image_of stock mask o s → (e : Sets) → ImageHolds e stock mask o s t
 image_told stock mask o s t few w is =
@@ -104,7 +136,11 @@ pre_told stock mask o s q t few w is =
     pre_means stock mask o s q w.man w.ray t few w.is
     (is ∙ ap (λ r. pre_tree (length stock) mask o.man r o.taken s q) (sym (ray_at_is stock o.man o.ray w.man w.ray w.is.is_man w.is.ray)))
 
-pub pre_told_at : (stock : List Man) (mask : ℕ) (o : Opt) (s q : ℕ) → length stock ≤ 8 → (w : IsOptionOf stock mask o) → (e : Sets) (v : Values) → (IsMember e s (placed stock (is_live mask) w.man.side (squares v)) → IsApart (placed stock (is_live mask) w.man.side (squares v))) → Holds (pre_of stock mask o s q) e v ↔ (IsMember e s (placed stock (is_live mask) w.man.side (squares v)) × Reaches e q stock mask w.man.side o (placed stock (is_live mask) w.man.side (squares v)))
+pub pre_told_at : (stock : List Man) (mask : ℕ) (o : Opt) (s q : ℕ) → length stock ≤ 8 → (w : IsOptionOf stock mask o) → (e : Sets) (v : Values)
+    → (IsMember e s (placed stock (is_live mask) w.man.side (squares v)) → IsApart (placed stock (is_live mask) w.man.side (squares v)))
+    → Holds (pre_of stock mask o s q) e v
+    ↔ (IsMember e s (placed stock (is_live mask) w.man.side (squares v))
+    × Reaches e q stock mask w.man.side o (placed stock (is_live mask) w.man.side (squares v)))
 pre_told_at stock mask o s q few w e v apart =
     pre_at stock mask o s q w.man w.ray (pre_of stock mask o s q) few w.is
     (ap (λ r. pre_tree (length stock) mask o.man r o.taken s q) (sym (ray_at_is stock o.man o.ray w.man w.ray w.is.is_man w.is.ray))) e v apart

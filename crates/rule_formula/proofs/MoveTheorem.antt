@@ -1,5 +1,5 @@
 -- The formulas image and pre say that a step by an option leads from one position to another.
-use Rattle.std.proofs.Common.{◌≡◌, ◌≢◌, ◌↔◌, ℕ, zero, suc, ◌<◌, ◌≤◌, pos, Bool, true, false, ◌&&◌, not, List, length, Some, inl, inr, refl, subst, sym, ap, ◌∙◌, arith}
+use Rattle.std.proofs.Common.{◌≡◌, ◌≢◌, ◌↔◌, ℕ, zero, suc, ◌<◌, ◌≤◌, pos, Bool, true, List, length, Some, inl, inr, refl, subst, sym, ap, ◌∙◌, arith}
 use Rattle.std.specs.Prelude.{◌==◌, if◌then◌else◌}
 use Rattle.std.proofs.lemmas.Bool.Decides.{nat_tests}
 use Rattle.game_rules.specs.declared.men.Man.{Man}
@@ -10,15 +10,15 @@ use Rattle.lin_formula.specs.Holds.{Holds, Sets}
 use Rattle.track_word.specs.Tracks.{Values}
 use Rattle.game_rules.specs.declared.men.Ray.{Ray}
 use Rattle.rule_formula.specs.Placed.{HoldsApart, IsMember, is_live, placed, stock_man, without}
-use Rattle.rule_formula.specs.Seats.{at, new_seat, new_seats, old_seats, own, spare, squares, var, vars_to}
-use Rattle.rule_formula.specs.Trees.{Suits, ex_swept, image_body, image_tree, pre_body, pre_tree}
+use Rattle.rule_formula.specs.Seats.{at, elsewhere, new_seat, new_seats, old_seats, own, spare, squares, vars_to}
+use Rattle.rule_formula.specs.Trees.{ex_swept, image_body, image_tree, pre_body, pre_tree}
 use Rattle.rule_formula.specs.Meaning.{IsOption, StepsBy}
 use Rattle.rule_formula.proofs.BearLemmas.{IsNumber, stock_has, stock_number}
-use Rattle.rule_formula.proofs.FormulaLemmas.{GoesClear, among_holds, move_chain_holds, own_apart}
+use Rattle.rule_formula.proofs.FormulaLemmas.{GoesClear, among_holds, move_chain_holds}
 use Rattle.rule_formula.proofs.KindLemmas.{IsRayOf, ray_is}
-use Rattle.rule_formula.proofs.MoveLemmas.{EachOther, IsMove, move_of, option_untaken, same_number, steps_by}
+use Rattle.rule_formula.proofs.MoveLemmas.{EachOther, IsMove, move_of, option_untaken, same_number, steps_by, was_live}
 use Rattle.rule_formula.proofs.RayLemmas.{IsWithin}
-use Rattle.rule_formula.proofs.SweptLemmas.{along_x, along_y, ex_swept_holds, from_spare, own_kept, placed_same, spare_is, swept_value, swept_values, to_spare}
+use Rattle.rule_formula.proofs.SweptLemmas.{along_x, along_y, ex_swept_holds, from_spare, new_suits, own_kept, placed_same, spare_is, swept_value, swept_values}
 use Rattle.lin_formula.specs.Tree as tree
 
 pub if_same : {A : Type 0} (k i : ℕ) (a b : A) → k ≡ i → (if k == i then a else b) ≡ a
@@ -57,7 +57,9 @@ new_squares r i t k w z mover others second =
     ]
 
 -- a move from the parts of the formula
-move_from : (stock : List Man) (live : ℕ → Bool) (i : ℕ) (r : Ray) (t : ℕ) (f g h : ℕ → Square) (a b : Square) → f i ≡ a → g i ≡ b → GoesClear stock live i t r h a b → EachOther stock live i t (λ k. f k ≡ h k) → EachOther stock live i t (λ k. g k ≡ h k) → (0 < t → f t ≡ g i) → IsMove stock live i r t f g
+move_from : (stock : List Man) (live : ℕ → Bool) (i : ℕ) (r : Ray) (t : ℕ) (f g h : ℕ → Square) (a b : Square) → f i ≡ a → g i ≡ b
+    → GoesClear stock live i t r h a b → EachOther stock live i t (λ k. f k ≡ h k) → EachOther stock live i t (λ k. g k ≡ h k) → (0 < t → f t ≡ g i)
+    → IsMove stock live i r t f g
 move_from stock live i r t f g h a b from to goes before after taken =
     let there : GoesClear stock live i t r h (f i) (g i) = subst (λ y. GoesClear stock live i t r h y (g i)) (sym from) (subst (GoesClear stock live i t r h a) (sym to) goes) in
     record {
@@ -68,16 +70,24 @@ move_from stock live i r t f g h a b from to goes before after taken =
     }
 
 -- and back
-parts_of : (stock : List Man) (live : ℕ → Bool) (i : ℕ) (r : Ray) (t : ℕ) (f g h : ℕ → Square) (a b : Square) → f i ≡ a → g i ≡ b → EachOther stock live i t (λ k. f k ≡ h k) → IsMove stock live i r t f g → GoesClear stock live i t r h a b
+parts_of : (stock : List Man) (live : ℕ → Bool) (i : ℕ) (r : Ray) (t : ℕ) (f g h : ℕ → Square) (a b : Square) → f i ≡ a → g i ≡ b
+    → EachOther stock live i t (λ k. f k ≡ h k) → IsMove stock live i r t f g → GoesClear stock live i t r h a b
 parts_of stock live i r t f g h a b from to before w =
     subst (λ y. GoesClear stock live i t r h y b) from
-    (subst (GoesClear stock live i t r h (f i)) to (w.along, λ k m is on first second within. w.clear k m is on first second (subst (λ z. IsWithin r (f i) z (suc w.along.distance)) (sym (before k m is on first second)) within)))
+    (subst (GoesClear stock live i t r h (f i)) to (
+      w.along,
+      λ k m is on first second within. w.clear k m is on first second (subst (λ z. IsWithin r (f i) z (suc w.along.distance)) (sym (before k m is on first second)) within),
+    ))
 
 ray_of_option : (stock : List Man) (mask i n t : ℕ) (man : Man) (r : Ray) → IsOption stock mask i n t man r → IsRayOf man.side man.kind n r
 ray_of_option stock mask i n t man r o = ray_is man.side man.kind n r o.ray
 
 -- image holds of the positions to which a step by the option leads from a position of the set
-pub image_holds : (stock : List Man) (mask i n t : ℕ) (man : Man) (r : Ray) → length stock ≤ 8 → IsOption stock mask i n t man r → (s : ℕ) (e : Sets) (v : Values) → HoldsApart e s stock (is_live mask) man.side → Holds (image_tree (length stock) mask i r t s) e v ↔ ((f : ℕ → Square) × IsMember e s (placed stock (is_live mask) man.side f) × StepsBy i r t (placed stock (is_live mask) man.side f) (placed stock (without (is_live mask) t) (other man.side) (squares v)))
+pub image_holds : (stock : List Man) (mask i n t : ℕ) (man : Man) (r : Ray) → length stock ≤ 8 → IsOption stock mask i n t man r
+    → (s : ℕ) (e : Sets) (v : Values) → HoldsApart e s stock (is_live mask) man.side
+    → Holds (image_tree (length stock) mask i r t s) e v
+    ↔ ((f : ℕ → Square) × IsMember e s (placed stock (is_live mask) man.side f)
+    × StepsBy i r t (placed stock (is_live mask) man.side f) (placed stock (without (is_live mask) t) (other man.side) (squares v)))
 image_holds stock mask i n t man r short o s e v apart =
     let live : ℕ → Bool = is_live mask in
     let ray : IsRayOf man.side man.kind n r = ray_of_option stock mask i n t man r o in
@@ -87,14 +97,14 @@ image_holds stock mask i n t man r short o s e v apart =
     let untaken : i ≢ t = option_untaken stock mask i n t man r o in
     let chain = λ (w : Values). move_chain_holds stock man live i t r ray.fair (tree.Among s (vars_to (old_seats r i t) live (length stock))) (spare r i) (own i) (from_spare r i low high) e w in
     let among = λ (w : Values). among_holds stock live man.side (old_seats r i t) s e w in
-    let outer = ex_swept_holds r.dx (var 16) (ex_swept r.dy (var 17) (image_body (length stock) mask i r t s)) e v in
-    let inner = λ (u : Values). ex_swept_holds r.dy (var 17) (image_body (length stock) mask i r t s) e u in
+    let outer = ex_swept_holds r.dx elsewhere.x (ex_swept r.dy elsewhere.y (image_body (length stock) mask i r t s)) e v in
+    let inner = λ (u : Values). ex_swept_holds r.dy elsewhere.y (image_body (length stock) mask i r t s) e u in
     let kept : (z : Square) (k : ℕ) (m : Man) → stock_man stock k ≡ Some m → at (swept_values r v z) (own k) ≡ squares v k = λ z k m is.
     let at_k : IsNumber stock k = stock_number stock k m is in own_kept r v z k at_k.low (omega (arith, at_k.high))
     in (
       λ h.
           let (x, first) = outer.0 h in
-          let (y, body) = (inner (swept_value r.dx v (var 16) x)).0 first in
+          let (y, body) = (inner (swept_value r.dx v elsewhere.x x)).0 first in
           let z : Square = record { x = x; y = y } in
           let w : Values = swept_values r v z in
           let parts = (chain w).0 body in
@@ -113,7 +123,7 @@ image_holds stock mask i n t man r short o s e v apart =
           let w : Values = swept_values r v z in
           let from : at w (spare r i) ≡ f i = spare_is r v i z low high (along_x r (f i) (squares v i) move.along) (along_y r (f i) (squares v i) move.along) in
           let same : (k : ℕ) → 0 < k → k ≤ length stock → live k ≡ true → f k ≡ at w (old_seats r i t k) = λ k some last on.
-          let (m, is) = stock_has stock k some last man in
+          let (m, is) = stock_has stock k some last in
           old_squares r i t k w (f k)
           (λ e. ap f e ∙ sym from)
           (λ first e. ap f e ∙ move.taken (subst (λ j. 0 < j) e some) ∙ sym (kept z i man o.is_man))
@@ -123,12 +133,8 @@ image_holds stock mask i n t man r short o s e v apart =
           let goes = parts_of stock live i r t f (squares v) (λ k. at w (own k)) (at w (spare r i)) (at w (own i)) (sym from) (sym (kept z i man o.is_man))
           (λ k m is on first second. move.stay k m is on first second ∙ sym (kept z k m is)) move
           in
-          outer.1 (z.x, (inner (swept_value r.dx v (var 16) z.x)).1 (z.y, (chain w).1 (subst (λ (P : Type 0). P) (sym (among w)) here, goes))),
+          outer.1 (z.x, (inner (swept_value r.dx v elsewhere.x z.x)).1 (z.y, (chain w).1 (subst (λ (P : Type 0). P) (sym (among w)) here, goes))),
     )
-
-pub was_live : (b : Bool) (k t : ℕ) → (b && not (k == t)) ≡ true → (b ≡ true) × (k ≢ t)
-was_live true k t e = (refl, grind (arith, nat_tests))
-was_live false k t e = absurd (cc)
 
 -- the values of the formula pre: those of the new place are quantified where nobody is taken
 abbrev pre_values : Ray → ℕ → Values → Square → Values
@@ -137,13 +143,13 @@ pre_values r (suc t) v z = v
 
 pre_tree_holds : (n mask i : ℕ) (r : Ray) (t : ℕ) (s q : ℕ) (e : Sets) (v : Values) → Holds (pre_tree n mask i r t s q) e v ↔ ((z : Square) × Holds (pre_body n mask i r t s q) e (pre_values r t v z))
 pre_tree_holds n mask i r zero s q e v =
-    let outer = ex_swept_holds r.dx (var 16) (ex_swept r.dy (var 17) (pre_body n mask i r 0 s q)) e v in
-    let inner = λ (u : Values). ex_swept_holds r.dy (var 17) (pre_body n mask i r 0 s q) e u in (
+    let outer = ex_swept_holds r.dx elsewhere.x (ex_swept r.dy elsewhere.y (pre_body n mask i r 0 s q)) e v in
+    let inner = λ (u : Values). ex_swept_holds r.dy elsewhere.y (pre_body n mask i r 0 s q) e u in (
       λ h.
           let (x, first) = outer.0 h in
-          let (y, body) = (inner (swept_value r.dx v (var 16) x)).0 first in
+          let (y, body) = (inner (swept_value r.dx v elsewhere.x x)).0 first in
           (record { x = x; y = y }, body),
-      λ (z, body). outer.1 (z.x, (inner (swept_value r.dx v (var 16) z.x)).1 (z.y, body)),
+      λ (z, body). outer.1 (z.x, (inner (swept_value r.dx v elsewhere.x z.x)).1 (z.y, body)),
     )
 pre_tree_holds n mask i r (suc t) s q e v = (λ h. (record { x = pos 0; y = pos 0 }, h), λ h. h.1)
 
@@ -152,20 +158,23 @@ pre_kept r zero v z k low high = own_kept r v z k low high
 pre_kept r (suc t) v z k low high = refl
 
 -- where the new place is, for the values of its square
-new_place : (r : Ray) (i t : ℕ) (v : Values) (z : Square) → 0 < i → i ≤ 8 → (r.dx ≡ pos 0 → z.x ≡ (squares v i).x) → (r.dy ≡ pos 0 → z.y ≡ (squares v i).y) → (0 < t → squares v t ≡ z) → at (pre_values r t v z) (new_seat r i t) ≡ z
+new_place : (r : Ray) (i t : ℕ) (v : Values) (z : Square) → 0 < i → i ≤ 8 → (r.dx ≡ pos 0 → z.x ≡ (squares v i).x)
+    → (r.dy ≡ pos 0 → z.y ≡ (squares v i).y) → (0 < t → squares v t ≡ z) → at (pre_values r t v z) (new_seat r i t) ≡ z
 new_place r i zero v z low high across along taken = spare_is r v i z low high (λ e. sym (across e)) (λ e. sym (along e))
 new_place r i (suc t) v z low high across along taken = taken (omega arith)
-
-new_suits : (r : Ray) (i t : ℕ) → 0 < i → i ≤ 8 → i ≢ t → Suits r (own i) (new_seat r i t)
-new_suits r i zero low high ne = to_spare r i low high
-new_suits r i (suc t) low high ne = own_apart i (suc t) r low (omega arith) ne
 
 own_there : (r : Ray) (t : ℕ) (v : Values) (z : Square) → 0 < t → (i : ℕ) → at (pre_values r t v z) (new_seat r i t) ≡ squares v t
 own_there r zero v z low i = absurd (omega arith)
 own_there r (suc t) v z low i = refl
 
 -- pre holds of the positions of the set from which a step by the option leads into the other set
-pub pre_holds : (stock : List Man) (mask i n t : ℕ) (man : Man) (r : Ray) → length stock ≤ 8 → IsOption stock mask i n t man r → (s q : ℕ) (e : Sets) (v : Values) → (IsMember e s (placed stock (is_live mask) man.side (squares v)) → IsApart (placed stock (is_live mask) man.side (squares v))) → Holds (pre_tree (length stock) mask i r t s q) e v ↔ (IsMember e s (placed stock (is_live mask) man.side (squares v)) × ((g : ℕ → Square) × IsMember e q (placed stock (without (is_live mask) t) (other man.side) g) × StepsBy i r t (placed stock (is_live mask) man.side (squares v)) (placed stock (without (is_live mask) t) (other man.side) g)))
+pub pre_holds : (stock : List Man) (mask i n t : ℕ) (man : Man) (r : Ray) → length stock ≤ 8 → IsOption stock mask i n t man r
+    → (s q : ℕ) (e : Sets) (v : Values)
+    → (IsMember e s (placed stock (is_live mask) man.side (squares v)) → IsApart (placed stock (is_live mask) man.side (squares v)))
+    → Holds (pre_tree (length stock) mask i r t s q) e v
+    ↔ (IsMember e s (placed stock (is_live mask) man.side (squares v))
+    × ((g : ℕ → Square) × IsMember e q (placed stock (without (is_live mask) t) (other man.side) g)
+    × StepsBy i r t (placed stock (is_live mask) man.side (squares v)) (placed stock (without (is_live mask) t) (other man.side) g)))
 pre_holds stock mask i n t man r short o s q e v apart =
     let live : ℕ → Bool = is_live mask in
     let ray : IsRayOf man.side man.kind n r = ray_of_option stock mask i n t man r o in
@@ -205,14 +214,15 @@ pre_holds stock mask i n t man r short o s q e v apart =
           let w : Values = pre_values r t v z in
           let to : at w (new_seat r i t) ≡ g i = new_place r i t v z low high (along_x r (squares v i) (g i) move.along) (along_y r (squares v i) (g i) move.along) move.taken in
           let same : (k : ℕ) → 0 < k → k ≤ length stock → without live t k ≡ true → g k ≡ at w (new_seats r i t k) = λ k some last on.
-          let (m, is) = stock_has stock k some last man in
+          let (m, is) = stock_has stock k some last in
           let (alive, second) = was_live (live k) k t on in
           new_squares r i t k w (g k)
           (λ e. ap g e ∙ sym to)
           (λ first untaken. sym (move.stay k m is alive first untaken) ∙ sym (kept z k m is))
           second
           in
-          let reached : IsMember e q (placed stock (without live t) (other man.side) (λ k. at w (new_seats r i t k))) = subst (IsMember e q) (placed_same stock (without live t) (other man.side) g (λ k. at w (new_seats r i t k)) same) there in
+          let reached : IsMember e q (placed stock (without live t) (other man.side) (λ k. at w (new_seats r i t k))) =
+          subst (IsMember e q) (placed_same stock (without live t) (other man.side) g (λ k. at w (new_seats r i t k)) same) there in
           let goes = parts_of stock live i r t (squares v) g (λ k. at w (own k)) (at w (own i)) (at w (new_seat r i t)) (sym (kept z i man o.is_man)) (sym to)
           (λ k m is on first second. sym (kept z k m is)) move
           in

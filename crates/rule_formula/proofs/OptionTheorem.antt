@@ -1,33 +1,33 @@
 -- Each step that takes no king is one by an option.
-use Rattle.std.proofs.Common.{◌≡◌, ◌≢◌, ◌⊎◌, ℕ, zero, suc, ◌<◌, ◌≤◌, ℤ, pos, ◌-ℤ◌, Bool, true, List, length, Option, Some, None, inl, inr, refl, subst, sym, ap, ◌∙◌, arith}
+use Rattle.std.proofs.Common.{◌≡◌, ◌≢◌, ◌⊎◌, ℕ, zero, suc, ◌<◌, ◌≤◌, pos, ◌-ℤ◌, Bool, true, List, length, Option, Some, None, inl, inr, refl, subst, sym, ap, ◌∙◌, arith}
 use Rattle.std.specs.Prelude.{IsSomeAnd}
 use Rattle.std.proofs.lemmas.Int.{ints}
 use Rattle.game_rules.specs.declared.men.Kind.{Kind}
 use Rattle.game_rules.specs.declared.men.Kind.TheVariants.{King, Queen, Rook, Bishop, Knight, Pawn}
 use Rattle.game_rules.specs.declared.men.Side.{Side}
-use Rattle.game_rules.specs.declared.men.Side.TheVariants.{White, Black}
 use Rattle.game_rules.specs.declared.men.Man.{Man}
 use Rattle.game_rules.specs.declared.men.Square.{Square}
 use Rattle.game_rules.specs.Game.{Bears, GoesAs, HasReach, IsHeldBy, IsOpen, IsSlider, IsEmptySquare, Position, StandsOn, Step, forward, man_at, other, square_of}
 use Rattle.game_rules.specs.declared.men.Ray.{Ray}
 use Rattle.rule_formula.specs.declared.opt.Opt.{Opt}
 use Rattle.game_rules.specs.Rays.{leap, ray_of, serves_moves}
+use Rattle.game_laws.proofs.LineLemmas.{square_is}
+use Rattle.game_laws.proofs.RayLemmas.{true_or_not}
+use Rattle.game_laws.proofs.MoveLemmas.{same_or_not}
+use Rattle.game_laws.proofs.SoundLemmas.{any_at, side_or_other}
+use Rattle.game_laws.proofs.CheckLemmas.{any_is}
 use Rattle.rule_formula.proofs.RayLemmas.{LiesOn, is_along}
 use Rattle.rule_formula.specs.Placed.{is_live, placed, stock_man}
 use Rattle.rule_formula.specs.Meaning.{IsOptionOf, IsPrey, Serves, TakesOption, Takes}
-use Rattle.rule_formula.proofs.BearLemmas.{bears_from, each_placed, far_or_near, man_placed, stands_at, stock_has, stock_number}
+use Rattle.rule_formula.proofs.BearLemmas.{bears_from, each_placed, man_placed, stands_at, stock_has, stock_number}
 use Rattle.rule_formula.proofs.ChainLemmas.{Each, each_more}
-use Rattle.rule_formula.proofs.MoveLemmas.{square_is}
-use Rattle.rule_formula.proofs.PlacedLemmas.{all_men, any_man, from_any, from_placed, placed_man, stands_placed}
+use Rattle.rule_formula.proofs.PlacedLemmas.{all_men, from_placed, placed_man, stands_placed}
 use Rattle.rule_formula.proofs.ReachLemmas.{IsRayTo, ray_to}
-
-same_int : (a b : ℤ) → (a ≡ b) ⊎ (a ≢ b)
-same_int a b = grind (arith, ints)
 
 same_square : (a b : Square) → (a ≡ b) ⊎ (a ≢ b)
 same_square a b =
-    elim (same_int a.x b.x) [
-      | inl ex ↦ elim (same_int a.y b.y) [ inl ey ↦ inl (square_is a b.x b.y ex ey) | inr ne ↦ inr (λ e. ne (ap (λ (z : Square). z.y) e)) ]
+    elim (same_or_not a.x b.x) [
+      | inl ex ↦ elim (same_or_not a.y b.y) [ inl ey ↦ inl (square_is a b.x b.y ex ey) | inr ne ↦ inr (λ e. ne (ap (λ (z : Square). z.y) e)) ]
       | inr ne ↦ inr (λ e. ne (ap (λ (z : Square). z.x) e))
     ]
 
@@ -44,7 +44,7 @@ nobody_or_here live f z zero = inl (λ k low high. absurd (omega arith))
 nobody_or_here live f z (suc n) =
     elim (nobody_or_here live f z n) [
       | inr h ↦ let last : h.number ≤ n = h.high in inr (record { number = h.number; low = h.low; high = omega arith; on = h.on; there = h.there })
-      | inl none ↦ elim (far_or_near (live (suc n))) [
+      | inl none ↦ elim (true_or_not (live (suc n))) [
         | inr off ↦ inl ((each_more (λ k. live k ≡ true → f k ≡ z → ⊥) n).1 (none, λ on. absurd (cc)))
         | inl on ↦ elim (same_square (f (suc n)) z) [
           | inl there ↦ inr (record { number = suc n; low = omega arith; high = omega arith; on = on; there = there })
@@ -52,13 +52,6 @@ nobody_or_here live f z (suc n) =
         ]
       ]
     ]
-
--- a side is the one or the other
-side_cases : (s t : Side) → (s ≡ t) ⊎ (s ≡ other t)
-side_cases White White = inl refl
-side_cases White Black = inr refl
-side_cases Black White = inr refl
-side_cases Black Black = inl refl
 
 -- a way by which man i gets to z
 record IsWay (m : Man) (t : ℕ) (a z : Square) : Type 0 where
@@ -151,7 +144,10 @@ takes_of p (suc k) m z is stands = (m, is, stands)
 abbrev pub IsNoKing : Position → Side → Square → Type 0
 IsNoKing p s z = (k : ℕ) (m : Man) → man_at p k ≡ Some m → m.side ≡ s → StandsOn m z → m.kind ≢ King
 
-option_by : (stock : List Man) (mask : ℕ) (side : Side) (f : ℕ → Square) (i t : ℕ) (z : Square) (q : Position) (a : Square) → (h : Step (placed stock (is_live mask) side f) i z q) → StandsOn h.man a → IsWay h.man t a z → IsPrey stock mask side t → Takes t (placed stock (is_live mask) side f) z → (o : Opt) × (o.man ≡ i) × IsOptionOf stock mask o × TakesOption o (placed stock (is_live mask) side f) q
+option_by : (stock : List Man) (mask : ℕ) (side : Side) (f : ℕ → Square) (i t : ℕ) (z : Square) (q : Position) (a : Square)
+    → (h : Step (placed stock (is_live mask) side f) i z q) → StandsOn h.man a → IsWay h.man t a z → IsPrey stock mask side t
+    → Takes t (placed stock (is_live mask) side f) z
+    → (o : Opt) × (o.man ≡ i) × IsOptionOf stock mask o × TakesOption o (placed stock (is_live mask) side f) q
 option_by stock mask side f i t z q a h stands way prey takes =
     let m = from_placed stock (is_live mask) side f i h.man h.is_man in
     let there : StandsOn (man_placed (is_live mask) f i m.man) a = subst (λ b. StandsOn b a) m.is stands in
@@ -181,7 +177,9 @@ option_by stock mask side f i t z q a h stands way prey takes =
     )
 
 -- each step that takes no king is one by an option
-pub option_of_step : (stock : List Man) (mask : ℕ) (side : Side) (f : ℕ → Square) (i : ℕ) (z : Square) (q : Position) → IsNoKing (placed stock (is_live mask) side f) (other side) z → Step (placed stock (is_live mask) side f) i z q → (o : Opt) × (o.man ≡ i) × IsOptionOf stock mask o × TakesOption o (placed stock (is_live mask) side f) q
+pub option_of_step : (stock : List Man) (mask : ℕ) (side : Side) (f : ℕ → Square) (i : ℕ) (z : Square) (q : Position)
+    → IsNoKing (placed stock (is_live mask) side f) (other side) z → Step (placed stock (is_live mask) side f) i z q
+    → (o : Opt) × (o.man ≡ i) × IsOptionOf stock mask o × TakesOption o (placed stock (is_live mask) side f) q
 option_of_step stock mask side f i z q kings h =
     let p : Position = placed stock (is_live mask) side f in
     let (a, stands) = goes_lives h.man.kind p h.man z h.goes in
@@ -193,17 +191,17 @@ option_of_step stock mask side f i z q kings h =
           let s = stands_placed (is_live mask k) (f k) z here in none k at.low at.high s.0 s.1)
           in
           let free : IsHeldBy p (other h.man.side) z → ⊥ = λ w.
-          let (k, m, is, (enemy, here)) = from_any p (λ m. (m.side ≡ other h.man.side) × StandsOn m z) w in
+          let (k, m, is, (enemy, here)) = any_is p (λ m. (m.side ≡ other h.man.side) × StandsOn m z) w in
           (all_men p (λ m. StandsOn m z → ⊥)).0 empty k m is here
           in
           option_by stock mask side f i 0 z q a h stands (step_way h.man.kind p h.man a z refl stands free h.goes) tt empty
       | inr here ↦
           let k : ℕ = here.number in
-          let (m, is) = stock_has stock k here.low here.high h.man in
+          let (m, is) = stock_has stock k here.low here.high in
           let at : man_at p k ≡ Some (man_placed (is_live mask) f k m) = placed_man stock (is_live mask) side f k m is in
           let there : StandsOn (man_placed (is_live mask) f k m) z = stands_at (is_live mask k) (f k) here.on ∙ ap (λ (b : Square). Some b) here.there in
-          let enemy : m.side ≡ other side = elim (side_cases m.side side) [
-            | inl own ↦ absurd (h.not_own (any_man p (λ m. (m.side ≡ side) × StandsOn m z) k (man_placed (is_live mask) f k m) at (own, there)))
+          let enemy : m.side ≡ other side = elim (side_or_other m.side side) [
+            | inl own ↦ absurd (h.not_own (any_at p (λ m. (m.side ≡ side) × StandsOn m z) k (man_placed (is_live mask) f k m) at (own, there)))
             | inr enemy ↦ enemy
           ]
           in

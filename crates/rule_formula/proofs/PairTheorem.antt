@@ -76,7 +76,14 @@ pairs_to_are mask count (suc n) w =
     let before = pairs_to_are mask count n w in (
       λ h.
           elim (step.0 h) [
-            | inl earlier ↦ let was = before.0 earlier in record { order = was.order; low = was.low; begun = omega (arith, was.begun); high = was.high; first_live = was.first_live; second_live = was.second_live }
+            | inl earlier ↦ let was = before.0 earlier in record {
+              order = was.order;
+              low = was.low;
+              begun = omega (arith, was.begun);
+              high = was.high;
+              first_live = was.first_live;
+              second_live = was.second_live;
+            }
             | inr last ↦
                 let (live, listed) = here.0 last in
                 let is = later.0 listed in
@@ -105,7 +112,14 @@ pub pairs_are : (stock : List Man) (mask : ℕ) (w : Pair) → Contains (pairs_o
 pairs_are stock mask w =
     let all = pairs_to_are mask (length stock) (length stock) w in (
       λ h. let is = all.0 h in record { order = is.order; low = is.low; high = is.high; first_live = is.first_live; second_live = is.second_live },
-      λ h. let order = h.order in let high = h.high in all.1 (record { order = h.order; low = h.low; begun = omega (arith, order, high); high = h.high; first_live = h.first_live; second_live = h.second_live }),
+      λ h. let order = h.order in let high = h.high in all.1 (record {
+        order = h.order;
+        low = h.low;
+        begun = omega (arith, order, high);
+        high = h.high;
+        first_live = h.first_live;
+        second_live = h.second_live;
+      }),
     )
 
 pushed_few : (b : Bool) (xs : List Pair) (x : Pair) (n : ℕ) → length xs ≤ n → length (if b then xs ++ x ∷ [] else xs) ≤ suc n

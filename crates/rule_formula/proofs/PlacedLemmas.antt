@@ -1,7 +1,7 @@
 -- The men of a position that is placed.
-use Rattle.std.proofs.Common.{◌≡◌, ◌↔◌, ℕ, zero, suc, ◌+◌, Bool, true, false, List, [], ◌∷◌, length, get_or, Some, None, refl, subst, ap, ◌∙◌, arith}
+use Rattle.std.proofs.Common.{◌≡◌, ◌↔◌, ℕ, zero, suc, ◌+◌, Bool, true, false, List, [], ◌∷◌, length, get_or, Some, None, refl, subst, ap, arith}
 use Rattle.std.specs.Prelude.{if◌then◌else◌, slice_get}
-use Rattle.std.specs.List.{All, Any}
+use Rattle.std.specs.List.{All}
 use Rattle.std.proofs.lemmas.Option.{get_or_from_slice_get, slice_get_within, slice_get-get_or}
 use Rattle.game_rules.specs.declared.men.Side.{Side}
 use Rattle.game_rules.specs.declared.men.Man.{Man}
@@ -9,7 +9,8 @@ use Rattle.game_rules.specs.declared.men.Square.{Square}
 use Rattle.game_rules.specs.Game.{Position, man_at, place_square}
 use Rattle.rule_formula.specs.Placed.{men_from, place_at, placed, stock_man}
 
-get_from : (n i k : ℕ) (ms : List Man) (live : ℕ → Bool) (f : ℕ → Square) (m : Man) → k ≡ n + i → slice_get ms i ≡ Some m → slice_get (men_from n ms live f) i ≡ Some (record m { place = place_at (live k) (f k) })
+get_from : (n i k : ℕ) (ms : List Man) (live : ℕ → Bool) (f : ℕ → Square) (m : Man) → k ≡ n + i → slice_get ms i ≡ Some m
+    → slice_get (men_from n ms live f) i ≡ Some (record m { place = place_at (live k) (f k) })
 get_from n i k [] live f m e is = absurd (cc)
 get_from n zero k (x ∷ ms) live f m e is =
     let here : n ≡ k = omega arith in
@@ -19,7 +20,8 @@ get_from n zero k (x ∷ ms) live f m e is =
 get_from n (suc i) k (x ∷ ms) live f m e is = get_from (suc n) i k ms live f m (omega arith) is
 
 -- what a man of the stock is in the position
-pub placed_man : (stock : List Man) (live : ℕ → Bool) (turn : Side) (f : ℕ → Square) (k : ℕ) (m : Man) → stock_man stock k ≡ Some m → man_at (placed stock live turn f) k ≡ Some (record m { place = place_at (live k) (f k) })
+pub placed_man : (stock : List Man) (live : ℕ → Bool) (turn : Side) (f : ℕ → Square) (k : ℕ) (m : Man) → stock_man stock k ≡ Some m
+    → man_at (placed stock live turn f) k ≡ Some (record m { place = place_at (live k) (f k) })
 placed_man stock live turn f zero m is = absurd (cc)
 placed_man stock live turn f (suc i) m is = get_from 1 i (suc i) stock live f m (omega arith) is
 
@@ -28,7 +30,8 @@ pub record IsOfStock (stock : List Man) (live : ℕ → Bool) (f : ℕ → Squar
   pub is_man : stock_man stock k ≡ Some man
   pub is : q ≡ record man { place = place_at (live k) (f k) }
 
-get_back : (n i k : ℕ) (ms : List Man) (live : ℕ → Bool) (f : ℕ → Square) (q : Man) → k ≡ n + i → slice_get (men_from n ms live f) i ≡ Some q → (m : Man) × (slice_get ms i ≡ Some m) × (q ≡ record m { place = place_at (live k) (f k) })
+get_back : (n i k : ℕ) (ms : List Man) (live : ℕ → Bool) (f : ℕ → Square) (q : Man) → k ≡ n + i → slice_get (men_from n ms live f) i ≡ Some q
+    → (m : Man) × (slice_get ms i ≡ Some m) × (q ≡ record m { place = place_at (live k) (f k) })
 get_back n i k [] live f q e is = absurd (cc)
 get_back n zero k (x ∷ ms) live f q e is =
     let here : n ≡ k = omega arith in
@@ -65,13 +68,6 @@ all_men p P = (
   all_at p P h zero m is = absurd (cc)
   all_at p P h (suc k) m is =
       subst P (get_or_from_slice_get p.men k m m is) (h k m (slice_get_within p.men k m is))
-
-pub any_man : (p : Position) (P : Man → Type 0) (k : ℕ) (m : Man) → man_at p k ≡ Some m → P m → Any P p.men
-any_man p P zero m is h = absurd (cc)
-any_man p P (suc k) m is h = (k, m, slice_get_within p.men k m is, get_or_from_slice_get p.men k m m is, h)
-
-pub from_any : (p : Position) (P : Man → Type 0) → Any P p.men → (k : ℕ) × (m : Man) × (man_at p k ≡ Some m) × P m
-from_any p P h = (suc h.0, h.1, slice_get-get_or p.men h.0 h.1 h.2 ∙ ap (λ (m : Man). Some m) h.3, h.4)
 
 -- a man of a position, by the position or by its men
 pub stock_man-men : (p : Position) (k : ℕ) → stock_man p.men k ≡ man_at p k

@@ -5,6 +5,8 @@ use Rattle.game_rules.specs.declared.men.Square.{Square}
 use Rattle.game_rules.specs.declared.men.Place.{Place}
 use Rattle.game_rules.specs.declared.men.Place.TheVariants.{Gone, At}
 use Rattle.game_rules.specs.Game.{Position, StandsOn, place_square}
+use Rattle.game_laws.proofs.LineLemmas.{square_is}
+use Rattle.game_laws.proofs.CheckLemmas.{any_is}
 use Rattle.lin_formula.specs.Tree.{Tree}
 use Rattle.lin_formula.specs.Holds.{Holds, Sets}
 use Rattle.track_word.specs.Tracks.{Values}
@@ -15,8 +17,7 @@ use Rattle.rule_formula.specs.Trees.{and_maybe, man_square, point_of, point_to, 
 use Rattle.rule_formula.specs.Meaning.{HasLiveMan, PointHolds}
 use Rattle.rule_formula.proofs.BearLemmas.{stock_number}
 use Rattle.rule_formula.proofs.ChainLemmas.{Each, each_more}
-use Rattle.rule_formula.proofs.MoveLemmas.{square_is}
-use Rattle.rule_formula.proofs.PlacedLemmas.{from_any, stock_man-men}
+use Rattle.rule_formula.proofs.PlacedLemmas.{stock_man-men}
 use Rattle.lin_formula.specs.Tree as tree
 
 abbrev pub MaybeHolds : Option Tree → Sets → Values → Type 0
@@ -82,7 +83,7 @@ none_before men (suc n) e k low high =
 -- where a man is live there is a formula
 pub point_made : (p : Position) → HasLiveMan p → point_of p.men ≡ None → ⊥
 point_made p h none =
-    let (k, m, is, live) = from_any p (λ m. m.place ≢ Gone) h in
+    let (k, m, is, live) = any_is p (λ m. m.place ≢ Gone) h in
     let in_stock : stock_man p.men k ≡ Some m = stock_man-men p k ∙ is in
     let at = stock_number p.men k m in_stock in
     let gone : man_square (stock_man p.men k) ≡ None = none_before p.men (length p.men) none k at.low at.high in

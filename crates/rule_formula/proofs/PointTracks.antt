@@ -5,6 +5,7 @@ use Rattle.game_rules.specs.declared.men.Place.{Place}
 use Rattle.game_rules.specs.declared.men.Place.TheVariants.{Gone, At}
 use Rattle.game_rules.specs.declared.men.Square.{Square}
 use Rattle.game_rules.specs.Game.{Position, StandsOn, place_square}
+use Rattle.rule_formula.proofs.BearLemmas.{stock_has}
 use Rattle.track_word.specs.declared.tracks.Var.{Var}
 use Rattle.lin_formula.specs.Tree.{Tree, free_vars}
 use Rattle.lin_formula.specs.Free.{IsFree}
@@ -13,7 +14,6 @@ use Rattle.rule_formula.specs.Fits.{mask_of}
 use Rattle.rule_formula.specs.Placed.{is_live, stock_man}
 use Rattle.rule_formula.specs.Seats.{own}
 use Rattle.rule_formula.specs.Trees.{man_square, point_of, point_to, tracks_of, with_square}
-use Rattle.rule_formula.proofs.FormulaLemmas.{stock_there}
 use Rattle.rule_formula.proofs.GameTheorem.{live_by_mask, live_in_mask}
 use Rattle.rule_formula.proofs.MoveLemmas.{same_number}
 use Rattle.rule_formula.proofs.PlacedLemmas.{stock_man-men}
@@ -38,7 +38,8 @@ with_square_free (Some f) s (Some y) z = (
   λ h. elim h [ inl a ↦ inl (inl a) | inr b ↦ elim b.1 [ inl c ↦ inl (inr c) | inr d ↦ inr d ] ],
 )
 
-point_free : (men : List Man) (live : ℕ → Bool) → ((k : ℕ) → 0 < k → k ≤ length men → HasSquare (man_square (stock_man men k)) ↔ (live k ≡ true)) → (n : ℕ) → n ≤ length men → (z : Var) → MaybeFree (point_to men n) z ↔ IsSeated own live n z
+point_free : (men : List Man) (live : ℕ → Bool) → ((k : ℕ) → 0 < k → k ≤ length men → HasSquare (man_square (stock_man men k)) ↔ (live k ≡ true))
+    → (n : ℕ) → n ≤ length men → (z : Var) → MaybeFree (point_to men n) z ↔ IsSeated own live n z
 point_free men live tells zero high z = (λ h. absurd h, λ h. absurd (omega (arith, h.low, h.high)))
 point_free men live tells (suc n) high z =
     let step = with_square_free (point_to men n) (own (suc n)) (man_square (stock_man men (suc n))) z in
@@ -74,7 +75,7 @@ point_tells p k low high = (
       let (m, is, stands) = from_square (stock_man p.men k) z e in
       live_in_mask p k m (sym (stock_man-men p k) ∙ is) (no_square m.place z stands),
   λ on.
-      let (m, is) = stock_there p.men k low high in
+      let (m, is) = stock_has p.men k low high in
       let (z, stands) = place_there m (live_by_mask p k m (sym (stock_man-men p k) ∙ is) on) in
       (z, ap man_square is ∙ stands),
 )

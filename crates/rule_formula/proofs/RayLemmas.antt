@@ -10,12 +10,15 @@ use Rattle.rule_formula.proofs.ChainLemmas.{AllHold}
 use Rattle.std.proofs.lemmas.Int.{ints}
 use Rattle.lin_formula.specs.Holds.{Holds, Sets}
 use Rattle.track_word.specs.Tracks.{Values}
+use Rattle.rule_formula.specs.declared.atoms.Extent.{Extent}
+use Rattle.rule_formula.specs.declared.atoms.Extent.TheVariants.{Onto, Before}
 use Rattle.rule_formula.specs.declared.seats.Seat.{Seat}
 use Rattle.game_rules.specs.declared.men.Ray.{Ray}
 use Rattle.game_rules.specs.Game.{after_steps}
 use Rattle.game_rules.specs.Rays.{IsAlong, leap, slide}
+use Rattle.game_laws.proofs.LineLemmas.{square_is}
 use Rattle.rule_formula.specs.Seats.{at}
-use Rattle.rule_formula.specs.Trees.{Suits, ahead, difference, line, line_atoms, on, ray_atoms, unless_same}
+use Rattle.rule_formula.specs.Trees.{Suits, ahead, difference, line, line_atoms, on, past, ray_atoms, unless_same}
 
 -- b is t times the ray's step away from a, coordinate by coordinate
 pub record IsSteps (r : Ray) (a b : Square) (t : ℕ) : Type 0 where
@@ -30,7 +33,7 @@ pub record LiesOn (r : Ray) (a b : Square) : Type 0 where
   pub steps : IsSteps r a b distance
 
 pub square_at : (a b : Square) → a.x ≡ b.x → a.y ≡ b.y → a ≡ b
-square_at a b ex ey = ap (λ x. record { x = x; y = a.y }) ex ∙ ap (λ y. record { x = b.x; y = y }) ey
+square_at a b ex ey = square_is a b.x b.y ex ey
 
 pub lies_on : (r : Ray) (a b : Square) → IsAlong r a b → LiesOn r a b
 lies_on r a b w =
@@ -70,7 +73,8 @@ IsSome _ _ = Unit {0}
 pub gap_above : (a b : ℤ) → ((pos 1 *ℤ a) +ℤ ((negsuc 0 *ℤ b) +ℤ pos 0)) ≤ℤ negsuc 0 → (t : ℕ) × (0 < t) × (b ≡ a +ℤ pos t)
 gap_above a b h = (unsigned_abs (b -ℤ a), grind (arith, ints), grind (arith, ints))
 
-pub steps_from_atoms : (x y : Sign) → IsSome x y → (a b : Seat) (e : Sets) (v : Values) → Holds (line (num x) (num y) a b) e v → Holds (ahead (num x) (num y) a b (negsuc 0)) e v → (t : ℕ) × (0 < t) × IsSteps (slide (num x) (num y)) (at v a) (at v b) t
+pub steps_from_atoms : (x y : Sign) → IsSome x y → (a b : Seat) (e : Sets) (v : Values) → Holds (line (num x) (num y) a b) e v
+    → Holds (ahead (num x) (num y) a b Before) e v → (t : ℕ) × (0 < t) × IsSteps (slide (num x) (num y)) (at v a) (at v b) t
 steps_from_atoms Zero Zero some a b e v l h = absurd some
 steps_from_atoms Zero Plus some a b e v l h =
     let g = gap_above (v a.y.0) (v b.y.0) h in (g.0, g.1, record { right = omega (arith, ints, l); up = omega (arith, ints, g.2) })
@@ -89,7 +93,8 @@ steps_from_atoms Minus Plus some a b e v l h =
 steps_from_atoms Minus Minus some a b e v l h =
     let g = gap_above (v b.x.0) (v a.x.0) h in (g.0, g.1, record { right = omega (arith, ints, g.2); up = omega (arith, ints, l, g.2) })
 
-pub atoms_from_steps : (x y : Sign) → IsSome x y → (a b : Seat) (e : Sets) (v : Values) (t : ℕ) → 0 < t → IsSteps (slide (num x) (num y)) (at v a) (at v b) t → Holds (line (num x) (num y) a b) e v × Holds (ahead (num x) (num y) a b (negsuc 0)) e v
+pub atoms_from_steps : (x y : Sign) → IsSome x y → (a b : Seat) (e : Sets) (v : Values) (t : ℕ) → 0 < t
+    → IsSteps (slide (num x) (num y)) (at v a) (at v b) t → Holds (line (num x) (num y) a b) e v × Holds (ahead (num x) (num y) a b Before) e v
 atoms_from_steps Zero Zero some a b e v t low h = absurd some
 atoms_from_steps Zero Plus some a b e v t low h = (omega (arith, ints, h.right), omega (arith, ints, h.up))
 atoms_from_steps Zero Minus some a b e v t low h = (omega (arith, ints, h.right), omega (arith, ints, h.up))
@@ -101,12 +106,14 @@ atoms_from_steps Minus Plus some a b e v t low h = (omega (arith, ints, h.right,
 atoms_from_steps Minus Minus some a b e v t low h = (omega (arith, ints, h.right, h.up), omega (arith, ints, h.right))
 
 -- of two squares so many steps away, which is ahead of which
-pub ahead_is : (x y : Sign) → IsSome x y → (a b z : Seat) (e : Sets) (v : Values) (n : ℤ) (t s : ℕ) → IsSteps (slide (num x) (num y)) (at v a) (at v b) t → IsSteps (slide (num x) (num y)) (at v a) (at v z) s → Holds (ahead (num x) (num y) z b n) e v ↔ (pos s ≤ℤ (pos t +ℤ n))
-ahead_is Zero Zero some a b z e v n t s h k = absurd some
-ahead_is Zero Plus some a b z e v n t s h k = (λ w. omega (arith, ints, h.up, k.up), λ w. omega (arith, ints, h.up, k.up))
-ahead_is Zero Minus some a b z e v n t s h k = (λ w. omega (arith, ints, h.up, k.up), λ w. omega (arith, ints, h.up, k.up))
-ahead_is Plus _ some a b z e v n t s h k = (λ w. omega (arith, ints, h.right, k.right), λ w. omega (arith, ints, h.right, k.right))
-ahead_is Minus _ some a b z e v n t s h k = (λ w. omega (arith, ints, h.right, k.right), λ w. omega (arith, ints, h.right, k.right))
+pub ahead_is : (x y : Sign) → IsSome x y → (a b z : Seat) (e : Sets) (v : Values) (extent : Extent) (t s : ℕ)
+    → IsSteps (slide (num x) (num y)) (at v a) (at v b) t → IsSteps (slide (num x) (num y)) (at v a) (at v z) s
+    → Holds (ahead (num x) (num y) z b extent) e v ↔ (pos s ≤ℤ (pos t +ℤ past extent))
+ahead_is Zero Zero some a b z e v extent t s h k = absurd some
+ahead_is Zero Plus some a b z e v extent t s h k = (λ w. omega (arith, ints, h.up, k.up), λ w. omega (arith, ints, h.up, k.up))
+ahead_is Zero Minus some a b z e v extent t s h k = (λ w. omega (arith, ints, h.up, k.up), λ w. omega (arith, ints, h.up, k.up))
+ahead_is Plus _ some a b z e v extent t s h k = (λ w. omega (arith, ints, h.right, k.right), λ w. omega (arith, ints, h.right, k.right))
+ahead_is Minus _ some a b z e v extent t s h k = (λ w. omega (arith, ints, h.right, k.right), λ w. omega (arith, ints, h.right, k.right))
 
 -- a ray of one step, or along a row, a column or a diagonal
 pub data IsFair : Ray → Type 0 where
@@ -147,7 +154,7 @@ one_step a b d t one h = let f : b ≡ a +ℤ (pos 1 *ℤ d) = subst (λ n. b �
 -- the atoms of a ray hold exactly where b lies on it
 pub ray_atoms_hold : (r : Ray) → IsFair r → (a b : Seat) → Suits r a b → (e : Sets) (v : Values) → AllHold (ray_atoms r a b) e v ↔ LiesOn r (at v a) (at v b)
 ray_atoms_hold r (far x y some) a b suits e v =
-    let both = all_hold-append (line_atoms (num x) (num y) a b) (ahead (num x) (num y) a b (negsuc 0) ∷ []) e v in
+    let both = all_hold-append (line_atoms (num x) (num y) a b) (ahead (num x) (num y) a b Before ∷ []) e v in
     let first = line_atoms_hold x y some a b e v in (
       λ h.
           let s = steps_from_atoms x y some a b e v (first.0 (both.0 h).0) (both.0 h).1.0 in
@@ -177,21 +184,23 @@ pub record IsWithin (r : Ray) (a z : Square) (n : ℕ) : Type 0 where
   pub before : distance < n
   pub steps : IsSteps r a z distance
 
-far_on_holds : (x y : Sign) → IsSome x y → (a b z : Seat) (e : Sets) (v : Values) (n : ℤ) (t : ℕ) → IsSteps (slide (num x) (num y)) (at v a) (at v b) t → (m : ℕ) → (pos t +ℤ n) +ℤ pos 1 ≡ pos m → Holds (on (slide (num x) (num y)) a b n z) e v ↔ IsWithin (slide (num x) (num y)) (at v a) (at v z) m
-far_on_holds x y some a b z e v n t steps m is = (
+far_on_holds : (x y : Sign) → IsSome x y → (a b z : Seat) (e : Sets) (v : Values) (extent : Extent) (t : ℕ)
+    → IsSteps (slide (num x) (num y)) (at v a) (at v b) t → (m : ℕ) → (pos t +ℤ past extent) +ℤ pos 1 ≡ pos m
+    → Holds (on (slide (num x) (num y)) a b extent z) e v ↔ IsWithin (slide (num x) (num y)) (at v a) (at v z) m
+far_on_holds x y some a b z e v extent t steps m is = (
   λ h.
       let s = steps_from_atoms x y some a z e v h.0.0 h.0.1 in
-      let order : pos s.0 ≤ℤ (pos t +ℤ n) = (ahead_is x y some a b z e v n t s.0 steps s.2).0 h.1 in
+      let order : pos s.0 ≤ℤ (pos t +ℤ past extent) = (ahead_is x y some a b z e v extent t s.0 steps s.2).0 h.1 in
       record { distance = s.0; positive = s.1; before = omega (arith, ints, order, is); steps = s.2 },
   λ h.
       let w = atoms_from_steps x y some a z e v h.distance h.positive h.steps in
       let low : h.distance < m = h.before in
-      (w, (ahead_is x y some a b z e v n t h.distance steps h.steps).1 (omega (arith, ints, low, is))),
+      (w, (ahead_is x y some a b z e v extent t h.distance steps h.steps).1 (omega (arith, ints, low, is))),
 )
 
 -- where b lies on the ray, what `on` says up to b and with it
-pub on_holds : (r : Ray) → IsFair r → (a b z : Seat) (e : Sets) (v : Values) (w : LiesOn r (at v a) (at v b)) → Holds (on r a b (pos 0) z) e v ↔ IsWithin r (at v a) (at v z) (suc w.distance)
-on_holds r (far x y some) a b z e v w = far_on_holds x y some a b z e v (pos 0) w.distance w.steps (suc w.distance) (omega (arith, ints))
+pub on_holds : (r : Ray) → IsFair r → (a b z : Seat) (e : Sets) (v : Values) (w : LiesOn r (at v a) (at v b)) → Holds (on r a b Onto z) e v ↔ IsWithin r (at v a) (at v z) (suc w.distance)
+on_holds r (far x y some) a b z e v w = far_on_holds x y some a b z e v Onto w.distance w.steps (suc w.distance) (omega (arith, ints))
 on_holds r (near dx dy some) a b z e v w =
     let right = one_step (v a.x.0) (v b.x.0) dx w.distance (w.near refl) w.steps.right in
     let up = one_step (v a.y.0) (v b.y.0) dy w.distance (w.near refl) w.steps.up in (
@@ -204,8 +213,9 @@ on_holds r (near dx dy some) a b z e v w =
     )
 
 -- and without b, for a far ray
-pub between_holds : (r : Ray) → IsFair r → r.far ≡ true → (a b z : Seat) (e : Sets) (v : Values) (w : LiesOn r (at v a) (at v b)) → Holds (on r a b (negsuc 0) z) e v ↔ IsWithin r (at v a) (at v z) w.distance
-between_holds r (far x y some) is_far a b z e v w = far_on_holds x y some a b z e v (negsuc 0) w.distance w.steps w.distance (omega (arith, ints, w.positive))
+pub between_holds : (r : Ray) → IsFair r → r.far ≡ true → (a b z : Seat) (e : Sets) (v : Values) (w : LiesOn r (at v a) (at v b))
+    → Holds (on r a b Before z) e v ↔ IsWithin r (at v a) (at v z) w.distance
+between_holds r (far x y some) is_far a b z e v w = far_on_holds x y some a b z e v Before w.distance w.steps w.distance (omega (arith, ints, w.positive))
 between_holds r (near dx dy some) is_far a b z e v w = absurd (cc)
 
 -- a square is at most one number of steps away along a slide
@@ -221,9 +231,7 @@ no_steps r a = record { right = omega (arith, ints); up = omega (arith, ints) }
 
 pub steps_same : (r : Ray) (a b c : Square) (t : ℕ) → IsSteps r a b t → IsSteps r a c t → b ≡ c
 steps_same r a b c t h k =
-    let right : b.x ≡ c.x = h.right ∙ sym k.right in
-    let up : b.y ≡ c.y = h.up ∙ sym k.up in
-    ap (λ x. record { x = x; y = b.y }) right ∙ ap (λ y. record { x = c.x; y = y }) up
+    let right : b.x ≡ c.x = h.right ∙ sym k.right in let up : b.y ≡ c.y = h.up ∙ sym k.up in square_at b c right up
 
 stays_put : (a b d : ℤ) → b ≡ a +ℤ d → a ≡ b → d ≡ pos 0
 stays_put a b d h e = omega (arith, ints)

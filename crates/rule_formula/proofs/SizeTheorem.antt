@@ -19,19 +19,22 @@ use Rattle.game_rules.specs.Rays.{ray_of, rays_of}
 use Rattle.lin_formula.specs.Tree.{Tree, memberships, steps}
 use Rattle.lin_formula.specs.Tree as tree
 use Rattle.rule_formula.specs.declared.opt.Opt.{Opt}
+use Rattle.rule_formula.specs.declared.atoms.Extent.{Extent}
+use Rattle.rule_formula.specs.declared.atoms.Extent.TheVariants.{Onto, Before}
 use Rattle.rule_formula.specs.declared.seats.Seat.{Seat}
 use Rattle.rule_formula.specs.Placed.{IsLiveIn, is_live, stock_man, without}
-use Rattle.rule_formula.specs.Seats.{new_seat, new_seats, old_seats, own, seats_with, spare, swept, var, vars_to}
-use Rattle.rule_formula.specs.Trees.{AreApart, IsCounted, IsDrawn, Suits, ahead, and_all, and_maybe, bear_of, bear_tree, clear, clear_as, difference, ex_swept, falling, image_body, image_of, image_tree, is_other, line, line_atoms, man_square, on, on_as, ordered, point_of, point_to, pre_body, pre_of, pre_tree, ray_at, ray_atoms, rising, safe_of, safe_tree, tracks_of, twins_tree, unless_same, atoms_as, with_square}
+use Rattle.rule_formula.specs.Seats.{elsewhere, new_seat, new_seats, old_seats, own, seats_with, spare, swept, vars_to}
+use Rattle.rule_formula.specs.Trees.{AreApart, IsCounted, IsDrawn, Suits, ahead, and_all, and_maybe, bear_of, bear_tree, clear, clear_as, difference, ex_swept, falling, image_body, image_of, image_tree, is_other, line, line_atoms, man_square, on, on_as, ordered, past, point_of, point_to, pre_body, pre_of, pre_tree, ray_at, ray_atoms, rising, safe_of, safe_tree, tracks_of, twins_tree, unless_same, atoms_as, with_square}
 use Rattle.rule_formula.specs.Meaning.{IsBearer, IsOptionOf, IsPrey}
 use Rattle.rule_formula.specs.Size.{IsModest, IsOver, NamesBoth, NamesOnly}
+use Rattle.rule_formula.proofs.ApartLemmas.{apart_back, apart_counted, apart_drawn, own_others}
 use Rattle.rule_formula.proofs.BearLemmas.{IsNumber, stock_number}
 use Rattle.rule_formula.proofs.FineLemmas.{IsFine, IsLow, fine_few, fine_made, fine_names, four_atom, two_atom}
 use Rattle.rule_formula.proofs.FormulaLemmas.{own_apart}
 use Rattle.rule_formula.proofs.KindLemmas.{fair_moves, ray_is}
 use Rattle.rule_formula.proofs.MeaningLemmas.{ray_at_is}
 use Rattle.rule_formula.proofs.MoveLemmas.{option_untaken}
-use Rattle.rule_formula.proofs.SweptLemmas.{from_spare, to_spare}
+use Rattle.rule_formula.proofs.SweptLemmas.{from_spare, new_suits}
 
 -- the steps of a ray are short
 abbrev IsSmallRay : Ray → Type 0
@@ -78,24 +81,18 @@ spare_good : (r : Ray) (i : ℕ) → 0 < i → i ≤ 8 → IsGood (spare r i)
 spare_good r i low high =
     let own_is : IsGood (own i) = own_good i low high in
     record {
-      even = swept_cases (λ v. v.0 % 2 ≡ 0) r.dx (own i).x (var 16) own_is.even refl;
-      odd = swept_cases (λ v. v.0 % 2 ≡ 1) r.dy (own i).y (var 17) own_is.odd refl;
-      x_low = swept_cases (λ v. v.0 < 18) r.dx (own i).x (var 16) own_is.x_low (omega arith);
-      y_low = swept_cases (λ v. v.0 < 18) r.dy (own i).y (var 17) own_is.y_low (omega arith);
+      even = swept_cases (λ v. v.0 % 2 ≡ 0) r.dx (own i).x elsewhere.x own_is.even refl;
+      odd = swept_cases (λ v. v.0 % 2 ≡ 1) r.dy (own i).y elsewhere.y own_is.odd refl;
+      x_low = swept_cases (λ v. v.0 < 18) r.dx (own i).x elsewhere.x own_is.x_low (omega arith);
+      y_low = swept_cases (λ v. v.0 < 18) r.dy (own i).y elsewhere.y own_is.y_low (omega arith);
     }
-
-own_others : (i k : ℕ) → 0 < i → 0 < k → i ≢ k → AreApart (own i) (own k)
-own_others i k low first ne = record { across = λ e. ne (omega (arith, e)); along = λ e. ne (omega (arith, e)) }
-
-apart_back : (a b : Seat) → AreApart a b → AreApart b a
-apart_back a b h = record { across = λ e. h.across (sym e); along = λ e. h.along (sym e) }
 
 spare_others : (r : Ray) (i k : ℕ) → 0 < i → i ≤ 8 → 0 < k → k ≤ 8 → i ≢ k → AreApart (spare r i) (own k)
 spare_others r i k low high first last ne =
     let others : AreApart (own i) (own k) = own_others i k low first ne in
     record {
-      across = swept_cases (λ v. v.0 ≢ (own k).x.0) r.dx (own i).x (var 16) others.across (λ e. omega (arith, e, last));
-      along = swept_cases (λ v. v.0 ≢ (own k).y.0) r.dy (own i).y (var 17) others.along (λ e. omega (arith, e, last));
+      across = swept_cases (λ v. v.0 ≢ (own k).x.0) r.dx (own i).x elsewhere.x others.across (λ e. omega (arith, e, last));
+      along = swept_cases (λ v. v.0 ≢ (own k).y.0) r.dy (own i).y elsewhere.y others.along (λ e. omega (arith, e, last));
     }
 
 new_good : (r : Ray) (i t : ℕ) → 0 < i → i ≤ 8 → t ≤ 8 → IsGood (new_seat r i t)
@@ -106,26 +103,27 @@ new_others : (r : Ray) (i t k : ℕ) → 0 < i → i ≤ 8 → 0 < k → k ≤ 8
 new_others r i zero k low high first last ne untaken = spare_others r i k low high first last ne
 new_others r i (suc t) k low high first last ne untaken = own_others (suc t) k (omega arith) first (λ e. untaken (sym e))
 
-new_fits : (r : Ray) (i t : ℕ) → 0 < i → i ≤ 8 → i ≢ t → Suits r (own i) (new_seat r i t)
-new_fits r i zero low high ne = to_spare r i low high
-new_fits r i (suc t) low high ne = own_apart i (suc t) r low (omega arith) ne
-
 zero_bound : IsBound (pos 0)
 zero_bound = (omega (arith, ints), omega (arith, ints))
 
-less_bound : IsBound (negsuc 0)
-less_bound = (omega (arith, ints), omega (arith, ints))
+past_bound : (extent : Extent) → IsBound (past extent)
+past_bound Onto = zero_bound
+past_bound Before = (omega (arith, ints), omega (arith, ints))
 
 difference_fine : (P : ℕ × List Var → Type 0) (x y : Var) (rel : Rel) (n : ℤ) → x.0 ≢ y.0 → x.0 < 18 → y.0 < 18 → IsBound n → IsFine P (difference x y rel n)
 difference_fine P x y rel n ne first second bound = (two_atom x y n ne bound, (first, (second, tt)))
 
 rising_fine : (P : ℕ × List Var → Type 0) (a b : Seat) → IsGood a → IsGood b → b.x.0 ≢ a.x.0 → b.y.0 ≢ a.y.0 → IsFine P (rising a b)
-rising_fine P a b from to across along =
-    (four_atom (pos 1) (negsuc 0) (negsuc 0) (pos 1) b.x a.x b.y a.y across along from.even to.even from.odd to.odd (inl refl) (inr refl) (inr refl) (inl refl), (to.x_low, (from.x_low, (to.y_low, (from.y_low, tt)))))
+rising_fine P a b from to across along = (
+  four_atom (pos 1) (negsuc 0) (negsuc 0) (pos 1) b.x a.x b.y a.y across along from.even to.even from.odd to.odd (inl refl) (inr refl) (inr refl) (inl refl),
+  (to.x_low, (from.x_low, (to.y_low, (from.y_low, tt)))),
+)
 
 falling_fine : (P : ℕ × List Var → Type 0) (a b : Seat) → IsGood a → IsGood b → b.x.0 ≢ a.x.0 → b.y.0 ≢ a.y.0 → IsFine P (falling a b)
-falling_fine P a b from to across along =
-    (four_atom (pos 1) (negsuc 0) (pos 1) (negsuc 0) b.x a.x b.y a.y across along from.even to.even from.odd to.odd (inl refl) (inr refl) (inl refl) (inr refl), (to.x_low, (from.x_low, (to.y_low, (from.y_low, tt)))))
+falling_fine P a b from to across along = (
+  four_atom (pos 1) (negsuc 0) (pos 1) (negsuc 0) b.x a.x b.y a.y across along from.even to.even from.odd to.odd (inl refl) (inr refl) (inl refl) (inr refl),
+  (to.x_low, (from.x_low, (to.y_low, (from.y_low, tt)))),
+)
 
 line_fine : (P : ℕ × List Var → Type 0) (dx dy : ℤ) (a b : Seat) → IsGood a → IsGood b → IsDrawn dx dy a b → IsFine P (line dx dy a b)
 line_fine P (pos zero) dy a b from to drawn = difference_fine P b.x a.x Eq (pos 0) (drawn.across refl) to.x_low from.x_low zero_bound
@@ -144,21 +142,17 @@ ordered_fine : (P : ℕ × List Var → Type 0) (d : ℤ) (x y : Var) (n : ℤ) 
 ordered_fine P (pos d) x y n ne first second bound = difference_fine P x y Le n ne first second bound
 ordered_fine P (negsuc d) x y n ne first second bound = difference_fine P y x Le n (λ e. ne (sym e)) second first bound
 
-ahead_fine : (P : ℕ × List Var → Type 0) (dx dy : ℤ) (a b : Seat) (n : ℤ) → IsGood a → IsGood b → IsCounted dx dy a b → IsBound n → IsFine P (ahead dx dy a b n)
-ahead_fine P (pos zero) dy a b n from to counted bound = ordered_fine P dy a.y b.y n (counted.along refl) from.y_low to.y_low bound
-ahead_fine P (pos (suc dx)) dy a b n from to counted bound = ordered_fine P (pos (suc dx)) a.x b.x n (counted.across (λ e. omega (arith, ints, e))) from.x_low to.x_low bound
-ahead_fine P (negsuc dx) dy a b n from to counted bound = ordered_fine P (negsuc dx) a.x b.x n (counted.across (λ e. omega (arith, ints, e))) from.x_low to.x_low bound
+ahead_fine : (P : ℕ × List Var → Type 0) (dx dy : ℤ) (a b : Seat) (extent : Extent) → IsGood a → IsGood b → IsCounted dx dy a b → IsFine P (ahead dx dy a b extent)
+ahead_fine P (pos zero) dy a b extent from to counted = ordered_fine P dy a.y b.y (past extent) (counted.along refl) from.y_low to.y_low (past_bound extent)
+ahead_fine P (pos (suc dx)) dy a b extent from to counted = ordered_fine P (pos (suc dx)) a.x b.x (past extent) (counted.across (λ e. omega (arith, ints, e))) from.x_low to.x_low (past_bound extent)
+ahead_fine P (negsuc dx) dy a b extent from to counted = ordered_fine P (negsuc dx) a.x b.x (past extent) (counted.across (λ e. omega (arith, ints, e))) from.x_low to.x_low (past_bound extent)
 
-apart_drawn : (dx dy : ℤ) (a b : Seat) → AreApart a b → IsDrawn dx dy a b
-apart_drawn dx dy a b h = record { across = λ e w. h.across (sym w); along = λ e w. h.along (sym w); aslant = λ e f. (λ w. h.across (sym w), λ w. h.along (sym w)) }
-
-apart_counted : (dx dy : ℤ) (a b : Seat) → AreApart a b → IsCounted dx dy a b
-apart_counted dx dy a b h = record { across = λ e. h.across; along = λ e. h.along }
-
-on_fine : (P : ℕ × List Var → Type 0) (far : Bool) (dx dy : ℤ) (a b z : Seat) (n : ℤ) → IsGood a → IsGood b → IsGood z → AreApart a z → AreApart z b → IsBound n → IsFine P (on_as far dx dy a b z n)
-on_fine P true dx dy a b z n from to middle first last bound =
-    ((line_fine P dx dy a z from middle (apart_drawn dx dy a z first), ahead_fine P dx dy a z (negsuc 0) from middle (apart_counted dx dy a z first) less_bound), ahead_fine P dx dy z b n middle to (apart_counted dx dy z b last) bound)
-on_fine P false dx dy a b z n from to middle first last bound =
+on_fine : (P : ℕ × List Var → Type 0) (far : Bool) (dx dy : ℤ) (a b z : Seat) (extent : Extent) → IsGood a → IsGood b → IsGood z → AreApart a z → AreApart z b → IsFine P (on_as far dx dy a b z extent)
+on_fine P true dx dy a b z extent from to middle first last = (
+  (line_fine P dx dy a z from middle (apart_drawn dx dy a z first), ahead_fine P dx dy a z Before from middle (apart_counted dx dy a z first)),
+  ahead_fine P dx dy z b extent middle to (apart_counted dx dy z b last),
+)
+on_fine P false dx dy a b z extent from to middle first last =
     (difference_fine P z.x b.x Eq (pos 0) last.across middle.x_low to.x_low zero_bound, difference_fine P z.y b.y Eq (pos 0) last.along middle.y_low to.y_low zero_bound)
 
 -- each formula of a list is fine
@@ -210,8 +204,8 @@ suits_counted r a b good suits = record { across = λ e same. e (suits.across (s
 
 ray_atoms_as : (P : ℕ × List Var → Type 0) (b : Bool) (r : Ray) (f g : Seat) → IsGoodRay r → IsGood f → IsGood g → Suits r f g → AreFine P (atoms_as b r.dx r.dy f g)
 ray_atoms_as P true r f g ray from to suits =
-    are_fine-append P (line_atoms r.dx r.dy f g) (ahead r.dx r.dy f g (negsuc 0) ∷ []) (line_atoms_fine P r r.dx r.dy f g from to suits refl refl)
-    (ahead_fine P r.dx r.dy f g (negsuc 0) from to (suits_counted r f g ray suits) less_bound, tt)
+    are_fine-append P (line_atoms r.dx r.dy f g) (ahead r.dx r.dy f g Before ∷ []) (line_atoms_fine P r r.dx r.dy f g from to suits refl refl)
+    (ahead_fine P r.dx r.dy f g Before from to (suits_counted r f g ray suits), tt)
 ray_atoms_as P false r f g ray from to suits =
     are_fine-append P (unless_same g.x f.x (difference g.x f.x Eq r.dx)) (unless_same g.y f.y (difference g.y f.y Eq r.dy))
     (unless_fine P g.x f.x (difference g.x f.x Eq r.dx) (λ ne. difference_fine P g.x f.x Eq r.dx ne to.x_low from.x_low (small_bound r.dx ray.small.0)))
@@ -225,13 +219,15 @@ other_from : (b : Bool) (i j k : ℕ) → (b && (not (k == i) && not (k == j))) 
 other_from true i j k e = (grind (arith, nat_tests), grind (arith, nat_tests))
 other_from false i j k e = absurd (cc)
 
-clear_fine : (P : ℕ × List Var → Type 0) (f : Tree) (hit : ℕ → Tree) (live : ℕ → Bool) (i j n : ℕ) → IsFine P f → ((k : ℕ) → 0 < k → k ≤ n → k ≢ i → k ≢ j → IsFine P (hit k)) → IsFine P (clear f hit live i j n)
+clear_fine : (P : ℕ × List Var → Type 0) (f : Tree) (hit : ℕ → Tree) (live : ℕ → Bool) (i j n : ℕ) → IsFine P f
+    → ((k : ℕ) → 0 < k → k ≤ n → k ≢ i → k ≢ j → IsFine P (hit k)) → IsFine P (clear f hit live i j n)
 clear_fine P f hit live i j zero h each = h
 clear_fine P f hit live i j (suc n) h each =
     if_fine P (is_other live i j (suc n)) (clear f hit live i j n) (hit (suc n)) (clear_fine P f hit live i j n h (λ k low high. each k low (omega (arith, high))))
     (λ e. let w = other_from (live (suc n)) i j (suc n) e in each (suc n) (omega arith) (omega arith) w.0 w.1)
 
-clear_as_fine : (P : ℕ × List Var → Type 0) (b : Bool) (f : Tree) (hit : ℕ → Tree) (live : ℕ → Bool) (i j n : ℕ) → IsFine P f → ((k : ℕ) → 0 < k → k ≤ n → k ≢ i → k ≢ j → IsFine P (hit k)) → IsFine P (clear_as b f hit live i j n)
+clear_as_fine : (P : ℕ × List Var → Type 0) (b : Bool) (f : Tree) (hit : ℕ → Tree) (live : ℕ → Bool) (i j n : ℕ) → IsFine P f
+    → ((k : ℕ) → 0 < k → k ≤ n → k ≢ i → k ≢ j → IsFine P (hit k)) → IsFine P (clear_as b f hit live i j n)
 clear_as_fine P true f hit live i j n h each = clear_fine P f hit live i j n h each
 clear_as_fine P false f hit live i j n h each = h
 
@@ -273,54 +269,62 @@ seat_cases i j k a b first second third = cases (k == i) (k == j) first second t
     cases false false first second third = third
 
 -- the parts of a move
-path_fine : (P : ℕ × List Var → Type 0) (f : Tree) (r : Ray) (a b : Seat) (n : ℤ) (live : ℕ → Bool) (i j m : ℕ) → IsFine P f → IsGoodRay r → IsGood a → IsGood b → Suits r a b → IsBound n → m ≤ 8 → ((k : ℕ) → 0 < k → k ≤ 8 → k ≢ i → k ≢ j → AreApart a (own k)) → ((k : ℕ) → 0 < k → k ≤ 8 → k ≢ i → k ≢ j → AreApart (own k) b) → IsFine P (clear (and_all f (ray_atoms r a b)) (λ k. on r a b n (own k)) live i j m)
-path_fine P f r a b n live i j m h ray from to suits bound few first last =
-    clear_fine P (and_all f (ray_atoms r a b)) (λ k. on r a b n (own k)) live i j m
+path_fine : (P : ℕ × List Var → Type 0) (f : Tree) (r : Ray) (a b : Seat) (extent : Extent) (live : ℕ → Bool) (i j m : ℕ) → IsFine P f → IsGoodRay r
+    → IsGood a → IsGood b → Suits r a b → m ≤ 8 → ((k : ℕ) → 0 < k → k ≤ 8 → k ≢ i → k ≢ j → AreApart a (own k))
+    → ((k : ℕ) → 0 < k → k ≤ 8 → k ≢ i → k ≢ j → AreApart (own k) b)
+    → IsFine P (clear (and_all f (ray_atoms r a b)) (λ k. on r a b extent (own k)) live i j m)
+path_fine P f r a b extent live i j m h ray from to suits few first last =
+    clear_fine P (and_all f (ray_atoms r a b)) (λ k. on r a b extent (own k)) live i j m
     (and_all_fine P f (ray_atoms r a b) h (ray_atoms_as P r.far r a b ray from to suits))
-    (λ k low high other second. let small : k ≤ 8 = omega (arith, high, few) in on_fine P r.far r.dx r.dy a b (own k) n from to (own_good k low small) (first k low small other second) (last k low small other second) bound)
+    (λ k low high other second. let small : k ≤ 8 = omega (arith, high, few) in
+    on_fine P r.far r.dx r.dy a b (own k) extent from to (own_good k low small) (first k low small other second) (last k low small other second))
 
 image_fine : (P : ℕ × List Var → Type 0) (n mask i t s : ℕ) (r : Ray) → n ≤ 8 → 0 < i → i ≤ 8 → IsGoodRay r → P (s, vars_to (old_seats r i t) (is_live mask) n) → IsFine P (image_tree n mask i r t s)
 image_fine P n mask i t s r few low high ray named =
     let from : IsGood (spare r i) = spare_good r i low high in
     let to : IsGood (own i) = own_good i low high in
-    swept_fine P r.dx (var 16) (ex_swept r.dy (var 17) (image_body n mask i r t s)) (omega arith)
-    (swept_fine P r.dy (var 17) (image_body n mask i r t s) (omega arith)
-    (path_fine P (tree.Among s (vars_to (old_seats r i t) (is_live mask) n)) r (spare r i) (own i) (pos 0) (is_live mask) i t n
+    swept_fine P r.dx elsewhere.x (ex_swept r.dy elsewhere.y (image_body n mask i r t s)) (omega arith)
+    (swept_fine P r.dy elsewhere.y (image_body n mask i r t s) (omega arith)
+    (path_fine P (tree.Among s (vars_to (old_seats r i t) (is_live mask) n)) r (spare r i) (own i) Onto (is_live mask) i t n
     (named, vars_low (old_seats r i t) (is_live mask) n (λ k first last. seat_cases i t k (spare r i) (own i) from to (own_good k first (omega (arith, last, few)))))
-    ray from to (from_spare r i low high) zero_bound few
+    ray from to (from_spare r i low high) few
     (λ k first last other second. spare_others r i k low high first last (λ e. other (sym e)))
     (λ k first last other second. own_others k i first low other)))
 
-pre_body_fine : (P : ℕ × List Var → Type 0) (n mask i t s q : ℕ) (r : Ray) → n ≤ 8 → 0 < i → i ≤ 8 → t ≤ 8 → i ≢ t → IsGoodRay r → P (s, vars_to own (is_live mask) n) → P (q, vars_to (new_seats r i t) (without (is_live mask) t) n) → IsFine P (pre_body n mask i r t s q)
+pre_body_fine : (P : ℕ × List Var → Type 0) (n mask i t s q : ℕ) (r : Ray) → n ≤ 8 → 0 < i → i ≤ 8 → t ≤ 8 → i ≢ t → IsGoodRay r
+    → P (s, vars_to own (is_live mask) n) → P (q, vars_to (new_seats r i t) (without (is_live mask) t) n) → IsFine P (pre_body n mask i r t s q)
 pre_body_fine P n mask i t s q r few low high last ne ray named target =
     let from : IsGood (own i) = own_good i low high in
     let to : IsGood (new_seat r i t) = new_good r i t low high last in
-    path_fine P (tree.And (tree.Among s (vars_to own (is_live mask) n)) (tree.Among q (vars_to (new_seats r i t) (without (is_live mask) t) n))) r (own i) (new_seat r i t) (pos 0) (is_live mask) i t n (
+    path_fine P (tree.And (tree.Among s (vars_to own (is_live mask) n)) (tree.Among q (vars_to (new_seats r i t) (without (is_live mask) t) n))) r (own i) (new_seat r i t) Onto (is_live mask) i t n (
       (named, vars_low own (is_live mask) n (λ k first end. own_good k first (omega (arith, end, few)))),
       (target, vars_low (new_seats r i t) (without (is_live mask) t) n (λ k first end. seat_cases i t k (new_seat r i t) (new_seat r i t) to to (own_good k first (omega (arith, end, few))))),
     )
-    ray from to (new_fits r i t low high ne) zero_bound few
+    ray from to (new_suits r i t low high ne) few
     (λ k first end other second. own_others i k low first (λ e. other (sym e)))
     (λ k first end other second. apart_back (new_seat r i t) (own k) (new_others r i t k low high first end (λ e. other (sym e)) second))
 
-pre_fine : (P : ℕ × List Var → Type 0) (n mask i t s q : ℕ) (r : Ray) → n ≤ 8 → 0 < i → i ≤ 8 → t ≤ 8 → i ≢ t → IsGoodRay r → P (s, vars_to own (is_live mask) n) → P (q, vars_to (new_seats r i t) (without (is_live mask) t) n) → IsFine P (pre_tree n mask i r t s q)
+pre_fine : (P : ℕ × List Var → Type 0) (n mask i t s q : ℕ) (r : Ray) → n ≤ 8 → 0 < i → i ≤ 8 → t ≤ 8 → i ≢ t → IsGoodRay r
+    → P (s, vars_to own (is_live mask) n) → P (q, vars_to (new_seats r i t) (without (is_live mask) t) n) → IsFine P (pre_tree n mask i r t s q)
 pre_fine P n mask i zero s q r few low high last ne ray named target =
-    swept_fine P r.dx (var 16) (ex_swept r.dy (var 17) (pre_body n mask i r 0 s q)) (omega arith)
-    (swept_fine P r.dy (var 17) (pre_body n mask i r 0 s q) (omega arith) (pre_body_fine P n mask i 0 s q r few low high last ne ray named target))
+    swept_fine P r.dx elsewhere.x (ex_swept r.dy elsewhere.y (pre_body n mask i r 0 s q)) (omega arith)
+    (swept_fine P r.dy elsewhere.y (pre_body n mask i r 0 s q) (omega arith) (pre_body_fine P n mask i 0 s q r few low high last ne ray named target))
 pre_fine P n mask i (suc t) s q r few low high last ne ray named target = pre_body_fine P n mask i (suc t) s q r few low high last ne ray named target
 
-bear_fine : (P : ℕ × List Var → Type 0) (n mask k g s : ℕ) (r : Ray) → n ≤ 8 → 0 < k → k ≤ 8 → 0 < g → g ≤ 8 → k ≢ g → IsGoodRay r → P (s, vars_to own (is_live mask) n) → IsFine P (bear_tree n mask k r g s)
+bear_fine : (P : ℕ × List Var → Type 0) (n mask k g s : ℕ) (r : Ray) → n ≤ 8 → 0 < k → k ≤ 8 → 0 < g → g ≤ 8 → k ≢ g → IsGoodRay r
+    → P (s, vars_to own (is_live mask) n) → IsFine P (bear_tree n mask k r g s)
 bear_fine P n mask k g s r few low high first last ne ray named =
     let from : IsGood (own k) = own_good k low high in
     let to : IsGood (own g) = own_good g first last in
-    clear_as_fine P r.far (and_all (tree.Among s (vars_to own (is_live mask) n)) (ray_atoms r (own k) (own g))) (λ l. on r (own k) (own g) (negsuc 0) (own l)) (is_live mask) k g n
+    clear_as_fine P r.far (and_all (tree.Among s (vars_to own (is_live mask) n)) (ray_atoms r (own k) (own g))) (λ l. on r (own k) (own g) Before (own l)) (is_live mask) k g n
     (and_all_fine P (tree.Among s (vars_to own (is_live mask) n)) (ray_atoms r (own k) (own g)) (named, vars_low own (is_live mask) n (λ l begin end. own_good l begin (omega (arith, end, few))))
     (ray_atoms_as P r.far r (own k) (own g) ray from to (own_apart k g r low first ne)))
     (λ l begin end other second.
     let small : l ≤ 8 = omega (arith, end, few) in
-    on_fine P r.far r.dx r.dy (own k) (own g) (own l) (negsuc 0) from to (own_good l begin small) (own_others k l low begin (λ e. other (sym e))) (own_others l g begin first second) less_bound)
+    on_fine P r.far r.dx r.dy (own k) (own g) (own l) Before from to (own_good l begin small) (own_others k l low begin (λ e. other (sym e))) (own_others l g begin first second))
 
-safe_fine : (P : ℕ × List Var → Type 0) (n mask k g s : ℕ) (r : Ray) → n ≤ 8 → 0 < k → k ≤ 8 → 0 < g → g ≤ 8 → k ≢ g → IsGoodRay r → P (s, vars_to own (is_live mask) n) → IsFine P (safe_tree n mask k r g s)
+safe_fine : (P : ℕ × List Var → Type 0) (n mask k g s : ℕ) (r : Ray) → n ≤ 8 → 0 < k → k ≤ 8 → 0 < g → g ≤ 8 → k ≢ g → IsGoodRay r
+    → P (s, vars_to own (is_live mask) n) → IsFine P (safe_tree n mask k r g s)
 safe_fine P n mask k g s r few low high first last ne ray named =
     ((named, vars_low own (is_live mask) n (λ l begin end. own_good l begin (omega (arith, end, few)))), bear_fine P n mask k g s r few low high first last ne ray named)
 
@@ -371,10 +375,10 @@ ordered_steps : (d : ℤ) (x y : Var) (n : ℤ) → length (steps (ordered d x y
 ordered_steps (pos d) x y n = refl
 ordered_steps (negsuc d) x y n = refl
 
-ahead_steps : (dx dy : ℤ) (a b : Seat) (n : ℤ) → length (steps (ahead dx dy a b n)) ≡ 0
-ahead_steps (pos zero) dy a b n = ordered_steps dy a.y b.y n
-ahead_steps (pos (suc dx)) dy a b n = ordered_steps (pos (suc dx)) a.x b.x n
-ahead_steps (negsuc dx) dy a b n = ordered_steps (negsuc dx) a.x b.x n
+ahead_steps : (dx dy : ℤ) (a b : Seat) (extent : Extent) → length (steps (ahead dx dy a b extent)) ≡ 0
+ahead_steps (pos zero) dy a b extent = ordered_steps dy a.y b.y (past extent)
+ahead_steps (pos (suc dx)) dy a b extent = ordered_steps (pos (suc dx)) a.x b.x (past extent)
+ahead_steps (negsuc dx) dy a b extent = ordered_steps (negsuc dx) a.x b.x (past extent)
 
 and_steps : (f g : Tree) → length (steps (tree.And f g)) ≡ length (steps f) + length (steps g) + 1
 and_steps f g =
@@ -383,15 +387,15 @@ and_steps f g =
 ex_steps : (x : Var) (f : Tree) → length (steps (tree.Ex x f)) ≡ length (steps f) + 1
 ex_steps x f = length-append (steps f) (tree.Ex x f ∷ [])
 
-on_steps : (b : Bool) (dx dy : ℤ) (a c z : Seat) (n : ℤ) → length (steps (on_as b dx dy a c z n)) ≤ 2
-on_steps true dx dy a c z n =
+on_steps : (b : Bool) (dx dy : ℤ) (a c z : Seat) (extent : Extent) → length (steps (on_as b dx dy a c z extent)) ≤ 2
+on_steps true dx dy a c z extent =
     let l = line_steps dx dy a z in
-    let h = ahead_steps dx dy a z (negsuc 0) in
-    let k = ahead_steps dx dy z c n in
-    let inner = and_steps (line dx dy a z) (ahead dx dy a z (negsuc 0)) in
-    let outer = and_steps (tree.And (line dx dy a z) (ahead dx dy a z (negsuc 0))) (ahead dx dy z c n) in
+    let h = ahead_steps dx dy a z Before in
+    let k = ahead_steps dx dy z c extent in
+    let inner = and_steps (line dx dy a z) (ahead dx dy a z Before) in
+    let outer = and_steps (tree.And (line dx dy a z) (ahead dx dy a z Before)) (ahead dx dy z c extent) in
     omega (arith, l, h, k, inner, outer)
-on_steps false dx dy a c z n = omega arith
+on_steps false dx dy a c z extent = omega arith
 
 if_steps : (b : Bool) (f g : Tree) → length (steps g) ≤ 2 → length (steps (if b then tree.And f (tree.Not g) else f)) ≤ length (steps f) + 3
 if_steps true f g h = let e = and_steps f (tree.Not g) in omega (arith, e, h)
@@ -444,9 +448,9 @@ line_atoms_steps (negsuc dx) (negsuc dy) a b = omega arith
 ray_steps : (b : Bool) (dx dy : ℤ) (f g : Seat) → all_steps (atoms_as b dx dy f g) ≤ 2
 unfolding all_steps
 ray_steps true dx dy f g =
-    let both = all_steps-append (line_atoms dx dy f g) (ahead dx dy f g (negsuc 0) ∷ []) in
+    let both = all_steps-append (line_atoms dx dy f g) (ahead dx dy f g Before ∷ []) in
     let first = line_atoms_steps dx dy f g in
-    let second = one (ahead dx dy f g (negsuc 0)) (ahead_steps dx dy f g (negsuc 0)) in omega (arith, both, first, second)
+    let second = one (ahead dx dy f g Before) (ahead_steps dx dy f g Before) in omega (arith, both, first, second)
   where
     one : (f : Tree) → length (steps f) ≡ 0 → all_steps (f ∷ []) ≡ 1
     one f e = omega (arith, e)
@@ -460,34 +464,37 @@ swept_steps (pos zero) x f = omega arith
 swept_steps (pos (suc d)) x f = let e = ex_steps x f in omega (arith, e)
 swept_steps (negsuc d) x f = let e = ex_steps x f in omega (arith, e)
 
-path_steps : (f : Tree) (r : Ray) (a b : Seat) (bound : ℤ) (live : ℕ → Bool) (i j n : ℕ) → n ≤ 8 → length (steps (clear (and_all f (ray_atoms r a b)) (λ k. on r a b bound (own k)) live i j n)) ≤ length (steps f) + 26
-path_steps f r a b bound live i j n few =
-    let chain = clear_steps (and_all f (ray_atoms r a b)) (λ k. on r a b bound (own k)) live i j n (λ k. on_steps r.far r.dx r.dy a b (own k) bound) in
+path_steps : (f : Tree) (r : Ray) (a b : Seat) (extent : Extent) (live : ℕ → Bool) (i j n : ℕ) → n ≤ 8
+    → length (steps (clear (and_all f (ray_atoms r a b)) (λ k. on r a b extent (own k)) live i j n)) ≤ length (steps f) + 26
+path_steps f r a b extent live i j n few =
+    let chain = clear_steps (and_all f (ray_atoms r a b)) (λ k. on r a b extent (own k)) live i j n (λ k. on_steps r.far r.dx r.dy a b (own k) extent) in
     let all = and_all_steps f (ray_atoms r a b) in
     let ray = ray_steps r.far r.dx r.dy a b in omega (arith, chain, all, ray, few)
 
 image_steps : (n mask i t s : ℕ) (r : Ray) → n ≤ 8 → length (steps (image_tree n mask i r t s)) < 100
 image_steps n mask i t s r few =
-    let outer = swept_steps r.dx (var 16) (ex_swept r.dy (var 17) (image_body n mask i r t s)) in
-    let inner = swept_steps r.dy (var 17) (image_body n mask i r t s) in
-    let body = path_steps (tree.Among s (vars_to (old_seats r i t) (is_live mask) n)) r (spare r i) (own i) (pos 0) (is_live mask) i t n few in
+    let outer = swept_steps r.dx elsewhere.x (ex_swept r.dy elsewhere.y (image_body n mask i r t s)) in
+    let inner = swept_steps r.dy elsewhere.y (image_body n mask i r t s) in
+    let body = path_steps (tree.Among s (vars_to (old_seats r i t) (is_live mask) n)) r (spare r i) (own i) Onto (is_live mask) i t n few in
     omega (arith, outer, inner, body)
 
 pre_body_steps : (n mask i t s q : ℕ) (r : Ray) → n ≤ 8 → length (steps (pre_body n mask i r t s q)) ≤ 27
 pre_body_steps n mask i t s q r few =
-    let body = path_steps (tree.And (tree.Among s (vars_to own (is_live mask) n)) (tree.Among q (vars_to (new_seats r i t) (without (is_live mask) t) n))) r (own i) (new_seat r i t) (pos 0) (is_live mask) i t n few in
+    let body = path_steps (tree.And (tree.Among s (vars_to own (is_live mask) n)) (tree.Among q (vars_to (new_seats r i t) (without (is_live mask) t) n)))
+    r (own i) (new_seat r i t) Onto (is_live mask) i t n few in
     omega (arith, body)
 
 pre_steps : (n mask i t s q : ℕ) (r : Ray) → n ≤ 8 → length (steps (pre_tree n mask i r t s q)) < 100
 pre_steps n mask i zero s q r few =
-    let outer = swept_steps r.dx (var 16) (ex_swept r.dy (var 17) (pre_body n mask i r 0 s q)) in
-    let inner = swept_steps r.dy (var 17) (pre_body n mask i r 0 s q) in
+    let outer = swept_steps r.dx elsewhere.x (ex_swept r.dy elsewhere.y (pre_body n mask i r 0 s q)) in
+    let inner = swept_steps r.dy elsewhere.y (pre_body n mask i r 0 s q) in
     let body = pre_body_steps n mask i 0 s q r few in omega (arith, outer, inner, body)
 pre_steps n mask i (suc t) s q r few = let body = pre_body_steps n mask i (suc t) s q r few in omega (arith, body)
 
 bear_steps : (n mask k g s : ℕ) (r : Ray) → n ≤ 8 → length (steps (bear_tree n mask k r g s)) ≤ 26
 bear_steps n mask k g s r few =
-    let chain = clear_as_steps r.far (and_all (tree.Among s (vars_to own (is_live mask) n)) (ray_atoms r (own k) (own g))) (λ l. on r (own k) (own g) (negsuc 0) (own l)) (is_live mask) k g n (λ l. on_steps r.far r.dx r.dy (own k) (own g) (own l) (negsuc 0)) in
+    let chain = clear_as_steps r.far (and_all (tree.Among s (vars_to own (is_live mask) n)) (ray_atoms r (own k) (own g))) (λ l. on r (own k) (own g) Before (own l)) (is_live mask) k g n
+    (λ l. on_steps r.far r.dx r.dy (own k) (own g) (own l) Before) in
     let all = and_all_steps (tree.Among s (vars_to own (is_live mask) n)) (ray_atoms r (own k) (own g)) in
     let ray = ray_steps r.far r.dx r.dy (own k) (own g) in omega (arith, chain, all, ray, few)
 
@@ -558,7 +565,8 @@ modest P t u is fine few = subst IsModest (sym is) (record { well_made = fine_ma
 any_set : ℕ × List Var → Type 0
 any_set m = Unit {0}
 
-image_is_fine : (P : ℕ × List Var → Type 0) (stock : List Man) (mask : ℕ) (o : Opt) (s : ℕ) → length stock ≤ 8 → IsOptionOf stock mask o → P (s, vars_to (old_seats (ray_at stock o.man o.ray) o.man o.taken) (is_live mask) (length stock)) → IsFine P (image_of stock mask o s)
+image_is_fine : (P : ℕ × List Var → Type 0) (stock : List Man) (mask : ℕ) (o : Opt) (s : ℕ) → length stock ≤ 8 → IsOptionOf stock mask o
+    → P (s, vars_to (old_seats (ray_at stock o.man o.ray) o.man o.taken) (is_live mask) (length stock)) → IsFine P (image_of stock mask o s)
 image_is_fine P stock mask o s few w named =
     let g : IsGoodOption stock o = good_option stock mask o few w in
     image_fine P (length stock) mask o.man o.taken s (ray_at stock o.man o.ray) few g.low g.high g.ray named
@@ -575,7 +583,10 @@ image_names stock mask o s t few w is =
     (fine_names P (image_of stock mask o s)
     (image_is_fine P stock mask o s few w (record { set = refl; count = vars_long (old_seats (ray_at stock o.man o.ray) o.man o.taken) own (is_live mask) (length stock) })))
 
-pre_is_fine : (P : ℕ × List Var → Type 0) (stock : List Man) (mask : ℕ) (o : Opt) (s q : ℕ) → length stock ≤ 8 → IsOptionOf stock mask o → P (s, vars_to own (is_live mask) (length stock)) → P (q, vars_to (new_seats (ray_at stock o.man o.ray) o.man o.taken) (without (is_live mask) o.taken) (length stock)) → IsFine P (pre_of stock mask o s q)
+pre_is_fine : (P : ℕ × List Var → Type 0) (stock : List Man) (mask : ℕ) (o : Opt) (s q : ℕ) → length stock ≤ 8 → IsOptionOf stock mask o
+    → P (s, vars_to own (is_live mask) (length stock))
+    → P (q, vars_to (new_seats (ray_at stock o.man o.ray) o.man o.taken) (without (is_live mask) o.taken) (length stock))
+    → IsFine P (pre_of stock mask o s q)
 pre_is_fine P stock mask o s q few w named target =
     let g : IsGoodOption stock o = good_option stock mask o few w in
     pre_fine P (length stock) mask o.man o.taken s q (ray_at stock o.man o.ray) few g.low g.high g.taken g.untaken g.ray named target
@@ -585,7 +596,8 @@ unfolding any_set
 pre_modest stock mask o s q t few w is =
     modest any_set t (pre_of stock mask o s q) is (pre_is_fine any_set stock mask o s q few w tt tt) (pre_steps (length stock) mask o.man o.taken s q (ray_at stock o.man o.ray) few)
 
-pub pre_names : (stock : List Man) (mask : ℕ) (o : Opt) (s q : ℕ) (t : Tree) → length stock ≤ 8 → IsOptionOf stock mask o → t ≡ pre_of stock mask o s q → NamesBoth s (tracks_of stock (is_live mask)) q (tracks_of stock (without (is_live mask) o.taken)) t
+pub pre_names : (stock : List Man) (mask : ℕ) (o : Opt) (s q : ℕ) (t : Tree) → length stock ≤ 8 → IsOptionOf stock mask o
+    → t ≡ pre_of stock mask o s q → NamesBoth s (tracks_of stock (is_live mask)) q (tracks_of stock (without (is_live mask) o.taken)) t
 pre_names stock mask o s q t few w is =
     let tracks : List Var = tracks_of stock (is_live mask) in
     let others : List Var = tracks_of stock (without (is_live mask) o.taken) in
@@ -595,14 +607,16 @@ pre_names stock mask o s q t few w is =
     (pre_is_fine P stock mask o s q few w (inl (record { set = refl; count = refl }))
     (inr (record { set = refl; count = vars_long (new_seats (ray_at stock o.man o.ray) o.man o.taken) own (without (is_live mask) o.taken) (length stock) }))))
 
-bear_is_fine : (P : ℕ × List Var → Type 0) (stock : List Man) (mask k n g s : ℕ) → length stock ≤ 8 → IsBearer stock mask k n g → P (s, vars_to own (is_live mask) (length stock)) → IsFine P (bear_of stock mask k n g s)
+bear_is_fine : (P : ℕ × List Var → Type 0) (stock : List Man) (mask k n g s : ℕ) → length stock ≤ 8 → IsBearer stock mask k n g
+    → P (s, vars_to own (is_live mask) (length stock)) → IsFine P (bear_of stock mask k n g s)
 bear_is_fine P stock mask k n g s few w named =
     let from : IsNumber stock k = stock_number stock k w.man w.is.is_man in
     let to : IsNumber stock g = stock_number stock g w.target w.is.is_target in
     bear_fine P (length stock) mask k g s (ray_at stock k n) few from.low (omega (arith, from.high, few)) to.low (omega (arith, to.high, few)) w.is.apart
     (good_ray stock k n w.man w.ray w.is.is_man w.is.ray) named
 
-safe_is_fine : (P : ℕ × List Var → Type 0) (stock : List Man) (mask k n g s : ℕ) → length stock ≤ 8 → IsBearer stock mask k n g → P (s, vars_to own (is_live mask) (length stock)) → IsFine P (safe_of stock mask k n g s)
+safe_is_fine : (P : ℕ × List Var → Type 0) (stock : List Man) (mask k n g s : ℕ) → length stock ≤ 8 → IsBearer stock mask k n g
+    → P (s, vars_to own (is_live mask) (length stock)) → IsFine P (safe_of stock mask k n g s)
 safe_is_fine P stock mask k n g s few w named =
     let from : IsNumber stock k = stock_number stock k w.man w.is.is_man in
     let to : IsNumber stock g = stock_number stock g w.target w.is.is_target in

@@ -1,32 +1,15 @@
 -- A position is told by its stock, the side to move, its mask and its coordinates. Other crates cite stock_placed and stock_unique.
-use Rattle.std.proofs.Common.{◌≡◌, ℕ, suc, Bool, List, [], ◌∷◌, refl, sym, ap, ◌∙◌, arith}
+use Rattle.std.proofs.Common.{◌≡◌, ℕ, Bool, List, sym, ap, ◌∙◌}
 use Rattle.track_word.specs.Tracks.{Values, values_at}
 use Rattle.game_rules.specs.Game.{Position}
 use Rattle.game_rules.specs.declared.men.Man.{Man}
-use Rattle.game_rules.specs.declared.men.Place.{Place}
 use Rattle.game_rules.specs.declared.men.Side.{Side}
-use Rattle.game_rules.specs.declared.men.Square.{Square}
-use Rattle.rule_formula.specs.Fits.{HasStock, mask_of}
-use Rattle.rule_formula.specs.Placed.{is_live, men_from, place_at, placed, tuple_of}
+use Rattle.rule_formula.specs.Fits.{Fits, HasStock, mask_of}
+use Rattle.rule_formula.specs.Placed.{is_live, placed, tuple_of}
 use Rattle.rule_formula.specs.Seats.{squares}
 use Rattle.rule_formula.specs.Trees.{tracks_of}
-use Rattle.rule_formula.proofs.FitLemmas.{AreAlike, alike_of, mask_tells, placed_unique, placed_values, tuple_placed, values_of}
+use Rattle.rule_formula.proofs.FitLemmas.{alike_of, mask_tells, men_alike, placed_unique, placed_values, tuple_placed, values_of}
 use Rattle.rule_formula.proofs.LawTheorem.{self_placed, squares_of}
-
-man_alike : (m n : Man) (x : Place) → n.side ≡ m.side → n.kind ≡ m.kind → record m { place = x } ≡ record n { place = x }
-man_alike m n x side sort =
-    ap (λ s. record { side = s; kind = m.kind; place = x }) (sym side) ∙ ap (λ k. record { side = n.side; kind = k; place = x }) (sym sort)
-
-men_alike : (i : ℕ) (ms ns : List Man) (live : ℕ → Bool) (f : ℕ → Square) → AreAlike ms ns → men_from i ms live f ≡ men_from i ns live f
-men_alike i [] [] live f h = refl
-men_alike i [] (n ∷ ns) live f h = absurd (omega (arith, h.count))
-men_alike i (m ∷ ms) [] live f h = absurd (omega (arith, h.count))
-men_alike i (m ∷ ms) (n ∷ ns) live f h =
-    let first = h.men 0 m n refl refl in
-    let rest : AreAlike ms ns = record { count = omega (arith, h.count); men = λ k a b is at. h.men (suc k) a b is at } in
-    let place : Place = place_at (live i) (f i) in
-    ap (λ a. a ∷ men_from (suc i) ms live f) (man_alike m n place first.0 first.1)
-    ∙ ap (λ xs. record n { place = place } ∷ xs) (men_alike (suc i) ms ns live f rest)
 
 -- a position of the stock is made of the stock, with its men on their squares
 pub stock_placed : (stock : List Man) (q : Position) → HasStock stock q → placed stock (is_live (mask_of q)) q.turn (squares_of q) ≡ q
@@ -47,3 +30,22 @@ stock_unique stock q r stock_q stock_r turn mask tuple =
     let same : values_at (tracks_of stock live) v ≡ values_at (tracks_of stock live) w =
     tuple_placed stock live r.turn v ∙ (ap tuple_of q_is ∙ (tuple ∙ (sym (ap tuple_of r_is) ∙ sym (tuple_placed stock live r.turn w)))) in
     sym q_is ∙ (placed_unique stock live r.turn v w same ∙ r_is)
+
+-- and of the game: a position is that of the stock, with its men on their squares
+pub fits_placed : (p : Position) (side : Side) (q : Position) → Fits p side q → placed p.men (is_live (mask_of q)) side (squares_of q) ≡ q
+fits_placed p side q fits =
+    ap (λ s. placed p.men (is_live (mask_of q)) s (squares_of q)) (sym fits.turn) ∙ stock_placed p.men q fits.stock
+
+-- positions of the game with one mask and one tuple are one
+pub fits_unique : (p : Position) (side : Side) (q r : Position) → Fits p side q → Fits p side r → mask_of q ≡ mask_of r → tuple_of q ≡ tuple_of r → q ≡ r
+fits_unique p side q r fits_q fits_r mask tuple =
+    stock_unique p.men q r fits_q.stock fits_r.stock (fits_q.turn ∙ sym fits_r.turn) mask tuple
+
+-- values of the tuple of a position of the game are those of its squares
+pub fits_values : (p : Position) (side : Side) (q : Position) (v : Values) → Fits p side q
+    → values_at (tracks_of p.men (is_live (mask_of q))) v ≡ tuple_of q → placed p.men (is_live (mask_of q)) side (squares v) ≡ q
+fits_values p side q v fits tuple =
+    let live : ℕ → Bool = is_live (mask_of q) in
+    let w : Values = values_of (squares_of q) in
+    let q_is : placed p.men live side (squares w) ≡ q = placed_values p.men live side (squares_of q) ∙ fits_placed p side q fits in
+    placed_unique p.men live side v w (tuple ∙ sym (ap tuple_of q_is) ∙ sym (tuple_placed p.men live side w)) ∙ q_is

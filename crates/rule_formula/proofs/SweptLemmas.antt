@@ -10,9 +10,10 @@ use Rattle.lin_formula.specs.Tree.{Tree}
 use Rattle.lin_formula.specs.Holds.{Holds, Sets, with_value}
 use Rattle.track_word.specs.Tracks.{Values}
 use Rattle.game_rules.specs.declared.men.Ray.{Ray}
+use Rattle.rule_formula.proofs.FormulaLemmas.{own_apart}
 use Rattle.rule_formula.proofs.RayLemmas.{LiesOn, square_at}
 use Rattle.rule_formula.specs.Placed.{men_from, place_at, placed}
-use Rattle.rule_formula.specs.Seats.{at, own, spare, squares, swept, var}
+use Rattle.rule_formula.specs.Seats.{at, elsewhere, new_seat, own, spare, squares, swept, var}
 use Rattle.rule_formula.specs.Trees.{Suits, ex_swept}
 
 -- the values with another one for x, where the ray sweeps it
@@ -39,26 +40,28 @@ swept_other (negsuc d) v x n y ne = value_other v x n y ne
 
 -- the values with the square in the two variables that are quantified
 abbrev pub swept_values : Ray → Values → Square → Values
-swept_values r v z = swept_value r.dy (swept_value r.dx v (var 16) z.x) (var 17) z.y
+swept_values r v z = swept_value r.dy (swept_value r.dx v elsewhere.x z.x) elsewhere.y z.y
 
 pub other_value : (r : Ray) (v : Values) (z : Square) (y : ℕ) → y < 16 → swept_values r v z y ≡ v y
 other_value r v z y low =
-    swept_other r.dy (swept_value r.dx v (var 16) z.x) (var 17) z.y y (omega arith) ∙ swept_other r.dx v (var 16) z.x y (omega arith)
+    swept_other r.dy (swept_value r.dx v elsewhere.x z.x) elsewhere.y z.y y (omega arith) ∙ swept_other r.dx v elsewhere.x z.x y (omega arith)
 
 -- the men's own variables keep their values
 pub own_kept : (r : Ray) (v : Values) (z : Square) (k : ℕ) → 0 < k → k ≤ 8 → at (swept_values r v z) (own k) ≡ squares v k
 own_kept r v z k low high =
     square_at (at (swept_values r v z) (own k)) (squares v k) (other_value r v z (2 * k - 2) (omega arith)) (other_value r v z (2 * k - 1) (omega arith))
 
-spare_x : (d e : ℤ) (v : Values) (k : ℕ) (z : Square) (x : ℤ) → k < 16 → z.x ≡ x → (d ≡ pos 0 → v k ≡ x) → swept_value e (swept_value d v (var 16) z.x) (var 17) z.y (swept d (var k) (var 16)).0 ≡ x
-spare_x (pos zero) e v k z x low is h = swept_other e v (var 17) z.y k (omega arith) ∙ h refl
-spare_x (pos (suc d)) e v k z x low is h = swept_other e (with_value v (var 16) z.x) (var 17) z.y 16 (omega arith) ∙ value_same v (var 16) z.x 16 refl ∙ is
-spare_x (negsuc d) e v k z x low is h = swept_other e (with_value v (var 16) z.x) (var 17) z.y 16 (omega arith) ∙ value_same v (var 16) z.x 16 refl ∙ is
+spare_x : (d e : ℤ) (v : Values) (k : ℕ) (z : Square) (x : ℤ) → k < 16 → z.x ≡ x → (d ≡ pos 0 → v k ≡ x)
+    → swept_value e (swept_value d v elsewhere.x z.x) elsewhere.y z.y (swept d (var k) elsewhere.x).0 ≡ x
+spare_x (pos zero) e v k z x low is h = swept_other e v elsewhere.y z.y k (omega arith) ∙ h refl
+spare_x (pos (suc d)) e v k z x low is h = swept_other e (with_value v elsewhere.x z.x) elsewhere.y z.y 16 (omega arith) ∙ value_same v elsewhere.x z.x 16 refl ∙ is
+spare_x (negsuc d) e v k z x low is h = swept_other e (with_value v elsewhere.x z.x) elsewhere.y z.y 16 (omega arith) ∙ value_same v elsewhere.x z.x 16 refl ∙ is
 
-spare_y : (d e : ℤ) (v : Values) (k : ℕ) (z : Square) (y : ℤ) → k < 16 → z.y ≡ y → (e ≡ pos 0 → v k ≡ y) → swept_value e (swept_value d v (var 16) z.x) (var 17) z.y (swept e (var k) (var 17)).0 ≡ y
-spare_y d (pos zero) v k z y low is h = swept_other d v (var 16) z.x k (omega arith) ∙ h refl
-spare_y d (pos (suc e)) v k z y low is h = value_same (swept_value d v (var 16) z.x) (var 17) z.y 17 refl ∙ is
-spare_y d (negsuc e) v k z y low is h = value_same (swept_value d v (var 16) z.x) (var 17) z.y 17 refl ∙ is
+spare_y : (d e : ℤ) (v : Values) (k : ℕ) (z : Square) (y : ℤ) → k < 16 → z.y ≡ y → (e ≡ pos 0 → v k ≡ y)
+    → swept_value e (swept_value d v elsewhere.x z.x) elsewhere.y z.y (swept e (var k) elsewhere.y).0 ≡ y
+spare_y d (pos zero) v k z y low is h = swept_other d v elsewhere.x z.x k (omega arith) ∙ h refl
+spare_y d (pos (suc e)) v k z y low is h = value_same (swept_value d v elsewhere.x z.x) elsewhere.y z.y 17 refl ∙ is
+spare_y d (negsuc e) v k z y low is h = value_same (swept_value d v elsewhere.x z.x) elsewhere.y z.y 17 refl ∙ is
 
 -- the spare seat has the square, if that shares with the man's own what the ray leaves alone
 pub spare_is : (r : Ray) (v : Values) (i : ℕ) (z : Square) → 0 < i → i ≤ 8 → (r.dx ≡ pos 0 → (squares v i).x ≡ z.x) → (r.dy ≡ pos 0 → (squares v i).y ≡ z.y) → at (swept_values r v z) (spare r i) ≡ z
@@ -85,6 +88,11 @@ to_spare r i low high =
       along = λ e. swept_differs r.dy (2 * i - 1) 17 (omega arith) e;
     }
 
+-- where man i goes suits his ray
+pub new_suits : (r : Ray) (i t : ℕ) → 0 < i → i ≤ 8 → i ≢ t → Suits r (own i) (new_seat r i t)
+new_suits r i zero low high ne = to_spare r i low high
+new_suits r i (suc t) low high ne = own_apart i (suc t) r low (omega arith) ne
+
 still : (a b d : ℤ) (t : ℕ) → b ≡ a +ℤ (pos t *ℤ d) → d ≡ pos 0 → b ≡ a
 still a b d t h none = let k : b ≡ a +ℤ (pos t *ℤ pos 0) = subst (λ d. b ≡ a +ℤ (pos t *ℤ d)) none h in omega (arith, ints)
 
@@ -99,12 +107,14 @@ place_same true y z h = ap (place_at true) (h refl)
 place_same false y z h = refl
 
 -- positions whose live men stand on the same squares
-pub men_same : (n : ℕ) (stock : List Man) (live : ℕ → Bool) (f g : ℕ → Square) → ((k : ℕ) → n ≤ k → k < n + length stock → live k ≡ true → f k ≡ g k) → men_from n stock live f ≡ men_from n stock live g
+pub men_same : (n : ℕ) (stock : List Man) (live : ℕ → Bool) (f g : ℕ → Square) → ((k : ℕ) → n ≤ k → k < n + length stock → live k ≡ true → f k ≡ g k)
+    → men_from n stock live f ≡ men_from n stock live g
 men_same n [] live f g h = refl
 men_same n (m ∷ ms) live f g h =
     ap (λ a. record m { place = a } ∷ men_from (suc n) ms live f) (place_same (live n) (f n) (g n) (λ on. h n (omega arith) (omega arith) on))
     ∙ ap (λ xs. record m { place = place_at (live n) (g n) } ∷ xs) (men_same (suc n) ms live f g (λ k low high on. h k (omega arith) (omega arith) on))
 
-pub placed_same : (stock : List Man) (live : ℕ → Bool) (turn : Side) (f g : ℕ → Square) → ((k : ℕ) → 0 < k → k ≤ length stock → live k ≡ true → f k ≡ g k) → placed stock live turn f ≡ placed stock live turn g
+pub placed_same : (stock : List Man) (live : ℕ → Bool) (turn : Side) (f g : ℕ → Square)
+    → ((k : ℕ) → 0 < k → k ≤ length stock → live k ≡ true → f k ≡ g k) → placed stock live turn f ≡ placed stock live turn g
 placed_same stock live turn f g h =
     ap (λ xs. record { men = xs; turn = turn }) (men_same 1 stock live f g (λ k low high on. h k (omega arith) (omega arith) on))

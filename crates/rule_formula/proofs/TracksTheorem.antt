@@ -10,18 +10,20 @@ use Rattle.track_word.specs.Atom.{term_vars}
 use Rattle.lin_formula.specs.Tree.{Tree, free_vars}
 use Rattle.lin_formula.specs.Tree as tree
 use Rattle.lin_formula.specs.Free.{IsFree, IsOneOf}
-use Rattle.lin_formula.proofs.FreeVars.{free_vars-free, if_cases, var_is}
+use Rattle.lin_formula.proofs.FreeVars.{free_vars-free, if_cases, same-var}
 use Rattle.game_rules.specs.declared.men.Man.{Man}
 use Rattle.game_rules.specs.declared.men.Ray.{Ray}
 use Rattle.game_rules.specs.declared.men.Side.{Side}
 use Rattle.rule_formula.specs.declared.opt.Opt.{Opt}
+use Rattle.rule_formula.specs.declared.atoms.Extent.{Extent}
+use Rattle.rule_formula.specs.declared.atoms.Extent.TheVariants.{Onto, Before}
 use Rattle.rule_formula.specs.declared.seats.Seat.{Seat}
 use Rattle.rule_formula.specs.Placed.{is_live, without}
-use Rattle.rule_formula.specs.Seats.{new_seat, new_seats, old_seats, own, seats_with, spare, swept, var, vars_to}
-use Rattle.rule_formula.specs.Trees.{ahead, and_all, atoms_as, bear_of, bear_tree, clear, clear_as, difference, ex_swept, image_body, image_of, image_tree, is_other, line, line_atoms, on, on_as, ordered, pre_body, pre_of, pre_tree, ray_at, ray_atoms, safe_of, tracks_of, unless_same, twins_tree}
+use Rattle.rule_formula.specs.Seats.{elsewhere, new_seat, new_seats, old_seats, own, seats_with, spare, swept, var, vars_to}
+use Rattle.rule_formula.specs.Trees.{ahead, and_all, atoms_as, bear_of, bear_tree, clear, clear_as, difference, ex_swept, image_body, image_of, image_tree, is_other, line, line_atoms, on, on_as, ordered, past, pre_body, pre_of, pre_tree, ray_at, ray_atoms, safe_of, tracks_of, unless_same, twins_tree}
 use Rattle.rule_formula.specs.Meaning.{IsBearer, IsOptionOf, IsPrey}
 use Rattle.rule_formula.proofs.BearLemmas.{IsNumber, stock_number}
-use Rattle.rule_formula.proofs.MoveLemmas.{option_untaken, same_number}
+use Rattle.rule_formula.proofs.MoveLemmas.{kept_live, option_untaken, same_number, was_live}
 
 -- they ascend from n on
 abbrev Rises : ℕ → List Var → Type 0
@@ -112,7 +114,7 @@ same_list m n [] [] h k there back = refl
 same_list m n [] (y ∷ ys) h k there back = absurd (back y (inl refl))
 same_list m n (x ∷ xs) [] h k there back = absurd (there x (inl refl))
 same_list m n (x ∷ xs) (y ∷ ys) h k there back =
-    let e : x ≡ y = var_is x y (first_same m n x y xs ys h k (there x (inl refl)) (back y (inl refl))) in
+    let e : x ≡ y = same-var x y (first_same m n x y xs ys h k (there x (inl refl)) (back y (inl refl))) in
     let rises : Rises (suc x.0) ys = subst (λ (v : Var). Rises (suc v.0) ys) (sym e) k.1 in
     ap (λ v. v ∷ xs) e
     ∙ ap (λ l. y ∷ l) (same_list (suc x.0) (suc x.0) xs ys h.1 rises
@@ -197,20 +199,20 @@ ordered_in : (T : Var → Type 0) (d : ℤ) (x y : Var) (n : ℤ) → T x → T 
 ordered_in T (pos d) x y n first second = difference_in T x y Le n first second
 ordered_in T (negsuc d) x y n first second = difference_in T y x Le n second first
 
-ahead_in : (T : Var → Type 0) (dx dy : ℤ) (a b : Seat) (n : ℤ) → SeatIn T a → SeatIn T b → FreeIn T (ahead dx dy a b n)
-ahead_in T (pos zero) dy a b n f t = ordered_in T dy a.y b.y n f.along t.along
-ahead_in T (pos (suc dx)) dy a b n f t = ordered_in T (pos (suc dx)) a.x b.x n f.across t.across
-ahead_in T (negsuc dx) dy a b n f t = ordered_in T (negsuc dx) a.x b.x n f.across t.across
+ahead_in : (T : Var → Type 0) (dx dy : ℤ) (a b : Seat) (extent : Extent) → SeatIn T a → SeatIn T b → FreeIn T (ahead dx dy a b extent)
+ahead_in T (pos zero) dy a b extent f t = ordered_in T dy a.y b.y (past extent) f.along t.along
+ahead_in T (pos (suc dx)) dy a b extent f t = ordered_in T (pos (suc dx)) a.x b.x (past extent) f.across t.across
+ahead_in T (negsuc dx) dy a b extent f t = ordered_in T (negsuc dx) a.x b.x (past extent) f.across t.across
 
 and_in : (T : Var → Type 0) (f g : Tree) → FreeIn T f → FreeIn T g → FreeIn T (tree.And f g)
 and_in T f g h k z (inl w) = h z w
 and_in T f g h k z (inr w) = k z w
 
-on_in : (T : Var → Type 0) (b : Bool) (dx dy : ℤ) (a c m : Seat) (n : ℤ) → SeatIn T a → SeatIn T c → SeatIn T m → FreeIn T (on_as b dx dy a c m n)
-on_in T true dx dy a c m n f t w =
-    and_in T (tree.And (line dx dy a m) (ahead dx dy a m (negsuc 0))) (ahead dx dy m c n)
-    (and_in T (line dx dy a m) (ahead dx dy a m (negsuc 0)) (line_in T dx dy a m f w) (ahead_in T dx dy a m (negsuc 0) f w)) (ahead_in T dx dy m c n w t)
-on_in T false dx dy a c m n f t w =
+on_in : (T : Var → Type 0) (b : Bool) (dx dy : ℤ) (a c m : Seat) (extent : Extent) → SeatIn T a → SeatIn T c → SeatIn T m → FreeIn T (on_as b dx dy a c m extent)
+on_in T true dx dy a c m extent f t w =
+    and_in T (tree.And (line dx dy a m) (ahead dx dy a m Before)) (ahead dx dy m c extent)
+    (and_in T (line dx dy a m) (ahead dx dy a m Before) (line_in T dx dy a m f w) (ahead_in T dx dy a m Before f w)) (ahead_in T dx dy m c extent w t)
+on_in T false dx dy a c m extent f t w =
     and_in T (difference m.x c.x Eq (pos 0)) (difference m.y c.y Eq (pos 0)) (difference_in T m.x c.x Eq (pos 0) w.across t.across) (difference_in T m.y c.y Eq (pos 0) w.along t.along)
 
 abbrev AllIn : (Var → Type 0) → List Tree → Type 0
@@ -239,7 +241,7 @@ line_atoms_in T (negsuc dx) (pos (suc dy)) a b f t = (line_in T (negsuc dx) (pos
 line_atoms_in T (negsuc dx) (negsuc dy) a b f t = (line_in T (negsuc dx) (negsuc dy) a b f t, tt)
 
 atoms_in : (T : Var → Type 0) (far : Bool) (dx dy : ℤ) (a b : Seat) → SeatIn T a → SeatIn T b → AllIn T (atoms_as far dx dy a b)
-atoms_in T true dx dy a b f t = all_in-append T (line_atoms dx dy a b) (ahead dx dy a b (negsuc 0) ∷ []) (line_atoms_in T dx dy a b f t) (ahead_in T dx dy a b (negsuc 0) f t, tt)
+atoms_in T true dx dy a b f t = all_in-append T (line_atoms dx dy a b) (ahead dx dy a b Before ∷ []) (line_atoms_in T dx dy a b f t) (ahead_in T dx dy a b Before f t, tt)
 atoms_in T false dx dy a b f t =
     all_in-append T (unless_same b.x a.x (difference b.x a.x Eq dx)) (unless_same b.y a.y (difference b.y a.y Eq dy))
     (unless_in T (b.x.0 == a.x.0) (difference b.x a.x Eq dx) (difference_in T b.x a.x Eq dx t.across f.across))
@@ -253,13 +255,15 @@ live_other : (b : Bool) (i j k : ℕ) → (b && (not (k == i) && not (k == j))) 
 live_other true i j k e = (refl, grind (arith, nat_tests))
 live_other false i j k e = absurd (cc)
 
-clear_in : (T : Var → Type 0) (f : Tree) (hit : ℕ → Tree) (live : ℕ → Bool) (i j n : ℕ) → FreeIn T f → ((k : ℕ) → 0 < k → k ≤ n → live k ≡ true → k ≢ j → FreeIn T (hit k)) → FreeIn T (clear f hit live i j n)
+clear_in : (T : Var → Type 0) (f : Tree) (hit : ℕ → Tree) (live : ℕ → Bool) (i j n : ℕ) → FreeIn T f
+    → ((k : ℕ) → 0 < k → k ≤ n → live k ≡ true → k ≢ j → FreeIn T (hit k)) → FreeIn T (clear f hit live i j n)
 clear_in T f hit live i j zero h each = h
 clear_in T f hit live i j (suc n) h each =
     if_in T (is_other live i j (suc n)) (clear f hit live i j n) (hit (suc n)) (clear_in T f hit live i j n h (λ k low high. each k low (omega (arith, high))))
     (λ e. let w = live_other (live (suc n)) i j (suc n) e in each (suc n) (omega arith) (omega arith) w.0 w.1)
 
-clear_as_in : (T : Var → Type 0) (b : Bool) (f : Tree) (hit : ℕ → Tree) (live : ℕ → Bool) (i j n : ℕ) → FreeIn T f → ((k : ℕ) → 0 < k → k ≤ n → live k ≡ true → k ≢ j → FreeIn T (hit k)) → FreeIn T (clear_as b f hit live i j n)
+clear_as_in : (T : Var → Type 0) (b : Bool) (f : Tree) (hit : ℕ → Tree) (live : ℕ → Bool) (i j n : ℕ) → FreeIn T f
+    → ((k : ℕ) → 0 < k → k ≤ n → live k ≡ true → k ≢ j → FreeIn T (hit k)) → FreeIn T (clear_as b f hit live i j n)
 clear_as_in T true f hit live i j n h each = clear_in T f hit live i j n h each
 clear_as_in T false f hit live i j n h each = h
 
@@ -276,13 +280,13 @@ swept_seat T (negsuc d) x y h = inr (refl, λ e. omega (arith, ints, e))
 
 -- a seat of the live men, or what is swept
 abbrev InBody : (Var → Type 0) → Ray → Var → Type 0
-InBody T r z = (T z ⊎ ((z ≡ var 16) × (r.dx ≢ pos 0))) ⊎ ((z ≡ var 17) × (r.dy ≢ pos 0))
+InBody T r z = (T z ⊎ ((z ≡ elsewhere.x) × (r.dx ≢ pos 0))) ⊎ ((z ≡ elsewhere.y) × (r.dy ≢ pos 0))
 
 spare_in : (T : Var → Type 0) (r : Ray) (i : ℕ) → SeatIn T (own i) → SeatIn (InBody T r) (spare r i)
 spare_in T r i h =
     record {
-      across = elim (swept_seat T r.dx (own i).x (var 16) h.across) [ inl is ↦ inl (inl is) | inr k ↦ inl (inr k) ];
-      along = elim (swept_seat T r.dy (own i).y (var 17) h.along) [ inl is ↦ inl (inl is) | inr k ↦ inr k ];
+      across = elim (swept_seat T r.dx (own i).x elsewhere.x h.across) [ inl is ↦ inl (inl is) | inr k ↦ inl (inr k) ];
+      along = elim (swept_seat T r.dy (own i).y elsewhere.y h.along) [ inl is ↦ inl (inl is) | inr k ↦ inr k ];
     }
 
 seat_body : (T : Var → Type 0) (r : Ray) (s : Seat) → SeatIn T s → SeatIn (InBody T r) s
@@ -309,22 +313,17 @@ seats_in T i j k a b first second third = cases (k == i) (k == j) (λ e. differs
     cases false true one two = second
     cases false false one two = third (one refl) (two refl)
 
-path_in : (U : Var → Type 0) (f : Tree) (r : Ray) (a b : Seat) (bound : ℤ) (live : ℕ → Bool) (i j n : ℕ) → FreeIn U f → SeatIn U a → SeatIn U b → ((k : ℕ) → 0 < k → k ≤ n → live k ≡ true → k ≢ j → SeatIn U (own k)) → FreeIn U (clear (and_all f (ray_atoms r a b)) (λ k. on r a b bound (own k)) live i j n)
-path_in U f r a b bound live i j n h from to each =
-    clear_in U (and_all f (ray_atoms r a b)) (λ k. on r a b bound (own k)) live i j n (and_all_in U f (ray_atoms r a b) h (atoms_in U r.far r.dx r.dy a b from to))
-    (λ k low high alive other. on_in U r.far r.dx r.dy a b (own k) bound from to (each k low high alive other))
+path_in : (U : Var → Type 0) (f : Tree) (r : Ray) (a b : Seat) (extent : Extent) (live : ℕ → Bool) (i j n : ℕ) → FreeIn U f → SeatIn U a → SeatIn U b
+    → ((k : ℕ) → 0 < k → k ≤ n → live k ≡ true → k ≢ j → SeatIn U (own k))
+    → FreeIn U (clear (and_all f (ray_atoms r a b)) (λ k. on r a b extent (own k)) live i j n)
+path_in U f r a b extent live i j n h from to each =
+    clear_in U (and_all f (ray_atoms r a b)) (λ k. on r a b extent (own k)) live i j n (and_all_in U f (ray_atoms r a b) h (atoms_in U r.far r.dx r.dy a b from to))
+    (λ k low high alive other. on_in U r.far r.dx r.dy a b (own k) extent from to (each k low high alive other))
 
-was_live : (b : Bool) (k t : ℕ) → (b && not (k == t)) ≡ true → (b ≡ true) × (k ≢ t)
-was_live true k t e = (refl, grind (arith, nat_tests))
-was_live false k t e = absurd (cc)
-
-is_kept : (b : Bool) (k t : ℕ) → b ≡ true → k ≢ t → (b && not (k == t)) ≡ true
-is_kept true k t e ne = grind (arith, nat_tests)
-is_kept false k t e ne = absurd (cc)
-
-pre_body_in : (U : Var → Type 0) (n mask i t s q : ℕ) (r : Ray) → SeatIn U (own i) → SeatIn U (new_seat r i t) → ((k : ℕ) → 0 < k → k ≤ n → is_live mask k ≡ true → SeatIn U (own k)) → FreeIn U (pre_body n mask i r t s q)
+pre_body_in : (U : Var → Type 0) (n mask i t s q : ℕ) (r : Ray) → SeatIn U (own i) → SeatIn U (new_seat r i t)
+    → ((k : ℕ) → 0 < k → k ≤ n → is_live mask k ≡ true → SeatIn U (own k)) → FreeIn U (pre_body n mask i r t s q)
 pre_body_in U n mask i t s q r from to each =
-    path_in U (tree.And (tree.Among s (vars_to own (is_live mask) n)) (tree.Among q (vars_to (new_seats r i t) (without (is_live mask) t) n))) r (own i) (new_seat r i t) (pos 0) (is_live mask) i t n
+    path_in U (tree.And (tree.Among s (vars_to own (is_live mask) n)) (tree.Among q (vars_to (new_seats r i t) (without (is_live mask) t) n))) r (own i) (new_seat r i t) Onto (is_live mask) i t n
     (and_in U (tree.Among s (vars_to own (is_live mask) n)) (tree.Among q (vars_to (new_seats r i t) (without (is_live mask) t) n))
     (among_in U s own (is_live mask) n each)
     (among_in U q (new_seats r i t) (without (is_live mask) t) n
@@ -335,8 +334,8 @@ pre_tree_in : (n mask i t s q : ℕ) (r : Ray) → 0 < i → i ≤ n → is_live
 pre_tree_in n mask i zero s q r low high on prey =
     let T = IsSeated own (is_live mask) n in
     let mover : SeatIn T (own i) = own_seat_in (is_live mask) n i low high on in
-    swept_in T r.dx (var 16) (ex_swept r.dy (var 17) (pre_body n mask i r 0 s q))
-    (swept_in (λ z. T z ⊎ ((z ≡ var 16) × (r.dx ≢ pos 0))) r.dy (var 17) (pre_body n mask i r 0 s q)
+    swept_in T r.dx elsewhere.x (ex_swept r.dy elsewhere.y (pre_body n mask i r 0 s q))
+    (swept_in (λ z. T z ⊎ ((z ≡ elsewhere.x) × (r.dx ≢ pos 0))) r.dy elsewhere.y (pre_body n mask i r 0 s q)
     (pre_body_in (InBody T r) n mask i 0 s q r (seat_body T r (own i) mover) (spare_in T r i mover) (λ k first last alive. seat_body T r (own k) (own_seat_in (is_live mask) n k first last alive))))
 pre_tree_in n mask i (suc t) s q r low high on prey =
     let w = prey (omega arith) in
@@ -348,9 +347,10 @@ bear_tree_in n mask k g s r low high alive_k first last target =
     let T = IsSeated own (is_live mask) n in
     let from : SeatIn T (own k) = own_seat_in (is_live mask) n k low high alive_k in
     let to : SeatIn T (own g) = own_seat_in (is_live mask) n g first last target in
-    clear_as_in T r.far (and_all (tree.Among s (vars_to own (is_live mask) n)) (ray_atoms r (own k) (own g))) (λ l. on r (own k) (own g) (negsuc 0) (own l)) (is_live mask) k g n
-    (and_all_in T (tree.Among s (vars_to own (is_live mask) n)) (ray_atoms r (own k) (own g)) (among_in T s own (is_live mask) n (λ l begin end alive. own_seat_in (is_live mask) n l begin end alive)) (atoms_in T r.far r.dx r.dy (own k) (own g) from to))
-    (λ l begin end alive other. on_in T r.far r.dx r.dy (own k) (own g) (own l) (negsuc 0) from to (own_seat_in (is_live mask) n l begin end alive))
+    clear_as_in T r.far (and_all (tree.Among s (vars_to own (is_live mask) n)) (ray_atoms r (own k) (own g))) (λ l. on r (own k) (own g) Before (own l)) (is_live mask) k g n
+    (and_all_in T (tree.Among s (vars_to own (is_live mask) n)) (ray_atoms r (own k) (own g))
+    (among_in T s own (is_live mask) n (own_seat_in (is_live mask) n)) (atoms_in T r.far r.dx r.dy (own k) (own g) from to))
+    (λ l begin end alive other. on_in T r.far r.dx r.dy (own k) (own g) (own l) Before from to (own_seat_in (is_live mask) n l begin end alive))
 
 -- a variable that is free in the first stays free
 if_free : (b : Bool) (f g : Tree) (z : Var) → IsFree z f → IsFree z (if b then tree.And f g else f)
@@ -392,18 +392,20 @@ seated_in live n z w = seat_in own live n z w.number w.low w.high w.on w.is
 pre_free : (n mask i t s q : ℕ) (r : Ray) (z : Var) → n ≤ 8 → IsSeated own (is_live mask) n z → IsFree z (pre_tree n mask i r t s q)
 pre_free n mask i t s q r z few w =
     let low : z.0 < 16 = own_low (is_live mask) n z few w in
-    let body : IsFree z (pre_body n mask i r t s q) = clear_free (and_all (tree.And (tree.Among s (vars_to own (is_live mask) n)) (tree.Among q (vars_to (new_seats r i t) (without (is_live mask) t) n))) (ray_atoms r (own i) (new_seat r i t))) (λ k. on r (own i) (new_seat r i t) (pos 0) (own k)) (is_live mask) i t n z
-    (and_all_free (tree.And (tree.Among s (vars_to own (is_live mask) n)) (tree.Among q (vars_to (new_seats r i t) (without (is_live mask) t) n))) (ray_atoms r (own i) (new_seat r i t)) z (inl (seated_in (is_live mask) n z w)))
+    let both = tree.And (tree.Among s (vars_to own (is_live mask) n)) (tree.Among q (vars_to (new_seats r i t) (without (is_live mask) t) n)) in
+    let body : IsFree z (pre_body n mask i r t s q) = clear_free (and_all both (ray_atoms r (own i) (new_seat r i t))) (λ k. on r (own i) (new_seat r i t) Onto (own k)) (is_live mask) i t n z
+    (and_all_free both (ray_atoms r (own i) (new_seat r i t)) z (inl (seated_in (is_live mask) n z w)))
     in
     whole t body low
   where
     whole : (t : ℕ) → IsFree z (pre_body n mask i r t s q) → z.0 < 16 → IsFree z (pre_tree n mask i r t s q)
-    whole zero body low = swept_free r.dx (var 16) (ex_swept r.dy (var 17) (pre_body n mask i r 0 s q)) z (not_var z 16 low) (swept_free r.dy (var 17) (pre_body n mask i r 0 s q) z (not_var z 17 (omega (arith, low))) body)
+    whole zero body low = swept_free r.dx elsewhere.x (ex_swept r.dy elsewhere.y (pre_body n mask i r 0 s q)) z (not_var z 16 low)
+        (swept_free r.dy elsewhere.y (pre_body n mask i r 0 s q) z (not_var z 17 (omega (arith, low))) body)
     whole (suc t) body low = body
 
 bear_free : (n mask k g s : ℕ) (r : Ray) (z : Var) → IsSeated own (is_live mask) n z → IsFree z (bear_tree n mask k r g s)
 bear_free n mask k g s r z w =
-    clear_as_free r.far (and_all (tree.Among s (vars_to own (is_live mask) n)) (ray_atoms r (own k) (own g))) (λ l. on r (own k) (own g) (negsuc 0) (own l)) (is_live mask) k g n z
+    clear_as_free r.far (and_all (tree.Among s (vars_to own (is_live mask) n)) (ray_atoms r (own k) (own g))) (λ l. on r (own k) (own g) Before (own l)) (is_live mask) k g n z
     (and_all_free (tree.Among s (vars_to own (is_live mask) n)) (ray_atoms r (own k) (own g)) z (seated_in (is_live mask) n z w))
 
 -- the free variables are the tracks, where those and no others are free
@@ -424,7 +426,7 @@ twins_tracks n mask a b s low_a high_a on_a low_b high_b on_b =
     let along = difference (own a).y (own b).y Eq (pos 0) in
     tracks_are (is_live mask) n (twins_tree n mask a b s)
     (and_in T (tree.And among across) along
-    (and_in T among across (among_in T s own (is_live mask) n (λ k low high on. own_seat_in (is_live mask) n k low high on)) (difference_in T (own a).x (own b).x Eq (pos 0) first.across second.across))
+    (and_in T among across (among_in T s own (is_live mask) n (own_seat_in (is_live mask) n)) (difference_in T (own a).x (own b).x Eq (pos 0) first.across second.across))
     (difference_in T (own a).y (own b).y Eq (pos 0) first.along second.along))
     (λ z w. inl (inl (seated_in (is_live mask) n z w)))
 
@@ -505,15 +507,15 @@ unless_any x y f z ne h = cases (x.0 == y.0) (λ e. same x.0 y.0 e)
 -- where the ray moves, the end's variable is free in its atoms
 across_free : (far : Bool) (dx dy : ℤ) (a b : Seat) → dx ≢ pos 0 → b.x.0 ≢ a.x.0 → AnyFree b.x (atoms_as far dx dy a b)
 across_free true (pos zero) dy a b moves ne = absurd (moves refl)
-across_free true (pos (suc dx)) dy a b moves ne = any_right b.x (line_atoms (pos (suc dx)) dy a b) (ahead (pos (suc dx)) dy a b (negsuc 0) ∷ []) (inl (inr (inl refl)))
-across_free true (negsuc dx) dy a b moves ne = any_right b.x (line_atoms (negsuc dx) dy a b) (ahead (negsuc dx) dy a b (negsuc 0) ∷ []) (inl (inl refl))
+across_free true (pos (suc dx)) dy a b moves ne = any_right b.x (line_atoms (pos (suc dx)) dy a b) (ahead (pos (suc dx)) dy a b Before ∷ []) (inl (inr (inl refl)))
+across_free true (negsuc dx) dy a b moves ne = any_right b.x (line_atoms (negsuc dx) dy a b) (ahead (negsuc dx) dy a b Before ∷ []) (inl (inl refl))
 across_free false dx dy a b moves ne =
     any_left b.x (unless_same b.x a.x (difference b.x a.x Eq dx)) (unless_same b.y a.y (difference b.y a.y Eq dy)) (unless_any b.x a.x (difference b.x a.x Eq dx) b.x ne (inl refl))
 
 along_free : (far : Bool) (dx dy : ℤ) (a b : Seat) → dy ≢ pos 0 → b.y.0 ≢ a.y.0 → AnyFree b.y (atoms_as far dx dy a b)
 along_free true dx (pos zero) a b moves ne = absurd (moves refl)
-along_free true (pos zero) (pos (suc dy)) a b moves ne = any_right b.y (line_atoms (pos zero) (pos (suc dy)) a b) (ahead (pos zero) (pos (suc dy)) a b (negsuc 0) ∷ []) (inl (inr (inl refl)))
-along_free true (pos zero) (negsuc dy) a b moves ne = any_right b.y (line_atoms (pos zero) (negsuc dy) a b) (ahead (pos zero) (negsuc dy) a b (negsuc 0) ∷ []) (inl (inl refl))
+along_free true (pos zero) (pos (suc dy)) a b moves ne = any_right b.y (line_atoms (pos zero) (pos (suc dy)) a b) (ahead (pos zero) (pos (suc dy)) a b Before ∷ []) (inl (inr (inl refl)))
+along_free true (pos zero) (negsuc dy) a b moves ne = any_right b.y (line_atoms (pos zero) (negsuc dy) a b) (ahead (pos zero) (negsuc dy) a b Before ∷ []) (inl (inl refl))
 along_free true (pos (suc dx)) (pos (suc dy)) a b moves ne = inl (inr (inr (inl refl)))
 along_free true (pos (suc dx)) (negsuc dy) a b moves ne = inl (inr (inr (inl refl)))
 along_free true (negsuc dx) (pos (suc dy)) a b moves ne = inl (inr (inr (inl refl)))
@@ -538,27 +540,27 @@ image_body_in n mask i t s r low high on ne =
     let T = IsSeated own (without (is_live mask) t) n in
     let U = InBody T r in
     let each : (k : ℕ) → 0 < k → k ≤ n → is_live mask k ≡ true → k ≢ t → SeatIn U (own k) = λ k first last alive untaken.
-    seat_body T r (own k) (own_seat_in (without (is_live mask) t) n k first last (is_kept (is_live mask k) k t alive untaken))
+    seat_body T r (own k) (own_seat_in (without (is_live mask) t) n k first last (kept_live (is_live mask k) k t alive untaken))
     in
-    let mover : SeatIn T (own i) = own_seat_in (without (is_live mask) t) n i low high (is_kept (is_live mask i) i t on ne) in
+    let mover : SeatIn T (own i) = own_seat_in (without (is_live mask) t) n i low high (kept_live (is_live mask i) i t on ne) in
     let from : SeatIn U (spare r i) = spare_in T r i mover in
     let to : SeatIn U (own i) = seat_body T r (own i) mover in
-    path_in U (tree.Among s (vars_to (old_seats r i t) (is_live mask) n)) r (spare r i) (own i) (pos 0) (is_live mask) i t n
+    path_in U (tree.Among s (vars_to (old_seats r i t) (is_live mask) n)) r (spare r i) (own i) Onto (is_live mask) i t n
     (among_in U s (old_seats r i t) (is_live mask) n (λ k first last alive. seats_in U i t k (spare r i) (own i) from to (λ other untaken. each k first last alive untaken)))
     from to each
 
 image_tree_in : (n mask i t s : ℕ) (r : Ray) → 0 < i → i ≤ n → is_live mask i ≡ true → i ≢ t → FreeIn (IsSeated own (without (is_live mask) t) n) (image_tree n mask i r t s)
 image_tree_in n mask i t s r low high on ne =
     let T = IsSeated own (without (is_live mask) t) n in
-    swept_in T r.dx (var 16) (ex_swept r.dy (var 17) (image_body n mask i r t s))
-    (swept_in (λ z. T z ⊎ ((z ≡ var 16) × (r.dx ≢ pos 0))) r.dy (var 17) (image_body n mask i r t s) (image_body_in n mask i t s r low high on ne))
+    swept_in T r.dx elsewhere.x (ex_swept r.dy elsewhere.y (image_body n mask i r t s))
+    (swept_in (λ z. T z ⊎ ((z ≡ elsewhere.x) × (r.dx ≢ pos 0))) r.dy elsewhere.y (image_body n mask i r t s) (image_body_in n mask i t s r low high on ne))
 
 image_body_free : (n mask i t s : ℕ) (r : Ray) (z : Var) → n ≤ 8 → 0 < i → i ≤ n → is_live mask i ≡ true → IsSeated own (without (is_live mask) t) n z → IsFree z (image_body n mask i r t s)
 image_body_free n mask i t s r z few low high alive_i w =
     let among : Tree = tree.Among s (vars_to (old_seats r i t) (is_live mask) n) in
     let atoms : List Tree = ray_atoms r (spare r i) (own i) in
     let alive = was_live (is_live mask w.number) w.number t w.on in
-    let chained : IsFree z (and_all among atoms) → IsFree z (image_body n mask i r t s) = clear_free (and_all among atoms) (λ k. on r (spare r i) (own i) (pos 0) (own k)) (is_live mask) i t n z in
+    let chained : IsFree z (and_all among atoms) → IsFree z (image_body n mask i r t s) = clear_free (and_all among atoms) (λ k. on r (spare r i) (own i) Onto (own k)) (is_live mask) i t n z in
     let there : (k : ℕ) → 0 < k → k ≤ n → is_live mask k ≡ true → IsOf (old_seats r i t k) z → IsFree z (image_body n mask i r t s) = λ k first last live is.
     chained (and_all_free among atoms z (seat_in (old_seats r i t) (is_live mask) n z k first last live is))
     in
@@ -567,13 +569,13 @@ image_body_free n mask i t s r z few low high alive_i w =
       | inl e ↦
           let mine : IsOf (own i) z = subst (λ k. IsOf (own k) z) e w.is in
           elim mine [
-            | inl across ↦ elim (swept_or r.dx (own i).x (var 16)) [
+            | inl across ↦ elim (swept_or r.dx (own i).x elsewhere.x) [
               | inl kept ↦ there i low high alive_i (subst (λ a. IsOf a z) (sym (with_first i t (spare r i) (own i))) (inl (across ∙ sym kept)))
               | inr moved ↦
                   let past : (own i).x.0 ≢ (spare r i).x.0 = λ same. let far : (spare r i).x.0 ≡ 16 = ap (λ (v : Var). v.0) moved.1 in omega (arith, same, far, few, high) in
                   chained (and_all_any among atoms z (subst (λ v. AnyFree v atoms) (sym across) (across_free r.far r.dx r.dy (spare r i) (own i) moved.0 past)))
             ]
-            | inr along ↦ elim (swept_or r.dy (own i).y (var 17)) [
+            | inr along ↦ elim (swept_or r.dy (own i).y elsewhere.y) [
               | inl kept ↦ there i low high alive_i (subst (λ a. IsOf a z) (sym (with_first i t (spare r i) (own i))) (inr (along ∙ sym kept)))
               | inr moved ↦
                   let past : (own i).y.0 ≢ (spare r i).y.0 = λ same. let far : (spare r i).y.0 ≡ 17 = ap (λ (v : Var). v.0) moved.1 in omega (arith, same, far, few, high) in
@@ -585,8 +587,8 @@ image_body_free n mask i t s r z few low high alive_i w =
 image_free : (n mask i t s : ℕ) (r : Ray) (z : Var) → n ≤ 8 → 0 < i → i ≤ n → is_live mask i ≡ true → IsSeated own (without (is_live mask) t) n z → IsFree z (image_tree n mask i r t s)
 image_free n mask i t s r z few low high on w =
     let small : z.0 < 16 = own_low (without (is_live mask) t) n z few w in
-    swept_free r.dx (var 16) (ex_swept r.dy (var 17) (image_body n mask i r t s)) z (not_var z 16 small)
-    (swept_free r.dy (var 17) (image_body n mask i r t s) z (not_var z 17 (omega (arith, small))) (image_body_free n mask i t s r z few low high on w))
+    swept_free r.dx elsewhere.x (ex_swept r.dy elsewhere.y (image_body n mask i r t s)) z (not_var z 16 small)
+    (swept_free r.dy elsewhere.y (image_body n mask i r t s) z (not_var z 17 (omega (arith, small))) (image_body_free n mask i t s r z few low high on w))
 
 pub image_tracks : (stock : List Man) (mask : ℕ) (o : Opt) (s : ℕ) → length stock ≤ 8 → IsOptionOf stock mask o → free_vars (image_of stock mask o s) ≡ tracks_of stock (without (is_live mask) o.taken)
 image_tracks stock mask o s few w =

@@ -9,6 +9,7 @@ use Rattle.track_word.specs.declared.atoms.Rel.TheVariants.{Eq}
 use Rattle.game_rules.specs.declared.men.Man.{Man}
 use Rattle.game_rules.specs.declared.men.Square.{Square}
 use Rattle.game_rules.specs.Game.{StandsOn}
+use Rattle.game_laws.proofs.LineLemmas.{square_is}
 use Rattle.lin_formula.specs.Tree.{Tree}
 use Rattle.lin_formula.specs.Tree as tree
 use Rattle.lin_formula.specs.Holds.{Holds, Sets}
@@ -18,7 +19,7 @@ use Rattle.rule_formula.specs.Trees.{difference, twins_tree}
 use Rattle.rule_formula.specs.Meaning.{TwinsHolds}
 use Rattle.rule_formula.proofs.BearLemmas.{man_placed, stands_at, stock_has}
 use Rattle.rule_formula.proofs.FormulaLemmas.{among_holds}
-use Rattle.rule_formula.proofs.MoveLemmas.{same_man, square_is}
+use Rattle.rule_formula.proofs.MoveLemmas.{same_man}
 use Rattle.rule_formula.proofs.PlacedLemmas.{placed_man, stands_placed}
 
 same_square_from : (a b : Square) → (pos 1 *ℤ a.x) +ℤ ((negsuc 0 *ℤ b.x) +ℤ pos 0) ≡ pos 0 → (pos 1 *ℤ a.y) +ℤ ((negsuc 0 *ℤ b.y) +ℤ pos 0) ≡ pos 0 → a ≡ b
@@ -54,10 +55,6 @@ vars_past mask n (suc m) k small e =
 pub eight_vars : (mask n : ℕ) → n ≤ 8 → mask < 2 ^ n → vars_to own (is_live mask) 8 ≡ vars_to own (is_live mask) n
 eight_vars mask n few small = vars_past mask n (8 - n) 8 small (omega (arith, few))
 
-stock_some : (stock : List Man) (k : ℕ) → 0 < k → k ≤ length stock → (m : Man) × (stock_man stock k ≡ Some m)
-stock_some [] k low high = absurd (omega (arith, low, high))
-stock_some (d ∷ ms) k low high = stock_has (d ∷ ms) k low high d
-
 -- man k of the stock is live
 record IsLiveMan (stock : List Man) (mask k : ℕ) : Type 0 where
   man : Man
@@ -67,14 +64,16 @@ record IsLiveMan (stock : List Man) (mask k : ℕ) : Type 0 where
 live_man : (stock : List Man) (mask k : ℕ) → mask < 2 ^ length stock → IsLiveIn mask k → IsLiveMan stock mask k
 live_man stock mask k small h =
     let low : 0 < k = omega (arith, h.low) in
-    let (m, is) = stock_some stock k low (not_past mask (length stock) k small h.live) in
+    let (m, is) = stock_has stock k low (not_past mask (length stock) k small h.live) in
     record { man = m; is_man = is; live = h.live }
 
 pub twins_means : (mask a b : ℕ) (s : ℕ) (t : Tree) → IsLiveIn mask a → IsLiveIn mask b → t ≡ twins_tree 8 mask a b s → (e : Sets) → TwinsHolds e mask a b s t
 twins_means mask a b s t first_in second_in told e stock turn v few small =
     let first : IsLiveMan stock mask a = live_man stock mask a small first_in in
     let second : IsLiveMan stock mask b = live_man stock mask b small second_in in
-    let tree : t ≡ twins_tree (length stock) mask a b s = told ∙ ap (λ xs. tree.And (tree.And (tree.Among s xs) (difference (own a).x (own b).x Eq (pos 0))) (difference (own a).y (own b).y Eq (pos 0))) (eight_vars mask (length stock) few small) in
+    let tree : t ≡ twins_tree (length stock) mask a b s =
+    told
+    ∙ ap (λ xs. tree.And (tree.And (tree.Among s xs) (difference (own a).x (own b).x Eq (pos 0))) (difference (own a).y (own b).y Eq (pos 0))) (eight_vars mask (length stock) few small) in
     let f : ℕ → Square = squares v in
     let among = among_holds stock (is_live mask) turn own s e v in (
       λ h.

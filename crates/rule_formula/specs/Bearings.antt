@@ -30,7 +30,8 @@ bearing k n g = record { man = k; ray = n; king = g }
 -- those of man k along his first n rays
 abbrev pub along_rays : Kind → ℕ → ℕ → ℕ → List Bearing
 along_rays sort k g zero = []
-along_rays sort k g (suc n) = if serves_captures sort n then along_rays sort k g n ++ bearing k n g ∷ [] else along_rays sort k g n
+along_rays sort k g (suc n) =
+    if serves_captures sort n then along_rays sort k g n ++ bearing k n g ∷ [] else along_rays sort k g n
 
 -- those of man k, if he is live and of the side
 abbrev pub man_bearings : ℕ → Side → ℕ → ℕ → Option Man → List Bearing
@@ -41,7 +42,8 @@ man_bearings mask s g k (Some m) =
 -- those of the first n men
 abbrev pub bearings_to : List Man → ℕ → Side → ℕ → ℕ → List Bearing
 bearings_to stock mask s g zero = []
-bearings_to stock mask s g (suc n) = bearings_to stock mask s g n ++ man_bearings mask s g (suc n) (stock_man stock (suc n))
+bearings_to stock mask s g (suc n) =
+    bearings_to stock mask s g n ++ man_bearings mask s g (suc n) (stock_man stock (suc n))
 
 abbrev pub bearings_of : List Man → ℕ → Side → List Bearing
 bearings_of stock mask s = bearings_to stock mask s (king_number stock (other s)) (length stock)

@@ -14,7 +14,8 @@ use Rattle.rule_formula.specs.Placed.{is_live, stock_man}
 -- the men of the position have the sides and the kinds of the stock, wherever they are
 pub record HasStock (stock : List Man) (q : Position) : Type 0 where
   pub count : length q.men ≡ length stock
-  pub men : (k : ℕ) (m n : Man) → stock_man stock k ≡ Some m → man_at q k ≡ Some n → (n.side ≡ m.side) × (n.kind ≡ m.kind)
+  pub men : (k : ℕ) (m n : Man) → stock_man stock k ≡ Some m → man_at q k ≡ Some n
+      → (n.side ≡ m.side) × (n.kind ≡ m.kind)
 
 -- q may come up in a game from p with this side to move: the same men, of whom none is back who was gone,
 -- live men on distinct squares, and both kings live
@@ -63,7 +64,8 @@ is_king_at (Some m) = is_king m.kind
 -- each king among the first n men is in the mask
 abbrev pub has_kings : List Man → ℕ → ℕ → Bool
 has_kings stock mask zero = true
-has_kings stock mask (suc n) = (not (is_king_at (stock_man stock (suc n))) || is_live mask (suc n)) && has_kings stock mask n
+has_kings stock mask (suc n) =
+    (not (is_king_at (stock_man stock (suc n))) || is_live mask (suc n)) && has_kings stock mask n
 
 -- it is one of some live men, with each king
 abbrev pub is_game_mask : Position → ℕ → Bool

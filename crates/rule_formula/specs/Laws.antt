@@ -36,8 +36,10 @@ PreIsOverTracks =
 
 abbrev pub BearIsOverTracks : Type 0
 BearIsOverTracks =
-    (stock : List Man) (mask k n g s : ℕ) → IsBearer stock mask k n g → free_vars (bear_of stock mask k n g s) ≡ tracks_of stock (is_live mask)
+    (stock : List Man) (mask k n g s : ℕ) → IsBearer stock mask k n g
+    → free_vars (bear_of stock mask k n g s) ≡ tracks_of stock (is_live mask)
 
 abbrev pub SafeIsOverTracks : Type 0
 SafeIsOverTracks =
-    (stock : List Man) (mask k n g s : ℕ) → IsBearer stock mask k n g → free_vars (safe_of stock mask k n g s) ≡ tracks_of stock (is_live mask)
+    (stock : List Man) (mask k n g s : ℕ) → IsBearer stock mask k n g
+    → free_vars (safe_of stock mask k n g s) ≡ tracks_of stock (is_live mask)

@@ -9,6 +9,7 @@ pub mod Placed
 pub mod Seats
 pub mod Size
 pub mod Trees
+pub mod Ways
 pub use Rattle.game_rules.specs.Game
 pub use Rattle.game_rules.specs.Rays
 pub use Rattle.lin_formula.specs.Tree

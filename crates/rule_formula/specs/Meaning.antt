@@ -56,7 +56,8 @@ Serves k n (suc t) = serves_captures k n ≡ true
 abbrev pub IsPrey : List Man → ℕ → Side → ℕ → Type 0
 IsPrey stock mask side zero = Unit {0}
 IsPrey stock mask side (suc t) =
-    (m : Man) × (stock_man stock (suc t) ≡ Some m) × (is_live mask (suc t) ≡ true) × (m.side ≡ other side) × (m.kind ≢ King)
+    (m : Man) × (stock_man stock (suc t) ≡ Some m) × (is_live mask (suc t) ≡ true) × (m.side ≡ other side)
+    × (m.kind ≢ King)
 
 -- going along ray n, taking man t, or with no t nobody, is an option of man i
 pub record IsOption (stock : List Man) (mask i n t : ℕ) (man : Man) (r : Ray) : Type 0 where
@@ -97,13 +98,16 @@ pub record TakesOption (o : Opt) (p q : Position) : Type 0 where
 -- a step by the option leads to q from a position of the set
 abbrev pub IsReached : Sets → ℕ → List Man → ℕ → Side → Opt → Position → Type 0
 IsReached e s stock mask side o q =
-    (f : ℕ → Square) × IsMember e s (placed stock (is_live mask) side f) × TakesOption o (placed stock (is_live mask) side f) q
+    (f : ℕ → Square) × IsMember e s (placed stock (is_live mask) side f)
+    × TakesOption o (placed stock (is_live mask) side f) q
 
 -- the formula holds of the positions that are reached by the option from the set
 abbrev pub ImageHolds : Sets → List Man → ℕ → Opt → ℕ → Tree → Type 0
 ImageHolds e stock mask o s t =
     (man : Man) (v : Values) → stock_man stock o.man ≡ Some man → HoldsApart e s stock (is_live mask) man.side →
-    Holds t e v ↔ IsReached e s stock mask man.side o (placed stock (without (is_live mask) o.taken) (other man.side) (squares v))
+    Holds t e v
+    ↔ IsReached e s stock mask man.side o
+    (placed stock (without (is_live mask) o.taken) (other man.side) (squares v))
 
 -- ray n of man k bears, and man g is another live man
 pub record IsBearer (stock : List Man) (mask k n g : ℕ) : Type 0 where
@@ -124,7 +128,9 @@ pub record BearsBy (k n g : ℕ) (p : Position) : Type 0 where
 abbrev pub BearHolds : Sets → List Man → ℕ → ℕ → ℕ → ℕ → ℕ → Tree → Type 0
 BearHolds e stock mask k n g s t =
     (turn : Side) (v : Values) →
-    Holds t e v ↔ (IsMember e s (placed stock (is_live mask) turn (squares v)) × BearsBy k n g (placed stock (is_live mask) turn (squares v)))
+    Holds t e v
+    ↔ (IsMember e s (placed stock (is_live mask) turn (squares v))
+    × BearsBy k n g (placed stock (is_live mask) turn (squares v)))
 
 -- a step by the option leads from p to a position of the set
 abbrev pub Reaches : Sets → ℕ → List Man → ℕ → Side → Opt → Position → Type 0
@@ -136,13 +142,17 @@ Reaches e s stock mask side o p =
 abbrev pub PreHolds : Sets → List Man → ℕ → Opt → ℕ → ℕ → Tree → Type 0
 PreHolds e stock mask o s q t =
     (man : Man) (v : Values) → stock_man stock o.man ≡ Some man → HoldsApart e s stock (is_live mask) man.side →
-    Holds t e v ↔ (IsMember e s (placed stock (is_live mask) man.side (squares v)) × Reaches e q stock mask man.side o (placed stock (is_live mask) man.side (squares v)))
+    Holds t e v
+    ↔ (IsMember e s (placed stock (is_live mask) man.side (squares v))
+    × Reaches e q stock mask man.side o (placed stock (is_live mask) man.side (squares v)))
 
 -- the formula holds of the positions of the set in which man k does not bear along his ray n on man g
 abbrev pub SafeHolds : Sets → List Man → ℕ → ℕ → ℕ → ℕ → ℕ → Tree → Type 0
 SafeHolds e stock mask k n g s t =
     (turn : Side) (v : Values) →
-    Holds t e v ↔ (IsMember e s (placed stock (is_live mask) turn (squares v)) × (¬ BearsBy k n g (placed stock (is_live mask) turn (squares v))))
+    Holds t e v
+    ↔ (IsMember e s (placed stock (is_live mask) turn (squares v))
+    × (¬ BearsBy k n g (placed stock (is_live mask) turn (squares v))))
 
 -- men a and b stand on one square
 pub record AreTwins (a b : ℕ) (p : Position) : Type 0 where
@@ -162,12 +172,15 @@ HasLiveMan p = Any (λ m. m.place ≢ Gone) p.men
 abbrev pub TwinsHolds : Sets → ℕ → ℕ → ℕ → ℕ → Tree → Type 0
 TwinsHolds e mask a b s t =
     (stock : List Man) (turn : Side) (v : Values) → length stock ≤ 8 → mask < 2 ^ length stock →
-    Holds t e v ↔ (IsMember e s (placed stock (is_live mask) turn (squares v)) × AreTwins a b (placed stock (is_live mask) turn (squares v)))
+    Holds t e v
+    ↔ (IsMember e s (placed stock (is_live mask) turn (squares v))
+    × AreTwins a b (placed stock (is_live mask) turn (squares v)))
 
 -- the formula holds of the places of the men alone
 abbrev pub PointHolds : Sets → List Man → Tree → Type 0
 PointHolds e men t =
-    (v : Values) → Holds t e v ↔ ((k : ℕ) (m : Man) (z : Square) → stock_man men k ≡ Some m → StandsOn m z → squares v k ≡ z)
+    (v : Values)
+    → Holds t e v ↔ ((k : ℕ) (m : Man) (z : Square) → stock_man men k ≡ Some m → StandsOn m z → squares v k ≡ z)
 
 -- the same for all sets, as data
 abbrev pub IsImage : List Man → ℕ → Opt → ℕ → Tree → Type 0

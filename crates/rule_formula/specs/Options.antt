@@ -34,12 +34,14 @@ option i n t = record { man = i; ray = n; taken = t }
 abbrev pub captures_to : List Man → ℕ → Side → ℕ → ℕ → ℕ → List Opt
 captures_to stock mask s i n zero = []
 captures_to stock mask s i n (suc k) =
-    if is_prey stock mask s (suc k) then captures_to stock mask s i n k ++ option i n (suc k) ∷ [] else captures_to stock mask s i n k
+    if is_prey stock mask s (suc k) then captures_to stock mask s i n k ++ option i n (suc k)
+    ∷ [] else captures_to stock mask s i n k
 
 -- the options of man i along ray n
 abbrev pub ray_options : List Man → ℕ → Side → Kind → ℕ → ℕ → List Opt
 ray_options stock mask s sort i n =
-    (if serves_moves sort n then option i n 0 ∷ [] else []) ++ (if serves_captures sort n then captures_to stock mask s i n (length stock) else [])
+    (if serves_moves sort n then option i n 0 ∷ [] else [])
+    ++ (if serves_captures sort n then captures_to stock mask s i n (length stock) else [])
 
 -- those along the first n rays
 abbrev pub rays_to : List Man → ℕ → Side → Kind → ℕ → ℕ → List Opt
@@ -55,7 +57,8 @@ man_options stock mask s i (Some m) =
 -- those of the first n men
 abbrev pub options_to : List Man → ℕ → Side → ℕ → List Opt
 options_to stock mask s zero = []
-options_to stock mask s (suc n) = options_to stock mask s n ++ man_options stock mask s (suc n) (stock_man stock (suc n))
+options_to stock mask s (suc n) =
+    options_to stock mask s n ++ man_options stock mask s (suc n) (stock_man stock (suc n))
 
 abbrev pub options_of : List Man → ℕ → Side → List Opt
 options_of stock mask s = options_to stock mask s (length stock)

@@ -14,7 +14,8 @@ is_later mask a b = nat_lt a b && is_live mask b
 -- man a with each later live one among the first n
 abbrev pub later_to : ℕ → ℕ → ℕ → List Pair
 later_to mask a zero = []
-later_to mask a (suc n) = if is_later mask a (suc n) then later_to mask a n ++ pair a (suc n) ∷ [] else later_to mask a n
+later_to mask a (suc n) =
+    if is_later mask a (suc n) then later_to mask a n ++ pair a (suc n) ∷ [] else later_to mask a n
 
 -- those of man a among so many men, if he is live
 abbrev pub man_pairs : ℕ → ℕ → ℕ → List Pair

@@ -26,6 +26,10 @@ at v s = record { x = v s.x.0; y = v s.y.0 }
 abbrev pub squares : Values → ℕ → Square
 squares v k = at v (own k)
 
+-- the variables of a square that is no man's own: from which the mover comes, or onto which he goes
+abbrev pub elsewhere : Seat
+elsewhere = record { x = var 16; y = var 17 }
+
 -- the variable that is lost where the ray leaves it alone
 abbrev pub swept : ℤ → Var → Var → Var
 swept (pos zero) kept spare = kept
@@ -33,7 +37,7 @@ swept _ kept spare = spare
 
 -- where a man comes from, or goes to, who keeps the variable that the ray leaves alone
 abbrev pub spare : Ray → ℕ → Seat
-spare r i = record { x = swept r.dx (own i).x (var 16); y = swept r.dy (own i).y (var 17) }
+spare r i = record { x = swept r.dx (own i).x elsewhere.x; y = swept r.dy (own i).y elsewhere.y }
 
 -- man i in the seat a, man j in the seat b, and the others in their own
 abbrev pub seats_with : ℕ → Seat → ℕ → Seat → ℕ → Seat

@@ -4,6 +4,8 @@ use Rattle.track_word.specs.declared.tracks.Var.{Var}
 use Rattle.track_word.specs.declared.atoms.Rel.{Rel}
 use Rattle.track_word.specs.declared.atoms.Rel.TheVariants.{Le, Eq}
 use Rattle.lin_formula.specs.Tree.{Tree}
+use Rattle.rule_formula.specs.declared.atoms.Extent.{Extent}
+use Rattle.rule_formula.specs.declared.atoms.Extent.TheVariants.{Onto, Before}
 use Rattle.rule_formula.specs.declared.seats.Seat.{Seat}
 use Rattle.game_rules.specs.declared.men.Ray.{Ray}
 use Rattle.rule_formula.specs.Placed.{is_live, stock_man, without}
@@ -12,7 +14,7 @@ use Rattle.game_rules.specs.declared.men.Square.{Square}
 use Rattle.game_rules.specs.Game.{square_of}
 use Rattle.game_rules.specs.Rays.{leap, ray_of}
 use Rattle.rule_formula.specs.declared.opt.Opt.{Opt}
-use Rattle.rule_formula.specs.Seats.{own, new_seat, new_seats, old_seats, spare, var, vars_to}
+use Rattle.rule_formula.specs.Seats.{elsewhere, own, new_seat, new_seats, old_seats, spare, vars_to}
 use Rattle.lin_formula.specs.Tree as tree
 
 -- the formula and each of the list, nested to the left
@@ -65,13 +67,18 @@ pub record IsCounted (dx dy : ℤ) (a b : Seat) : Type 0 where
   pub across : dx ≢ pos 0 → a.x.0 ≢ b.x.0
   pub along : dx ≡ pos 0 → a.y.0 ≢ b.y.0
 
--- how far a may be past b in the direction (dx, dy)
-abbrev pub ahead : ℤ → ℤ → Seat → Seat → ℤ → Tree
-ahead (pos zero) dy a b n = ordered dy a.y b.y n
-ahead dx dy a b n = ordered dx a.x b.x n
+-- the most by which a square may be past the end of a way
+abbrev pub past : Extent → ℤ
+past Onto = pos 0
+past Before = negsuc 0
+
+-- b lies ahead of a in the direction (dx, dy), or with Onto level with a
+abbrev pub ahead : ℤ → ℤ → Seat → Seat → Extent → Tree
+ahead (pos zero) dy a b extent = ordered dy a.y b.y (past extent)
+ahead dx dy a b extent = ordered dx a.x b.x (past extent)
 
 abbrev pub atoms_as : Bool → ℤ → ℤ → Seat → Seat → List Tree
-atoms_as true dx dy a b = line_atoms dx dy a b ++ ahead dx dy a b (negsuc 0) ∷ []
+atoms_as true dx dy a b = line_atoms dx dy a b ++ ahead dx dy a b Before ∷ []
 atoms_as false dx dy a b =
     unless_same b.x a.x (difference b.x a.x Eq dx) ++ unless_same b.y a.y (difference b.y a.y Eq dy)
 
@@ -79,13 +86,14 @@ atoms_as false dx dy a b =
 abbrev pub ray_atoms : Ray → Seat → Seat → List Tree
 ray_atoms r a b = atoms_as r.far r.dx r.dy a b
 
-abbrev pub on_as : Bool → ℤ → ℤ → Seat → Seat → Seat → ℤ → Tree
-on_as true dx dy a b z n = tree.And (tree.And (line dx dy a z) (ahead dx dy a z (negsuc 0))) (ahead dx dy z b n)
-on_as false dx dy a b z n = tree.And (difference z.x b.x Eq (pos 0)) (difference z.y b.y Eq (pos 0))
+abbrev pub on_as : Bool → ℤ → ℤ → Seat → Seat → Seat → Extent → Tree
+on_as true dx dy a b z extent = tree.And (tree.And (line dx dy a z) (ahead dx dy a z Before)) (ahead dx dy z b extent)
+on_as false dx dy a b z extent = tree.And (difference z.x b.x Eq (pos 0)) (difference z.y b.y Eq (pos 0))
 
--- z stands on the way from a, itself excluded, to b, which is included where n is 0 and excluded where it is -1
-abbrev pub on : Ray → Seat → Seat → ℤ → Seat → Tree
-on r a b n z = on_as r.far r.dx r.dy a b z n
+-- z stands on the way from a, itself excluded, to b, which is included with Onto and, on a far ray, excluded with
+-- Before
+abbrev pub on : Ray → Seat → Seat → Extent → Seat → Tree
+on r a b extent z = on_as r.far r.dx r.dy a b z extent
 
 -- all of the seats' variables differ
 pub record AreApart (a b : Seat) : Type 0 where
@@ -105,7 +113,8 @@ is_other live i j k = live k && (not (k == i) && not (k == j))
 abbrev pub clear : Tree → (ℕ → Tree) → (ℕ → Bool) → ℕ → ℕ → ℕ → Tree
 clear f hit live i j zero = f
 clear f hit live i j (suc n) =
-    if is_other live i j (suc n) then tree.And (clear f hit live i j n) (tree.Not (hit (suc n))) else clear f hit live i j n
+    if is_other live i j (suc n) then tree.And (clear f hit live i j n) (tree.Not (hit (suc n))) else clear f hit live i
+    j n
 
 -- some value of x, where the ray sweeps it
 abbrev pub ex_swept : ℤ → Var → Tree → Tree
@@ -115,20 +124,23 @@ ex_swept _ x f = tree.Ex x f
 abbrev pub image_body : ℕ → ℕ → ℕ → Ray → ℕ → ℕ → Tree
 image_body n mask i r t s =
     clear (and_all (tree.Among s (vars_to (old_seats r i t) (is_live mask) n)) (ray_atoms r (spare r i) (own i)))
-    (λ k. on r (spare r i) (own i) (pos 0) (own k)) (is_live mask) i t n
+    (λ k. on r (spare r i) (own i) Onto (own k)) (is_live mask) i t n
 
 -- the positions to which man i goes along the ray, taking man t, from those of the set
 abbrev pub image_tree : ℕ → ℕ → ℕ → Ray → ℕ → ℕ → Tree
-image_tree n mask i r t s = ex_swept r.dx (var 16) (ex_swept r.dy (var 17) (image_body n mask i r t s))
+image_tree n mask i r t s = ex_swept r.dx elsewhere.x (ex_swept r.dy elsewhere.y (image_body n mask i r t s))
 
 abbrev pub pre_body : ℕ → ℕ → ℕ → Ray → ℕ → ℕ → ℕ → Tree
 pre_body n mask i r t s q =
-    clear (and_all (tree.And (tree.Among s (vars_to own (is_live mask) n)) (tree.Among q (vars_to (new_seats r i t) (without (is_live mask) t) n)))
+    clear
+    (and_all
+    (tree.And (tree.Among s (vars_to own (is_live mask) n))
+    (tree.Among q (vars_to (new_seats r i t) (without (is_live mask) t) n)))
     (ray_atoms r (own i) (new_seat r i t)))
-    (λ k. on r (own i) (new_seat r i t) (pos 0) (own k)) (is_live mask) i t n
+    (λ k. on r (own i) (new_seat r i t) Onto (own k)) (is_live mask) i t n
 
 abbrev pub pre_tree : ℕ → ℕ → ℕ → Ray → ℕ → ℕ → ℕ → Tree
-pre_tree n mask i r zero s q = ex_swept r.dx (var 16) (ex_swept r.dy (var 17) (pre_body n mask i r 0 s q))
+pre_tree n mask i r zero s q = ex_swept r.dx elsewhere.x (ex_swept r.dy elsewhere.y (pre_body n mask i r 0 s q))
 pre_tree n mask i r (suc t) s q = pre_body n mask i r (suc t) s q
 
 abbrev pub clear_as : Bool → Tree → (ℕ → Tree) → (ℕ → Bool) → ℕ → ℕ → ℕ → Tree
@@ -139,7 +151,7 @@ clear_as false f hit live i j n = f
 abbrev pub bear_tree : ℕ → ℕ → ℕ → Ray → ℕ → ℕ → Tree
 bear_tree n mask k r g s =
     clear_as r.far (and_all (tree.Among s (vars_to own (is_live mask) n)) (ray_atoms r (own k) (own g)))
-    (λ l. on r (own k) (own g) (negsuc 0) (own l)) (is_live mask) k g n
+    (λ l. on r (own k) (own g) Before (own l)) (is_live mask) k g n
 
 abbrev pub safe_tree : ℕ → ℕ → ℕ → Ray → ℕ → ℕ → Tree
 safe_tree n mask k r g s = tree.And (tree.Among s (vars_to own (is_live mask) n)) (tree.Not (bear_tree n mask k r g s))

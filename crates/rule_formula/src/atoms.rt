@@ -4,7 +4,8 @@ ghost use Rattle.std.specs.Prelude.{◌≡◌, ◌≢◌, ◌≤ℤ◌, IfOk, []
 ghost use Rattle.track_word.specs.Atom.{IsAtom};
 ghost use Rattle.lin_formula.specs.TreeOf.{tree_of};
 ghost use Rattle.rule_formula.specs.Seats.{IsSeat};
-ghost use Rattle.rule_formula.specs.Trees.{AreApart, IsCounted, IsDrawn, ahead as ahead_tree, falling as falling_tree, rising as rising_tree, difference as difference_tree, line as line_tree, on as on_tree, ordered as ordered_tree};
+ghost use Rattle.rule_formula.specs.Trees.{AreApart, IsCounted, IsDrawn, ahead as ahead_tree, falling as falling_tree, rising as rising_tree, difference as difference_tree, line as line_tree, ordered as ordered_tree, past};
+ghost use Rattle.rule_formula.specs.Ways.{on_way};
 ghost use Rattle.lin_formula.specs.Tree as tree;
 
 use crate::seats::Seat;
@@ -106,6 +107,29 @@ pub(crate) fn line(alloc: Global, ray: Ray, a: Seat, b: Seat) -> Result<Formula,
     }
 }
 
+/// How far one goes towards a square.
+#[derive(Clone, Copy, Debug, PartialEq, Eq)]
+pub(crate) enum Extent {
+    /// Up to the square and onto it.
+    Onto,
+    /// Only up to the square before it.
+    Before,
+}
+
+impl Extent {
+    /// The most by which one may be past the square.
+    fn bound(self) -> i32
+        ensures bound { result ≡ past self }
+        ensures low { negsuc 999 ≤ℤ result }
+        ensures high { result ≤ℤ pos 1000 }
+    {
+        match self {
+            Extent::Onto => 0,
+            Extent::Before => -1,
+        }
+    }
+}
+
 /// x - y in the direction of the step is at most the bound.
 fn ordered(alloc: Global, step: i8, x: Var, y: Var, bound: i32) -> Result<Formula, AllocError>
     requires apart { x.0 ≢ y.0 }
@@ -120,19 +144,18 @@ fn ordered(alloc: Global, step: i8, x: Var, y: Var, bound: i32) -> Result<Formul
     }
 }
 
-/// How far a may be past b in the direction of the ray.
+/// b lies ahead of a in the direction of the ray, or with `Onto` level with a.
 pub(crate) fn ahead(
     alloc: Global,
     ray: Ray,
     a: Seat,
     b: Seat,
-    bound: i32,
+    extent: Extent,
 ) -> Result<Formula, AllocError>
-    requires counted { IsCounted ray.dx ray.dy a b }
-    requires low { negsuc 999 ≤ℤ bound }
-    requires high { bound ≤ℤ pos 1000 }
-    ensures { IfOk result (λ f. tree_of f ≡ ahead_tree ray.dx ray.dy a b bound) }
+    requires { IsCounted ray.dx ray.dy a b }
+    ensures { IfOk result (λ f. tree_of f ≡ ahead_tree ray.dx ray.dy a b extent) }
 {
+    let bound = extent.bound();
     if ray.dx == 0 {
         ordered(alloc, ray.dy, a.y, b.y, bound)
     } else {
@@ -140,30 +163,31 @@ pub(crate) fn ahead(
     }
 }
 
-/// z stands on the way from a to b, which is included where the bound is 0 and excluded where it is -1.
-pub(crate) fn on(
-    alloc: Global,
-    ray: Ray,
-    a: Seat,
-    b: Seat,
-    z: Seat,
-    bound: i32,
-) -> Result<Formula, AllocError>
-    requires from { IsSeat a }
+/// The squares of a ray from one seat, itself excluded, to another.
+#[derive(Clone, Copy)]
+pub(crate) struct Way {
+    pub(crate) ray: Ray,
+    pub(crate) from: Seat,
+    pub(crate) to: Seat,
+    pub(crate) extent: Extent,
+}
+
+/// The square in the seat is one of the way's. A ray of one step has its end alone, whatever the extent.
+pub(crate) fn on(alloc: Global, way: Way, z: Seat) -> Result<Formula, AllocError>
+    requires from { IsSeat way.from }
     requires middle { IsSeat z }
-    requires first { AreApart a z }
-    requires last { AreApart z b }
-    requires low { negsuc 999 ≤ℤ bound }
-    requires high { bound ≤ℤ pos 1000 }
-    ensures { IfOk result (λ f. tree_of f ≡ on_tree ray a b bound z) }
+    requires first { AreApart way.from z }
+    requires last { AreApart z way.to }
+    ensures { IfOk result (λ f. tree_of f ≡ on_way way z) }
 {
-    if ray.far {
-        let line = line(alloc, ray, a, z)?;
-        let ahead_of_start = ahead(alloc, ray, a, z, -1)?;
-        let started = both(alloc, line, ahead_of_start)?;
-        both(alloc, started, ahead(alloc, ray, z, b, bound)?)
+    if way.ray.far {
+        let line = line(alloc, way.ray, way.from, z)?;
+        let after_start = ahead(alloc, way.ray, way.from, z, Extent::Before)?;
+        let started = both(alloc, line, after_start)?;
+        let up_to_end = ahead(alloc, way.ray, z, way.to, way.extent)?;
+        both(alloc, started, up_to_end)
     } else {
-        let across = difference(alloc, z.x, b.x, Rel::Eq, 0)?;
-        both(alloc, across, difference(alloc, z.y, b.y, Rel::Eq, 0)?)
+        let across = difference(alloc, z.x, way.to.x, Rel::Eq, 0)?;
+        both(alloc, across, difference(alloc, z.y, way.to.y, Rel::Eq, 0)?)
     }
 }

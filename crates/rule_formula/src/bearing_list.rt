@@ -12,11 +12,10 @@ use crate::opt::Bearing;
 use crate::stock::{is_live, man_of};
 use chess_game::Position;
 use game_rules::{Kind, Man, Side};
-use smallvec::SmallVec;
 use std::alloc::{AllocError, Global};
 
 /// The ways in which men may bear. Most lists are short.
-type Bearings = SmallVec<Bearing, 16>;
+type Bearings = Vec<Bearing>;
 
 /// Whether the man is the king of the side.
 fn is_king_of(man: Man, side: Side) -> bool
@@ -87,7 +86,7 @@ fn list(alloc: Global, stock: &Position, mask: u8, side: Side) -> Result<Bearing
     ensures { IfOk result (λ all. all.items ≡ bearings_of stock.now.men mask side) }
 {
     let king = king_number(stock, side.other());
-    let mut bearings = SmallVec::new(alloc);
+    let mut bearings = Vec::new(alloc);
     for n in 0..stock.count() {
         let number = n + 1;
         let man = man_of(stock, number);
@@ -102,7 +101,7 @@ pub fn bearings(
     stock: &Position,
     mask: u8,
     side: Side,
-) -> Result<SmallVec<Bearing, 16>, AllocError>
+) -> Result<Vec<Bearing>, AllocError>
     requires kings { (s : Side) → HasOneKing stock.now s }
     requires mask { IsGameMask stock.now mask }
     ensures list { IfOk result (λ all. all.items ≡ bearings_of stock.now.men mask side) }

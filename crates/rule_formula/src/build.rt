@@ -7,9 +7,9 @@ ghost use Rattle.rule_formula.specs.Seats.{new_seats, own as own_seat, vars_to};
 ghost use Rattle.rule_formula.specs.Trees.{bear_tree, ex_swept as swept_tree, image_body, image_tree, pre_body, pre_tree, safe_tree, twins_tree};
 ghost use Rattle.lin_formula.specs.Tree as tree;
 
-use crate::atoms::{both, difference, not};
+use crate::atoms::{Extent, Way, both, difference, not};
 use crate::chains::{Path, among_seats, and_clear, and_ray};
-use crate::seats::{Seats, new_seat, own, spare};
+use crate::seats::{ELSEWHERE, Seats, new_seat, own, spare};
 use game_rules::Ray;
 use lin_formula::{Formula, SetId};
 use std::alloc::{AllocError, Global};
@@ -70,14 +70,18 @@ fn image_inside(
     };
     let among = among_seats(alloc, count, mask, 0, seats, source)?;
     let along = and_ray(alloc, among, ray, from, to)?;
-    let path = Path {
+    let way = Way {
         ray,
         from,
         to,
+        extent: Extent::Onto,
+    };
+    let path = Path {
+        way,
         first: i,
         second: t,
     };
-    and_clear(alloc, along, count, mask, path, 0)
+    and_clear(alloc, along, count, mask, path)
 }
 
 /// The positions to which man i goes along the ray, taking man t, from those of the set.
@@ -97,8 +101,8 @@ pub(crate) fn image(
     ensures { IfOk result (λ f. tree_of f ≡ image_tree count mask i ray t source.0) }
 {
     let body = image_inside(alloc, count, mask, i, ray, t, source)?;
-    let over_y = ex_swept(alloc, ray.dy, Var(17), body)?;
-    ex_swept(alloc, ray.dx, Var(16), over_y)
+    let over_y = ex_swept(alloc, ray.dy, ELSEWHERE.y, body)?;
+    ex_swept(alloc, ray.dx, ELSEWHERE.x, over_y)
 }
 
 /// The position with the men on their own seats is in the one set, and that after the move in the other.
@@ -118,7 +122,9 @@ fn among_both(
     requires high { i ≤ 8 }
     requires taken { t ≤ 8 }
     requires apart { i ≢ t }
-    ensures { IfOk result (λ f. tree_of f ≡ tree.And (tree.Among source.0 (vars_to own_seat (live_in mask) count)) (tree.Among target.0 (vars_to (new_seats ray i t) (without (live_in mask) t) count))) }
+    ensures { IfOk result
+        (λ f. tree_of f ≡ tree.And (tree.Among source.0 (vars_to own_seat (live_in mask) count))
+        (tree.Among target.0 (vars_to (new_seats ray i t) (without (live_in mask) t) count))) }
 {
     let to = new_seat(ray, i, t);
     let seats = Seats {
@@ -158,14 +164,18 @@ fn pre_inside(
     let to = new_seat(ray, i, t);
     let among = among_both(alloc, count, mask, i, ray, t, source, target)?;
     let along = and_ray(alloc, among, ray, from, to)?;
-    let path = Path {
+    let way = Way {
         ray,
         from,
         to,
+        extent: Extent::Onto,
+    };
+    let path = Path {
+        way,
         first: i,
         second: t,
     };
-    and_clear(alloc, along, count, mask, path, 0)
+    and_clear(alloc, along, count, mask, path)
 }
 
 /// The positions of the one set from which man i goes along the ray, taking man t, into the other.
@@ -191,8 +201,8 @@ pub(crate) fn pre(
     if t > 0 {
         return Ok(body);
     }
-    let over_y = ex_swept(alloc, ray.dy, Var(17), body)?;
-    ex_swept(alloc, ray.dx, Var(16), over_y)
+    let over_y = ex_swept(alloc, ray.dy, ELSEWHERE.y, body)?;
+    ex_swept(alloc, ray.dx, ELSEWHERE.x, over_y)
 }
 
 /// Man k bears along the ray on man g, in a position of the set.
@@ -222,14 +232,18 @@ pub(crate) fn bear(
     if !ray.far {
         return Ok(along);
     }
-    let path = Path {
+    let way = Way {
         ray,
         from,
         to,
+        extent: Extent::Before,
+    };
+    let path = Path {
+        way,
         first: k,
         second: g,
     };
-    and_clear(alloc, along, count, mask, path, -1)
+    and_clear(alloc, along, count, mask, path)
 }
 
 /// The positions of the set in which man k does not bear along the ray on man g.

@@ -1,19 +1,29 @@
 //! Chains of And.
 
-ghost use Rattle.std.specs.Prelude.{◌≡◌, ◌≢◌, ◌≤◌, ℕ, ◌≤ℤ◌, IfOk, negsuc, pos, true};
+ghost use Rattle.std.specs.Prelude.{◌≡◌, ◌≢◌, ◌≤◌, ◌++◌, ◌∷◌, [], ℕ, IfOk, OnOk, pos, true};
 ghost use Rattle.lin_formula.specs.TreeOf.{tree_of};
 ghost use Rattle.rule_formula.specs.Placed.{is_live as live_in, without};
 ghost use Rattle.rule_formula.specs.Seats.{IsSeat, own as own_seat, seats_with, vars_to};
-ghost use Rattle.rule_formula.specs.Trees.{AreApart, line_atoms, Suits, and_all, clear, difference as difference_tree, is_other as other_than, unless_same, on as on_tree, ray_atoms};
+ghost use Rattle.rule_formula.specs.Trees.{AreApart, line_atoms, Suits, and_all, clear, difference as difference_tree, is_other as other_than, unless_same, ray_atoms};
+ghost use Rattle.rule_formula.specs.Ways.{on_way};
 ghost use Rattle.lin_formula.specs.Tree as tree;
 
-use crate::atoms::{ahead, both, difference, line, not, on};
+use crate::atoms::{Extent, Way, ahead, both, difference, line, not, on};
 use crate::seats::{Seat, Seats, own};
 use crate::stock::is_live;
 use game_rules::Ray;
 use lin_formula::{Formula, SetId, among};
 use std::alloc::{AllocError, Global};
 use track_word::{Rel, Var};
+
+/// Adds the variables of the seat.
+fn push_seat(vars: &mut Vec<Var>, seat: Seat) -> Result<(), AllocError>
+    ensures { OnOk result (vars.new.items ≡ vars.old.items ++ seat.x ∷ seat.y ∷ []) }
+{
+    vars.push(seat.x)?;
+    vars.push(seat.y)?;
+    Ok(())
+}
 
 /// The position with the men on their seats is in the set.
 pub(crate) fn among_seats(
@@ -25,15 +35,16 @@ pub(crate) fn among_seats(
     set: SetId,
 ) -> Result<Formula, AllocError>
     requires { count ≤ 8 }
-    ensures { IfOk result (λ f. tree_of f ≡ tree.Among set.0 (vars_to (seats_with seats.first seats.first_seat seats.second seats.second_seat) (without (live_in mask) gone) count)) }
+    ensures { IfOk result
+        (λ f. tree_of f ≡ tree.Among set.0
+        (vars_to (seats_with seats.first seats.first_seat seats.second seats.second_seat)
+        (without (live_in mask) gone) count)) }
 {
     let mut vars = Vec::new(alloc);
     for n in 0..count {
         let k = n + 1;
         if is_live(mask, k) && k != gone {
-            let seat = seats.seat(k);
-            vars.push(seat.x)?;
-            vars.push(seat.y)?;
+            push_seat(&mut vars, seats.seat(k))?;
         }
     }
     among(alloc, set, &vars)
@@ -76,7 +87,7 @@ fn and_far(alloc: Global, f: Formula, ray: Ray, a: Seat, b: Seat) -> Result<Form
     ensures { IfOk result (λ g. tree_of g ≡ and_all (tree_of f) (ray_atoms ray a b)) }
 {
     let drawn = and_line(alloc, f, ray, a, b)?;
-    both(alloc, drawn, ahead(alloc, ray, a, b, -1)?)
+    both(alloc, drawn, ahead(alloc, ray, a, b, Extent::Before)?)
 }
 
 /// Also, b lies on the ray from a.
@@ -101,12 +112,10 @@ pub(crate) fn and_ray(
     and_step(alloc, across, b.y, a.y, ray.dy)
 }
 
-/// A ray from one seat to another, and the two men whose squares do not stop it.
+/// A way, and the two men who may stand on it.
 #[derive(Clone, Copy)]
 pub(crate) struct Path {
-    pub(crate) ray: Ray,
-    pub(crate) from: Seat,
-    pub(crate) to: Seat,
+    pub(crate) way: Way,
     pub(crate) first: u8,
     pub(crate) second: u8,
 }
@@ -121,17 +130,15 @@ fn is_other(mask: u8, path: Path, k: u8) -> bool
 }
 
 /// Also, man k does not stand on the way.
-fn and_away(alloc: Global, f: Formula, path: Path, k: u8, bound: i32) -> Result<Formula, AllocError>
+fn and_away(alloc: Global, f: Formula, way: Way, k: u8) -> Result<Formula, AllocError>
     requires low { 1 ≤ k }
     requires high { k ≤ 8 }
-    requires from { IsSeat path.from }
-    requires first { AreApart path.from (own_seat k) }
-    requires last { AreApart (own_seat k) path.to }
-    requires least { negsuc 999 ≤ℤ bound }
-    requires most { bound ≤ℤ pos 1000 }
-    ensures { IfOk result (λ g. tree_of g ≡ tree.And (tree_of f) (tree.Not (on_tree path.ray path.from path.to bound (own_seat k)))) }
+    requires from { IsSeat way.from }
+    requires first { AreApart way.from (own_seat k) }
+    requires last { AreApart (own_seat k) way.to }
+    ensures { IfOk result (λ g. tree_of g ≡ tree.And (tree_of f) (tree.Not (on_way way (own_seat k)))) }
 {
-    let stands = on(alloc, path.ray, path.from, path.to, own(k), bound)?;
+    let stands = on(alloc, way, own(k))?;
     both(alloc, f, not(alloc, stands)?)
 }
 
@@ -142,21 +149,20 @@ pub(crate) fn and_clear(
     count: u8,
     mask: u8,
     path: Path,
-    bound: i32,
 ) -> Result<Formula, AllocError>
     requires count { count ≤ 8 }
-    requires from { IsSeat path.from }
-    requires first { (k : ℕ) → 1 ≤ k → k ≤ 8 → k ≢ path.first → k ≢ path.second → AreApart path.from (own_seat k) }
-    requires last { (k : ℕ) → 1 ≤ k → k ≤ 8 → k ≢ path.first → k ≢ path.second → AreApart (own_seat k) path.to }
-    requires least { negsuc 999 ≤ℤ bound }
-    requires most { bound ≤ℤ pos 1000 }
-    ensures { IfOk result (λ g. tree_of g ≡ clear (tree_of f) (λ k. on_tree path.ray path.from path.to bound (own_seat k)) (live_in mask) path.first path.second count) }
+    requires from { IsSeat path.way.from }
+    requires first { (k : ℕ) → 1 ≤ k → k ≤ 8 → k ≢ path.first → k ≢ path.second → AreApart path.way.from (own_seat k) }
+    requires last { (k : ℕ) → 1 ≤ k → k ≤ 8 → k ≢ path.first → k ≢ path.second → AreApart (own_seat k) path.way.to }
+    ensures { IfOk result
+        (λ g. tree_of g ≡ clear (tree_of f) (λ k. on_way path.way (own_seat k)) (live_in mask) path.first path.second
+        count) }
 {
     let mut chain = f;
     for n in 0..count {
         let k = n + 1;
         if is_other(mask, path, k) {
-            chain = and_away(alloc, chain, path, k, bound)?;
+            chain = and_away(alloc, chain, path.way, k)?;
         }
     }
     Ok(chain)

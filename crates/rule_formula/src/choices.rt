@@ -10,11 +10,10 @@ use crate::opt::Opt;
 use crate::stock::{is_live, man_of};
 use chess_game::Position;
 use game_rules::{Kind, Man, Side};
-use smallvec::SmallVec;
 use std::alloc::{AllocError, Global};
 
 /// The ways in which men may go. Most lists are short.
-type Opts = SmallVec<Opt, 16>;
+type Opts = Vec<Opt>;
 
 pub(crate) fn is_side(a: Side, b: Side) -> bool
     ensures { result ≡ side_of a b }
@@ -70,7 +69,8 @@ fn push_captures(
     man: u8,
     ray: u8,
 ) -> Result<(), AllocError>
-    ensures { OnOk result (options.new.items ≡ options.old.items ++ captures_to stock.now.men mask side man ray (length stock.now.men)) }
+    ensures { OnOk result
+        (options.new.items ≡ options.old.items ++ captures_to stock.now.men mask side man ray (length stock.now.men)) }
 {
     for n in 0..stock.count() {
         let taken = n + 1;
@@ -128,7 +128,8 @@ fn push_man(
 ) -> Result<(), AllocError>
     requires low { 1 ≤ number }
     requires high { number ≤ 8 }
-    ensures { OnOk result (options.new.items ≡ options.old.items ++ man_options stock.now.men mask side number (Some man)) }
+    ensures { OnOk result
+        (options.new.items ≡ options.old.items ++ man_options stock.now.men mask side number (Some man)) }
 {
     if !(is_live(mask, number) && is_side(man.side, side)) {
         return Ok(());
@@ -142,7 +143,7 @@ fn list(alloc: Global, stock: &Position, mask: u8, side: Side) -> Result<Opts, A
     ensures list { IfOk result (λ all. all.items ≡ options_of stock.now.men mask side) }
     ensures few { length stock.now.men ≤ 8 }
 {
-    let mut options = SmallVec::new(alloc);
+    let mut options = Vec::new(alloc);
     for n in 0..stock.count() {
         let number = n + 1;
         let man = man_of(stock, number);
@@ -168,7 +169,7 @@ pub fn options(
     stock: &Position,
     mask: u8,
     side: Side,
-) -> Result<SmallVec<Opt, 16>, AllocError>
+) -> Result<Vec<Opt>, AllocError>
     ensures list { IfOk result (λ all. all.items ≡ options_of stock.now.men mask side) }
     ensures exact { IfOk result (λ all. (o : Opt) → Contains all.items o ↔ IsOptionOfSide stock.now.men mask side o) }
     ensures few { IfOk result (λ all. length all.items ≤ 1000) }

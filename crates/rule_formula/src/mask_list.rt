@@ -6,11 +6,10 @@ ghost use Rattle.rule_formula.specs.Fits.{IsGameMask, has_kings as kings_in, is_
 use crate::choices::is_king;
 use crate::stock::{is_live, man_of};
 use chess_game::Position;
-use smallvec::SmallVec;
 use std::alloc::{AllocError, Global};
 
 /// Masks of a position. Those of five men are eight, and those of seven men 32, since each has the kings.
-type Masks = SmallVec<u8, 32>;
+type Masks = Vec<u8>;
 
 /// Whether all bits of the first are bits of the second.
 fn is_part(a: u8, b: u8) -> bool
@@ -61,7 +60,7 @@ fn list(alloc: Global, p: &Position) -> Result<Masks, AllocError>
     ensures { IfOk result (λ all. all.items ≡ masks_of p.now) }
 {
     let live = live_mask(p);
-    let mut all = SmallVec::new(alloc);
+    let mut all = Vec::new(alloc);
     for mask in 0..live {
         push_mask(&mut all, p, live, mask)?;
     }
@@ -70,7 +69,7 @@ fn list(alloc: Global, p: &Position) -> Result<Masks, AllocError>
 }
 
 /// The masks of the position, ascending: the sets of its live men that hold each king.
-pub fn masks(alloc: Global, p: &Position) -> Result<SmallVec<u8, 32>, AllocError>
+pub fn masks(alloc: Global, p: &Position) -> Result<Vec<u8>, AllocError>
     ensures list { IfOk result (λ all. all.items ≡ masks_of p.now) }
     ensures exact { IfOk result (λ all. (m : ℕ) → Contains all.items m ↔ IsGameMask p.now m) }
 {

@@ -7,11 +7,10 @@ ghost use Rattle.rule_formula.specs.Pairs.{IsPairOf, is_later as later_in, later
 use crate::opt::Pair;
 use crate::stock::is_live;
 use chess_game::Position;
-use smallvec::SmallVec;
 use std::alloc::{AllocError, Global};
 
 /// Pairs of men. Those of five men are ten, and those of eight men are 28.
-type Pairs = SmallVec<Pair, 16>;
+type Pairs = Vec<Pair>;
 
 /// Whether the second man is live, and comes after the first.
 fn is_later(mask: u8, first: u8, second: u8) -> bool
@@ -54,7 +53,7 @@ fn list(alloc: Global, stock: &Position, mask: u8) -> Result<Pairs, AllocError>
     ensures { IfOk result (λ all. all.items ≡ pairs_of stock.now.men mask) }
 {
     let count = stock.count();
-    let mut pairs = SmallVec::new(alloc);
+    let mut pairs = Vec::new(alloc);
     for n in 0..count {
         push_man(&mut pairs, mask, n + 1, count)?;
     }
@@ -62,7 +61,7 @@ fn list(alloc: Global, stock: &Position, mask: u8) -> Result<Pairs, AllocError>
 }
 
 /// The pairs of men who are live in the mask: by the first man, then by the second, who comes later.
-pub fn pairs(alloc: Global, stock: &Position, mask: u8) -> Result<SmallVec<Pair, 16>, AllocError>
+pub fn pairs(alloc: Global, stock: &Position, mask: u8) -> Result<Vec<Pair>, AllocError>
     ensures list { IfOk result (λ all. all.items ≡ pairs_of stock.now.men mask) }
     ensures exact { IfOk result (λ all. (w : Pair) → Contains all.items w ↔ IsPairOf stock.now.men mask w) }
 {

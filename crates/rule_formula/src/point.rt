@@ -35,7 +35,8 @@ fn with_place(
     seat: Seat,
     place: Place,
 ) -> Result<Option<Formula>, AllocError>
-    ensures { IfOk result (λ all. option_map tree_of all ≡ square_tree (option_map tree_of chain) seat (place_square place)) }
+    ensures { IfOk result
+        (λ all. option_map tree_of all ≡ square_tree (option_map tree_of chain) seat (place_square place)) }
 {
     match place {
         Place::Gone => Ok(chain),

@@ -14,6 +14,12 @@ pub(crate) struct Seat {
     pub(crate) y: Var,
 }
 
+/// The variables of a square that is no man's own: from which the mover comes, or onto which he goes.
+pub(crate) const ELSEWHERE: Seat = Seat {
+    x: Var(16),
+    y: Var(17),
+};
+
 /// The variables of man k.
 pub(crate) fn own(k: u8) -> Seat
     requires low { 1 ≤ k }
@@ -49,8 +55,8 @@ pub(crate) fn spare(ray: Ray, i: u8) -> Seat
 {
     let own = own(i);
     Seat {
-        x: swept(ray.dx, own.x, Var(16)),
-        y: swept(ray.dy, own.y, Var(17)),
+        x: swept(ray.dx, own.x, ELSEWHERE.x),
+        y: swept(ray.dy, own.y, ELSEWHERE.y),
     }
 }
 

@@ -36,7 +36,8 @@ formula-returns-in_ok-denied-in-Some-Not-clause-ok t c =
     let fields = texts c.args.fields.now in
     let rest = texts c.in-Some.rest.now in
     let front : fields ≡ word_text Not ∷ rest = c.in-Some.ensures.some ∙ ap (λ w. w ∷ rest) word in
-    read_not c.args.scope.now fields rest (texts c.in_ok-f-in-Some-Not.rest.now) (tree_of c.in_ok-f-in-Some-Not.f) (tree_of c.in_ok-denied-in-Some-Not.field-0) front c.in_ok-f-in-Some-Not.ensures.ok c.in_ok-denied-in-Some-Not.ensures
+    read_not c.args.scope.now fields rest (texts c.in_ok-f-in-Some-Not.rest.now) (tree_of c.in_ok-f-in-Some-Not.f)
+    (tree_of c.in_ok-denied-in-Some-Not.field-0) front c.in_ok-f-in-Some-Not.ensures.ok c.in_ok-denied-in-Some-Not.ensures
 
 pub formula-returns-in-Some-Join-clause-ok : goal.formula-returns-in-Some-Join-clause-ok
 formula-returns-in-Some-Join-clause-ok t c =

@@ -22,8 +22,10 @@ returns-in_err-var-clause-err t c =
     let some : 0 < c.args.due = omega arith in
     let stopped = rw c.as_slice.ensures.value at c.in_err-var.ensures.err in
     rw (p.1, p.2)
-    (stop_along (Fails (IsKnownLetter c.args.scope.now c.args.terms.now.items) (texts c.in_ok-factor.rest.now)) (StopsTerms c.args.scope.now c.args.terms.now.items c.args.due (texts c.args.fields.now)) c.in_err-var.field-0.0
-    (λ left h. stops_letter c.args.scope.now c.args.terms.now.items c.args.due (texts c.args.fields.now) (texts c.in_ok-factor.rest.now) left c.in_ok-factor.factor some c.in_ok-factor.ensures.factor c.in_ok-factor.ensures.ok h)
+    (stop_along (Fails (IsKnownLetter c.args.scope.now c.args.terms.now.items) (texts c.in_ok-factor.rest.now))
+    (StopsTerms c.args.scope.now c.args.terms.now.items c.args.due (texts c.args.fields.now)) c.in_err-var.field-0.0
+    (λ left h. stops_letter c.args.scope.now c.args.terms.now.items c.args.due (texts c.args.fields.now) (texts c.in_ok-factor.rest.now) left
+    c.in_ok-factor.factor some c.in_ok-factor.ensures.factor c.in_ok-factor.ensures.ok h)
     stopped)
 
 pub returns-clause-ok : goal.returns-clause-ok
@@ -33,7 +35,8 @@ returns-clause-ok t c =
     let same = to_z-of_z w8 c.in_ok-factor.factor (factor_fits c.in_ok-factor.factor c.in_ok-factor.ensures.factor) in
     let read = rw (c.in_ok-push_term.ensures, same) at c.terms_and_bound.ensures.ok in
     IfOk-weaker c.terms_and_bound.result _ _
-    (λ x h. more_terms c.args.scope.now c.args.terms.now.items c.in_ok-factor.factor c.in_ok-var.var c.args.due (texts c.args.fields.now) (texts c.in_ok-factor.rest.now) (texts c.in_ok-var.rest.now) (texts x.1.now)
+    (λ x h. more_terms c.args.scope.now c.args.terms.now.items c.in_ok-factor.factor c.in_ok-var.var c.args.due (texts c.args.fields.now)
+    (texts c.in_ok-factor.rest.now) (texts c.in_ok-var.rest.now) (texts x.1.now)
     c.terms_and_bound.new.terms.items x.0 some c.in_ok-factor.ensures.factor c.in_ok-var.ensures.known unused c.in_ok-factor.ensures.ok c.in_ok-var.ensures.ok h)
     read
 
@@ -45,6 +48,7 @@ returns-clause-err t c =
     let stopped = rw (c.in_ok-push_term.ensures, same) at c.terms_and_bound.ensures.err in
     IfErr-weaker c.terms_and_bound.result _ _
     (λ why h. stop_along _ (StopsTerms c.args.scope.now c.args.terms.now.items c.args.due (texts c.args.fields.now)) why
-    (λ left k. stops_later c.args.scope.now c.args.terms.now.items c.args.due (texts c.args.fields.now) (texts c.in_ok-factor.rest.now) (texts c.in_ok-var.rest.now) left c.in_ok-factor.factor c.in_ok-var.var some
+    (λ left k. stops_later c.args.scope.now c.args.terms.now.items c.args.due (texts c.args.fields.now) (texts c.in_ok-factor.rest.now)
+    (texts c.in_ok-var.rest.now) left c.in_ok-factor.factor c.in_ok-var.var some
     c.in_ok-factor.ensures.factor c.in_ok-var.ensures.known unused c.in_ok-factor.ensures.ok c.in_ok-var.ensures.ok k) h)
     stopped

@@ -11,5 +11,6 @@ returns-clause-ok c =
     let read = rw c.new-terms.ensures.items at c.in_ok-bound.ensures.ok in
     let same = to_z-of_z w32 c.in_ok-bound.bound (bound_fits c.in_ok-bound.bound read.is_bound) in
     let made = rw (c.as_slice.ensures.value, same) at c.in_ok-compared.ensures in
-    comparison_reads c.args.rel c.args.scope.now c.in_ok-due.due (texts c.args.fields.now) (texts c.in_ok-due.rest.now) (texts c.in_ok-bound.rest.now) c.terms_and_bound.new.terms.items c.in_ok-bound.bound (tree_of c.in_ok-compared.field-0)
+    comparison_reads c.args.rel c.args.scope.now c.in_ok-due.due (texts c.args.fields.now) (texts c.in_ok-due.rest.now) (texts c.in_ok-bound.rest.now)
+    c.terms_and_bound.new.terms.items c.in_ok-bound.bound (tree_of c.in_ok-compared.field-0)
     c.in_ok-due.ensures.low c.in_ok-due.ensures.high c.in_ok-due.ensures.ok read made

@@ -1,11 +1,21 @@
+use Rattle.std.proofs.lemmas.Result.{IfOk-weaker, IfErr-weaker}
 use Rattle.lin_formula.specs.TreeOf.{tree_of}
 use Rattle.lin_formula.specs.SetOf.{tables, members}
-use Rattle.formula_auto.proofs.Rooms.{ready}
 use Rattle.formula_auto.proofs.Stable.{Decides-integers}
 use Rattle.formula_auto.proofs.compiling.compile.Goals as goal
 
-pub compiled-requires-clause-ready : goal.compiled-requires-clause-ready
-compiled-requires-clause-ready c = ready (tree_of c.args.f.now) c.args.sets.now c.requires.compilable
+pub returns-clause-reduced : goal.returns-clause-reduced
+returns-clause-reduced c = IfOk-weaker c.whole.result _ _ (λ a made. made.reduced) c.whole.ensures.compiled
+
+pub returns-clause-decides : goal.returns-clause-decides
+returns-clause-decides c = IfOk-weaker c.whole.result _ _ (λ a made. made.decides) c.whole.ensures.compiled
 
 pub returns-clause-integers : goal.returns-clause-integers
-returns-clause-integers c = Decides-integers (tree_of c.args.f.now) (members (tables c.args.sets.now)) c.in_ok-made.made.auto c.in_ok-made.ensures.ok.decides
+returns-clause-integers c =
+    IfOk-weaker c.whole.result _ _ (λ a made. Decides-integers (tree_of c.args.f.now) (members (tables c.args.sets.now)) a made.decides) c.whole.ensures.compiled
+
+pub returns-clause-within : goal.returns-clause-within
+returns-clause-within c = rw c.new-memo.ensures.budget at (IfOk-weaker c.whole.result _ _ (λ a made. made.within) c.whole.ensures.compiled)
+
+pub returns-clause-over : goal.returns-clause-over
+returns-clause-over c = rw c.new-memo.ensures.budget at (IfErr-weaker c.whole.result _ _ (λ why h. h.error) c.whole.ensures.err)

@@ -7,6 +7,7 @@ use Rattle.rule_formula.proofs.bearing_list.bearings.Goals as goal
 
 pub returns-clause-exact : goal.returns-clause-exact
 returns-clause-exact c =
+    let a = c.args in
     IfOk-weaker c.list.result _ _
-    (λ all h b. subst (λ xs. Contains xs b ↔ IsBearingOf c.args.stock.now.men c.args.mask c.args.side b) (sym h) (bearings_are c.args.stock.now c.args.mask c.args.side b c.requires.kings c.requires.mask))
+    (λ all h b. subst (λ xs. Contains xs b ↔ IsBearingOf a.stock.now.men a.mask a.side b) (sym h) (bearings_are a.stock.now a.mask a.side b c.requires.kings c.requires.mask))
     c.list.ensures

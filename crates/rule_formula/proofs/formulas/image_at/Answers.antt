@@ -1,13 +1,13 @@
-use Rattle.std.proofs.Common.{◌≡◌, Some, length, ap, ◌∙◌}
 use Rattle.std.proofs.lemmas.Result.{IfOk-weaker}
-use Rattle.rule_formula.specs.Trees.{image_tree, ray_at}
-use Rattle.rule_formula.proofs.MeaningLemmas.{ray_at_is}
+use Rattle.rule_formula.specs.Trees.{image_tree}
+use Rattle.rule_formula.proofs.MeaningLemmas.{found_ray, tree_at}
 use Rattle.rule_formula.proofs.formulas.image_at.Goals as goal
 
 pub returns-clause-tree : goal.returns-clause-tree
 returns-clause-tree c =
+    let a = c.args in
     let w = c.requires in
-    let both : Some c.in-Some.ray ≡ Some w.ray = c.in-Some.ensures.ray w.man w.is.is_man ∙ w.is.ray in
-    let his : c.in-Some.ray ≡ w.ray = cc in
-    let same : c.in-Some.ray ≡ ray_at c.args.stock.now.men c.args.opt.man c.args.opt.ray = his ∙ ray_at_is c.args.stock.now.men c.args.opt.man c.args.opt.ray w.man w.ray w.is.is_man w.is.ray in
-    IfOk-weaker c.image.result _ _ (λ f h. h ∙ ap (λ n. image_tree n c.args.mask c.args.opt.man c.in-Some.ray c.args.opt.taken c.args.source.0) c.count-count.ensures.count ∙ ap (λ r. image_tree (length c.args.stock.now.men) c.args.mask c.args.opt.man r c.args.opt.taken c.args.source.0) same) c.image.ensures
+    let same = found_ray a.stock.now.men a.opt.man a.opt.ray w.man c.in-Some.ray w.ray w.is.is_man w.is.ray (c.in-Some.ensures.ray w.man w.is.is_man) in
+    IfOk-weaker c.image.result _ _
+    (λ f h. tree_at (λ n r. image_tree n a.mask a.opt.man r a.opt.taken a.source.0) _ _ _ _ _ h c.count-count.ensures.count same)
+    c.image.ensures

@@ -1,132 +1,195 @@
-use Rattle.std.proofs.Common.{◌∷◌, [], sym, ◌∙◌, arith, length-append}
+use Rattle.std.proofs.Common.{◌+◌, ◌∷◌, [], length, Err, refl, ap, ◌∙◌, arith, rules, length-append}
+use Rattle.std.proofs.lemmas.Int.{to_z-of_z, ints}
 use Rattle.std.proofs.lemmas.Result.{err_from_is_err_and}
 use Rattle.lin_formula.specs.Tree as tree
 use Rattle.lin_formula.specs.Tree.{steps}
 use Rattle.lin_formula.specs.TreeOf.{tree_of}
-use Rattle.lin_formula.specs.SetOf.{tables}
-use Rattle.formula_auto.proofs.Leaves.{no_steps}
-use Rattle.formula_auto.proofs.WithMemo.{remembered_not, interrupted_not, interrupted_at_not, remembered_ex, interrupted_ex, interrupted_at_ex, remembered_both, interrupted_left, interrupted_right, interrupted_at_both, remembered_leaf, interrupted_leaf}
+use Rattle.lin_formula.specs.SetOf.{tables, members, as_set}
+use Rattle.formula_auto.specs.Decides.{Decides}
+use Rattle.formula_auto.proofs.Rooms.{set_fits, set_there}
+use Rattle.formula_auto.proofs.WithMemo.{remembered_not, interrupted_not, interrupted_at_not, remembered_ex, interrupted_ex, interrupted_at_ex, remembered_both, interrupted_left, interrupted_right, interrupted_at_both, remembered_leaf, interrupted_memory, interrupted_last, remembered_entered, interrupted_inside, may_enter, unknown_still}
 use Rattle.formula_auto.proofs.Connections.{size-connect, ready-connect}
-use Rattle.formula_auto.specs.PlainParts.{plain_parts}
-use Rattle.formula_auto.proofs.PartLemmas.{part-fresh, part-after, one_automaton}
+use Rattle.formula_auto.proofs.PartLemmas.{part-fresh, part-found, part-after, lent, lent-later}
 use Rattle.formula_auto.proofs.memo.Memo.+compiled.Goals as goal
 
-pub compiled-plain-requires-clause-plain : goal.compiled-plain-requires-clause-plain
-compiled-plain-requires-clause-plain t c = sym c.is_plain.ensures ∙ c.if-is_plain.true
+pub recalled-steps_of-requires : goal.recalled-steps_of-requires
+recalled-steps_of-requires t c = omega (arith, c.requires.room)
 
-pub compiled-returns-in_err-inner-in-Not-clause-err : goal.compiled-returns-in_err-inner-in-Not-clause-err
-compiled-returns-in_err-inner-in-Not-clause-err t c =
+pub recalled-overflow_add-result : goal.recalled-overflow_add-result
+recalled-overflow_add-result t c = record { fits = omega (arith, c.requires.room, c.steps_of.ensures) }
+
+pub recalled-returns-in-Some-clause-ok : goal.recalled-returns-in-Some-clause-ok
+recalled-returns-in-Some-clause-ok t c =
+    rw c.count.ensures (part-found c.requires.recalled (ap (λ n. c.args.course.before + n) c.steps_of.ensures) c.in-Some.ensures)
+
+pub entered-returns-in_err-made-clause-err : goal.entered-returns-in_err-made-clause-err
+entered-returns-in_err-made-clause-err t c =
     let p = err_from_is_err_and c.from_residual.result c.from_residual.ensures.1 in
-    let not_plain = rw c.in-Not.is at (sym c.is_plain.ensures ∙ c.if-is_plain.false) in
+    rw (p.1, p.2) (interrupted_inside c.args.course c.requires.recalled c.in_err-made.ensures.err)
+
+pub entered-taken-requires : goal.entered-taken-requires
+entered-taken-requires t c = (c.in_ok-made.ensures.ok.auto, c.in_ok-made.ensures.ok.has)
+
+pub entered-returns-in_err-auto-clause-err : goal.entered-returns-in_err-auto-clause-err
+entered-returns-in_err-auto-clause-err t c =
+    let p = err_from_is_err_and c.from_residual-in_err-auto.result c.from_residual-in_err-auto.ensures.1 in
+    rw p.1 (interrupted_inside c.args.course c.requires.recalled (interrupted_last c.in_ok-made.ensures.ok.remembered p.2))
+
+pub entered-enter-requires-clause-entry : goal.entered-enter-requires-clause-entry
+entered-enter-requires-clause-entry t c =
+    let made = c.in_ok-made.ensures.ok in
+    may_enter c.args.course c.requires.recalled made.remembered (c.in_ok-auto.ensures.same made.auto made.has) c.in_ok-auto.ensures.reduced
+
+pub entered-enter-requires-clause-unknown : goal.entered-enter-requires-clause-unknown
+entered-enter-requires-clause-unknown t c = unknown_still c.args.course c.requires.recalled c.in_ok-made.ensures.ok.remembered c.requires.unknown
+
+pub entered-returns-in_err-part-clause-err : goal.entered-returns-in_err-part-clause-err
+entered-returns-in_err-part-clause-err t c =
+    let p = err_from_is_err_and c.from_residual-in_err-part.result c.from_residual-in_err-part.ensures.1 in
+    rw (p.1, c.in_err-part.ensures.err) (interrupted_inside c.args.course c.requires.recalled (interrupted_last c.in_ok-made.ensures.ok.remembered p.2))
+
+pub entered-returns-clause-ok : goal.entered-returns-clause-ok
+entered-returns-clause-ok t c =
+    let made = c.in_ok-made.ensures.ok in
+    record {
+      auto = c.in_ok-auto.auto;
+      has = c.in_ok-part.ensures.part;
+      remembered = remembered_entered c.args.course c.requires.recalled made.remembered (c.in_ok-auto.ensures.same made.auto made.has) c.in_ok-part.ensures.ok;
+    }
+
+pub from_parts-returns-in_err-auto-in-Lin-clause-err : goal.from_parts-returns-in_err-auto-in-Lin-clause-err
+from_parts-returns-in_err-auto-in-Lin-clause-err t c =
+    let p = err_from_is_err_and c.from_residual.result c.from_residual.ensures.1 in
+    rw p.1 (interrupted_memory p.2)
+
+pub from_parts-returns-in-Lin-clause-ok : goal.from_parts-returns-in-Lin-clause-ok
+from_parts-returns-in-Lin-clause-ok t c =
+    let said = rw c.as_slice.ensures.items at (c.in_ok-auto-in-Lin.ensures (tables c.args.sets.now)) in
+    let decides : Decides c.in_ok-auto-in-Lin.auto (tree.Lin c.in-Lin.terms c.in-Lin.rel c.in-Lin.bound) (members (tables c.args.sets.now)) =
+    first_of (grind (arith, to_z-of_z, said), search (rules, ints, to_z-of_z, said)) in
+    rw c.in-Lin.is (part-fresh c.fresh.ensures (remembered_leaf refl decides))
+
+pub from_parts-returns-in-Value-clause-ok : goal.from_parts-returns-in-Value-clause-ok
+from_parts-returns-in-Value-clause-ok t c =
+    let said = c.in_ok-auto-in-Value.ensures (tables c.args.sets.now) in
+    let decides : Decides c.in_ok-auto-in-Value.auto (tree.Value c.in-Value.var c.in-Value.value) (members (tables c.args.sets.now)) =
+    first_of (grind (arith, to_z-of_z, said), search (rules, ints, to_z-of_z, said)) in
+    rw c.in-Value.is (part-fresh c.fresh-in-Value.ensures (remembered_leaf refl decides))
+
+pub from_parts-membership-requires-clause-size : goal.from_parts-membership-requires-clause-size
+from_parts-membership-requires-clause-size t c =
+    let ready = rw c.in-Among.is at c.requires.ready in
+    ap length c.as_slice-in-Some.ensures ∙ (set_fits c.args.sets.now c.in-Among.set.0 c.in-Among.vars ready c.in-Some.set.now c.in-Some.ensures).0
+
+pub from_parts-membership-requires-clause-integers : goal.from_parts-membership-requires-clause-integers
+from_parts-membership-requires-clause-integers t c =
+    let ready = rw c.in-Among.is at c.requires.ready in
+    (set_fits c.args.sets.now c.in-Among.set.0 c.in-Among.vars ready c.in-Some.set.now c.in-Some.ensures).1
+
+pub from_parts-returns-in-Some-clause-ok : goal.from_parts-returns-in-Some-clause-ok
+from_parts-returns-in-Some-clause-ok t c =
+    let decides = rw c.as_slice-in-Some.ensures at c.in_ok-auto-in-Some.ensures (tables c.args.sets.now) c.in-Among.set.0 (ap as_set c.in-Some.ensures) in
+    rw c.in-Among.is (part-fresh c.fresh-in-Some.ensures (remembered_leaf refl decides))
+
+pub from_parts-unreachable-requires : goal.from_parts-unreachable-requires
+from_parts-unreachable-requires t c =
+    let ready = rw c.in-Among.is at c.requires.ready in
+    set_there c.args.sets.now c.in-Among.set.0 c.in-Among.vars ready c.in-None.ensures
+
+pub from_parts-returns-in_err-inner-in-Not-clause-err : goal.from_parts-returns-in_err-inner-in-Not-clause-err
+from_parts-returns-in_err-inner-in-Not-clause-err t c =
+    let p = err_from_is_err_and c.from_residual-in_err-inner-in-Not.result c.from_residual-in_err-inner-in-Not.ensures.1 in
+    let outside = rw c.in-Not.is at c.requires.not_recalled in
     let part = rw c.deref.ensures at c.in_err-inner-in-Not.ensures.err in
-    rw (c.in-Not.is, p.1, p.2) (interrupted_not (tables c.args.sets.now) c.args.before (tree_of c.in-Not.g.value) c.args.self.now c.compiled.new.self not_plain c.in_err-inner-in-Not.field-0.0 part)
+    rw (c.in-Not.is, p.1, p.2) (interrupted_not outside part)
 
-pub compiled-not-requires : goal.compiled-not-requires
-compiled-not-requires t c =
-    let inner = rw c.deref.ensures at c.in_ok-inner-in-Not.ensures.ok in
-    (inner.auto, inner.has, inner.remembered.compiled.reduced)
-
-pub compiled-returns-in_err-auto-in-Not-clause-err : goal.compiled-returns-in_err-auto-in-Not-clause-err
-compiled-returns-in_err-auto-in-Not-clause-err t c =
+pub from_parts-returns-in_err-auto-in-Not-clause-err : goal.from_parts-returns-in_err-auto-in-Not-clause-err
+from_parts-returns-in_err-auto-in-Not-clause-err t c =
     let p = err_from_is_err_and c.from_residual-in_err-auto-in-Not.result c.from_residual-in_err-auto-in-Not.ensures.1 in
-    let not_plain = rw c.in-Not.is at (sym c.is_plain.ensures ∙ c.if-is_plain.false) in
-    let inner = rw c.deref.ensures at c.in_ok-inner-in-Not.ensures.ok in
-    rw (c.in-Not.is, p.1, p.2) (interrupted_at_not (tables c.args.sets.now) c.args.before (tree_of c.in-Not.g.value) c.args.self.now c.compiled.new.self not_plain inner.auto c.in_ok-inner-in-Not.inner.done c.in_err-auto-in-Not.field-0.0 inner.remembered c.in_err-auto-in-Not.ensures.over)
+    let outside = rw c.in-Not.is at c.requires.not_recalled in
+    let part = rw c.deref.ensures at c.in_ok-inner-in-Not.ensures.ok in
+    rw (c.in-Not.is, p.1) (interrupted_at_not outside part.remembered p.2)
 
-pub compiled-returns-in_ok-auto-in-Not-clause-ok : goal.compiled-returns-in_ok-auto-in-Not-clause-ok
-compiled-returns-in_ok-auto-in-Not-clause-ok t c =
-    let not_plain = rw c.in-Not.is at (sym c.is_plain.ensures ∙ c.if-is_plain.false) in
-    let inner = rw c.deref.ensures at c.in_ok-inner-in-Not.ensures.ok in
-    let made = c.in_ok-auto-in-Not.ensures in
-    rw c.in-Not.is (part-fresh _ _ _ _ _ _ _ (remembered_not (tables c.args.sets.now) c.args.before (tree_of c.in-Not.g.value) c.args.self.now c.compiled.new.self not_plain inner.auto c.in_ok-auto-in-Not.auto c.in_ok-inner-in-Not.inner.done inner.remembered made.reduced (made.decides inner.auto inner.has (tree_of c.in-Not.g.value) (tables c.args.sets.now) inner.remembered.compiled.decides)))
+pub from_parts-returns-in-Not-clause-ok : goal.from_parts-returns-in-Not-clause-ok
+from_parts-returns-in-Not-clause-ok t c =
+    let outside = rw c.in-Not.is at c.requires.not_recalled in
+    let part = rw c.deref.ensures at c.in_ok-inner-in-Not.ensures.ok in
+    rw c.in-Not.is (part-fresh c.fresh-in-Not.ensures (remembered_not outside (lent part c.automaton.ensures) c.in_ok-auto-in-Not.ensures))
 
-pub compiled-returns-in_err-inner-in-Ex-clause-err : goal.compiled-returns-in_err-inner-in-Ex-clause-err
-compiled-returns-in_err-inner-in-Ex-clause-err t c =
+pub from_parts-returns-in_err-inner-in-Ex-clause-err : goal.from_parts-returns-in_err-inner-in-Ex-clause-err
+from_parts-returns-in_err-inner-in-Ex-clause-err t c =
     let p = err_from_is_err_and c.from_residual-in_err-inner-in-Ex.result c.from_residual-in_err-inner-in-Ex.ensures.1 in
-    let not_plain = rw c.in-Ex.is at (sym c.is_plain.ensures ∙ c.if-is_plain.false) in
+    let outside = rw c.in-Ex.is at c.requires.not_recalled in
     let part = rw c.deref-in-Ex.ensures at c.in_err-inner-in-Ex.ensures.err in
-    rw (c.in-Ex.is, p.1, p.2) (interrupted_ex (tables c.args.sets.now) c.args.before c.in-Ex.var (tree_of c.in-Ex.body.value) c.args.self.now c.compiled-in-Ex.new.self not_plain c.in_err-inner-in-Ex.field-0.0 part)
+    rw (c.in-Ex.is, p.1, p.2) (interrupted_ex outside part)
 
-pub compiled-overflow_add-step : goal.compiled-overflow_add-step
-compiled-overflow_add-step t c =
+pub from_parts-overflow_add-step : goal.from_parts-overflow_add-step
+from_parts-overflow_add-step t c =
     let room = rw c.in-Ex.is at c.requires.room in
-    let inner = rw c.deref-in-Ex.ensures at c.in_ok-inner-in-Ex.ensures.ok in
-    record { fits = omega (arith, room, inner.remembered.counts, length-append (steps (tree_of c.in-Ex.body.value)) (tree.Ex c.in-Ex.var (tree_of c.in-Ex.body.value) ∷ [])) }
+    let part = rw c.deref-in-Ex.ensures at c.in_ok-inner-in-Ex.ensures.ok in
+    record { fits = omega (arith, room, part.remembered.counts, length-append (steps (tree_of c.in-Ex.body.value)) (tree.Ex c.in-Ex.var (tree_of c.in-Ex.body.value) ∷ [])) }
 
-pub compiled-some-requires : goal.compiled-some-requires
-compiled-some-requires t c =
-    let inner = rw c.deref-in-Ex.ensures at c.in_ok-inner-in-Ex.ensures.ok in
-    (inner.auto, inner.has, inner.remembered.compiled.reduced)
+pub from_parts-returns-in-Ok-clause-ok : goal.from_parts-returns-in-Ok-clause-ok
+from_parts-returns-in-Ok-clause-ok t c =
+    let outside = rw c.in-Ex.is at c.requires.not_recalled in
+    let part = rw c.deref-in-Ex.ensures at c.in_ok-inner-in-Ex.ensures.ok in
+    let within = rw c.budget.ensures.is at c.in-Ok.ensures.within in
+    rw c.in-Ex.is (part-fresh c.fresh-in-Ok.ensures (remembered_ex outside (lent part c.automaton-auto.ensures) c.in-Ok.ensures.decides within))
 
-pub compiled-returns-in_err-auto-in-Ex-clause-err : goal.compiled-returns-in_err-auto-in-Ex-clause-err
-compiled-returns-in_err-auto-in-Ex-clause-err t c =
-    let p = err_from_is_err_and c.from_residual-in_err-auto-in-Ex.result c.from_residual-in_err-auto-in-Ex.ensures.1 in
-    let not_plain = rw c.in-Ex.is at (sym c.is_plain.ensures ∙ c.if-is_plain.false) in
-    let inner = rw c.deref-in-Ex.ensures at c.in_ok-inner-in-Ex.ensures.ok in
-    rw (c.in-Ex.is, p.1, p.2) (interrupted_at_ex (tables c.args.sets.now) c.args.before c.in-Ex.var (tree_of c.in-Ex.body.value) c.args.self.now c.compiled-in-Ex.new.self not_plain inner.auto c.in_ok-inner-in-Ex.inner.done inner.remembered c.in_err-auto-in-Ex.field-0.0 (c.in_err-auto-in-Ex.ensures.over inner.auto inner.has))
-
-pub compiled-returns-in_ok-auto-in-Ex-clause-ok : goal.compiled-returns-in_ok-auto-in-Ex-clause-ok
-compiled-returns-in_ok-auto-in-Ex-clause-ok t c =
-    let not_plain = rw c.in-Ex.is at (sym c.is_plain.ensures ∙ c.if-is_plain.false) in
-    let inner = rw c.deref-in-Ex.ensures at c.in_ok-inner-in-Ex.ensures.ok in
-    let made = c.in_ok-auto-in-Ex.ensures in
-    rw c.in-Ex.is (part-fresh _ _ _ _ _ _ _ (remembered_ex (tables c.args.sets.now) c.args.before c.in-Ex.var (tree_of c.in-Ex.body.value) c.args.self.now c.compiled-in-Ex.new.self not_plain inner.auto c.in_ok-inner-in-Ex.inner.done inner.remembered c.in_ok-auto-in-Ex.auto made.reduced (made.decides inner.auto inner.has (tree_of c.in-Ex.body.value) (tables c.args.sets.now) inner.remembered.compiled.decides) (made.within inner.auto inner.has)))
-
-pub compiled-returns-in_ok-made-in_default-clause-ok : goal.compiled-returns-in_ok-made-in_default-clause-ok
-compiled-returns-in_ok-made-in_default-clause-ok t c =
-    let none = no_steps c.args.f.now c.in_default.not-Not c.in_default.not-And c.in_default.not-Or c.in_default.not-Ex in
-    part-fresh _ _ _ _ _ _ _ (remembered_leaf (tables c.args.sets.now) c.args.before (tree_of c.args.f.now) c.args.self.now c.budget.result c.budget.ensures.is c.in_ok-made-in_default.made.auto c.in_ok-made-in_default.made.done none c.in_ok-made-in_default.ensures.done c.in_ok-made-in_default.ensures.ok)
-
-pub compiled-returns-in_err-made-in_default-clause-err : goal.compiled-returns-in_err-made-in_default-clause-err
-compiled-returns-in_err-made-in_default-clause-err t c =
-    let p = err_from_is_err_and c.from_residual-in_err-made-in_default.result c.from_residual-in_err-made-in_default.ensures.1 in
-    let none = no_steps c.args.f.now c.in_default.not-Not c.in_default.not-And c.in_default.not-Or c.in_default.not-Ex in
-    rw (p.1, p.2) (interrupted_leaf (tables c.args.sets.now) c.args.before (tree_of c.args.f.now) c.args.self.now c.budget.result c.budget.ensures.is c.in_err-made-in_default.field-0.0 none c.in_err-made-in_default.ensures.err)
+pub from_parts-returns-clause-err : goal.from_parts-returns-clause-err
+from_parts-returns-clause-err t c =
+    let outside = rw c.in-Ex.is at c.requires.not_recalled in
+    let part = rw c.deref-in-Ex.ensures at c.in_ok-inner-in-Ex.ensures.ok in
+    rw (c.in-Ex.is, c.at.ensures) (interrupted_at_ex outside (lent part c.automaton-auto.ensures) c.in-Err.why (λ over. rw c.budget.ensures.is at (c.in-Err.ensures.over (ap Err over))))
 
 pub both-returns-in_err-left-clause-err : goal.both-returns-in_err-left-clause-err
 both-returns-in_err-left-clause-err t c =
     let p = err_from_is_err_and c.from_residual.result c.from_residual.ensures.1 in
-    rw (p.1, p.2) (interrupted_left (tables c.args.sets.now) c.args.before c.args.connective (tree_of c.args.g.now) (tree_of c.args.h.now) c.requires.not_plain c.args.self.now c.compiled.new.self c.in_err-left.field-0.0 c.in_err-left.ensures.err)
+    rw (p.1, p.2) (interrupted_left c.args.pair c.requires.not_recalled c.in_err-left.ensures.err)
+
+pub both-compiled-requires-2 : goal.both-compiled-requires-2
+both-compiled-requires-2 t c =
+    let left = c.in_ok-left.ensures.ok.remembered.counts in
+    let size = size-connect c.args.pair.connective (tree_of c.args.pair.left.now) (tree_of c.args.pair.right.now) in
+    let ready = ready-connect c.args.pair.connective (tree_of c.args.pair.left.now) (tree_of c.args.pair.right.now) c.args.sets.now c.requires.ready in
+    (search rules, (ready.2, omega (arith, c.requires.room, left, size)))
 
 pub both-returns-in_err-right-clause-err : goal.both-returns-in_err-right-clause-err
 both-returns-in_err-right-clause-err t c =
     let p = err_from_is_err_and c.from_residual-in_err-right.result c.from_residual-in_err-right.ensures.1 in
-    let left = c.in_ok-left.ensures.ok in
-    rw (p.1, p.2) (interrupted_right (tables c.args.sets.now) c.args.before c.args.connective (tree_of c.args.g.now) (tree_of c.args.h.now) c.requires.not_plain c.args.self.now c.compiled.new.self c.compiled-2.new.self left.auto c.in_ok-left.left.done left.remembered c.in_err-right.field-0.0 c.in_err-right.ensures.err)
+    rw (p.1, p.2) (interrupted_right c.args.pair c.requires.not_recalled c.in_ok-left.ensures.ok.remembered c.in_err-right.ensures.err)
 
 pub both-overflow_add-step : goal.both-overflow_add-step
 both-overflow_add-step t c =
-    record { fits = omega (arith, c.requires.room, c.in_ok-left.ensures.ok.remembered.counts, c.in_ok-right.ensures.ok.remembered.counts, size-connect c.args.connective (tree_of c.args.g.now) (tree_of c.args.h.now)) }
+    let left = c.in_ok-left.ensures.ok.remembered.counts in
+    let right = c.in_ok-right.ensures.ok.remembered.counts in
+    let size = size-connect c.args.pair.connective (tree_of c.args.pair.left.now) (tree_of c.args.pair.right.now) in
+    record { fits = omega (arith, c.requires.room, left, right, size) }
 
-pub both-joined-requires-clause-left : goal.both-joined-requires-clause-left
-both-joined-requires-clause-left t c =
+pub both-automata-requires-clause-left : goal.both-automata-requires-clause-left
+both-automata-requires-clause-left t c =
     let left = c.in_ok-left.ensures.ok in
-    let right = c.in_ok-right.ensures.ok in
-    (left.auto, (part-after c.compiled.new.self c.compiled-2.new.self (plain_parts (tree_of c.args.h.now)) c.in_ok-left.left.part left.auto right.remembered.after left.has), left.remembered.compiled.reduced)
+    (left.auto, part-after _ _ _ c.in_ok-left.left.part left.auto left.has c.in_ok-right.ensures.ok.remembered.after)
 
-pub both-joined-requires-clause-right : goal.both-joined-requires-clause-right
-both-joined-requires-clause-right t c =
-    let right = c.in_ok-right.ensures.ok in
-    (right.auto, right.has, right.remembered.compiled.reduced)
+pub both-automata-requires-clause-right : goal.both-automata-requires-clause-right
+both-automata-requires-clause-right t c = (c.in_ok-right.ensures.ok.auto, c.in_ok-right.ensures.ok.has)
 
-pub both-joined-requires-clause-tracks : goal.both-joined-requires-clause-tracks
-both-joined-requires-clause-tracks t c a b has_a has_b =
-    let left = c.in_ok-left.ensures.ok in
-    let right = c.in_ok-right.ensures.ok in
-    let left_has = part-after c.compiled.new.self c.compiled-2.new.self (plain_parts (tree_of c.args.h.now)) c.in_ok-left.left.part left.auto right.remembered.after left.has in
-    rw (one_automaton c.compiled-2.new.self c.in_ok-left.left.part a left.auto has_a left_has, one_automaton c.compiled-2.new.self c.in_ok-right.right.part b right.auto has_b right.has, left.remembered.compiled.decides.tracks, right.remembered.compiled.decides.tracks) (ready-connect c.args.connective (tree_of c.args.g.now) (tree_of c.args.h.now) c.args.sets.now c.requires.ready).0
+pub both-joined-requires : goal.both-joined-requires
+both-joined-requires t c =
+    let left = lent-later c.in_ok-left.ensures.ok c.in_ok-right.ensures.ok.remembered.after c.automata.ensures.left in
+    let right = lent c.in_ok-right.ensures.ok c.automata.ensures.right in
+    rw (left.made.decides.tracks, right.made.decides.tracks)
+    (ready-connect c.args.pair.connective (tree_of c.args.pair.left.now) (tree_of c.args.pair.right.now) c.args.sets.now c.requires.ready).0
 
-pub both-returns-in_err-auto-clause-err : goal.both-returns-in_err-auto-clause-err
-both-returns-in_err-auto-clause-err t c =
-    let p = err_from_is_err_and c.from_residual-in_err-auto.result c.from_residual-in_err-auto.ensures.1 in
-    let left = c.in_ok-left.ensures.ok in
-    let right = c.in_ok-right.ensures.ok in
-    rw (p.1, p.2) (interrupted_at_both (tables c.args.sets.now) c.args.before c.args.connective (tree_of c.args.g.now) (tree_of c.args.h.now) c.requires.not_plain c.args.self.now c.compiled.new.self c.compiled-2.new.self left.auto c.in_ok-left.left.done left.remembered right.auto c.in_ok-right.right.done right.remembered c.in_err-auto.field-0.0 (c.in_err-auto.ensures.over left.auto right.auto (part-after c.compiled.new.self c.compiled-2.new.self (plain_parts (tree_of c.args.h.now)) c.in_ok-left.left.part left.auto right.remembered.after left.has) right.has))
+pub both-returns-in-Ok-clause-ok : goal.both-returns-in-Ok-clause-ok
+both-returns-in-Ok-clause-ok t c =
+    let left = lent-later c.in_ok-left.ensures.ok c.in_ok-right.ensures.ok.remembered.after c.automata.ensures.left in
+    let right = lent c.in_ok-right.ensures.ok c.automata.ensures.right in
+    let within = rw c.budget.ensures.is at c.in-Ok.ensures.within in
+    part-fresh c.fresh.ensures (remembered_both c.args.pair c.requires.not_recalled left right c.in-Ok.ensures.decides within)
 
-pub both-returns-clause-ok : goal.both-returns-clause-ok
-both-returns-clause-ok t c =
-    let left = c.in_ok-left.ensures.ok in
-    let right = c.in_ok-right.ensures.ok in
-    let has = part-after c.compiled.new.self c.compiled-2.new.self (plain_parts (tree_of c.args.h.now)) c.in_ok-left.left.part left.auto right.remembered.after left.has in
-    let made = c.in_ok-auto.ensures in
-    part-fresh _ _ _ _ _ _ _ (remembered_both (tables c.args.sets.now) c.args.before c.args.connective (tree_of c.args.g.now) (tree_of c.args.h.now) c.requires.not_plain c.args.self.now c.compiled.new.self c.compiled-2.new.self left.auto c.in_ok-left.left.done left.remembered right.auto c.in_ok-right.right.done right.remembered c.in_ok-auto.auto made.reduced (made.decides left.auto right.auto has right.has (tree_of c.args.g.now) (tree_of c.args.h.now) (tables c.args.sets.now) left.remembered.compiled.decides right.remembered.compiled.decides) (made.within left.auto right.auto has right.has))
+pub both-returns-clause-err : goal.both-returns-clause-err
+both-returns-clause-err t c =
+    let left = lent-later c.in_ok-left.ensures.ok c.in_ok-right.ensures.ok.remembered.after c.automata.ensures.left in
+    let right = lent c.in_ok-right.ensures.ok c.automata.ensures.right in
+    rw c.at.ensures (interrupted_at_both c.args.pair c.requires.not_recalled left right c.in-Err.why (λ over. rw c.budget.ensures.is at (c.in-Err.ensures.over (ap Err over))))

@@ -4,7 +4,16 @@ use Rattle.formula_auto.proofs.Connections.{nodes}
 use Rattle.formula_auto.proofs.memo.Memo.+compiled.Given as goal
 
 abbrev pub decreases-compiled : goal.decreases-compiled
-decreases-compiled l = 2 * nodes (tree_of l.f.now)
+decreases-compiled l = 5 * nodes (tree_of l.f.now) + 3
+
+abbrev pub decreases-recalled : goal.decreases-recalled
+decreases-recalled l = 5 * nodes (tree_of l.f.now) + 2
+
+abbrev pub decreases-entered : goal.decreases-entered
+decreases-entered l = 5 * nodes (tree_of l.f.now) + 1
+
+abbrev pub decreases-from_parts : goal.decreases-from_parts
+decreases-from_parts l = 5 * nodes (tree_of l.f.now)
 
 abbrev pub decreases-both : goal.decreases-both
-decreases-both l = 2 * (nodes (tree_of l.g.now) + nodes (tree_of l.h.now)) + 1
+decreases-both l = 5 * (nodes (tree_of l.pair.left.now) + nodes (tree_of l.pair.right.now)) + 4

@@ -1,0 +1,8 @@
+use Rattle.lin_formula.specs.SetOf.{members}
+use Rattle.formula_auto.proofs.BothOk.{both_ok}
+use Rattle.formula_auto.proofs.Parts.{Decides-Not}
+use Rattle.formula_auto.proofs.steps.complement.Goals as goal
+
+pub returns : goal.returns
+returns c =
+    both_ok c.not.result _ _ _ (λ made tracks words f e part. Decides-Not (members e) f c.args.a.now made part tracks words) c.not.ensures.tracks c.not.ensures.words
