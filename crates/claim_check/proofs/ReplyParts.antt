@@ -35,7 +35,9 @@ pub ply_leads : (c : Claim) (ply budget k : ℕ) (masks : List ℕ) (reached : L
     (for_each masks (check_stale (rules_of c.position) (other c.winner) k (claimed_level c k) reached))) (check_ply c ply) budget
 ply_leads c ply budget k masks reached at_ply masks_are ends =
     let rules = rules_of c.position in
-    let after = λ (s : Side) (n : ℕ) (ms : List ℕ) (l : Level). and_then (for_each ms (check_left rules s (suc n) l (claimed_level c (n + 2)))) (for_each ms (check_stale rules (other c.winner) n (claimed_level c n) l)) in
+    let after =
+    λ (s : Side) (n : ℕ) (ms : List ℕ) (l : Level). and_then (for_each ms (check_left rules s (suc n) l (claimed_level c (n + 2))))
+    (for_each ms (check_stale rules (other c.winner) n (claimed_level c n) l)) in
     let By : Side → Type 0 = λ s. LeadsTo (after s ply (masks_of c.position) reached) (check_ply c ply) budget in
     let At : ℕ → Type 0 = λ n. LeadsTo (after c.winner n (masks_of c.position) reached) (check_ply c ply) budget in
     let Over : List ℕ → Type 0 = λ ms. LeadsTo (after c.winner k ms reached) (check_ply c ply) budget in

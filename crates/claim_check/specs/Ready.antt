@@ -1,5 +1,6 @@
 -- Claimed sets with which the plan of their claim can be gone through.
 use Rattle.std.specs.Prelude.{◌≡◌, ℕ, ◌≤◌, length, IsSome, Some}
+use Rattle.limits.specs.declared.numbers.TheConstants.{MOST_MOVES, MOST_STATES}
 use Rattle.auto_core.specs.Automaton.{Automaton}
 use Rattle.auto_core.specs.Integers.{DecidesIntegers}
 use Rattle.auto_core.specs.Reduced.{IsReduced}
@@ -15,10 +16,10 @@ claim_in s = claim_of (solution_of s)
 -- they are a claim within at most twenty moves, and each is reduced and has no more states than the greatest budget
 pub record IsReady (s : ClaimedSets) : Type 0 where
   pub masks : s.masks.items ≡ masks_of s.position
-  pub moves : s.moves ≤ 20
+  pub moves : s.moves ≤ MOST_MOVES
   pub claim : IsClaim (claim_in s)
   pub reduced : (ply mask : ℕ) (a : Automaton) → claimed_at (claim_in s) ply mask ≡ Some a → IsReduced a
-  pub few : (ply mask : ℕ) (a : Automaton) → claimed_at (claim_in s) ply mask ≡ Some a → length a.accept ≤ 200000
+  pub few : (ply mask : ℕ) (a : Automaton) → claimed_at (claim_in s) ply mask ≡ Some a → length a.accept ≤ MOST_STATES
 
 -- a set is claimed at the ply for each mask of the game
 abbrev pub AreThere : Claim → ℕ → Type 0

@@ -15,6 +15,7 @@ use crate::reduced::reduced_claim;
 use crate::replies::check_replies;
 use crate::rules::Found;
 use crate::sets::check_sets;
+use limits::Budget;
 use mate_plan::{Bench, Work};
 use std::alloc::Global;
 use strategy_file::Claim;
@@ -42,9 +43,8 @@ fn check_plan(bench: &Bench, work: &mut Work, claimed: &ClaimedSets) -> Found
 
 /// Checks a claim, whoever made it. The answer is the solved position of its sets, or the first rule that the claim does
 /// not keep; a step of its plan may need so many states.
-pub fn check(alloc: Global, claim: Claim, budget: u32) -> Result<Solved, CheckError>
+pub fn check(alloc: Global, claim: Claim, budget: Budget) -> Result<Solved, CheckError>
     requires claim { HasFile (claim_of claim) }
-    requires budget { (1 ≤ budget) × (budget ≤ 200000) }
     ensures claimed { IfOk result (λ s. IsChecked (claim_of claim) s) }
     ensures won { OnOk result (Ends (plan_of (claim_of claim)) budget None) }
     ensures error { IfErr result (IsCheckError (claim_of claim) budget) }

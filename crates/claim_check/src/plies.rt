@@ -4,6 +4,7 @@ ghost use Rattle.claim_check.specs.Plies.{AreFew};
 ghost use Rattle.mate_plan.specs.Claim.{every_second, losers_plies as plies_of};
 
 use chess_game::Side;
+use limits::MOST_MOVES;
 use std::alloc::{AllocError, Global};
 
 /// Every second ply from a first one on, so many of them.
@@ -42,7 +43,7 @@ impl Plies {
 
 /// The plies of the loser, by the winner and by the side that moves first.
 pub(crate) fn losers_plies(winner: Side, first: Side, moves: u8) -> Plies
-    requires { moves ≤ 20 }
+    requires { moves ≤ MOST_MOVES }
     ensures plies { every_second result.first result.count ≡ plies_of winner first moves }
     ensures few { AreFew result }
 {

@@ -59,13 +59,15 @@ module _ {P : Type 0} where
   are_empty-alike part (i ∷ is) (j ∷ js) at to e (item, items) =
       let At : ℕ → Type 0 = λ n. Alike Same (are_empty part at (i ∷ is)) (are_empty part n (j ∷ js)) in
       subst At e
-      (bind-alike SameMade Same (make part at i) (make part at j) (λ made. Ask (Empty (made.0 ∷ [])) (are_empty part made.1 is) (Give false)) (λ made. Ask (Empty (made.0 ∷ [])) (are_empty part made.1 js) (Give false)) (make-alike part at i j item)
+      (bind-alike SameMade Same (make part at i) (make part at j) (λ made. Ask (Empty (made.0 ∷ [])) (are_empty part made.1 is) (Give false))
+      (λ made. Ask (Empty (made.0 ∷ [])) (are_empty part made.1 js) (Give false)) (make-alike part at i j item)
       (λ a b made. (Empty-alike a.0 b.0 made.sets, are_empty-alike part is js a.1 b.1 made.at items, refl)))
 
   is_within-alike : (tracks : List Var) (part : P) (s t u v : SetOf) → SameSets s t → SameSets u v → Alike Same (is_within tracks part s u) (is_within tracks part t v)
   is_within-alike tracks part s t u v first second =
       bind-alike SameSets Same (remainder tracks part s u) (remainder tracks part t v) (λ rest. Ask (Within s u) (Give true) (Give false)) (λ rest. Ask (Within t v) (Give true) (Give false))
-      (bind-alike SameMade SameSets (without tracks part s u) (without tracks part t v) (λ made. Give made.0) (λ made. Give made.0) (without-alike tracks part s t u v first second) (λ a b made. made.sets))
+      (bind-alike SameMade SameSets (without tracks part s u) (without tracks part t v) (λ made. Give made.0) (λ made. Give made.0)
+      (without-alike tracks part s t u v first second) (λ a b made. made.sets))
       (λ a b rest. (Within-alike s t u v first second, refl, refl))
 
 holds_by-alike : (r : RuleAt) (m n : Program Bool) → Alike Same m n → Alike Same (holds_by r m) (holds_by r n)
@@ -103,7 +105,8 @@ module _ (rules : Rules) where
   safe-alike side ply mask s t sets =
       are_empty-alike (name ply mask kind.Guard) (bear_items rules side mask s) (bear_items rules side mask t) 1 1 refl (bear-same rules side mask s t sets)
 
-  moves-alike : (side : Side) (ply mask : ℕ) (found missing : Part) (s t : SetOf) (c d : Level) → SameSets s t → SameLevels c d → Alike Same (have_moves rules side ply mask found missing s c) (have_moves rules side ply mask found missing t d)
+  moves-alike : (side : Side) (ply mask : ℕ) (found missing : Part) (s t : SetOf) (c d : Level) → SameSets s t → SameLevels c d
+      → Alike Same (have_moves rules side ply mask found missing s c) (have_moves rules side ply mask found missing t d)
   moves-alike side ply mask found missing s t c d sets levels =
       let items = λ (u : SetOf) (l : Level). pre_items rules side mask u l in
       let within = λ (u v : SetOf). is_within (rules.tracks mask) (name ply mask missing) u v in

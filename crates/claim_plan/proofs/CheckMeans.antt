@@ -1,4 +1,4 @@
--- What the plan of a claim finds.
+-- What the plan of a claim finds. Crates above cite these lemmas.
 use Rattle.std.proofs.Common.{◌≡◌, ◌↔◌, ℕ, suc, ◌+◌, List, [], ◌∷◌, map, None, refl, subst, arith}
 use Rattle.std.specs.Prelude.{Contains}
 use Rattle.std.specs.List.{flat_map}
@@ -45,7 +45,8 @@ module _ (c : Claim) (is : IsClaim c) (mean : RulesMean c.position) where
   in_masks_of m game = (mean.game.masks m).1 game
 
   module _ (all : AllHold (KeepsRule c) (flat_map (set_rules c) (losers_plies c.winner c.position.turn c.moves))) where
-    set_rules-hold : (ply m : ℕ) → IsLosersPly c.winner c.position c.moves ply → IsGameMask c.position m → AllHold (KeepsRule c) (rule_at ply m rule.Sign ∷ rule_at ply m rule.Same ∷ rule_at ply m rule.Guard ∷ [])
+    set_rules-hold : (ply m : ℕ) → IsLosersPly c.winner c.position c.moves ply → IsGameMask c.position m
+        → AllHold (KeepsRule c) (rule_at ply m rule.Sign ∷ rule_at ply m rule.Same ∷ rule_at ply m rule.Guard ∷ [])
     set_rules-hold ply m losers game =
         let at_ply = all_at (KeepsRule c) (set_rules c) plies all ply (plies-have c.winner c.position c.moves ply losers) in
         all_at (KeepsRule c) (λ k. rule_at ply k rule.Sign ∷ rule_at ply k rule.Same ∷ rule_at ply k rule.Guard ∷ []) (masks_of c.position) at_ply m (in_masks_of m game)
@@ -105,13 +106,14 @@ module _ (c : Claim) (is : IsClaim c) (mean : RulesMean c.position) where
     λ won. failing_none (KeepsRule c) (rules_in_order c) found (all_of (KeepsRule c) (won_keeps c won) (rules_in_order c)) first,
   )
 
-  module _ (some_point : point_of c.position.men ≡ None → ⊥) where
-    sets-checks : (ply : ℕ) → Checks (KeepsRule c) (set_rules c ply) (check_sets c ply)
-    sets-checks ply =
-        for_each-checks (KeepsRule c) (λ m. rule_at ply m rule.Sign ∷ rule_at ply m rule.Same ∷ rule_at ply m rule.Guard ∷ [])
-        (check_set c ply) (masks_of c.position)
-        (λ m i. claimed-checks c is mean ply m (game_mask c.position mean m i))
+  -- at each ply the rules of the claimed sets are checked
+  pub sets-checks : (ply : ℕ) → Checks (KeepsRule c) (set_rules c ply) (check_sets c ply)
+  sets-checks ply =
+      for_each-checks (KeepsRule c) (λ m. rule_at ply m rule.Sign ∷ rule_at ply m rule.Same ∷ rule_at ply m rule.Guard ∷ [])
+      (check_set c ply) (masks_of c.position)
+      (λ m i. claimed-checks c is mean ply m (game_mask c.position mean m i))
 
+  module _ (some_point : point_of c.position.men ≡ None → ⊥) where
     -- the plan finds the first of the rules that fails
     pub plan-checks : Checks (KeepsRule c) (rules_in_order c) (check_plan c)
     plan-checks =

@@ -34,18 +34,23 @@ use Rattle.claim_plan.proofs.ReplyRules.{answer_moves}
 use Rattle.claim_plan.proofs.SetRules.{claimed_stands}
 use Rattle.winning_sets.proofs.WonLemmas.{last_loser, last_winner}
 
-module _ (c : Claim) (is : IsClaim c) (mean : RulesMean c.position) (some_point : point_of c.position.men ≡ None → ⊥) (apart : (ply m : ℕ) → RuleHolds c rule.Same ply m) (safe : (ply m : ℕ) → RuleHolds c rule.Guard ply m) where
+module _ (c : Claim) (is : IsClaim c) (mean : RulesMean c.position) (some_point : point_of c.position.men ≡ None → ⊥)
+    (apart : (ply m : ℕ) → RuleHolds c rule.Same ply m) (safe : (ply m : ℕ) → RuleHolds c rule.Guard ply m) where
   abbrev p : Position
   p = c.position
 
   abbrev f : RuleAt
   f = rule_at 0 (mask_of c.position) rule.First
 
-  has-told : (s : SetOf) (xs : Entries) (found : Finding) → Takes (holds_if (rule_at 0 (mask_of c.position) rule.First) (Has s (tuple_of c.position))) xs (Some found) → IsTold (Member s (tuple_of c.position)) (rule_at 0 (mask_of c.position) rule.First) found
+  has-told : (s : SetOf) (xs : Entries) (found : Finding)
+      → Takes (holds_if (rule_at 0 (mask_of c.position) rule.First) (Has s (tuple_of c.position))) xs (Some found)
+      → IsTold (Member s (tuple_of c.position)) (rule_at 0 (mask_of c.position) rule.First) found
   has-told s xs found t =
       holds_by-told (Member s (tuple_of p)) f (Ask (Has s (tuple_of p)) (Give true) (Give false)) (asked-tells (Has s (tuple_of p)) (Member s (tuple_of p)) (λ h. h) (λ h. h)) xs found t
 
-  point_has : (s : SetOf) (o : Option Tree) → point_of c.position.men ≡ o → ((tuple : List ℤ) → Member s tuple ↔ Member (Where (formula_or (tree.Value (var 0) (pos 0)) o) (λ _. Nothing)) tuple) → Member s (tuple_of c.position)
+  point_has : (s : SetOf) (o : Option Tree) → point_of c.position.men ≡ o
+      → ((tuple : List ℤ) → Member s tuple ↔ Member (Where (formula_or (tree.Value (var 0) (pos 0)) o) (λ _. Nothing)) tuple)
+      → Member s (tuple_of c.position)
   point_has s None e same = absurd (some_point e)
   point_has s (Some t) e same = (same (tuple_of p)).1 ((mean.point.point t (λ _. Nothing) (tuple_of p) e).1 refl)
 
@@ -83,7 +88,12 @@ module _ (c : Claim) (is : IsClaim c) (mean : RulesMean c.position) (some_point 
       let last = last_loser c.winner p.turn c.moves turn in
       omega (arith, last, losers.before)
 
-  move_means : (point first : SetOf) (xs : Entries) → c.position.turn ≡ c.winner → Member point (tuple_of c.position) → Takes (union (rules_of c.position) 0 (mask_of c.position) kind.First (pre_items (rules_of c.position) c.winner (mask_of c.position) point (claimed_level c 1))) xs (Some first) → Member first (tuple_of c.position) ↔ IsBegun c.winner c.position (IsClaimed c)
+  move_means : (point first : SetOf) (xs : Entries) → c.position.turn ≡ c.winner → Member point (tuple_of c.position)
+      → Takes
+      (union (rules_of c.position) 0 (mask_of c.position) kind.First
+      (pre_items (rules_of c.position) c.winner (mask_of c.position) point (claimed_level c 1)))
+      xs (Some first)
+      → Member first (tuple_of c.position) ↔ IsBegun c.winner c.position (IsClaimed c)
   move_means point first xs turn source t =
       let Side_fits : Side → Type 0 = λ s. Fits p s p in
       let fits = subst Side_fits turn (mean.game.begins is.sound) in
@@ -98,7 +108,9 @@ module _ (c : Claim) (is : IsClaim c) (mean : RulesMean c.position) (some_point 
         ],
       )
 
-  starts-tell : c.position.turn ≡ c.winner → (xs : Entries) (b : Bool) → Takes (has_first_move (rules_of c.position) c.winner (mask_of c.position) (tuple_of c.position) (claimed_level c 1)) xs (Some b) → Tells (IsBegun c.winner c.position (IsClaimed c)) b
+  starts-tell : c.position.turn ≡ c.winner → (xs : Entries) (b : Bool)
+      → Takes (has_first_move (rules_of c.position) c.winner (mask_of c.position) (tuple_of c.position) (claimed_level c 1)) xs (Some b)
+      → Tells (IsBegun c.winner c.position (IsClaimed c)) b
   starts-tell turn xs b t =
       let into_one = λ (s : SetOf). union (rules_of p) 0 (mask_of p) kind.First (pre_items (rules_of p) c.winner (mask_of p) s (claimed_level c 1)) in
       let asked = λ (s : SetOf). Ask (Has s (tuple_of p)) (Give true) (Give false) in

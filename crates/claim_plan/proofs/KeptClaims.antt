@@ -67,7 +67,8 @@ module _ (winner : Side) (p : Position) (moves : ℕ) (sound : Sound p) where
           let e = last_loser winner p.turn moves lost.0 in
           inr (lost.0, losing_kept 0 n (omega (arith, e, is)) p refl lost)
 
-      answered : (ply : ℕ) (q r : Position) (left : ℕ) → ply + (2 * left + 1) ≡ last_ply winner p.turn moves → Reach p ply q × Lost winner left q → Moves q r → LeadsInto (KeptByLoser winner p moves (ply + 2)) r
+      answered : (ply : ℕ) (q r : Position) (left : ℕ) → ply + (2 * left + 1) ≡ last_ply winner p.turn moves → Reach p ply q × Lost winner left q
+          → Moves q r → LeadsInto (KeptByLoser winner p moves (ply + 2)) r
       answered ply q r left before (reached, lost) (i, z, legal) = from left before ((lost_flat winner (Win winner left) q lost).2 i z r legal)
         where
           from : (left : ℕ) → ply + (2 * left + 1) ≡ last_ply winner p.turn moves → Win winner left r → LeadsInto (KeptByLoser winner p moves (ply + 2)) r
@@ -101,7 +102,8 @@ module _ (c : Claim) (is : IsClaim c) (mean : RulesMean c.position) (some_point 
   turn_of : (ply : ℕ) (q : Position) (h : KeptByLoser c.winner c.position c.moves ply q) → q.turn ≡ other c.winner
   turn_of ply q h = ((kept_lost c.winner c.position c.moves ply h.losers.left h.losers.before q).0 h.kept).1.0
 
-  from_set : (ply : ℕ) (q : Position) (o : Option Automaton) → claimed_at c ply (mask_of q) ≡ o → IsClaimed c ply q → IsSomeAnd o (λ a. IsAccepted a (tuple_of q)) → KeptByLoser c.winner c.position c.moves ply q
+  from_set : (ply : ℕ) (q : Position) (o : Option Automaton) → claimed_at c ply (mask_of q) ≡ o → IsClaimed c ply q
+      → IsSomeAnd o (λ a. IsAccepted a (tuple_of q)) → KeptByLoser c.winner c.position c.moves ply q
   from_set ply q None e h there = absurd there
   from_set ply q (Some a) e h there =
       let losers = (is.only ply (mask_of q) a e).0 in

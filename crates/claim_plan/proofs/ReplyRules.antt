@@ -96,7 +96,8 @@ module _ (c : Claim) (is : IsClaim c) (mean : RulesMean c.position) (apart : (pl
     reached_stands r fits =
         let Is : ℕ → SetOf → Type 0 = λ m s. (ys : Entries) × Takes (reach_of m) ys (Some s) in
         let (ys, made) = for_masks-level reach_of Is (masks_of p) (λ m i s zs h. (zs, h)) no_sets reached us reaches (mask_of r) (inr (in_masks p mean (other loser) r fits)) in
-        reach_set-stands p mean loser (suc ply) (claimed_level c ply) (reached (mask_of r)) ys (IsClaimed c ply) r (fitting ply) (claimed_stands c is mean ply) (λ q h. (fits_of ply q h, sound_of ply q h)) fits made
+        reach_set-stands p mean loser (suc ply) (claimed_level c ply) (reached (mask_of r)) ys (IsClaimed c ply) r (fitting ply)
+        (claimed_stands c is mean ply) (λ q h. (fits_of ply q h, sound_of ply q h)) fits made
 
     reached_fitting : (m : ℕ) → HoldsFitting c.position (other (other c.winner)) m (reached m)
     reached_fitting m =
@@ -112,11 +113,18 @@ module _ (c : Claim) (is : IsClaim c) (mean : RulesMean c.position) (apart : (pl
         record { kings = fits.kings; apart = fits.apart; other_safe = h.safe }
 
     -- left
-    left_means : (m : ℕ) (answer : SetOf) (vs : Entries) → IsGameMask c.position m → Takes (union (rules_of c.position) (suc ply) m kind.Answer (pre_items (rules_of c.position) (other (other c.winner)) m (reached m) (claimed_level c (ply + 2)))) vs (Some answer) → ((tuple : List ℤ) → Member (reached m) tuple → Member answer tuple) ↔ RuleHolds c rule.Left (suc ply) m
+    left_means : (m : ℕ) (answer : SetOf) (vs : Entries) → IsGameMask c.position m
+        → Takes
+        (union (rules_of c.position) (suc ply) m kind.Answer
+        (pre_items (rules_of c.position) (other (other c.winner)) m (reached m) (claimed_level c (ply + 2))))
+        vs (Some answer)
+        → ((tuple : List ℤ) → Member (reached m) tuple → Member answer tuple) ↔ RuleHolds c rule.Left (suc ply) m
     left_means m answer vs game t =
         let Into : ℕ → Type 0 = λ k. Takes (union rules (suc ply) k kind.Answer (pre_items rules (other loser) k (reached k) (claimed_level c (ply + 2)))) vs (Some answer) in
         let stands = λ (r : Position) (fits : Fits p (other loser) r) (e : mask_of r ≡ m).
-        pre-stands p mean (other loser) (suc ply) kind.Answer r (reached (mask_of r)) answer (claimed_level c (ply + 2)) vs (Safe (Image (IsClaimed c ply))) (IsClaimed c (ply + 2)) fits (replied_sound r) (reached_stands r fits) (claimed_later (ply + 2)) (subst Into (sym e) t) in
+        pre-stands p mean (other loser) (suc ply) kind.Answer r (reached (mask_of r)) answer (claimed_level c (ply + 2)) vs
+        (Safe (Image (IsClaimed c ply))) (IsClaimed c (ply + 2)) fits (replied_sound r) (reached_stands r fits) (claimed_later (ply + 2))
+        (subst Into (sym e) t) in
         let two : ply + 2 ≡ suc (suc ply) = omega arith in
         let At : ℕ → Position → Type 0 = λ k s. IsClaimed c k s in (
           λ within r w.
@@ -141,13 +149,17 @@ module _ (c : Claim) (is : IsClaim c) (mean : RulesMean c.position) (apart : (pl
               subst (Member answer) is_tuple member,
         )
 
-    left-checks : (m : ℕ) → Contains (masks_of c.position) m → Checks (KeepsRule c) (rule_at (suc ply) m rule.Left ∷ []) (check_left (rules_of c.position) (other (other c.winner)) (suc ply) reached (claimed_level c (ply + 2)) m)
+    left-checks : (m : ℕ) → Contains (masks_of c.position) m
+        → Checks (KeepsRule c) (rule_at (suc ply) m rule.Left ∷ [])
+        (check_left (rules_of c.position) (other (other c.winner)) (suc ply) reached (claimed_level c (ply + 2)) m)
     left-checks m i =
         let r = rule_at (suc ply) m rule.Left in
         let part = name (suc ply) m kind.Left in
         told-checks (KeepsRule c) r (are_answered rules (other loser) (suc ply) reached (claimed_level c (ply + 2)) m)
         (λ xs b t.
-        let (us, vs, answer, order, first, rest) = Takes-split (union rules (suc ply) m kind.Answer (pre_items rules (other loser) m (reached m) (claimed_level c (ply + 2)))) (λ answer. is_within (mask_tracks p m) part (reached m) answer) xs b t in
+        let (us, vs, answer, order, first, rest) =
+        Takes-split (union rules (suc ply) m kind.Answer (pre_items rules (other loser) m (reached m) (claimed_level c (ply + 2))))
+        (λ answer. is_within (mask_tracks p m) part (reached m) answer) xs b t in
         tells-same ((tuple : List ℤ) → Member (reached m) tuple → Member answer tuple) (KeepsRule c r) b
         (left_means m answer us (game_mask p mean m i) first)
         (is_within-tells (mask_tracks p m) part (reached m) answer vs b rest))
@@ -168,12 +180,15 @@ module _ (c : Claim) (is : IsClaim c) (mean : RulesMean c.position) (apart : (pl
       quiet_at : (q : Position) → Fits c.position (other c.winner) q → mask_of q ≡ m → Member quiet (tuple_of q) ↔ Without (IsClaimed c ply) (Checked (IsClaimed c ply)) q
       quiet_at q fits e =
           let Into : ℕ → Type 0 = λ k. Takes (difference rules ply k kind.Quiet (claimed_level c ply k) check) bs (Some quiet) in
-          difference-stands p mean ply kind.Quiet q (claimed_level c ply (mask_of q)) check quiet bs (IsClaimed c ply) (Checked (IsClaimed c ply)) (claimed_over c is mean ply (mask_of q)) (claimed_stands c is mean ply q fits) (check_at q fits e) (subst Into (sym e) quiets)
+          difference-stands p mean ply kind.Quiet q (claimed_level c ply (mask_of q)) check quiet bs (IsClaimed c ply) (Checked (IsClaimed c ply))
+          (claimed_over c is mean ply (mask_of q)) (claimed_stands c is mean ply q fits) (check_at q fits e) (subst Into (sym e) quiets)
 
-      reply_at : (q : Position) → Fits c.position (other c.winner) q → mask_of q ≡ m → Member reply (tuple_of q) ↔ Pre (Without (IsClaimed c ply) (Checked (IsClaimed c ply))) (Safe (Image (IsClaimed c ply))) q
+      reply_at : (q : Position) → Fits c.position (other c.winner) q → mask_of q ≡ m
+          → Member reply (tuple_of q) ↔ Pre (Without (IsClaimed c ply) (Checked (IsClaimed c ply))) (Safe (Image (IsClaimed c ply))) q
       reply_at q fits e =
           let Into : ℕ → Type 0 = λ k. Takes (union rules ply k kind.Reply (pre_items rules loser k quiet reached)) cs (Some reply) in
-          pre-stands p mean loser ply kind.Reply q quiet reply reached cs Quietly (Safe (Image (IsClaimed c ply))) fits (λ h. sound_of ply q h.is_in) (quiet_at q fits e) reached_stands (subst Into (sym e) replies)
+          pre-stands p mean loser ply kind.Reply q quiet reply reached cs Quietly (Safe (Image (IsClaimed c ply))) fits (λ h. sound_of ply q h.is_in)
+          (quiet_at q fits e) reached_stands (subst Into (sym e) replies)
 
       stale_means : ((tuple : List ℤ) → Member quiet tuple → Member reply tuple) ↔ RuleHolds c rule.Stale ply m
       stale_means = (
@@ -206,7 +221,9 @@ module _ (c : Claim) (is : IsClaim c) (mean : RulesMean c.position) (apart : (pl
             ],
       )
 
-    replies-tell : (m : ℕ) → Contains (masks_of c.position) m → (xs : Entries) (b : Bool) → Takes (have_replies (rules_of c.position) (other c.winner) ply (claimed_level c ply) reached m) xs (Some b) → Tells (RuleHolds c rule.Stale ply m) b
+    replies-tell : (m : ℕ) → Contains (masks_of c.position) m → (xs : Entries) (b : Bool)
+        → Takes (have_replies (rules_of c.position) (other c.winner) ply (claimed_level c ply) reached m) xs (Some b)
+        → Tells (RuleHolds c rule.Stale ply m) b
     replies-tell m i xs b (inl (e, o)) = none_some o
     replies-tell m i xs b (inr (inl (inl empty, t))) =
         inl (λ q w. absurd (empty (tuple_of q) (claimed_member c is ply m q w.claimed w.mask_is)), Takes-give true b xs t)
@@ -221,7 +238,9 @@ module _ (c : Claim) (is : IsClaim c) (mean : RulesMean c.position) (apart : (pl
         (stale_means m (game_mask p mean m i) check quiet reply a1 a2 a3 t2 r2 t3)
         (is_within-tells (mask_tracks p m) part quiet reply a4 b r3)
 
-    stale-checks : (m : ℕ) → Contains (masks_of c.position) m → Checks (KeepsRule c) (rule_at ply m rule.Stale ∷ []) (check_stale (rules_of c.position) (other c.winner) ply (claimed_level c ply) reached m)
+    stale-checks : (m : ℕ) → Contains (masks_of c.position) m
+        → Checks (KeepsRule c) (rule_at ply m rule.Stale ∷ [])
+        (check_stale (rules_of c.position) (other c.winner) ply (claimed_level c ply) reached m)
     stale-checks m i = told-checks (KeepsRule c) (rule_at ply m rule.Stale) (have_replies rules loser ply (claimed_level c ply) reached m) (replies-tell m i)
 
   -- the rules of the replies of one ply

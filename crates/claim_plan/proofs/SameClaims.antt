@@ -40,7 +40,8 @@ module _ (p : Position) (w : Side) (n : ℕ) (xs ys : List ClaimedSet) (same : (
   abbrev d : Claim
   d = record { position = p; winner = w; moves = n; sets = ys }
 
-  pub position_along : (ply : ℕ) (q : Position) → IsClaimed (record { position = p; winner = w; moves = n; sets = xs }) ply q → IsClaimed (record { position = p; winner = w; moves = n; sets = ys }) ply q
+  pub position_along : (ply : ℕ) (q : Position) → IsClaimed (record { position = p; winner = w; moves = n; sets = xs }) ply q
+      → IsClaimed (record { position = p; winner = w; moves = n; sets = ys }) ply q
   position_along ply q h = record {
     stock = h.stock;
     turn = h.turn;
@@ -60,15 +61,20 @@ module _ (p : Position) (w : Side) (n : ℕ) (xs ys : List ClaimedSet) (same : (
         sym sets.tracks ∙ h.tracks ply mask a there;
   }
 
-  pub end_along : (budget : ℕ) (found : Finding) → Ends (check_plan (record { position = p; winner = w; moves = n; sets = xs })) budget found → Ends (check_plan (record { position = p; winner = w; moves = n; sets = ys })) budget found
+  pub end_along : (budget : ℕ) (found : Finding) → Ends (check_plan (record { position = p; winner = w; moves = n; sets = xs })) budget found
+      → Ends (check_plan (record { position = p; winner = w; moves = n; sets = ys })) budget found
   end_along budget found h =
       let (other_one, ends, is) = Ends-alike Same (check_plan c) (check_plan d) budget found (check_plan-alike p w n xs ys same) h in
       subst (λ (o : Finding). Ends (check_plan d) budget o) (sym is) ends
 
-  pub stop_along : (budget : ℕ) (x : StepName PartName) → Stops (check_plan (record { position = p; winner = w; moves = n; sets = xs })) budget x → Stops (check_plan (record { position = p; winner = w; moves = n; sets = ys })) budget x
+  pub stop_along : (budget : ℕ) (x : StepName PartName) → Stops (check_plan (record { position = p; winner = w; moves = n; sets = xs })) budget x
+      → Stops (check_plan (record { position = p; winner = w; moves = n; sets = ys })) budget x
   stop_along budget x h = Stops-alike Same (check_plan c) (check_plan d) budget x (check_plan-alike p w n xs ys same) h
 
-  module _ (positions : (ply : ℕ) (q : Position) → IsClaimed (record { position = p; winner = w; moves = n; sets = xs }) ply q ↔ IsClaimed (record { position = p; winner = w; moves = n; sets = ys }) ply q) where
+  module _
+      (positions : (ply : ℕ) (q : Position)
+      → IsClaimed (record { position = p; winner = w; moves = n; sets = xs }) ply q
+      ↔ IsClaimed (record { position = p; winner = w; moves = n; sets = ys }) ply q) where
     pub won_along : Won (record { position = p; winner = w; moves = n; sets = xs }) → Won (record { position = p; winner = w; moves = n; sets = ys })
     won_along h = record {
       sign = λ ply mask b e.
@@ -99,12 +105,16 @@ module _ (p : Position) (w : Side) (n : ℕ) (xs ys : List ClaimedSet) (same : (
 pub same_claims_are_checked_alike : SameClaimsAreCheckedAlike
 same_claims_are_checked_alike = λ c d h. at d.position d.winner d.moves d.sets c h
   where
-    with_moves : (p : Position) (w : Side) (n k : ℕ) (xs ys : List ClaimedSet) → k ≡ n → ((ply mask : ℕ) → AreSameSets (claimed_in xs ply mask) (claimed_in ys ply mask)) → AreCheckedAlike (record { position = p; winner = w; moves = k; sets = xs }) (record { position = p; winner = w; moves = n; sets = ys })
+    with_moves : (p : Position) (w : Side) (n k : ℕ) (xs ys : List ClaimedSet) → k ≡ n
+        → ((ply mask : ℕ) → AreSameSets (claimed_in xs ply mask) (claimed_in ys ply mask))
+        → AreCheckedAlike (record { position = p; winner = w; moves = k; sets = xs }) (record { position = p; winner = w; moves = n; sets = ys })
     with_moves p w n k xs ys e same =
         let At : ℕ → Type 0 = λ m. AreCheckedAlike (record { position = p; winner = w; moves = k; sets = xs }) (record { position = p; winner = w; moves = m; sets = ys }) in
         subst At e (sets_alike p w k xs ys same)
 
-    at : (p : Position) (w : Side) (n : ℕ) (ys : List ClaimedSet) (c : Claim) → IsSameClaim c (record { position = p; winner = w; moves = n; sets = ys }) → AreCheckedAlike c (record { position = p; winner = w; moves = n; sets = ys })
+    at : (p : Position) (w : Side) (n : ℕ) (ys : List ClaimedSet) (c : Claim)
+        → IsSameClaim c (record { position = p; winner = w; moves = n; sets = ys })
+        → AreCheckedAlike c (record { position = p; winner = w; moves = n; sets = ys })
     at p w n ys c h =
         let At : Side → Type 0 = λ s. AreCheckedAlike c (record { position = c.position; winner = s; moves = n; sets = ys }) in
         let On : Position → Type 0 = λ q. AreCheckedAlike c (record { position = q; winner = w; moves = n; sets = ys }) in

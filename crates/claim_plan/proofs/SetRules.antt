@@ -1,7 +1,8 @@
 -- The rules of the claimed sets: no heed of repeated first letters, men apart, the winner not in check.
-use Rattle.std.proofs.Common.{◌≡◌, ◌≢◌, ◌↔◌, ◌⊎◌, ℕ, zero, suc, ◌<◌, ◌≤◌, true, false, List, [], ◌∷◌, length, map, Option, Some, None, inl, inr, ℤ, refl, sym, ap, ◌∙◌, subst, arith}
+use Rattle.std.proofs.Common.{◌≡◌, ◌≢◌, ◌↔◌, ℕ, zero, suc, ◌<◌, ◌≤◌, true, false, List, [], ◌∷◌, length, map, Option, Some, None, inl, inr, ℤ, refl, sym, ap, ◌∙◌, subst, arith}
 use Rattle.std.specs.Prelude.{Contains}
 use Rattle.std.proofs.lemmas.Option.{slice_get_within}
+use Rattle.std.proofs.lemmas.Bool.{cases_order}
 use Rattle.track_word.specs.Tracks.{Values, values_at, word_values}
 use Rattle.auto_core.specs.Automaton.{Automaton}
 use Rattle.auto_core.specs.Integers.{DecidesIntegers}
@@ -44,9 +45,6 @@ use Rattle.claim_plan.proofs.Findings.{Checks, NoItem, and_then-checks, are_empt
 -- who stands somewhere is not gone
 stands_there : (m : Man) (z : Square) → StandsOn m z → m.place ≢ Gone
 stands_there m z stands gone = none_some (sym stands ∙ ap place_square gone)
-
-in_order : (i j : ℕ) → (i < j) ⊎ ((i ≡ j) ⊎ (j < i))
-in_order i j = grind arith
 
 no_man_zero : (q : Position) (m : Man) (A : Type 0) → man_at q 0 ≡ Some m → A
 no_man_zero q m A e = none_some (sym e)
@@ -94,7 +92,9 @@ module _ (c : Claim) (is : IsClaim c) (mean : RulesMean c.position) where
   abbrev tree_at : ℕ → Pair → Tree
   tree_at m w = twins_tree 8 m w.first w.second 0
 
-  any_twins : (ply m : ℕ) (game : IsGameMask c.position m) (i j : ℕ) (a b : Man) (z : Square) (q : Position) → IsClaimed c ply q → mask_of q ≡ m → i < j → man_at q i ≡ Some a → man_at q j ≡ Some b → StandsOn a z → StandsOn b z → AnyItem (map (twin_item (claimed_level c ply m)) (twins_of c.position m 0)) (tuple_of q)
+  any_twins : (ply m : ℕ) (game : IsGameMask c.position m) (i j : ℕ) (a b : Man) (z : Square) (q : Position) → IsClaimed c ply q → mask_of q ≡ m
+      → i < j → man_at q i ≡ Some a → man_at q j ≡ Some b → StandsOn a z → StandsOn b z
+      → AnyItem (map (twin_item (claimed_level c ply m)) (twins_of c.position m 0)) (tuple_of q)
   any_twins ply m game i j a b z q h e less is_a is_b on_a on_b =
       let w : Pair = record { first = i; second = j } in
       let (low_i, high_i) = numbered_low q i a is_a in
@@ -111,9 +111,9 @@ module _ (c : Claim) (is : IsClaim c) (mean : RulesMean c.position) where
   same_means : (ply m : ℕ) → IsGameMask c.position m → NoItem (map (twin_item (claimed_level c ply m)) (twins_of c.position m 0)) ↔ RuleHolds c rule.Same ply m
   same_means ply m game = (
     λ none q w i j a b z is_a is_b on_a on_b.
-        elim (in_order i j) [
-          | inl less ↦ absurd (none (tuple_of q) (any_twins ply m game i j a b z q w.claimed w.mask_is less is_a is_b on_a on_b))
-          | inr (inl same) ↦ same
+        elim (cases_order i j) [
+          | inl same ↦ same
+          | inr (inl less) ↦ absurd (none (tuple_of q) (any_twins ply m game i j a b z q w.claimed w.mask_is less is_a is_b on_a on_b))
           | inr (inr more) ↦ absurd (none (tuple_of q) (any_twins ply m game j i b a z q w.claimed w.mask_is more is_b is_a on_b on_a))
         ],
     λ says tuple h.
@@ -129,13 +129,16 @@ module _ (c : Claim) (is : IsClaim c) (mean : RulesMean c.position) where
         let is_tuple = known.tuple_is in
         let At : List ℤ → Type 0 = λ u. IsOf (twin_item (claimed_level c ply m) (tree_at m w)) u in
         let twins = ((means.twins 0 (λ _. claimed_level c ply m) q claimed.stock mask).0 (subst At (sym is_tuple) there)).1 in
-        let one : w.first ≡ w.second = says q (record { claimed = claimed; mask_is = mask }) w.first w.second twins.first twins.second twins.square twins.is_first twins.is_second twins.first_stands twins.second_stands in
+        let one : w.first ≡ w.second =
+        says q (record { claimed = claimed; mask_is = mask }) w.first w.second twins.first twins.second twins.square twins.is_first
+        twins.is_second twins.first_stands twins.second_stands in
         let less = ((mean.game.pairs m w).0 in_pairs).order in
         omega (arith, one, less),
   )
 
   -- guard
-  guard_means : (ply m : ℕ) → IsGameMask c.position m → RuleHolds c rule.Same ply m → NoItem (bear_items (rules_of c.position) (other c.winner) m (claimed_level c ply m)) ↔ RuleHolds c rule.Guard ply m
+  guard_means : (ply m : ℕ) → IsGameMask c.position m → RuleHolds c rule.Same ply m
+      → NoItem (bear_items (rules_of c.position) (other c.winner) m (claimed_level c ply m)) ↔ RuleHolds c rule.Guard ply m
   guard_means ply m game apart =
       let s : SetOf = claimed_level c ply m in
       let any = λ (tuple : List ℤ). any-map (bear_item (rules_of c.position) m s) (bearings_of c.position.men m (other c.winner)) tuple in
@@ -182,4 +185,5 @@ module _ (c : Claim) (is : IsClaim c) (mean : RulesMean c.position) where
       (sign-checks c is mean ply m (claimed_at c ply m) refl)
       (λ signed. and_then-checks H (same ∷ []) (guard ∷ []) apart safe
       (λ xs found t. one-checks H (NoItem twins) same found (same_means ply m game) (holds_by-told (NoItem twins) same no_twins (are_empty-tells (name ply m kind.Same) twins 1) xs found t))
-      (λ all xs found t. one-checks H (NoItem bears) guard found (guard_means ply m game all.0) (holds_by-told (NoItem bears) guard no_bears (are_empty-tells (name ply m kind.Guard) bears 1) xs found t)))
+      (λ all xs found t. one-checks H (NoItem bears) guard found (guard_means ply m game all.0)
+      (holds_by-told (NoItem bears) guard no_bears (are_empty-tells (name ply m kind.Guard) bears 1) xs found t)))

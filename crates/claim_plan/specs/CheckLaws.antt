@@ -32,7 +32,8 @@ NoneFailsWhereWon = (c : Claim) (found : Finding) → IsClaim c → FindsFirst c
 pub record EndsOnce (c : Claim) (budget : ℕ) : Type 0 where
   pub one_end : (a b : Finding) → Ends (check_plan c) budget a → Ends (check_plan c) budget b → a ≡ b
   pub one_step : (x y : StepName PartName) → Stops (check_plan c) budget x → Stops (check_plan c) budget y → x ≡ y
-  pub not_both : (a : Finding) (x : StepName PartName) → Ends (check_plan c) budget a → Stops (check_plan c) budget x → ⊥
+  pub not_both : (a : Finding) (x : StepName PartName) → Ends (check_plan c) budget a → Stops (check_plan c) budget x
+      → ⊥
 
 abbrev pub CheckEndsOnce : Type 0
 CheckEndsOnce = (c : Claim) (budget : ℕ) → EndsOnce c budget

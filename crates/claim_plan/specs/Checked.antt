@@ -42,7 +42,8 @@ KeepsRule c r = RuleHolds c r.rule r.ply r.mask
 -- the rules of the sets that are claimed at a ply, mask by mask
 abbrev pub set_rules : Claim → ℕ → List RuleAt
 set_rules c ply =
-    let of_mask = λ (mask : ℕ). rule_at ply mask rule.Sign ∷ rule_at ply mask rule.Same ∷ rule_at ply mask rule.Guard ∷ [] in
+    let of_mask =
+    λ (mask : ℕ). rule_at ply mask rule.Sign ∷ rule_at ply mask rule.Same ∷ rule_at ply mask rule.Guard ∷ [] in
     flat_map of_mask (masks_of c.position)
 
 -- the rules of the replies at a ply: of what they lead to, mask by mask, and then of what they lead from

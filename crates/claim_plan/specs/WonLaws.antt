@@ -42,7 +42,8 @@ pub record KeptByLoser (winner : Side) (p : Position) (moves ply : ℕ) (q : Pos
 
 -- what is kept there is sound, with the loser to move
 abbrev pub KeptAreOfGame : Type 0
-KeptAreOfGame = (winner : Side) (p : Position) (moves : ℕ) → Sound p → AreOfGame winner p moves (KeptByLoser winner p moves)
+KeptAreOfGame =
+    (winner : Side) (p : Position) (moves : ℕ) → Sound p → AreOfGame winner p moves (KeptByLoser winner p moves)
 
 -- where the winner mates in time, what is kept at the plies of the loser is won
 abbrev pub KeptIsWon : Type 0

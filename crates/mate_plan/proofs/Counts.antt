@@ -76,7 +76,9 @@ pre_to_few p mask source o (Some target) = omega arith
 pub pres_few : (p : Position) (side : Side) (mask : ℕ) (source : Option SetId) (targets : List (Option SetId)) → length p.men ≤ 8 → length (pre_trees p side mask source targets) < 2 ^ 20
 pres_few p side mask None targets few = omega arith
 pres_few p side mask (Some source) targets few =
-    let all = flat_few (λ o. pre_to p mask source o (name_of (masks_of p) targets (target_of mask o))) 1 (options_of p.men mask side) (λ o. pre_to_few p mask source o (name_of (masks_of p) targets (target_of mask o))) in
+    let all =
+    flat_few (λ o. pre_to p mask source o (name_of (masks_of p) targets (target_of mask o))) 1 (options_of p.men mask side)
+    (λ o. pre_to_few p mask source o (name_of (masks_of p) targets (target_of mask o))) in
     let count = options_few p.men mask side few in
     omega (arith, all, count)
 

@@ -21,7 +21,9 @@ module _ (table sets : List Automaton) (is : table ≡ sets) (fs : List Formula)
       let Of : List Tree → Type 0 = λ ts. All (IsItemOn tracks sets) ts in
       (tracks, subst Over (sym is) (subst Of (sym are) on))
 
-  pub empty_answers : (part name : PartName) (items : List Item) (budget : ℕ) (r : Result Bool (PlanError PartName)) → part ≡ name → Thinned (map (item_of sets) trees) items → Answers (are_empty part 1 (map (item_of table) (map tree_of fs))) budget (λ (b : Bool). b) r → Answers (are_empty name 1 items) budget (λ (b : Bool). b) r
+  pub empty_answers : (part name : PartName) (items : List Item) (budget : ℕ) (r : Result Bool (PlanError PartName)) → part ≡ name
+      → Thinned (map (item_of sets) trees) items → Answers (are_empty part 1 (map (item_of table) (map tree_of fs))) budget (λ (b : Bool). b) r
+      → Answers (are_empty name 1 items) budget (λ (b : Bool). b) r
   empty_answers part name items budget r same thin h =
       let Named : PartName → Type 0 = λ n. Answers (are_empty n 1 (map (item_of table) (map tree_of fs))) budget (λ (b : Bool). b) r in
       let Over : List Automaton → Type 0 = λ t. Answers (are_empty name 1 (map (item_of t) (map tree_of fs))) budget (λ (b : Bool). b) r in

@@ -12,7 +12,8 @@ use Rattle.set_plan.specs.Unite.{positives, two}
 use Rattle.set_plan.proofs.SameSets.{SameItem-relabel}
 
 -- a formula over one set
-pub same_one : (sets : List Automaton) (f : ℕ → Tree) → ((name : ℕ → ℕ) (k : ℕ) → relabel name (f k) ≡ f (name k)) → (source : ℕ) → SameItem (item_of sets (f source)) (record { formula = f 0; sets = λ _. tables sets source })
+pub same_one : (sets : List Automaton) (f : ℕ → Tree) → ((name : ℕ → ℕ) (k : ℕ) → relabel name (f k) ≡ f (name k)) → (source : ℕ)
+    → SameItem (item_of sets (f source)) (record { formula = f 0; sets = λ _. tables sets source })
 same_one sets f relabels source =
     let named : relabel (λ _. source) (f 0) ≡ f source = relabels (λ _. source) 0 in
     let Is : Tree → Type 0 = λ t. SameItem (item_of sets t) (record { formula = f 0; sets = λ _. tables sets source }) in
@@ -28,11 +29,14 @@ picked sets a b zero = refl
 picked sets a b (suc k) = refl
 
 -- a formula over two sets
-pub same_two : (sets : List Automaton) (f : ℕ → ℕ → Tree) → ((name : ℕ → ℕ) (k l : ℕ) → relabel name (f k l) ≡ f (name k) (name l)) → (source target : ℕ) → SameItem (item_of sets (f source target)) (record { formula = f 0 1; sets = two (tables sets source) (tables sets target) })
+pub same_two : (sets : List Automaton) (f : ℕ → ℕ → Tree) → ((name : ℕ → ℕ) (k l : ℕ) → relabel name (f k l) ≡ f (name k) (name l))
+    → (source target : ℕ)
+    → SameItem (item_of sets (f source target)) (record { formula = f 0 1; sets = two (tables sets source) (tables sets target) })
 same_two sets f relabels source target =
     let named : relabel (pick source target) (f 0 1) ≡ f source target = relabels (pick source target) 0 1 in
     let Is : Tree → Type 0 = λ t. SameItem (item_of sets t) (record { formula = f 0 1; sets = λ k. tables sets (pick source target k) }) in
-    let there : SameItem (item_of sets (f source target)) (record { formula = f 0 1; sets = λ k. tables sets (pick source target k) }) = subst Is named (SameItem-relabel (pick source target) (tables sets) (f 0 1)) in
+    let there : SameItem (item_of sets (f source target)) (record { formula = f 0 1; sets = λ k. tables sets (pick source target k) }) =
+    subst Is named (SameItem-relabel (pick source target) (tables sets) (f 0 1)) in
     let both : (λ k. tables sets (pick source target k)) ≡ two (tables sets source) (tables sets target) = λ i k. picked sets source target k i in
     let Over : (ℕ → SetOf) → Type 0 = λ e. SameItem (item_of sets (f source target)) (record { formula = f 0 1; sets = e }) in
     subst Over both there

@@ -12,8 +12,9 @@ use Rattle.lin_formula.specs.Tree as tree
 use Rattle.rule_formula.specs.declared.opt.Opt.{Opt}
 use Rattle.rule_formula.specs.Meaning.{IsBearer, IsOptionOf}
 use Rattle.rule_formula.specs.Placed.{is_live, stock_man, without}
-use Rattle.rule_formula.specs.Seats.{new_seat, new_seats, own, var, vars_to}
+use Rattle.rule_formula.specs.Seats.{elsewhere, new_seat, new_seats, own, vars_to}
 use Rattle.rule_formula.specs.Trees.{Suits, ahead, and_all, atoms_as, bear_of, clear, clear_as, difference, ex_swept, image_body, image_of, is_other, line_atoms, man_square, on, point_of, point_to, pre_body, pre_of, pre_tree, ray_at, ray_atoms, safe_of, with_square}
+use Rattle.rule_formula.specs.Ways.{before, onto}
 use Rattle.rule_formula.proofs.FormulaLemmas.{own_apart}
 use Rattle.rule_formula.proofs.KindLemmas.{ray_moves}
 use Rattle.rule_formula.proofs.MeaningLemmas.{ray_at_is}
@@ -64,10 +65,10 @@ step-swept (pos zero) x f some = absurd (some refl)
 step-swept (pos (suc d)) x f some = step-Ex x f
 step-swept (negsuc d) x f some = step-Ex x f
 
-step-either_swept : (dx dy : ℤ) (f : Tree) → (dx ≡ pos 0 → dy ≢ pos 0) → HasStep (ex_swept dx (var 16) (ex_swept dy (var 17) f))
-step-either_swept (pos zero) dy f moves = step-swept dy (var 17) f (moves refl)
-step-either_swept (pos (suc dx)) dy f moves = step-Ex (var 16) (ex_swept dy (var 17) f)
-step-either_swept (negsuc dx) dy f moves = step-Ex (var 16) (ex_swept dy (var 17) f)
+step-either_swept : (dx dy : ℤ) (f : Tree) → (dx ≡ pos 0 → dy ≢ pos 0) → HasStep (ex_swept dx elsewhere.x (ex_swept dy elsewhere.y f))
+step-either_swept (pos zero) dy f moves = step-swept dy elsewhere.y f (moves refl)
+step-either_swept (pos (suc dx)) dy f moves = step-Ex elsewhere.x (ex_swept dy elsewhere.y f)
+step-either_swept (negsuc dx) dy f moves = step-Ex elsewhere.x (ex_swept dy elsewhere.y f)
 
 some_of_two : (p q : Bool) (f g : Tree) → (p ≡ true → q ≡ true → ⊥) → 0 < length ((if p then [] else f ∷ []) ++ (if q then [] else g ∷ []))
 some_of_two true true f g apart = absurd (apart refl refl)
@@ -76,7 +77,7 @@ some_of_two false q f g apart = omega arith
 
 -- a ray that moves has an atom
 some_atoms : (far : Bool) (r : Ray) (a b : _) → Suits r a b → (r.dx ≡ pos 0 → r.dy ≢ pos 0) → 0 < length (atoms_as far r.dx r.dy a b)
-some_atoms true r a b suits moves = some_last (line_atoms r.dx r.dy a b) (ahead r.dx r.dy a b (negsuc 0))
+some_atoms true r a b suits moves = some_last (line_atoms r.dx r.dy a b) (ahead r.dx r.dy a b before)
 some_atoms false r a b suits moves =
     some_of_two (b.x.0 == a.x.0) (b.y.0 == a.y.0) (difference b.x a.x Eq r.dx) (difference b.y a.y Eq r.dy)
     (λ e k. moves (suits.across (eqb-true b.x.0 a.x.0 e)) (suits.along (eqb-true b.y.0 a.y.0 k)))
@@ -94,7 +95,7 @@ image_step stock mask o s w =
 pre_body_step : (n mask i t s q : ℕ) (r : Ray) → HasStep (pre_body n mask i r t s q)
 pre_body_step n mask i t s q r =
     let both = tree.And (tree.Among s (vars_to own (is_live mask) n)) (tree.Among q (vars_to (new_seats r i t) (without (is_live mask) t) n)) in
-    step-clear (and_all both (ray_atoms r (own i) (new_seat r i t))) (λ k. on r (own i) (new_seat r i t) (pos 0) (own k)) (is_live mask) i t n
+    step-clear (and_all both (ray_atoms r (own i) (new_seat r i t))) (λ k. on r (own i) (new_seat r i t) onto (own k)) (is_live mask) i t n
     (step-all both (ray_atoms r (own i) (new_seat r i t)) (step-And (tree.Among s (vars_to own (is_live mask) n)) (tree.Among q (vars_to (new_seats r i t) (without (is_live mask) t) n))))
 
 pre_tree_step : (n mask i t s q : ℕ) (r : Ray) → (r.dx ≡ pos 0 → r.dy ≢ pos 0) → HasStep (pre_tree n mask i r t s q)
@@ -112,7 +113,7 @@ bear_step stock mask k n g s w =
     let second = some_number stock g w.target w.is.is_target in
     let atoms = some_atoms r.far r (own k) (own g) (own_apart k g r first second w.is.apart) (ray_at_moves stock k n w.man w.ray w.is.is_man w.is.ray) in
     let among = tree.Among s (vars_to own (is_live mask) (length stock)) in
-    step-clear_as r.far (and_all among (ray_atoms r (own k) (own g))) (λ l. on r (own k) (own g) (negsuc 0) (own l)) (is_live mask) k g (length stock)
+    step-clear_as r.far (and_all among (ray_atoms r (own k) (own g))) (λ l. on r (own k) (own g) before (own l)) (is_live mask) k g (length stock)
     (step-some among (ray_atoms r (own k) (own g)) atoms)
 
 pub safe_step : (stock : List Man) (mask k n g s : ℕ) → HasStep (safe_of stock mask k n g s)

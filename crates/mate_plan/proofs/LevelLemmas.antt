@@ -24,7 +24,8 @@ at_mask : (sets : List Automaton) (b : Bool) (id found : Option SetId) (s : SetO
 at_mask sets true id found s e = refl
 at_mask sets false id found s e = e
 
-set_from : (sets : List Automaton) (mask : ℕ) (masks : List ℕ) (names : Names) (level : Level) (found : Option SetId) → level mask ≡ set_at sets found → level_from sets level masks names mask ≡ set_at sets (name_from found masks names mask)
+set_from : (sets : List Automaton) (mask : ℕ) (masks : List ℕ) (names : Names) (level : Level) (found : Option SetId) → level mask ≡ set_at sets found
+    → level_from sets level masks names mask ≡ set_at sets (name_from found masks names mask)
 set_from sets mask [] names level found e = e
 set_from sets mask (m ∷ masks) [] level found e = e
 set_from sets mask (m ∷ masks) (id ∷ names) level found e =
@@ -40,20 +41,25 @@ have_from_are stock sets (mask ∷ masks) [] are = tt
 have_from_are stock sets (mask ∷ masks) (id ∷ ids) are = (are.0, have_from_are stock sets masks ids are.1)
 
 -- the name for a mask is that of a set over its tracks
-name_here : (stock : List Man) (sets : List Automaton) (mask m : ℕ) (b : Bool) (id found : Option SetId) → mask == m ≡ b → IsNameOn (tracks_of stock (is_live m)) sets id → IsNameOn (tracks_of stock (is_live mask)) sets found → IsNameOn (tracks_of stock (is_live mask)) sets (if b then id else found)
+name_here : (stock : List Man) (sets : List Automaton) (mask m : ℕ) (b : Bool) (id found : Option SetId) → mask == m ≡ b
+    → IsNameOn (tracks_of stock (is_live m)) sets id → IsNameOn (tracks_of stock (is_live mask)) sets found
+    → IsNameOn (tracks_of stock (is_live mask)) sets (if b then id else found)
 name_here stock sets mask m true id found e here before =
     let same : mask ≡ m = eqb-true mask m e in
     subst (λ (k : ℕ). IsNameOn (tracks_of stock (is_live k)) sets id) (sym same) here
 name_here stock sets mask m false id found e here before = before
 
-named_from : (stock : List Man) (sets : List Automaton) (mask : ℕ) (masks : List ℕ) (names : Names) (found : Option SetId) → IsNameOn (tracks_of stock (is_live mask)) sets found → HaveNames stock sets masks names → IsNameOn (tracks_of stock (is_live mask)) sets (name_from found masks names mask)
+named_from : (stock : List Man) (sets : List Automaton) (mask : ℕ) (masks : List ℕ) (names : Names) (found : Option SetId)
+    → IsNameOn (tracks_of stock (is_live mask)) sets found → HaveNames stock sets masks names
+    → IsNameOn (tracks_of stock (is_live mask)) sets (name_from found masks names mask)
 named_from stock sets mask [] [] found before have = before
 named_from stock sets mask [] (id ∷ ids) found before have = before
 named_from stock sets mask (m ∷ masks) [] found before have = before
 named_from stock sets mask (m ∷ masks) (id ∷ ids) found before have =
     named_from stock sets mask masks ids (if mask == m then id else found) (name_here stock sets mask m (mask == m) id found refl have.0 before) have.1
 
-pub name_is_on : (stock : List Man) (sets : List Automaton) (masks : List ℕ) (names : Names) (mask : ℕ) → AreNames stock sets masks names → IsNameOn (tracks_of stock (is_live mask)) sets (name_of masks names mask)
+pub name_is_on : (stock : List Man) (sets : List Automaton) (masks : List ℕ) (names : Names) (mask : ℕ) → AreNames stock sets masks names
+    → IsNameOn (tracks_of stock (is_live mask)) sets (name_of masks names mask)
 name_is_on stock sets masks names mask are = named_from stock sets mask masks names None tt (have_from_are stock sets masks names are)
 
 -- names stay what they are while the table grows
@@ -71,7 +77,8 @@ have-grows stock old new [] (id ∷ ids) grows have = have
 have-grows stock old new (mask ∷ masks) [] grows have = tt
 have-grows stock old new (mask ∷ masks) (id ∷ ids) grows have = (on-grows (tracks_of stock (is_live mask)) old new id grows have.0, have-grows stock old new masks ids grows have.1)
 
-from-grows : (stock : List Man) (old new : List Automaton) (masks : List ℕ) (names : Names) (level : Level) → Grows old new → HaveNames stock old masks names → level_from new level masks names ≡ level_from old level masks names
+from-grows : (stock : List Man) (old new : List Automaton) (masks : List ℕ) (names : Names) (level : Level) → Grows old new
+    → HaveNames stock old masks names → level_from new level masks names ≡ level_from old level masks names
 from-grows stock old new [] [] level grows have = refl
 from-grows stock old new [] (id ∷ ids) level grows have = refl
 from-grows stock old new (mask ∷ masks) [] level grows have = refl
@@ -79,7 +86,8 @@ from-grows stock old new (mask ∷ masks) (id ∷ ids) level grows have =
     let same : set_at new id ≡ set_at old id = set_at-grows (tracks_of stock (is_live mask)) old new id grows have.0 in
     ap (λ (s : SetOf). level_from new (level_with level mask s) masks ids) same ∙ from-grows stock old new masks ids (level_with level mask (set_at old id)) grows have.1
 
-pub have_level-grows : (stock : List Man) (old new : List Automaton) (masks : List ℕ) (names : Names) → Grows old new → HaveNames stock old masks names → level_of new masks names ≡ level_of old masks names
+pub have_level-grows : (stock : List Man) (old new : List Automaton) (masks : List ℕ) (names : Names) → Grows old new
+    → HaveNames stock old masks names → level_of new masks names ≡ level_of old masks names
 have_level-grows stock old new masks names grows have = from-grows stock old new masks names no_sets grows have
 
 pub level-grows : (stock : List Man) (old new : List Automaton) (masks : List ℕ) (names : Names) → Grows old new → AreNames stock old masks names → level_of new masks names ≡ level_of old masks names
@@ -102,7 +110,9 @@ pub from_none : (sets : List Automaton) (level : Level) (masks : List ℕ) → l
 from_none sets level [] = refl
 from_none sets level (mask ∷ masks) = refl
 
-from_push : (sets : List Automaton) (level : Level) (masks : List ℕ) (names : Names) (mask : ℕ) (rest : List ℕ) (id : Option SetId) → drop (length names) masks ≡ mask ∷ rest → level_from sets level masks (names ++ id ∷ []) ≡ level_with (level_from sets level masks names) mask (set_at sets id)
+from_push : (sets : List Automaton) (level : Level) (masks : List ℕ) (names : Names) (mask : ℕ) (rest : List ℕ) (id : Option SetId)
+    → drop (length names) masks ≡ mask ∷ rest
+    → level_from sets level masks (names ++ id ∷ []) ≡ level_with (level_from sets level masks names) mask (set_at sets id)
 from_push sets level [] [] mask rest id e = absurd (cc)
 from_push sets level [] (n ∷ names) mask rest id e = absurd (cc)
 from_push sets level (m ∷ masks) [] mask rest id e =
@@ -110,10 +120,13 @@ from_push sets level (m ∷ masks) [] mask rest id e =
     from_none sets (level_with level m (set_at sets id)) masks ∙ ap (λ (k : ℕ). level_with level k (set_at sets id)) same
 from_push sets level (m ∷ masks) (n ∷ names) mask rest id e = from_push sets (level_with level m (set_at sets n)) masks names mask rest id e
 
-pub level_push : (sets : List Automaton) (masks : List ℕ) (names : Names) (mask : ℕ) (rest : List ℕ) (id : Option SetId) → drop (length names) masks ≡ mask ∷ rest → level_of sets masks (names ++ id ∷ []) ≡ level_with (level_of sets masks names) mask (set_at sets id)
+pub level_push : (sets : List Automaton) (masks : List ℕ) (names : Names) (mask : ℕ) (rest : List ℕ) (id : Option SetId)
+    → drop (length names) masks ≡ mask ∷ rest → level_of sets masks (names ++ id ∷ []) ≡ level_with (level_of sets masks names) mask (set_at sets id)
 level_push sets masks names mask rest id e = from_push sets no_sets masks names mask rest id e
 
-pub have_push : (stock : List Man) (sets : List Automaton) (masks : List ℕ) (names : Names) (mask : ℕ) (rest : List ℕ) (id : Option SetId) → drop (length names) masks ≡ mask ∷ rest → HaveNames stock sets masks names → IsNameOn (tracks_of stock (is_live mask)) sets id → HaveNames stock sets masks (names ++ id ∷ [])
+pub have_push : (stock : List Man) (sets : List Automaton) (masks : List ℕ) (names : Names) (mask : ℕ) (rest : List ℕ) (id : Option SetId)
+    → drop (length names) masks ≡ mask ∷ rest → HaveNames stock sets masks names → IsNameOn (tracks_of stock (is_live mask)) sets id
+    → HaveNames stock sets masks (names ++ id ∷ [])
 have_push stock sets [] [] mask rest id e have on = absurd (cc)
 have_push stock sets [] (n ∷ names) mask rest id e have on = have
 have_push stock sets (m ∷ masks) [] mask rest id e have on =
@@ -125,7 +138,8 @@ have_push stock sets (m ∷ masks) (n ∷ names) mask rest id e have on = (have.
 abbrev pub IsTableOn : List Var → SetOf → Type 0
 IsTableOn tracks s = (set : Option Automaton) × (as_set set ≡ s) × IfSome set (IsSetOn tracks)
 
-table_is : (tracks : List Var) (sets : List Automaton) (k : ℕ) (a : Automaton) (set : Option Automaton) → slice_get sets k ≡ Some a → as_set set ≡ Table a → IfSome set (IsSetOn tracks) → (b : Automaton) × (slice_get sets k ≡ Some b) × IsSetOn tracks b
+table_is : (tracks : List Var) (sets : List Automaton) (k : ℕ) (a : Automaton) (set : Option Automaton) → slice_get sets k ≡ Some a
+    → as_set set ≡ Table a → IfSome set (IsSetOn tracks) → (b : Automaton) × (slice_get sets k ≡ Some b) × IsSetOn tracks b
 table_is tracks sets k a None found e on = absurd (cc)
 table_is tracks sets k a (Some b) found e on =
     let same : b ≡ a = cc in
@@ -162,7 +176,9 @@ grows_cut old new n count grows k a e =
     get-take new n k a (omega (arith, within, count)) (grows k a e)
 
 -- one more of the masks is looked at
-name_more : (masks : List ℕ) (names : Names) (mask : ℕ) (found : Option SetId) (n m : ℕ) (id whole : Option SetId) → n < length masks → n < length names → m ≡ get_or masks n m → id ≡ get_or names n id → name_from found (drop n masks) (drop n names) mask ≡ whole → name_from (if mask == m then id else found) (drop (n + 1) masks) (drop (n + 1) names) mask ≡ whole
+name_more : (masks : List ℕ) (names : Names) (mask : ℕ) (found : Option SetId) (n m : ℕ) (id whole : Option SetId) → n < length masks
+    → n < length names → m ≡ get_or masks n m → id ≡ get_or names n id → name_from found (drop n masks) (drop n names) mask ≡ whole
+    → name_from (if mask == m then id else found) (drop (n + 1) masks) (drop (n + 1) names) mask ≡ whole
 name_more masks names mask found n m id whole less less_names is is_name e =
     let front : drop n masks ≡ m ∷ drop (n + 1) masks = drop_front masks n m less is in
     let front_names : drop n names ≡ id ∷ drop (n + 1) names = drop_front names n id less_names is_name in
@@ -170,14 +186,17 @@ name_more masks names mask found n m id whole less less_names is is_name e =
     let Two : Names → Type 0 = λ l. name_from found (m ∷ drop (n + 1) masks) l mask ≡ whole in
     subst Two front_names (subst One front e)
 
-pub name_passed : (masks : List ℕ) (names : Names) (mask : ℕ) (found : Option SetId) (n k m : ℕ) (id whole : Option SetId) → k ≡ n + 1 → n < length masks → n < length names → m ≡ get_or masks n m → id ≡ get_or names n id → (m ≡ mask → ⊥) → name_from found (drop n masks) (drop n names) mask ≡ whole → name_from found (drop k masks) (drop k names) mask ≡ whole
+pub name_passed : (masks : List ℕ) (names : Names) (mask : ℕ) (found : Option SetId) (n k m : ℕ) (id whole : Option SetId) → k ≡ n + 1
+    → n < length masks → n < length names → m ≡ get_or masks n m → id ≡ get_or names n id → (m ≡ mask → ⊥)
+    → name_from found (drop n masks) (drop n names) mask ≡ whole → name_from found (drop k masks) (drop k names) mask ≡ whole
 name_passed masks names mask found n k m id whole next less less_names is is_name other e =
     let f : mask == m ≡ false = ne_eqb mask m (λ same. other (sym same)) in
     let Is : Bool → Type 0 = λ b. name_from (if b then id else found) (drop (n + 1) masks) (drop (n + 1) names) mask ≡ whole in
     let At : ℕ → Type 0 = λ j. name_from found (drop j masks) (drop j names) mask ≡ whole in
     subst At (sym next) (subst Is f (name_more masks names mask found n m id whole less less_names is is_name e))
 
-pub name_all : (masks : List ℕ) (names : Names) (mask : ℕ) (found : Option SetId) (n : ℕ) (whole : Option SetId) → n ≡ min (length masks) (length names) → name_from found (drop n masks) (drop n names) mask ≡ whole → found ≡ whole
+pub name_all : (masks : List ℕ) (names : Names) (mask : ℕ) (found : Option SetId) (n : ℕ) (whole : Option SetId)
+    → n ≡ min (length masks) (length names) → name_from found (drop n masks) (drop n names) mask ≡ whole → found ≡ whole
 name_all masks names mask found n whole all e =
     elim (cases_lt (length masks) (length names)) [
       | inl less ↦
@@ -204,7 +223,8 @@ length-grows old new grows =
     ]
 
 -- the name of a set that is kept
-pub on_from_kept : (tracks : List Var) (sets : List Automaton) (set : Option Automaton) (id : Option SetId) → IfSome set (IsSetOn tracks) → set_at sets id ≡ as_set set → IfSome id (λ k. k.0 < length sets) → IsNameOn tracks sets id
+pub on_from_kept : (tracks : List Var) (sets : List Automaton) (set : Option Automaton) (id : Option SetId) → IfSome set (IsSetOn tracks)
+    → set_at sets id ≡ as_set set → IfSome id (λ k. k.0 < length sets) → IsNameOn tracks sets id
 on_from_kept tracks sets set id on is within = on_from_table tracks sets id (as_set set) (set, refl, on) is within
 
 -- a function of equal levels
@@ -215,12 +235,14 @@ pub at_three : {A : Type 0} (f : Level → Level → Level → A) (a b c d k l :
 at_three f a b c d k l e h j = λ i. f (e i) (h i) (j i)
 
 -- the name that is found for a mask, among masks that are the position's
-pub set_is_found : (sets : List Automaton) (masks all : List ℕ) (names : Names) (mask : ℕ) (found : Option SetId) → masks ≡ all → found ≡ name_of masks names mask → set_at sets found ≡ level_of sets all names mask
+pub set_is_found : (sets : List Automaton) (masks all : List ℕ) (names : Names) (mask : ℕ) (found : Option SetId) → masks ≡ all
+    → found ≡ name_of masks names mask → set_at sets found ≡ level_of sets all names mask
 set_is_found sets masks all names mask found same is =
     let At : List ℕ → Type 0 = λ ms. found ≡ name_of ms names mask in
     ap (set_at sets) (subst At same is) ∙ sym (set_of_name sets all names mask)
 
-pub name_is_found : (stock : List Man) (sets : List Automaton) (masks all : List ℕ) (names : Names) (mask : ℕ) (found : Option SetId) → masks ≡ all → found ≡ name_of masks names mask → AreNames stock sets all names → IsNameOn (tracks_of stock (is_live mask)) sets found
+pub name_is_found : (stock : List Man) (sets : List Automaton) (masks all : List ℕ) (names : Names) (mask : ℕ) (found : Option SetId) → masks ≡ all
+    → found ≡ name_of masks names mask → AreNames stock sets all names → IsNameOn (tracks_of stock (is_live mask)) sets found
 name_is_found stock sets masks all names mask found same is are =
     let At : List ℕ → Type 0 = λ ms. found ≡ name_of ms names mask in
     let On : Option SetId → Type 0 = λ id. IsNameOn (tracks_of stock (is_live mask)) sets id in

@@ -25,12 +25,19 @@ module _ (p : Position) (side : Side) (ply budget : ℕ) (old : List Automaton) 
   abbrev lost_from : Level → Level → Level → Program Level
   lost_from a b rests = for_masks masks (lost_set_if (rules_of p) side ply a b rests) no_sets
 
-  pub rests_error : (e : PlanError PartName) → IsPlanError (rests_at (ply + 1)) budget e → IsPlanError (lost_level (rules_of p) side ply (level_of old masks reach) (level_of old masks next_reach) (level_of old masks next_kept)) budget e
+  pub rests_error : (e : PlanError PartName) → IsPlanError (rests_at (ply + 1)) budget e
+      → IsPlanError (lost_level (rules_of p) side ply (level_of old masks reach) (level_of old masks next_reach) (level_of old masks next_kept))
+      budget e
   rests_error e h =
       let At : ℕ → Type 0 = λ n. IsPlanError (rests_at n) budget e in
       Error-bind (rests_at (suc ply)) (lost_from (level_of old masks reach) (level_of old masks next_reach)) budget e (subst At (add-one ply) h)
 
-  pub lost_answers : {R : Type 0} (view : R → Level) (r : Result R (PlanError PartName)) (middle : List Automaton) (rests : List (Option SetId)) → Grows old middle → AreNames p.men old masks reach → AreNames p.men old masks next_reach → Ends (rests_at (ply + 1)) budget (level_of middle masks rests) → Answers (lost_from (level_of middle masks reach) (level_of middle masks next_reach) (level_of middle masks rests)) budget view r → Answers (lost_level (rules_of p) side ply (level_of old masks reach) (level_of old masks next_reach) (level_of old masks next_kept)) budget view r
+  pub lost_answers : {R : Type 0} (view : R → Level) (r : Result R (PlanError PartName)) (middle : List Automaton) (rests : List (Option SetId))
+      → Grows old middle → AreNames p.men old masks reach → AreNames p.men old masks next_reach
+      → Ends (rests_at (ply + 1)) budget (level_of middle masks rests)
+      → Answers (lost_from (level_of middle masks reach) (level_of middle masks next_reach) (level_of middle masks rests)) budget view r
+      → Answers (lost_level (rules_of p) side ply (level_of old masks reach) (level_of old masks next_reach) (level_of old masks next_kept)) budget
+      view r
   lost_answers view r middle rests grows are are_next first h =
       let At : ℕ → Type 0 = λ n. Ends (rests_at n) budget (level_of middle masks rests) in
       let One : Level → Type 0 = λ a. Answers (lost_from a (level_of middle masks next_reach) (level_of middle masks rests)) budget view r in

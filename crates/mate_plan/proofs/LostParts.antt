@@ -45,7 +45,9 @@ module _ (rules : Rules) (side : Side) (ply mask : ℕ) (reach : SetOf) (reach1 
       (λ i. bind calm_part (λ calm. bind (check_part calm) (λ check.
       bind-assoc (difference rules ply mask kind.Quiet calm check) (λ quiet. union rules ply mask kind.Reply (pre_items rules side mask quiet reach1)) (last_part check) i)))
       ∙ bind-assoc (union rules ply mask kind.Escape (pre_items rules side mask reach rests)) (difference rules ply mask kind.Calm reach)
-      (λ calm. bind (check_part calm) (λ check. bind (difference rules ply mask kind.Quiet calm check) (λ quiet. bind (union rules ply mask kind.Reply (pre_items rules side mask quiet reach1)) (last_part check))))
+      (λ calm. bind (check_part calm)
+      (λ check. bind (difference rules ply mask kind.Quiet calm check)
+      (λ quiet. bind (union rules ply mask kind.Reply (pre_items rules side mask quiet reach1)) (last_part check))))
 
   module _ (budget : ℕ) where
     pub calm_error : (e : PlanError PartName) → IsPlanError calm_part budget e → IsPlanError (lost_set rules side ply mask reach reach1 rests) budget e
@@ -53,20 +55,24 @@ module _ (rules : Rules) (side : Side) (ply mask : ℕ) (reach : SetOf) (reach1 
         let Is : Program SetOf → Type 0 = λ m. IsPlanError m budget e in
         subst Is lost_parts (Error-bind calm_part after_calm budget e h)
 
-    pub check_error : (calm : SetOf) (e : PlanError PartName) → Ends calm_part budget calm → IsPlanError (check_part calm) budget e → IsPlanError (lost_set rules side ply mask reach reach1 rests) budget e
+    pub check_error : (calm : SetOf) (e : PlanError PartName) → Ends calm_part budget calm → IsPlanError (check_part calm) budget e
+        → IsPlanError (lost_set rules side ply mask reach reach1 rests) budget e
     check_error calm e first h =
         let Is : Program SetOf → Type 0 = λ m. IsPlanError m budget e in
         subst Is lost_parts
         (Error-later calm_part after_calm budget calm first e (Error-bind (check_part calm) (λ check. bind (reply_part calm check) (last_part check)) budget e h))
 
-    pub reply_error : (calm check : SetOf) (e : PlanError PartName) → Ends calm_part budget calm → Ends (check_part calm) budget check → IsPlanError (reply_part calm check) budget e → IsPlanError (lost_set rules side ply mask reach reach1 rests) budget e
+    pub reply_error : (calm check : SetOf) (e : PlanError PartName) → Ends calm_part budget calm → Ends (check_part calm) budget check
+        → IsPlanError (reply_part calm check) budget e → IsPlanError (lost_set rules side ply mask reach reach1 rests) budget e
     reply_error calm check e first second h =
         let Is : Program SetOf → Type 0 = λ m. IsPlanError m budget e in
         subst Is lost_parts
         (Error-later calm_part after_calm budget calm first e
         (Error-later (check_part calm) (λ check. bind (reply_part calm check) (last_part check)) budget check second e (Error-bind (reply_part calm check) (last_part check) budget e h)))
 
-    pub last_answers : {R : Type 0} (view : R → SetOf) (calm check reply : SetOf) (r : Result R (PlanError PartName)) → Ends calm_part budget calm → Ends (check_part calm) budget check → Ends (reply_part calm check) budget reply → Answers (last_part check reply) budget view r → Answers (lost_set rules side ply mask reach reach1 rests) budget view r
+    pub last_answers : {R : Type 0} (view : R → SetOf) (calm check reply : SetOf) (r : Result R (PlanError PartName)) → Ends calm_part budget calm
+        → Ends (check_part calm) budget check → Ends (reply_part calm check) budget reply → Answers (last_part check reply) budget view r
+        → Answers (lost_set rules side ply mask reach reach1 rests) budget view r
     last_answers view calm check reply r first second third h =
         let Is : Program SetOf → Type 0 = λ m. Answers m budget view r in
         subst Is lost_parts
@@ -90,14 +96,19 @@ module _ (p : Position) (side : Side) (ply mask now budget : ℕ) (kept : now �
   abbrev reply_of : Level → SetOf → SetOf → Program SetOf
   reply_of reach1 calm check = bind (difference (rules_of p) ply mask kind.Quiet calm check) (λ quiet. union (rules_of p) ply mask kind.Reply (pre_items (rules_of p) side mask quiet reach1))
 
-  pub reply_here : (old middle : List Automaton) (next_reach : List (Option SetId)) (calm check same : SetOf) → Grows old middle → AreNames p.men old (masks_of p) next_reach → same ≡ check → {R : Type 0} (view : R → SetOf) (r : Result R (PlanError PartName)) → Answers (reply_of (level_of middle (masks_of p) next_reach) calm same) now view r → Answers (reply_of (level_of old (masks_of p) next_reach) calm check) budget view r
+  pub reply_here : (old middle : List Automaton) (next_reach : List (Option SetId)) (calm check same : SetOf) → Grows old middle
+      → AreNames p.men old (masks_of p) next_reach → same ≡ check → {R : Type 0} (view : R → SetOf) (r : Result R (PlanError PartName))
+      → Answers (reply_of (level_of middle (masks_of p) next_reach) calm same) now view r
+      → Answers (reply_of (level_of old (masks_of p) next_reach) calm check) budget view r
   reply_here old middle next_reach calm check same grows are is view r h =
       let Of : Level → Type 0 = λ level. Answers (reply_of level calm same) now view r in
       let In : SetOf → Type 0 = λ s. Answers (reply_of (level_of old (masks_of p) next_reach) calm s) now view r in
       let Within : ℕ → Type 0 = λ b. Answers (reply_of (level_of old (masks_of p) next_reach) calm check) b view r in
       subst Within kept (subst In is (subst Of (level-grows p.men old middle (masks_of p) next_reach grows are) h))
 
-  pub last_here : (tracks : List Var) (part : PartName) (check reply : SetOf) → tracks ≡ mask_tracks p mask → part ≡ name ply mask kind.Lost → {R : Type 0} (view : R → SetOf) (r : Result R (PlanError PartName)) → Answers (together tracks part check reply) now view r → Answers (together (mask_tracks p mask) (name ply mask kind.Lost) check reply) budget view r
+  pub last_here : (tracks : List Var) (part : PartName) (check reply : SetOf) → tracks ≡ mask_tracks p mask → part ≡ name ply mask kind.Lost
+      → {R : Type 0} (view : R → SetOf) (r : Result R (PlanError PartName)) → Answers (together tracks part check reply) now view r
+      → Answers (together (mask_tracks p mask) (name ply mask kind.Lost) check reply) budget view r
   last_here tracks part check reply over is view r h =
       let Over : List Var → Type 0 = λ t. Answers (together t part check reply) now view r in
       let Named : PartName → Type 0 = λ n. Answers (together (mask_tracks p mask) n check reply) now view r in
@@ -109,12 +120,16 @@ module _ (rules : Rules) (side : Side) (ply mask budget : ℕ) (reach reach1 res
   pub lost_none : IsEmpty (reach mask) → Ends (lost_set_if rules side ply reach reach1 rests mask) budget Nothing
   lost_none empty = Ends-ask_yes (Empty (reach mask ∷ [])) (Give Nothing) (lost_set rules side ply mask (reach mask) reach1 rests) budget Nothing (inl empty) (Ends-give budget Nothing)
 
-  some_answers : ¬ IsEmpty (reach mask) → {R : Type 0} (view : R → SetOf) (r : Result R (PlanError PartName)) → Answers (lost_set rules side ply mask (reach mask) reach1 rests) budget view r → Answers (lost_set_if rules side ply reach reach1 rests mask) budget view r
+  some_answers : ¬ IsEmpty (reach mask) → {R : Type 0} (view : R → SetOf) (r : Result R (PlanError PartName))
+      → Answers (lost_set rules side ply mask (reach mask) reach1 rests) budget view r
+      → Answers (lost_set_if rules side ply reach reach1 rests mask) budget view r
   some_answers some view (Ok x) h = Ends-ask_no (Empty (reach mask ∷ [])) (Give Nothing) (lost_set rules side ply mask (reach mask) reach1 rests) budget (view x) (some, tt) h
   some_answers some view (Err (plan_error.Over name)) h = Stops-ask_no (Empty (reach mask ∷ [])) (Give Nothing) (lost_set rules side ply mask (reach mask) reach1 rests) budget name (some, tt) h
   some_answers some view (Err plan_error.Memory) h = tt
 
-  pub lost_some : (s : SetOf) → s ≡ reach mask → ¬ IsEmpty s → {R : Type 0} (view : R → SetOf) (r : Result R (PlanError PartName)) → Answers (lost_set rules side ply mask s reach1 rests) budget view r → Answers (lost_set_if rules side ply reach reach1 rests mask) budget view r
+  pub lost_some : (s : SetOf) → s ≡ reach mask → ¬ IsEmpty s → {R : Type 0} (view : R → SetOf) (r : Result R (PlanError PartName))
+      → Answers (lost_set rules side ply mask s reach1 rests) budget view r
+      → Answers (lost_set_if rules side ply reach reach1 rests mask) budget view r
   lost_some s same some view r h =
       let Is : SetOf → Type 0 = λ t. ¬ IsEmpty t in
       let Of : SetOf → Type 0 = λ t. Answers (lost_set rules side ply mask t reach1 rests) budget view r in

@@ -54,7 +54,8 @@ pub has_one : (tracks : List Var) (sets : List Automaton) (id : SetId) (f : Tree
 has_one tracks sets id f on names =
     All-weaker (IsOver id.0 tracks) (λ m. IsSetFor sets m.0 (length m.1)) (λ m over. set_for tracks sets id m on over) (memberships f) names
 
-has_two : (tracks others : List Var) (sets : List Automaton) (source target : SetId) (f : Tree) → IsNameOn tracks sets (Some source) → IsNameOn others sets (Some target) → NamesBoth source.0 tracks target.0 others f → HasSets sets f
+has_two : (tracks others : List Var) (sets : List Automaton) (source target : SetId) (f : Tree) → IsNameOn tracks sets (Some source)
+    → IsNameOn others sets (Some target) → NamesBoth source.0 tracks target.0 others f → HasSets sets f
 has_two tracks others sets source target f on on_target names =
     All-weaker (λ m. IsOver source.0 tracks m ⊎ IsOver target.0 others m) (λ m. IsSetFor sets m.0 (length m.1))
     (λ m over. elim over [ inl a ↦ set_for tracks sets source m on a | inr b ↦ set_for others sets target m on_target b ]) (memberships f) names
@@ -76,7 +77,8 @@ options_all stock mask side all is k d within =
     let Among : List Opt → Type 0 = λ l. Contains l (slice_index_or all k d) in
     ((options_are stock mask side (slice_index_or all k d)).0 (subst Among is (All-contains_itself all k d within))).0
 
-pub bearings_all : (p : Position) (mask : ℕ) (side : Side) (all : List Bearing) → IsGame p → IsGameMask p mask → all ≡ bearings_of p.men mask side → All (λ b. IsBearer p.men mask b.man b.ray b.king) all
+pub bearings_all : (p : Position) (mask : ℕ) (side : Side) (all : List Bearing) → IsGame p → IsGameMask p mask → all ≡ bearings_of p.men mask side
+    → All (λ b. IsBearer p.men mask b.man b.ray b.king) all
 bearings_all p mask side all game here is k d within =
     let Among : List Bearing → Type 0 = λ l. Contains l (slice_index_or all k d) in
     ((bearings_are p mask side (slice_index_or all k d) game.kings here).0 (subst Among is (All-contains_itself all k d within))).bearer
@@ -94,7 +96,8 @@ module _ (p : Position) (game : IsGame p) (sets : List Automaton) where
   choice side mask o i = (options_are p.men mask side o).0 i
 
   -- images
-  image_on : (side : Side) (mask to : ℕ) (o : Opt) (source : SetId) → Contains (options_of p.men mask side) o → target_of mask o ≡ to → IsNameOn (mask_tracks p mask) sets (Some source) → IsItemOn (mask_tracks p to) sets (image_of p.men mask o source.0)
+  image_on : (side : Side) (mask to : ℕ) (o : Opt) (source : SetId) → Contains (options_of p.men mask side) o → target_of mask o ≡ to
+      → IsNameOn (mask_tracks p mask) sets (Some source) → IsItemOn (mask_tracks p to) sets (image_of p.men mask o source.0)
   image_on side mask to o source i leads on =
       let f = image_of p.men mask o source.0 in
       let w = choice side mask o i in
@@ -128,14 +131,16 @@ module _ (p : Position) (game : IsGame p) (sets : List Automaton) where
       let Is : SetOf → Type 0 = λ t. SameItem (item_of sets (image_of p.men mask o source.0)) (image_item rules mask t o) in
       subst Is (sym e) (same_one sets (image_of p.men mask o) (λ name k. image-relabel name (length p.men) mask o.man o.taken k (ray_at p.men o.man o.ray)) source.0)
 
-  images_thin_from : (side : Side) (to mask : ℕ) (name : Option SetId) (s : SetOf) → s ≡ set_at sets name → Thinned (map (item_of sets) (images_from p side to mask name)) (map (image_item rules mask s) (choices_into rules side mask to))
+  images_thin_from : (side : Side) (to mask : ℕ) (name : Option SetId) (s : SetOf) → s ≡ set_at sets name
+      → Thinned (map (item_of sets) (images_from p side to mask name)) (map (image_item rules mask s) (choices_into rules side mask to))
   images_thin_from side to mask None s e = thinned-none sets (image_item rules mask s) (choices_into rules side mask to) (λ o. image_lacks mask s o e)
   images_thin_from side to mask (Some source) s e =
       thinned-map sets (λ o. image_of p.men mask o source.0) (image_item rules mask s) (choices_into rules side mask to) (λ o. image_same mask s o source e)
 
   pub images_thin : (side : Side) (to : ℕ) (level : List (Option SetId)) → Thinned (map (item_of sets) (image_trees p side to level)) (image_items rules side to (level_of sets (masks_of p) level))
   images_thin side to level =
-      thinned-flat_map sets (λ mask. images_from p side to mask (name_of (masks_of p) level mask)) (λ mask. map (image_item rules mask (level_of sets (masks_of p) level mask)) (choices_into rules side mask to)) (masks_of p)
+      thinned-flat_map sets (λ mask. images_from p side to mask (name_of (masks_of p) level mask))
+      (λ mask. map (image_item rules mask (level_of sets (masks_of p) level mask)) (choices_into rules side mask to)) (masks_of p)
       (λ mask. images_thin_from side to mask (name_of (masks_of p) level mask) (level_of sets (masks_of p) level mask) (set_of_name sets (masks_of p) level mask))
 
   -- moves from one set into another
@@ -144,7 +149,9 @@ module _ (p : Position) (game : IsGame p) (sets : List Automaton) where
       let means : OptionsMean p side mask o = options_mean p game side mask o w in
       sym (means.image_tracks 0) ∙ image_tracks p.men mask o 0 game.few w.0
 
-  pre_on : (side : Side) (mask : ℕ) (o : Opt) (source target : SetId) → Contains (options_of p.men mask side) o → IsNameOn (mask_tracks p mask) sets (Some source) → IsNameOn (mask_tracks p (target_of mask o)) sets (Some target) → IsItemOn (mask_tracks p mask) sets (pre_of p.men mask o source.0 target.0)
+  pre_on : (side : Side) (mask : ℕ) (o : Opt) (source target : SetId) → Contains (options_of p.men mask side) o
+      → IsNameOn (mask_tracks p mask) sets (Some source) → IsNameOn (mask_tracks p (target_of mask o)) sets (Some target)
+      → IsItemOn (mask_tracks p mask) sets (pre_of p.men mask o source.0 target.0)
   pre_on side mask o source target i on on_target =
       let f = pre_of p.men mask o source.0 target.0 in
       let w = choice side mask o i in
@@ -155,20 +162,25 @@ module _ (p : Position) (game : IsGame p) (sets : List Automaton) where
       (has_two (mask_tracks p mask) others sets source target f on (subst On (target_tracks side mask o w) on_target) (pre_names p.men mask o source.0 target.0 f game.few w.0 refl))
       (means.pre_tracks source.0 target.0)
 
-  pre_on_to : (side : Side) (mask : ℕ) (o : Opt) (source : SetId) (target : Option SetId) → Contains (options_of p.men mask side) o → IsNameOn (mask_tracks p mask) sets (Some source) → IsNameOn (mask_tracks p (target_of mask o)) sets target → All (IsItemOn (mask_tracks p mask) sets) (pre_to p mask source o target)
+  pre_on_to : (side : Side) (mask : ℕ) (o : Opt) (source : SetId) (target : Option SetId) → Contains (options_of p.men mask side) o
+      → IsNameOn (mask_tracks p mask) sets (Some source) → IsNameOn (mask_tracks p (target_of mask o)) sets target
+      → All (IsItemOn (mask_tracks p mask) sets) (pre_to p mask source o target)
   pre_on_to side mask o source None i on on_target = All-nil (IsItemOn (mask_tracks p mask) sets)
   pre_on_to side mask o source (Some target) i on on_target =
       let Is = IsItemOn (mask_tracks p mask) sets in
       All-cons Is (pre_of p.men mask o source.0 target.0) [] (pre_on side mask o source target i on on_target) (All-nil Is)
 
-  pub pres_on : (side : Side) (mask : ℕ) (source : Option SetId) (targets : List (Option SetId)) → IsNameOn (mask_tracks p mask) sets source → AreNames p.men sets (masks_of p) targets → All (IsItemOn (mask_tracks p mask) sets) (pre_trees p side mask source targets)
+  pub pres_on : (side : Side) (mask : ℕ) (source : Option SetId) (targets : List (Option SetId)) → IsNameOn (mask_tracks p mask) sets source
+      → AreNames p.men sets (masks_of p) targets → All (IsItemOn (mask_tracks p mask) sets) (pre_trees p side mask source targets)
   pres_on side mask None targets on are = All-nil (IsItemOn (mask_tracks p mask) sets)
   pres_on side mask (Some source) targets on are =
       let all = options_of p.men mask side in
       all-flat_map (IsItemOn (mask_tracks p mask) sets) (λ o. pre_to p mask source o (name_of (masks_of p) targets (target_of mask o))) all
       (λ k d within. pre_on_to side mask _ source _ (All-contains_itself all k d within) on (name_is_on p.men sets (masks_of p) targets _ are))
 
-  pre_same : (mask : ℕ) (s : SetOf) (targets : Level) (o : Opt) (source target : SetId) → s ≡ tables sets source.0 → targets (target_of mask o) ≡ tables sets target.0 → SameItem (item_of sets (pre_of p.men mask o source.0 target.0)) (pre_item rules mask s targets o)
+  pre_same : (mask : ℕ) (s : SetOf) (targets : Level) (o : Opt) (source target : SetId) → s ≡ tables sets source.0
+      → targets (target_of mask o) ≡ tables sets target.0
+      → SameItem (item_of sets (pre_of p.men mask o source.0 target.0)) (pre_item rules mask s targets o)
   pre_same mask s targets o source target e f =
       let Is : SetOf → SetOf → Type 0 = λ t u. SameItem (item_of sets (pre_of p.men mask o source.0 target.0)) (record { formula = pre_of p.men mask o 0 1; sets = two t u }) in
       let From : SetOf → Type 0 = λ t. Is t (targets (target_of mask o)) in
@@ -185,11 +197,14 @@ module _ (p : Position) (game : IsGame p) (sets : List Automaton) where
       let Is : SetOf → Type 0 = λ t. IsLacking (record { formula = pre_of p.men mask o 0 1; sets = two s t }) in
       subst Is (sym e) (lacks_second (pre_of p.men mask o 0 1) s Nothing (pre-positives (length p.men) mask o.man o.taken 0 1 (ray_at p.men o.man o.ray)) nothing_empty)
 
-  pre_thin_to : (mask : ℕ) (s : SetOf) (targets : Level) (o : Opt) (source : SetId) (target : Option SetId) → s ≡ tables sets source.0 → targets (target_of mask o) ≡ set_at sets target → Thinned (map (item_of sets) (pre_to p mask source o target)) (pre_item rules mask s targets o ∷ [])
+  pre_thin_to : (mask : ℕ) (s : SetOf) (targets : Level) (o : Opt) (source : SetId) (target : Option SetId) → s ≡ tables sets source.0
+      → targets (target_of mask o) ≡ set_at sets target
+      → Thinned (map (item_of sets) (pre_to p mask source o target)) (pre_item rules mask s targets o ∷ [])
   pre_thin_to mask s targets o source None e f = inl (second_lacks mask s targets o f, refl)
   pre_thin_to mask s targets o source (Some target) e f = inr (item_of sets (pre_of p.men mask o source.0 target.0), [], refl, pre_same mask s targets o source target e f, refl)
 
-  pub pres_thin : (side : Side) (mask : ℕ) (source : Option SetId) (s : SetOf) (targets : List (Option SetId)) → s ≡ set_at sets source → Thinned (map (item_of sets) (pre_trees p side mask source targets)) (pre_items rules side mask s (level_of sets (masks_of p) targets))
+  pub pres_thin : (side : Side) (mask : ℕ) (source : Option SetId) (s : SetOf) (targets : List (Option SetId)) → s ≡ set_at sets source
+      → Thinned (map (item_of sets) (pre_trees p side mask source targets)) (pre_items rules side mask s (level_of sets (masks_of p) targets))
   pres_thin side mask None s targets e =
       thinned-none sets (pre_item rules mask s (level_of sets (masks_of p) targets)) (options_of p.men mask side) (λ o. first_lacks mask s (level_of sets (masks_of p) targets) o e)
   pres_thin side mask (Some source) s targets e =
@@ -201,21 +216,24 @@ module _ (p : Position) (game : IsGame p) (sets : List Automaton) where
   pub bearer : (side : Side) (mask : ℕ) (b : Bearing) → IsGameMask p mask → Contains (bearings_of p.men mask side) b → IsBearer p.men mask b.man b.ray b.king
   bearer side mask b is i = ((bearings_are p mask side b game.kings is).0 i).bearer
 
-  bear_on : (mask : ℕ) (b : Bearing) (source : SetId) → IsBearer p.men mask b.man b.ray b.king → IsNameOn (mask_tracks p mask) sets (Some source) → IsItemOn (mask_tracks p mask) sets (bear_of p.men mask b.man b.ray b.king source.0)
+  bear_on : (mask : ℕ) (b : Bearing) (source : SetId) → IsBearer p.men mask b.man b.ray b.king → IsNameOn (mask_tracks p mask) sets (Some source)
+      → IsItemOn (mask_tracks p mask) sets (bear_of p.men mask b.man b.ray b.king source.0)
   bear_on mask b source w on =
       let f = bear_of p.men mask b.man b.ray b.king source.0 in
       let means : BearingsMean p mask b = bearings_mean p mask b w in
       is_item (mask_tracks p mask) sets f (bear_step p.men mask b.man b.ray b.king source.0 w) (bear_modest p.men mask b.man b.ray b.king source.0 f game.few w refl)
       (has_one (mask_tracks p mask) sets source f on (bear_names p.men mask b.man b.ray b.king source.0 f game.few w refl)) (means.bear_tracks source.0)
 
-  pub safe_on : (mask : ℕ) (b : Bearing) (source : SetId) → IsBearer p.men mask b.man b.ray b.king → IsNameOn (mask_tracks p mask) sets (Some source) → IsItemOn (mask_tracks p mask) sets (safe_of p.men mask b.man b.ray b.king source.0)
+  pub safe_on : (mask : ℕ) (b : Bearing) (source : SetId) → IsBearer p.men mask b.man b.ray b.king → IsNameOn (mask_tracks p mask) sets (Some source)
+      → IsItemOn (mask_tracks p mask) sets (safe_of p.men mask b.man b.ray b.king source.0)
   safe_on mask b source w on =
       let f = safe_of p.men mask b.man b.ray b.king source.0 in
       let means : BearingsMean p mask b = bearings_mean p mask b w in
       is_item (mask_tracks p mask) sets f (safe_step p.men mask b.man b.ray b.king source.0) (safe_modest p.men mask b.man b.ray b.king source.0 f game.few w refl)
       (has_one (mask_tracks p mask) sets source f on (safe_names p.men mask b.man b.ray b.king source.0 f game.few w refl)) (means.safe_tracks source.0)
 
-  pub bears_on : (side : Side) (mask : ℕ) (source : Option SetId) → IsGameMask p mask → IsNameOn (mask_tracks p mask) sets source → All (IsItemOn (mask_tracks p mask) sets) (bear_trees p side mask source)
+  pub bears_on : (side : Side) (mask : ℕ) (source : Option SetId) → IsGameMask p mask → IsNameOn (mask_tracks p mask) sets source
+      → All (IsItemOn (mask_tracks p mask) sets) (bear_trees p side mask source)
   bears_on side mask None is on = All-nil (IsItemOn (mask_tracks p mask) sets)
   bears_on side mask (Some source) is on =
       let all = bearings_of p.men mask side in

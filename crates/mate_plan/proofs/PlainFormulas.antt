@@ -8,8 +8,9 @@ use Rattle.game_rules.specs.declared.men.Ray.{Ray}
 use Rattle.lin_formula.specs.Tree.{Tree}
 use Rattle.lin_formula.specs.Tree as tree
 use Rattle.rule_formula.specs.Placed.{is_live, without}
-use Rattle.rule_formula.specs.Seats.{new_seat, new_seats, old_seats, own, spare, var, vars_to}
-use Rattle.rule_formula.specs.Trees.{ahead, and_all, atoms_as, bear_tree, clear, clear_as, difference, ex_swept, image_body, image_tree, is_other, line, line_atoms, on, on_as, ordered, pre_body, pre_tree, ray_atoms, safe_tree, unless_same}
+use Rattle.rule_formula.specs.Seats.{elsewhere, new_seat, new_seats, old_seats, own, spare, vars_to}
+use Rattle.rule_formula.specs.Trees.{ahead, and_all, atoms_as, bear_tree, clear, clear_as, difference, ex_swept, image_body, image_tree, is_other, line, line_atoms, on, on_as, ordered, past, pre_body, pre_tree, ray_atoms, safe_tree, unless_same}
+use Rattle.rule_formula.specs.Ways.{before, onto}
 use Rattle.set_plan.specs.Relabel.{relabel}
 use Rattle.set_plan.specs.Unite.{positives}
 
@@ -49,10 +50,10 @@ ordered_plain : (d : ℤ) (x y : Var) (n : ℤ) → IsPlain (ordered d x y n)
 ordered_plain (pos d) x y n = tt
 ordered_plain (negsuc d) x y n = tt
 
-ahead_plain : (dx dy : ℤ) (a b : _) (n : ℤ) → IsPlain (ahead dx dy a b n)
-ahead_plain (pos zero) dy a b n = ordered_plain dy a.y b.y n
-ahead_plain (pos (suc dx)) dy a b n = ordered_plain (pos (suc dx)) a.x b.x n
-ahead_plain (negsuc dx) dy a b n = ordered_plain (negsuc dx) a.x b.x n
+ahead_plain : (dx dy : ℤ) (a b : _) (extent : _) → IsPlain (ahead dx dy a b extent)
+ahead_plain (pos zero) dy a b extent = ordered_plain dy a.y b.y (past extent)
+ahead_plain (pos (suc dx)) dy a b extent = ordered_plain (pos (suc dx)) a.x b.x (past extent)
+ahead_plain (negsuc dx) dy a b extent = ordered_plain (negsuc dx) a.x b.x (past extent)
 
 line_plain : (dx dy : ℤ) (a b : _) → IsPlain (line dx dy a b)
 line_plain (pos zero) dy a b = tt
@@ -84,14 +85,14 @@ append_plain [] gs h k = k
 append_plain (f ∷ fs) gs h k = (h.0, append_plain fs gs h.1 k)
 
 atoms_plain : (far : Bool) (dx dy : ℤ) (a b : _) → ArePlain (atoms_as far dx dy a b)
-atoms_plain true dx dy a b = append_plain (line_atoms dx dy a b) (ahead dx dy a b (negsuc 0) ∷ []) (line_atoms_plain dx dy a b) (ahead_plain dx dy a b (negsuc 0), tt)
+atoms_plain true dx dy a b = append_plain (line_atoms dx dy a b) (ahead dx dy a b before ∷ []) (line_atoms_plain dx dy a b) (ahead_plain dx dy a b before, tt)
 atoms_plain false dx dy a b =
     append_plain (unless_same b.x a.x (difference b.x a.x Eq dx)) (unless_same b.y a.y (difference b.y a.y Eq dy))
     (unless_plain b.x a.x (difference b.x a.x Eq dx) tt) (unless_plain b.y a.y (difference b.y a.y Eq dy) tt)
 
-on_plain : (far : Bool) (dx dy : ℤ) (a b z : _) (n : ℤ) → IsPlain (on_as far dx dy a b z n)
-on_plain true dx dy a b z n = ((line_plain dx dy a z, ahead_plain dx dy a z (negsuc 0)), ahead_plain dx dy z b n)
-on_plain false dx dy a b z n = (tt, tt)
+on_plain : (far : Bool) (dx dy : ℤ) (a b z : _) (extent : _) → IsPlain (on_as far dx dy a b z extent)
+on_plain true dx dy a b z extent = ((line_plain dx dy a z, ahead_plain dx dy a z before), ahead_plain dx dy z b extent)
+on_plain false dx dy a b z extent = (tt, tt)
 
 -- formulas that are built of a first one and of plain ones
 module _ (name : ℕ → ℕ) where
@@ -109,7 +110,8 @@ module _ (name : ℕ → ℕ) where
       if-relabel (is_other live i j (suc n)) (clear f hit live i j n) (hit (suc n)) (h (suc n))
       ∙ ap (λ t. if is_other live i j (suc n) then tree.And t (tree.Not (hit (suc n))) else t) (clear-relabel f hit live i j n h)
 
-  clear_as-relabel : (b : Bool) (f : Tree) (hit : ℕ → Tree) (live : ℕ → Bool) (i j n : ℕ) → ((k : ℕ) → IsPlain (hit k)) → relabel name (clear_as b f hit live i j n) ≡ clear_as b (relabel name f) hit live i j n
+  clear_as-relabel : (b : Bool) (f : Tree) (hit : ℕ → Tree) (live : ℕ → Bool) (i j n : ℕ) → ((k : ℕ) → IsPlain (hit k))
+      → relabel name (clear_as b f hit live i j n) ≡ clear_as b (relabel name f) hit live i j n
   clear_as-relabel true f hit live i j n h = clear-relabel f hit live i j n h
   clear_as-relabel false f hit live i j n h = refl
 
@@ -118,24 +120,26 @@ module _ (name : ℕ → ℕ) where
   swept-relabel (pos (suc d)) x f = refl
   swept-relabel (negsuc d) x f = refl
 
-  path-relabel : (f : Tree) (r : Ray) (a b : _) (bound : ℤ) (live : ℕ → Bool) (i j n : ℕ) → relabel name (clear (and_all f (ray_atoms r a b)) (λ k. on r a b bound (own k)) live i j n) ≡ clear (and_all (relabel name f) (ray_atoms r a b)) (λ k. on r a b bound (own k)) live i j n
-  path-relabel f r a b bound live i j n =
-      clear-relabel (and_all f (ray_atoms r a b)) (λ k. on r a b bound (own k)) live i j n (λ k. on_plain r.far r.dx r.dy a b (own k) bound)
-      ∙ ap (λ t. clear t (λ k. on r a b bound (own k)) live i j n) (all-relabel f (ray_atoms r a b) (atoms_plain r.far r.dx r.dy a b))
+  path-relabel : (f : Tree) (r : Ray) (a b : _) (extent : _) (live : ℕ → Bool) (i j n : ℕ)
+      → relabel name (clear (and_all f (ray_atoms r a b)) (λ k. on r a b extent (own k)) live i j n) ≡ clear
+      (and_all (relabel name f) (ray_atoms r a b)) (λ k. on r a b extent (own k)) live i j n
+  path-relabel f r a b extent live i j n =
+      clear-relabel (and_all f (ray_atoms r a b)) (λ k. on r a b extent (own k)) live i j n (λ k. on_plain r.far r.dx r.dy a b (own k) extent)
+      ∙ ap (λ t. clear t (λ k. on r a b extent (own k)) live i j n) (all-relabel f (ray_atoms r a b) (atoms_plain r.far r.dx r.dy a b))
 
-  both-relabel : (r : Ray) (f g : Tree) → relabel name f ≡ g → relabel name (ex_swept r.dx (var 16) (ex_swept r.dy (var 17) f)) ≡ ex_swept r.dx (var 16) (ex_swept r.dy (var 17) g)
+  both-relabel : (r : Ray) (f g : Tree) → relabel name f ≡ g → relabel name (ex_swept r.dx elsewhere.x (ex_swept r.dy elsewhere.y f)) ≡ ex_swept r.dx elsewhere.x (ex_swept r.dy elsewhere.y g)
   both-relabel r f g e =
-      swept-relabel r.dx (var 16) (ex_swept r.dy (var 17) f)
-      ∙ ap (λ t. ex_swept r.dx (var 16) t) (swept-relabel r.dy (var 17) f ∙ ap (λ t. ex_swept r.dy (var 17) t) e)
+      swept-relabel r.dx elsewhere.x (ex_swept r.dy elsewhere.y f)
+      ∙ ap (λ t. ex_swept r.dx elsewhere.x t) (swept-relabel r.dy elsewhere.y f ∙ ap (λ t. ex_swept r.dy elsewhere.y t) e)
 
   pub image-relabel : (n mask i t s : ℕ) (r : Ray) → relabel name (image_tree n mask i r t s) ≡ image_tree n mask i r t (name s)
   image-relabel n mask i t s r =
       both-relabel r (image_body n mask i r t s) (image_body n mask i r t (name s))
-      (path-relabel (tree.Among s (vars_to (old_seats r i t) (is_live mask) n)) r (spare r i) (own i) (pos 0) (is_live mask) i t n)
+      (path-relabel (tree.Among s (vars_to (old_seats r i t) (is_live mask) n)) r (spare r i) (own i) onto (is_live mask) i t n)
 
   body-relabel : (n mask i t s q : ℕ) (r : Ray) → relabel name (pre_body n mask i r t s q) ≡ pre_body n mask i r t (name s) (name q)
   body-relabel n mask i t s q r =
-      path-relabel (tree.And (tree.Among s (vars_to own (is_live mask) n)) (tree.Among q (vars_to (new_seats r i t) (without (is_live mask) t) n))) r (own i) (new_seat r i t) (pos 0) (is_live mask) i t n
+      path-relabel (tree.And (tree.Among s (vars_to own (is_live mask) n)) (tree.Among q (vars_to (new_seats r i t) (without (is_live mask) t) n))) r (own i) (new_seat r i t) onto (is_live mask) i t n
 
   pub pre-relabel : (n mask i t s q : ℕ) (r : Ray) → relabel name (pre_tree n mask i r t s q) ≡ pre_tree n mask i r t (name s) (name q)
   pre-relabel n mask i zero s q r = both-relabel r (pre_body n mask i r 0 s q) (pre_body n mask i r 0 (name s) (name q)) (body-relabel n mask i 0 s q r)
@@ -143,8 +147,10 @@ module _ (name : ℕ → ℕ) where
 
   pub bear-relabel : (n mask k g s : ℕ) (r : Ray) → relabel name (bear_tree n mask k r g s) ≡ bear_tree n mask k r g (name s)
   bear-relabel n mask k g s r =
-      clear_as-relabel r.far (and_all (tree.Among s (vars_to own (is_live mask) n)) (ray_atoms r (own k) (own g))) (λ l. on r (own k) (own g) (negsuc 0) (own l)) (is_live mask) k g n (λ l. on_plain r.far r.dx r.dy (own k) (own g) (own l) (negsuc 0))
-      ∙ ap (λ t. clear_as r.far t (λ l. on r (own k) (own g) (negsuc 0) (own l)) (is_live mask) k g n) (all-relabel (tree.Among s (vars_to own (is_live mask) n)) (ray_atoms r (own k) (own g)) (atoms_plain r.far r.dx r.dy (own k) (own g)))
+      clear_as-relabel r.far (and_all (tree.Among s (vars_to own (is_live mask) n)) (ray_atoms r (own k) (own g)))
+      (λ l. on r (own k) (own g) before (own l)) (is_live mask) k g n (λ l. on_plain r.far r.dx r.dy (own k) (own g) (own l) before)
+      ∙ ap (λ t. clear_as r.far t (λ l. on r (own k) (own g) before (own l)) (is_live mask) k g n)
+      (all-relabel (tree.Among s (vars_to own (is_live mask) n)) (ray_atoms r (own k) (own g)) (atoms_plain r.far r.dx r.dy (own k) (own g)))
 
   pub safe-relabel : (n mask k g s : ℕ) (r : Ray) → relabel name (safe_tree n mask k r g s) ≡ safe_tree n mask k r g (name s)
   safe-relabel n mask k g s r = ap (λ t. tree.And (tree.Among (name s) (vars_to own (is_live mask) n)) (tree.Not t)) (bear-relabel n mask k g s r)
@@ -171,21 +177,21 @@ swept-positives (pos zero) x f = refl
 swept-positives (pos (suc d)) x f = refl
 swept-positives (negsuc d) x f = refl
 
-path-positives : (f : Tree) (r : Ray) (a b : _) (bound : ℤ) (live : ℕ → Bool) (i j n : ℕ) → positives (clear (and_all f (ray_atoms r a b)) (λ k. on r a b bound (own k)) live i j n) ≡ positives f
-path-positives f r a b bound live i j n =
-    clear-positives (and_all f (ray_atoms r a b)) (λ k. on r a b bound (own k)) live i j n ∙ all-positives f (ray_atoms r a b) (atoms_plain r.far r.dx r.dy a b)
+path-positives : (f : Tree) (r : Ray) (a b : _) (extent : _) (live : ℕ → Bool) (i j n : ℕ) → positives (clear (and_all f (ray_atoms r a b)) (λ k. on r a b extent (own k)) live i j n) ≡ positives f
+path-positives f r a b extent live i j n =
+    clear-positives (and_all f (ray_atoms r a b)) (λ k. on r a b extent (own k)) live i j n ∙ all-positives f (ray_atoms r a b) (atoms_plain r.far r.dx r.dy a b)
 
-both-positives : (r : Ray) (f : Tree) → positives (ex_swept r.dx (var 16) (ex_swept r.dy (var 17) f)) ≡ positives f
-both-positives r f = swept-positives r.dx (var 16) (ex_swept r.dy (var 17) f) ∙ swept-positives r.dy (var 17) f
+both-positives : (r : Ray) (f : Tree) → positives (ex_swept r.dx elsewhere.x (ex_swept r.dy elsewhere.y f)) ≡ positives f
+both-positives r f = swept-positives r.dx elsewhere.x (ex_swept r.dy elsewhere.y f) ∙ swept-positives r.dy elsewhere.y f
 
 pub image-positives : (n mask i t s : ℕ) (r : Ray) → positives (image_tree n mask i r t s) ≡ s ∷ []
 image-positives n mask i t s r =
     both-positives r (image_body n mask i r t s)
-    ∙ path-positives (tree.Among s (vars_to (old_seats r i t) (is_live mask) n)) r (spare r i) (own i) (pos 0) (is_live mask) i t n
+    ∙ path-positives (tree.Among s (vars_to (old_seats r i t) (is_live mask) n)) r (spare r i) (own i) onto (is_live mask) i t n
 
 body-positives : (n mask i t s q : ℕ) (r : Ray) → positives (pre_body n mask i r t s q) ≡ s ∷ q ∷ []
 body-positives n mask i t s q r =
-    path-positives (tree.And (tree.Among s (vars_to own (is_live mask) n)) (tree.Among q (vars_to (new_seats r i t) (without (is_live mask) t) n))) r (own i) (new_seat r i t) (pos 0) (is_live mask) i t n
+    path-positives (tree.And (tree.Among s (vars_to own (is_live mask) n)) (tree.Among q (vars_to (new_seats r i t) (without (is_live mask) t) n))) r (own i) (new_seat r i t) onto (is_live mask) i t n
 
 pub pre-positives : (n mask i t s q : ℕ) (r : Ray) → positives (pre_tree n mask i r t s q) ≡ s ∷ q ∷ []
 pre-positives n mask i zero s q r = both-positives r (pre_body n mask i r 0 s q) ∙ body-positives n mask i 0 s q r
@@ -193,5 +199,5 @@ pre-positives n mask i (suc t) s q r = body-positives n mask i (suc t) s q r
 
 pub bear-positives : (n mask k g s : ℕ) (r : Ray) → positives (bear_tree n mask k r g s) ≡ s ∷ []
 bear-positives n mask k g s r =
-    clear_as-positives r.far (and_all (tree.Among s (vars_to own (is_live mask) n)) (ray_atoms r (own k) (own g))) (λ l. on r (own k) (own g) (negsuc 0) (own l)) (is_live mask) k g n
+    clear_as-positives r.far (and_all (tree.Among s (vars_to own (is_live mask) n)) (ray_atoms r (own k) (own g))) (λ l. on r (own k) (own g) before (own l)) (is_live mask) k g n
     ∙ all-positives (tree.Among s (vars_to own (is_live mask) n)) (ray_atoms r (own k) (own g)) (atoms_plain r.far r.dx r.dy (own k) (own g))

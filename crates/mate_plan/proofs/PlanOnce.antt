@@ -11,7 +11,7 @@ use Rattle.set_plan.specs.Program.{Item, Give, each}
 use Rattle.set_plan.specs.Same.{SameSets, SameItem}
 use Rattle.set_plan.specs.Unite.{Made, join, make, two, unite, without}
 use Rattle.set_plan.proofs.Alike.{Alike, SameSets-self}
-use Rattle.set_plan.proofs.Combined.{SameItems, SameMade, Empty-alike, bind-alike, join-alike, make-alike, unite-alike, without-alike}
+use Rattle.set_plan.proofs.Combined.{SameItems, SameMade, Empty-alike, bind-alike, join-alike, make-alike, unite-alike, without-alike, two-same}
 use Rattle.set_plan.proofs.Folds.{each-alike}
 use Rattle.set_plan.proofs.SameSets.{SameItem-sets}
 use Rattle.set_plan.proofs.Unique.{Ends-not_stops, Ends-one, Stops-one}
@@ -37,11 +37,8 @@ if-same false s t u v first second = second
 pub level_with-same : (l m : Level) (mask : ℕ) (s t : SetOf) → SameLevels l m → SameSets s t → SameLevels (level_with l mask s) (level_with m mask t)
 level_with-same l m mask s t levels sets k = if-same (k == mask) s t (l k) (m k) sets (levels k)
 
-pub two-same : (s t u v : SetOf) → SameSets s t → SameSets u v → (k : ℕ) → SameSets (two s u k) (two t v k)
-two-same s t u v first second zero = first
-two-same s t u v first second (suc k) = second
-
-pub for_masks-alike : (masks : List ℕ) (f g : ℕ → Program SetOf) (l m : Level) → ((mask : ℕ) → Alike SameSets (f mask) (g mask)) → SameLevels l m → Alike SameLevels (for_masks masks f l) (for_masks masks g m)
+pub for_masks-alike : (masks : List ℕ) (f g : ℕ → Program SetOf) (l m : Level) → ((mask : ℕ) → Alike SameSets (f mask) (g mask)) → SameLevels l m
+    → Alike SameLevels (for_masks masks f l) (for_masks masks g m)
 for_masks-alike masks f g l m sets levels =
     each-alike SameLevels (with_mask f) (with_mask g)
     (λ mask k j same. bind-alike SameSets SameLevels (f mask) (g mask) (λ s. Give (level_with k mask s)) (λ s. Give (level_with j mask s)) (sets mask)
@@ -65,7 +62,8 @@ flat-items f g same (mask ∷ masks) = append-items (f mask) (g mask) (flat_map 
 module _ (rules : Rules) where
   pub union-alike : (ply mask : ℕ) (p : Part) (is js : List Item) → SameItems is js → Alike SameSets (union rules ply mask p is) (union rules ply mask p js)
   union-alike ply mask p is js same =
-      bind-alike SameMade SameSets (unite (rules.tracks mask) (name ply mask p) (Nothing, 1) is) (unite (rules.tracks mask) (name ply mask p) (Nothing, 1) js) (λ made. Give made.0) (λ made. Give made.0)
+      bind-alike SameMade SameSets (unite (rules.tracks mask) (name ply mask p) (Nothing, 1) is)
+      (unite (rules.tracks mask) (name ply mask p) (Nothing, 1) js) (λ made. Give made.0) (λ made. Give made.0)
       (unite-alike (rules.tracks mask) (name ply mask p) (Nothing, 1) (Nothing, 1) is js (record { sets = SameSets-self Nothing; at = refl }) same)
       (λ a b made. made.sets)
 
@@ -78,13 +76,15 @@ module _ (rules : Rules) where
   pub image-same : (side : Side) (to : ℕ) (l m : Level) → SameLevels l m → SameItems (image_items rules side to l) (image_items rules side to m)
   image-same side to l m levels =
       flat-items (λ mask. map (image_item rules mask (l mask)) (choices_into rules side mask to)) (λ mask. map (image_item rules mask (m mask)) (choices_into rules side mask to))
-      (λ mask. map-items (image_item rules mask (l mask)) (image_item rules mask (m mask)) (λ o. SameItem-sets (rules.image mask o) (λ _. l mask) (λ _. m mask) (λ k. levels mask)) (choices_into rules side mask to))
+      (λ mask. map-items (image_item rules mask (l mask)) (image_item rules mask (m mask))
+      (λ o. SameItem-sets (rules.image mask o) (λ _. l mask) (λ _. m mask) (λ k. levels mask)) (choices_into rules side mask to))
       rules.masks
 
   pub pre-same : (side : Side) (mask : ℕ) (s t : SetOf) (l m : Level) → SameSets s t → SameLevels l m → SameItems (pre_items rules side mask s l) (pre_items rules side mask t m)
   pre-same side mask s t l m sets levels =
       map-items (pre_item rules mask s l) (pre_item rules mask t m)
-      (λ o. SameItem-sets (rules.pre mask o) (two s (l (rules.target mask o))) (two t (m (rules.target mask o))) (two-same s t (l (rules.target mask o)) (m (rules.target mask o)) sets (levels (rules.target mask o))))
+      (λ o. SameItem-sets (rules.pre mask o) (two s (l (rules.target mask o))) (two t (m (rules.target mask o)))
+      (two-same s t (l (rules.target mask o)) (m (rules.target mask o)) sets (levels (rules.target mask o))))
       (rules.choices side mask)
 
   pub bear-same : (side : Side) (mask : ℕ) (s t : SetOf) → SameSets s t → SameItems (bear_items rules side mask s) (bear_items rules side mask t)
@@ -105,7 +105,9 @@ module _ (rules : Rules) where
 
   pub reach_set-alike : (side : Side) (ply : ℕ) (l m : Level) (mask : ℕ) → SameLevels l m → Alike SameSets (reach_set rules side ply l mask) (reach_set rules side ply m mask)
   reach_set-alike side ply l m mask levels =
-      bind-alike SameSets SameSets (union rules ply mask kind.Image (image_items rules side mask l)) (union rules ply mask kind.Image (image_items rules side mask m)) (narrow rules ply mask (rules.bearings (other side) mask)) (narrow rules ply mask (rules.bearings (other side) mask))
+      bind-alike SameSets SameSets (union rules ply mask kind.Image (image_items rules side mask l))
+      (union rules ply mask kind.Image (image_items rules side mask m)) (narrow rules ply mask (rules.bearings (other side) mask))
+      (narrow rules ply mask (rules.bearings (other side) mask))
       (union-alike ply mask kind.Image (image_items rules side mask l) (image_items rules side mask m) (image-same side mask l m levels))
       (λ s t same. narrow-alike ply mask (rules.bearings (other side) mask) s t same)
 
@@ -119,7 +121,8 @@ module _ (rules : Rules) where
       (λ mask. union-alike ply mask kind.Win (pre_items rules side mask (r mask) k) (pre_items rules side mask (q mask) j) (pre-same side mask (r mask) (q mask) k j (reached mask) kept))
       none-same
 
-  lost_set-alike : (side : Side) (ply mask : ℕ) (s t : SetOf) (r q l m : Level) → SameSets s t → SameLevels r q → SameLevels l m → Alike SameSets (lost_set rules side ply mask s r l) (lost_set rules side ply mask t q m)
+  lost_set-alike : (side : Side) (ply mask : ℕ) (s t : SetOf) (r q l m : Level) → SameSets s t → SameLevels r q → SameLevels l m
+      → Alike SameSets (lost_set rules side ply mask s r l) (lost_set rules side ply mask t q m)
   lost_set-alike side ply mask s t r q l m sets reached rests =
       bind-alike SameSets SameSets (union rules ply mask kind.Escape (pre_items rules side mask s l)) (union rules ply mask kind.Escape (pre_items rules side mask t m)) _ _
       (union-alike ply mask kind.Escape (pre_items rules side mask s l) (pre_items rules side mask t m) (pre-same side mask s t l m sets rests))
@@ -134,11 +137,13 @@ module _ (rules : Rules) where
       bind-alike SameSets SameSets (union rules ply mask kind.Reply (pre_items rules side mask v r)) (union rules ply mask kind.Reply (pre_items rules side mask w q)) _ _
       (union-alike ply mask kind.Reply (pre_items rules side mask v r) (pre_items rules side mask w q) (pre-same side mask v w r q quiet reached))
       (λ x y reply.
-      bind-alike SameMade SameSets (join (rules.tracks mask) (name ply mask kind.Lost) g (x, 1)) (join (rules.tracks mask) (name ply mask kind.Lost) h (y, 1)) (λ made. Give made.0) (λ made. Give made.0)
+      bind-alike SameMade SameSets (join (rules.tracks mask) (name ply mask kind.Lost) g (x, 1))
+      (join (rules.tracks mask) (name ply mask kind.Lost) h (y, 1)) (λ made. Give made.0) (λ made. Give made.0)
       (join-alike (rules.tracks mask) (name ply mask kind.Lost) g h (x, 1) (y, 1) check (record { sets = reply; at = refl }))
       (λ a b made. made.sets))))))
 
-  lost_level-alike : (side : Side) (ply : ℕ) (r q r1 q1 k j : Level) → SameLevels r q → SameLevels r1 q1 → SameLevels k j → Alike SameLevels (lost_level rules side ply r r1 k) (lost_level rules side ply q q1 j)
+  lost_level-alike : (side : Side) (ply : ℕ) (r q r1 q1 k j : Level) → SameLevels r q → SameLevels r1 q1 → SameLevels k j
+      → Alike SameLevels (lost_level rules side ply r r1 k) (lost_level rules side ply q q1 j)
   lost_level-alike side ply r q r1 q1 k j reached next kept =
       bind-alike SameLevels SameLevels (for_masks rules.masks (rest_set rules (suc ply) r1 k) no_sets) (for_masks rules.masks (rest_set rules (suc ply) q1 j) no_sets)
       (λ rests. for_masks rules.masks (lost_set_if rules side ply r r1 rests) no_sets) (λ rests. for_masks rules.masks (lost_set_if rules side ply q q1 rests) no_sets)
@@ -153,7 +158,8 @@ module _ (rules : Rules) where
   pub point_level-alike : (mask : ℕ) → Alike SameLevels (point_level rules mask) (point_level rules mask)
   point_level-alike mask =
       let item : Item = record { formula = rules.point; sets = λ _. Nothing } in
-      bind-alike SameMade SameLevels (make (name 0 mask kind.Point) 1 item) (make (name 0 mask kind.Point) 1 item) (λ made. Give (level_with no_sets mask made.0)) (λ made. Give (level_with no_sets mask made.0))
+      bind-alike SameMade SameLevels (make (name 0 mask kind.Point) 1 item) (make (name 0 mask kind.Point) 1 item)
+      (λ made. Give (level_with no_sets mask made.0)) (λ made. Give (level_with no_sets mask made.0))
       (make-alike (name 0 mask kind.Point) 1 item item (SameItem-sets rules.point (λ _. Nothing) (λ _. Nothing) (λ k. SameSets-self Nothing)))
       (λ a b made. level_with-same no_sets no_sets mask a.0 b.0 none-same made.sets)
 
@@ -162,7 +168,8 @@ module _ (rules : Rules) where
   reach_more-alike first ply [] (m ∷ ms) same = absurd same
   reach_more-alike first ply (l ∷ ls) [] same = absurd same
   reach_more-alike first ply (l ∷ ls) (m ∷ ms) same =
-      bind-alike SameLevels SameLists (reach_level rules (turn_at first ply) (suc ply) l) (reach_level rules (turn_at first ply) (suc ply) m) (λ more. Give (more ∷ l ∷ ls)) (λ more. Give (more ∷ m ∷ ms))
+      bind-alike SameLevels SameLists (reach_level rules (turn_at first ply) (suc ply) l) (reach_level rules (turn_at first ply) (suc ply) m)
+      (λ more. Give (more ∷ l ∷ ls)) (λ more. Give (more ∷ m ∷ ms))
       (reach_level-alike (turn_at first ply) (suc ply) l m same.0)
       (λ a b more. (more, same))
 
@@ -170,17 +177,23 @@ module _ (rules : Rules) where
   forward-alike first mask zero =
       bind-alike SameLevels SameLists (point_level rules mask) (point_level rules mask) (λ level. Give (level ∷ [])) (λ level. Give (level ∷ [])) (point_level-alike mask) (λ l m same. (same, tt))
   forward-alike first mask (suc ply) =
-      bind-alike SameLists SameLists (forward rules first mask ply) (forward rules first mask ply) (λ levels. reach_more rules first ply levels) (λ levels. reach_more rules first ply levels) (forward-alike first mask ply)
+      bind-alike SameLists SameLists (forward rules first mask ply) (forward rules first mask ply) (λ levels. reach_more rules first ply levels)
+      (λ levels. reach_more rules first ply levels) (forward-alike first mask ply)
       (λ ls ms same. reach_more-alike first ply ls ms same)
 
-  kept_level-alike : (first : Side) (ply left : ℕ) (r q r1 q1 k j : Level) → SameLevels r q → SameLevels r1 q1 → SameLevels k j → Alike SameLevels (kept_level rules first ply left r r1 k) (kept_level rules first ply left q q1 j)
+  kept_level-alike : (first : Side) (ply left : ℕ) (r q r1 q1 k j : Level) → SameLevels r q → SameLevels r1 q1 → SameLevels k j
+      → Alike SameLevels (kept_level rules first ply left r r1 k) (kept_level rules first ply left q q1 j)
   kept_level-alike first ply left r q r1 q1 k j reached next kept = by_turn (is_even left)
     where
-      by_turn : (b : Bool) → Alike SameLevels (if b then win_level rules (turn_at first ply) ply r k else lost_level rules (turn_at first ply) ply r r1 k) (if b then win_level rules (turn_at first ply) ply q j else lost_level rules (turn_at first ply) ply q q1 j)
+      by_turn : (b : Bool)
+          → Alike SameLevels (if b then win_level rules (turn_at first ply) ply r k else lost_level rules (turn_at first ply) ply r r1 k)
+          (if b then win_level rules (turn_at first ply) ply q j else lost_level rules (turn_at first ply) ply q q1 j)
       by_turn true = win_level-alike (turn_at first ply) ply r q k j reached kept
       by_turn false = lost_level-alike (turn_at first ply) ply r q r1 q1 k j reached next kept
 
-  backward-alike : (first : Side) (r1 q1 : Level) (before past : List Level) (k j : Level) (later after : List Level) → SameLevels r1 q1 → SameLists before past → SameLevels k j → SameLists later after → Alike SameLists (backward rules first r1 before k later) (backward rules first q1 past j after)
+  backward-alike : (first : Side) (r1 q1 : Level) (before past : List Level) (k j : Level) (later after : List Level) → SameLevels r1 q1
+      → SameLists before past → SameLevels k j → SameLists later after
+      → Alike SameLists (backward rules first r1 before k later) (backward rules first q1 past j after)
   backward-alike first r1 q1 [] [] k j later after next lists kept rest = (kept, rest)
   backward-alike first r1 q1 [] (q ∷ past) k j later after next lists kept rest = absurd lists
   backward-alike first r1 q1 (r ∷ before) [] k j later after next lists kept rest = absurd lists
@@ -200,7 +213,8 @@ module _ (rules : Rules) where
 
   plan-alike : (first : Side) (mask last : ℕ) → Alike SameLists (plan rules first mask last) (plan rules first mask last)
   plan-alike first mask last =
-      bind-alike SameLists SameLists (forward rules first mask last) (forward rules first mask last) (λ levels. backward_from rules first levels) (λ levels. backward_from rules first levels) (forward-alike first mask last)
+      bind-alike SameLists SameLists (forward rules first mask last) (forward rules first mask last) (λ levels. backward_from rules first levels)
+      (λ levels. backward_from rules first levels) (forward-alike first mask last)
       (λ ls ms same. backward_from-alike first ls ms same)
 
 plan_to-alike : (p : Position) (last : ℕ) → Alike SameLists (plan_to p last) (plan_to p last)

@@ -19,7 +19,9 @@ module _ (rules : Rules) (side : Side) (ply mask budget : ℕ) (from into : Leve
   pub none_asked : IsEmpty (from mask) → Ends (have_replies rules side ply from into mask) budget true
   none_asked empty = Ends-ask_yes (Empty (from mask ∷ [])) (Give true) (some_have_replies rules side ply mask (from mask) into) budget true (inl empty) (Ends-give budget true)
 
-  asked_answers : ¬ IsEmpty (from mask) → (r : Result Bool (PlanError PartName)) → Answers (some_have_replies rules side ply mask (from mask) into) budget (λ (b : Bool). b) r → Answers (have_replies rules side ply from into mask) budget (λ (b : Bool). b) r
+  asked_answers : ¬ IsEmpty (from mask) → (r : Result Bool (PlanError PartName))
+      → Answers (some_have_replies rules side ply mask (from mask) into) budget (λ (b : Bool). b) r
+      → Answers (have_replies rules side ply from into mask) budget (λ (b : Bool). b) r
   asked_answers some (Ok b) h = Ends-ask_no (Empty (from mask ∷ [])) (Give true) (some_have_replies rules side ply mask (from mask) into) budget b (some, tt) h
   asked_answers some (Err (plan_error.Over name)) h = Stops-ask_no (Empty (from mask ∷ [])) (Give true) (some_have_replies rules side ply mask (from mask) into) budget name (some, tt) h
   asked_answers some (Err plan_error.Memory) h = tt
@@ -31,7 +33,8 @@ module _ (rules : Rules) (side : Side) (ply mask budget : ℕ) (from into : Leve
         let Filled : SetOf → Type 0 = λ t. ¬ IsEmpty t in
         asked_answers (subst Filled is some) (Err e) (subst Of is (Error-bind (quiet_set rules side ply mask s) reply_part budget e h))
 
-    pub reply_answers : (quiet : SetOf) (r : Result Bool (PlanError PartName)) → Ends (quiet_set rules side ply mask s) budget quiet → Answers (reply_part quiet) budget (λ (b : Bool). b) r → Answers (have_replies rules side ply from into mask) budget (λ (b : Bool). b) r
+    pub reply_answers : (quiet : SetOf) (r : Result Bool (PlanError PartName)) → Ends (quiet_set rules side ply mask s) budget quiet
+        → Answers (reply_part quiet) budget (λ (b : Bool). b) r → Answers (have_replies rules side ply from into mask) budget (λ (b : Bool). b) r
     reply_answers quiet r first h =
         let Of : SetOf → Type 0 = λ t. Answers (some_have_replies rules side ply mask t into) budget (λ (b : Bool). b) r in
         let Filled : SetOf → Type 0 = λ t. ¬ IsEmpty t in

@@ -12,7 +12,9 @@ use Rattle.mate_plan.specs.declared.names.Part.{Part}
 use Rattle.mate_plan.specs.declared.names.PartName.{PartName}
 
 module _ (p : Position) (ply mask : ℕ) (k : Part) (part : PartName) (is : part ≡ name ply mask k) where
-  pub left_answers : (s t u w : SetOf) (now budget : ℕ) → s ≡ u → t ≡ w → now ≡ budget → {R : Type 0} (view : R → SetOf) (r : Result R (PlanError PartName)) → Answers (remainder (mask_tracks p part.mask) part s t) now view r → Answers (difference (rules_of p) ply mask k u w) budget view r
+  pub left_answers : (s t u w : SetOf) (now budget : ℕ) → s ≡ u → t ≡ w → now ≡ budget
+      → {R : Type 0} (view : R → SetOf) (r : Result R (PlanError PartName)) → Answers (remainder (mask_tracks p part.mask) part s t) now view r
+      → Answers (difference (rules_of p) ply mask k u w) budget view r
   left_answers s t u w now budget one other kept view r h =
       let Named : PartName → Type 0 = λ n. Answers (remainder (mask_tracks p n.mask) n s t) now view r in
       let One : SetOf → Type 0 = λ x. Answers (remainder (mask_tracks p mask) (name ply mask k) x t) now view r in

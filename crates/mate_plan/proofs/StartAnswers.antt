@@ -7,6 +7,7 @@ use Rattle.track_word.specs.declared.tracks.Var.{Var}
 use Rattle.auto_core.specs.Automaton.{Automaton}
 use Rattle.game_rules.specs.Game.{Position, Sound}
 use Rattle.game_rules.specs.declared.men.Place.TheVariants.{Gone}
+use Rattle.game_laws.proofs.SoundLemmas.{any_at}
 use Rattle.lin_formula.specs.Tree.{Tree, Value, memberships}
 use Rattle.lin_formula.specs.SetOf.{Nothing}
 use Rattle.lin_formula.specs.declared.formula.SetId.{SetId}
@@ -20,7 +21,6 @@ use Rattle.rule_formula.specs.Trees.{point_of}
 use Rattle.rule_formula.proofs.GameTheorem.{sound_fits}
 use Rattle.rule_formula.proofs.MasksTheorem.{masks_are}
 use Rattle.rule_formula.proofs.MeanTheorem.{game_means}
-use Rattle.rule_formula.proofs.PlacedLemmas.{any_man}
 use Rattle.set_plan.specs.Outcome.{Answers, Ends, IsPlanError}
 use Rattle.set_plan.specs.Program.{Give, Item}
 use Rattle.set_plan.specs.Sets.{IsNameOn, item_of, set_at}
@@ -38,7 +38,7 @@ use Rattle.mate_plan.proofs.UnionAnswers.{game_of}
 
 -- some man of a sound position is live, and its live men are one of its masks
 pub some_live : (p : Position) → Sound p → HasLiveMan p
-some_live p sound = let king = sound.kings p.turn in any_man p (λ m. m.place ≢ Gone) king.number king.king king.is_man king.live
+some_live p sound = let king = sound.kings p.turn in any_at p (λ m. m.place ≢ Gone) king.number king.king king.is_man king.live
 
 mask_there : (p : Position) → Sound p → length p.men ≤ 8 → Contains (masks_of p) (mask_of p)
 mask_there p sound few =
@@ -62,7 +62,9 @@ point_item p = record { formula = (rules_of p).point; sets = λ _. Nothing }
 abbrev point_part : Position → ℕ → Program Made
 point_part p mask = make (name 0 mask kind.Point) 1 (point_item p)
 
-pub point_answers : (p : Position) (mask : ℕ) (sets : List Automaton) (f : Tree) (budget : ℕ) → point_of p.men ≡ Some f → {R : Type 0} (view : R → Made) (r : Result R (PlanError PartName)) → Answers (make (name 0 mask kind.Point) 1 (item_of sets f)) budget view r → Answers (point_part p mask) budget view r
+pub point_answers : (p : Position) (mask : ℕ) (sets : List Automaton) (f : Tree) (budget : ℕ) → point_of p.men ≡ Some f
+    → {R : Type 0} (view : R → Made) (r : Result R (PlanError PartName)) → Answers (make (name 0 mask kind.Point) 1 (item_of sets f)) budget view r
+    → Answers (point_part p mask) budget view r
 point_answers p mask sets f budget is view r h =
     let At : Tree → Type 0 = λ t. Answers (make (name 0 mask kind.Point) 1 (record { formula = t; sets = λ _. Nothing })) budget view r in
     let formula : (rules_of p).point ≡ f = ap (formula_or (Value (var 0) (pos 0))) is in
@@ -77,7 +79,9 @@ module _ (p : Position) (mask : ℕ) (is : mask ≡ mask_of p) (budget : ℕ) wh
       let At : ℕ → Type 0 = λ m. IsPlanError (point_part p m) budget e in
       Error-bind (point_part p (mask_of p)) then_level budget e (subst At is h)
 
-  pub point_ends : Sound p → length p.men ≤ 8 → (made : Made) (sets : List Automaton) (id : Option SetId) (names : List (Option SetId)) → Ends (point_part p mask) budget made → set_at sets id ≡ made.0 → names ≡ map (λ m. if m == mask then id else None) (masks_of p) → Ends (point_level (rules_of p) (mask_of p)) budget (level_of sets (masks_of p) names)
+  pub point_ends : Sound p → length p.men ≤ 8 → (made : Made) (sets : List Automaton) (id : Option SetId) (names : List (Option SetId))
+      → Ends (point_part p mask) budget made → set_at sets id ≡ made.0 → names ≡ map (λ m. if m == mask then id else None) (masks_of p)
+      → Ends (point_level (rules_of p) (mask_of p)) budget (level_of sets (masks_of p) names)
   point_ends sound few made sets id names h kept are =
       let At : ℕ → Type 0 = λ m. Ends (point_part p m) budget made in
       let Here : ℕ → Type 0 = λ m. names ≡ map (name_if m id) (masks_of p) in
@@ -88,7 +92,8 @@ module _ (p : Position) (mask : ℕ) (is : mask ≡ mask_of p) (budget : ℕ) wh
       Ends-bind (point_part p (mask_of p)) then_level budget made (level_of sets (masks_of p) names) (subst At is h)
       (subst To (sym level) (Ends-give budget (level_with no_sets (mask_of p) made.0)))
 
-  pub point_names : (sets : List Automaton) (id : Option SetId) (names : List (Option SetId)) → IsNameOn (mask_tracks p (mask_of p)) sets id → names ≡ map (λ m. if m == mask then id else None) (masks_of p) → AreNames p.men sets (masks_of p) names
+  pub point_names : (sets : List Automaton) (id : Option SetId) (names : List (Option SetId)) → IsNameOn (mask_tracks p (mask_of p)) sets id
+      → names ≡ map (λ m. if m == mask then id else None) (masks_of p) → AreNames p.men sets (masks_of p) names
   point_names sets id names on are =
       let Here : ℕ → Type 0 = λ m. names ≡ map (name_if m id) (masks_of p) in
       let Are : List (Option SetId) → Type 0 = λ ns. AreNames p.men sets (masks_of p) ns in

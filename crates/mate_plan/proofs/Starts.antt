@@ -2,7 +2,6 @@
 use Rattle.std.proofs.Common.{◌≡◌, ◌⊎◌, ℕ, zero, suc, ◌==◌, if◌then◌else◌, Bool, true, false, List, [], ◌∷◌, length, map, Option, Some, None, refl, sym, ap, ◌∙◌, subst, inl, inr, arith}
 use Rattle.std.specs.Prelude.{Contains}
 use Rattle.std.proofs.lemmas.Bool.{eqb-true, eq-eqb}
-use Rattle.std.proofs.lemmas.List.Elements.{Contains-append_cases, Contains-push_cases}
 use Rattle.std.proofs.lemmas.Option.{slice_get_past}
 use Rattle.auto_core.specs.Automaton.{Automaton}
 use Rattle.game_rules.specs.declared.men.Man.{Man}
@@ -16,6 +15,7 @@ use Rattle.rule_formula.specs.Trees.{man_square, point_of, point_to, tracks_of, 
 use Rattle.set_plan.specs.Same.{SameItem}
 use Rattle.set_plan.specs.Sets.{IsNameOn, item_of, set_at}
 use Rattle.set_plan.proofs.SameSets.{SameItem-relabel}
+use Rattle.set_plan.proofs.Takings.{contains_cases}
 use Rattle.mate_plan.specs.Levels.{AreNames, level_from, level_of}
 use Rattle.mate_plan.specs.Plan.{Level, level_with, no_sets}
 use Rattle.mate_plan.proofs.PlainFormulas.{IsPlain, plain-relabel}
@@ -23,13 +23,6 @@ use Rattle.mate_plan.proofs.PlainFormulas.{IsPlain, plain-relabel}
 -- the name for one mask alone
 abbrev pub name_if : ℕ → Option SetId → ℕ → Option SetId
 name_if live name m = if m == live then name else None
-
-contains_cases : {X : Type 0} (x : X) (xs : List X) (y : X) → Contains (x ∷ xs) y → (x ≡ y) ⊎ Contains xs y
-contains_cases x xs y h =
-    elim (Contains-append_cases (x ∷ []) xs y h) [
-      | inl one ↦ elim (Contains-push_cases [] x y one) [ inl none ↦ absurd (omega (arith, none.1)) | inr same ↦ inl same ]
-      | inr rest ↦ inr rest
-    ]
 
 module _ (sets : List Automaton) (live : ℕ) (name : Option SetId) where
   abbrev made : Level → List ℕ → Level

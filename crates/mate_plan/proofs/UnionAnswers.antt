@@ -34,7 +34,10 @@ module _ (p : Position) (sets : List Automaton) (part name : PartName) (same : p
       let Over : PartName → Type 0 = λ n. IfOk r (λ set. IfSome set (IsSetOn (mask_tracks p n.mask))) in
       subst Over same h
 
-  pub union_answers : (fs : List Formula) (trees : List Tree) (items : List Item) (budget : ℕ) (r : Result (Option Automaton) (PlanError PartName)) → map tree_of fs ≡ trees → Thinned (map (item_of sets) trees) items → Answers (union (mask_tracks p part.mask) part (map (item_of sets) (map tree_of fs))) budget as_set r → Answers (union (mask_tracks p name.mask) name items) budget as_set r
+  pub union_answers : (fs : List Formula) (trees : List Tree) (items : List Item) (budget : ℕ) (r : Result (Option Automaton) (PlanError PartName))
+      → map tree_of fs ≡ trees → Thinned (map (item_of sets) trees) items
+      → Answers (union (mask_tracks p part.mask) part (map (item_of sets) (map tree_of fs))) budget as_set r
+      → Answers (union (mask_tracks p name.mask) name items) budget as_set r
   union_answers fs trees items budget r are thin h =
       let Over : PartName → Type 0 = λ n. Answers (union (mask_tracks p n.mask) n (map (item_of sets) (map tree_of fs))) budget as_set r in
       let Of : List Tree → Type 0 = λ ts. Answers (union (mask_tracks p name.mask) name (map (item_of sets) ts)) budget as_set r in

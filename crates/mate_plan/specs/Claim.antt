@@ -47,20 +47,25 @@ losers_plies Black Black moves = every_second 1 moves
 losers_plies White Black moves = every_second 0 (suc moves)
 losers_plies Black White moves = every_second 0 (suc moves)
 
--- the loser is to move at the ply, which is an odd number of plies before the last one; the winner has so many moves left
+-- the loser is to move at the ply, which is an odd number of plies before the last one; the winner has so many moves
+-- left
 pub record IsLosersPly (winner : Side) (p : Position) (moves ply : ℕ) : Type 0 where
   pub left : ℕ
   pub before : ply + (2 * left + 1) ≡ last_ply winner p.turn moves
 
--- the claim of a sound position has a set over the tracks of the mask's men for each ply of the loser and each mask, and no other
+-- the claim of a sound position has a set over the tracks of the mask's men for each ply of the loser and each mask,
+-- and no other
 pub record IsClaim (c : Claim) : Type 0 where
   pub sound : Sound c.position
   pub few : length c.position.men ≤ 8
-  pub found : (ply mask : ℕ) → IsLosersPly c.winner c.position c.moves ply → IsGameMask c.position mask → claimed_at c ply mask ≢ None
-  pub only : (ply mask : ℕ) (a : Automaton) → claimed_at c ply mask ≡ Some a → IsLosersPly c.winner c.position c.moves ply × IsGameMask c.position mask
+  pub found : (ply mask : ℕ) → IsLosersPly c.winner c.position c.moves ply → IsGameMask c.position mask
+      → claimed_at c ply mask ≢ None
+  pub only : (ply mask : ℕ) (a : Automaton) → claimed_at c ply mask ≡ Some a
+      → IsLosersPly c.winner c.position c.moves ply × IsGameMask c.position mask
   pub tracks : (ply mask : ℕ) (a : Automaton) → claimed_at c ply mask ≡ Some a → a.tracks ≡ mask_tracks c.position mask
 
--- the position has the stock of the claim, the loser is to move, and its coordinates are in the claimed set of its own mask
+-- the position has the stock of the claim, the loser is to move, and its coordinates are in the claimed set of its own
+-- mask
 pub record IsClaimed (c : Claim) (ply : ℕ) (q : Position) : Type 0 where
   pub stock : HasStock c.position.men q
   pub turn : q.turn ≡ other c.winner

@@ -26,11 +26,13 @@ name_of masks names mask = name_from None masks names mask
 -- where the side's moves lead from the set of a mask into another mask
 abbrev pub images_from : Position → Side → ℕ → ℕ → Option SetId → List Tree
 images_from p side to mask None = []
-images_from p side to mask (Some source) = map (λ o. image_of p.men mask o source.0) (choices_into (rules_of p) side mask to)
+images_from p side to mask (Some source) =
+    map (λ o. image_of p.men mask o source.0) (choices_into (rules_of p) side mask to)
 
 -- where they lead from all sets of a level into a mask
 abbrev pub image_trees : Position → Side → ℕ → List (Option SetId) → List Tree
-image_trees p side to level = flat_map (λ mask. images_from p side to mask (name_of (masks_of p) level mask)) (masks_of p)
+image_trees p side to level =
+    flat_map (λ mask. images_from p side to mask (name_of (masks_of p) level mask)) (masks_of p)
 
 -- where a move by the option leads from the one set into the other
 abbrev pub pre_to : Position → ℕ → SetId → Opt → Option SetId → List Tree
@@ -41,9 +43,11 @@ pre_to p mask source o (Some target) = pre_of p.men mask o source.0 target.0 ∷
 abbrev pub pre_trees : Position → Side → ℕ → Option SetId → List (Option SetId) → List Tree
 pre_trees p side mask None targets = []
 pre_trees p side mask (Some source) targets =
-    flat_map (λ o. pre_to p mask source o (name_of (masks_of p) targets (target_of mask o))) (options_of p.men mask side)
+    flat_map (λ o. pre_to p mask source o (name_of (masks_of p) targets (target_of mask o)))
+    (options_of p.men mask side)
 
 -- where men of the side bear on the other king in the set of a mask
 abbrev pub bear_trees : Position → Side → ℕ → Option SetId → List Tree
 bear_trees p side mask None = []
-bear_trees p side mask (Some source) = map (λ b. bear_of p.men mask b.man b.ray b.king source.0) (bearings_of p.men mask side)
+bear_trees p side mask (Some source) =
+    map (λ b. bear_of p.men mask b.man b.ray b.king source.0) (bearings_of p.men mask side)

@@ -25,7 +25,8 @@ abbrev pub AreNames : List Man → List Automaton → List ℕ → List (Option 
 AreNames stock sets [] [] = Unit {0}
 AreNames stock sets [] (id ∷ ids) = ⊥
 AreNames stock sets (mask ∷ masks) [] = ⊥
-AreNames stock sets (mask ∷ masks) (id ∷ ids) = IsNameOn (tracks_of stock (is_live mask)) sets id × AreNames stock sets masks ids
+AreNames stock sets (mask ∷ masks) (id ∷ ids) =
+    IsNameOn (tracks_of stock (is_live mask)) sets id × AreNames stock sets masks ids
 
 -- the level of these names, one for each mask of the position
 abbrev pub level_in : Position → List Automaton → List (Option SetId) → Level
@@ -39,9 +40,11 @@ AreNamesIn p sets ids = AreNames p.men sets (masks_of p) ids
 abbrev pub HaveNames : List Man → List Automaton → List ℕ → List (Option SetId) → Type 0
 HaveNames stock sets masks [] = Unit {0}
 HaveNames stock sets [] (id ∷ ids) = ⊥
-HaveNames stock sets (mask ∷ masks) (id ∷ ids) = IsNameOn (tracks_of stock (is_live mask)) sets id × HaveNames stock sets masks ids
+HaveNames stock sets (mask ∷ masks) (id ∷ ids) =
+    IsNameOn (tracks_of stock (is_live mask)) sets id × HaveNames stock sets masks ids
 
 -- a name for each of the first masks of the position, which are followed by these
-pub record AreNamesSoFar (p : Position) (sets : List Automaton) (ids : List (Option SetId)) (rest : List ℕ) : Type 0 where
+pub record AreNamesSoFar (p : Position) (sets : List Automaton) (ids : List (Option SetId)) (rest : List ℕ) : Type
+    0 where
   pub have : HaveNames p.men sets (masks_of p) ids
   pub left : drop (length ids) (masks_of p) ≡ rest

@@ -22,9 +22,12 @@ SameLists (l ∷ ls) (m ∷ ms) = SameLevels l m × SameLists ls ms
 
 -- within the budget the plan comes to one end, or stops at one step
 pub record EndsOnce (winner : Side) (p : Position) (moves budget : ℕ) : Type 0 where
-  pub one_end : (a b : List Level) → Ends (plan_of winner p moves) budget a → Ends (plan_of winner p moves) budget b → SameLists a b
-  pub one_step : (x y : StepName PartName) → Stops (plan_of winner p moves) budget x → Stops (plan_of winner p moves) budget y → x ≡ y
-  pub not_both : (a : List Level) (x : StepName PartName) → Ends (plan_of winner p moves) budget a → Stops (plan_of winner p moves) budget x → ⊥
+  pub one_end : (a b : List Level) → Ends (plan_of winner p moves) budget a → Ends (plan_of winner p moves) budget b
+      → SameLists a b
+  pub one_step : (x y : StepName PartName) → Stops (plan_of winner p moves) budget x
+      → Stops (plan_of winner p moves) budget y → x ≡ y
+  pub not_both : (a : List Level) (x : StepName PartName) → Ends (plan_of winner p moves) budget a
+      → Stops (plan_of winner p moves) budget x → ⊥
 
 -- of each position and number of moves
 abbrev pub PlanEndsOnce : Type 0

@@ -82,10 +82,12 @@ module _ (rules : Rules) where
   image_item mask source o = record { formula = rules.image mask o; sets = λ _. source }
 
   abbrev pub image_items : Side → ℕ → Level → List Item
-  image_items side to level = flat_map (λ mask. map (image_item mask (level mask)) (choices_into side mask to)) rules.masks
+  image_items side to level =
+      flat_map (λ mask. map (image_item mask (level mask)) (choices_into side mask to)) rules.masks
 
   abbrev pub pre_item : ℕ → SetOf → Level → Opt → Item
-  pre_item mask source targets o = record { formula = rules.pre mask o; sets = two source (targets (rules.target mask o)) }
+  pre_item mask source targets o =
+      record { formula = rules.pre mask o; sets = two source (targets (rules.target mask o)) }
 
   abbrev pub pre_items : Side → ℕ → SetOf → Level → List Item
   pre_items side mask source targets = map (pre_item mask source targets) (rules.choices side mask)
@@ -136,7 +138,8 @@ module _ (rules : Rules) where
     together (rules.tracks mask) (name ply mask kind.Lost) check reply
 
   abbrev pub lost_set_if : Side → ℕ → Level → Level → Level → ℕ → Program SetOf
-  lost_set_if side ply reach reach1 rests mask = Ask (Empty (reach mask ∷ [])) (Give Nothing) (lost_set side ply mask (reach mask) reach1 rests)
+  lost_set_if side ply reach reach1 rests mask =
+      Ask (Empty (reach mask ∷ [])) (Give Nothing) (lost_set side ply mask (reach mask) reach1 rests)
 
   -- what is reached and not kept at a ply with one mask
   abbrev pub rest_set : ℕ → Level → Level → ℕ → Program SetOf
@@ -173,9 +176,11 @@ module _ (rules : Rules) where
   -- what is kept at a ply so many plies before the last
   abbrev pub kept_level : Side → ℕ → ℕ → Level → Level → Level → Program Level
   kept_level first ply left reach reach1 kept1 =
-      if is_even left then win_level (turn_at first ply) ply reach kept1 else lost_level (turn_at first ply) ply reach reach1 kept1
+      if is_even left then win_level (turn_at first ply) ply reach kept1 else lost_level (turn_at first ply) ply reach
+      reach1 kept1
 
-  -- what is kept at each ply, the first one first: from what is reached at a ply, what is reached at the plies before, the last one first,
+  -- what is kept at each ply, the first one first: from what is reached at a ply, what is reached at the plies before,
+  -- the last one first,
   -- what is kept at the ply, and what is kept at those after it
   abbrev pub backward : Side → Level → List Level → Level → List Level → Program (List Level)
   backward first reach1 [] kept1 later = Give (kept1 ∷ later)

@@ -13,7 +13,8 @@ use Rattle.rule_formula.specs.Trees.{bear_of, image_of, point_of, pre_of, safe_o
 use Rattle.set_plan.specs.Program.{Give}
 use Rattle.mate_plan.specs.Plan.{Level, Program, Rules, plan}
 
--- the last ply of so many moves of the winner, by the side that moves first: the winner is to move there, and has no move left
+-- the last ply of so many moves of the winner, by the side that moves first: the winner is to move there, and has no
+-- move left
 abbrev pub last_ply : Side → Side → ℕ → ℕ
 last_ply White White moves = 2 * moves
 last_ply Black Black moves = 2 * moves

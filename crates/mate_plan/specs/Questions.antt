@@ -19,7 +19,8 @@ module _ (rules : Rules) where
   abbrev pub are_safe : Side → ℕ → ℕ → SetOf → Program Bool
   are_safe side ply mask s = are_empty (name ply mask kind.Guard) 1 (bear_items rules side mask s)
 
-  -- whether the side has a move into the level from each position of the set: the first part has the moves, the second what has none
+  -- whether the side has a move into the level from each position of the set: the first part has the moves, the second
+  -- what has none
   abbrev pub have_moves : Side → ℕ → ℕ → Part → Part → SetOf → Level → Program Bool
   have_moves side ply mask found missing s level = do
     moves ← union rules ply mask found (pre_items rules side mask s level)
@@ -43,9 +44,11 @@ module _ (rules : Rules) where
 
   -- the same of one level with the mask, with no step where it has no such position
   abbrev pub have_replies : Side → ℕ → Level → Level → ℕ → Program Bool
-  have_replies side ply from into mask = Ask (Empty (from mask ∷ [])) (Give true) (some_have_replies side ply mask (from mask) into)
+  have_replies side ply from into mask =
+      Ask (Empty (from mask ∷ [])) (Give true) (some_have_replies side ply mask (from mask) into)
 
-  -- whether a move of the side leads from the starting position, which has this mask and these coordinates, into the level
+  -- whether a move of the side leads from the starting position, which has this mask and these coordinates, into the
+  -- level
   abbrev pub has_first_move : Side → ℕ → List ℤ → Level → Program Bool
   has_first_move side mask tuple into = do
     start ← point_level rules mask

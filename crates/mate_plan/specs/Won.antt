@@ -10,12 +10,15 @@ use Rattle.mate_plan.specs.Claim.{Claim, IsClaimed, claimed_at}
 abbrev pub LeadsInto : (Position → Type 0) → Position → Type 0
 LeadsInto S r = (s : Position) × Moves r s × S s
 
--- the winner is to move and some legal move leads into the set of ply 1, or the loser is to move in a position of that of ply 0
+-- the winner is to move and some legal move leads into the set of ply 1, or the loser is to move in a position of that
+-- of ply 0
 abbrev pub IsBegun : Side → Position → (ℕ → Position → Type 0) → Type 0
 IsBegun winner p C = ((p.turn ≡ winner) × LeadsInto (C 1) p) ⊎ ((p.turn ≡ other winner) × C 0 p)
 
--- a set of positions for each ply of the loser is won: in its positions live men stand on distinct squares and the winner is not in check,
--- it is begun, each legal move is answered by a legal move into the set two plies later, and the loser is in check or has a legal move;
+-- a set of positions for each ply of the loser is won: in its positions live men stand on distinct squares and the
+-- winner is not in check,
+-- it is begun, each legal move is answered by a legal move into the set two plies later, and the loser is in check or
+-- has a legal move;
 -- past the last ply there is no set, so that there is no legal move then
 pub record IsWonBy (winner : Side) (p : Position) (C : ℕ → Position → Type 0) : Type 0 where
   pub same : (ply : ℕ) (q : Position) → C ply q → IsApart q

@@ -4,6 +4,7 @@ ghost use Rattle.rule_formula.specs.Fits.{masks_of};
 
 use chess_game::Position;
 use formula_auto::Memo;
+use limits::Budget;
 use set_plan::Sets;
 use std::alloc::Global;
 
@@ -27,8 +28,7 @@ pub struct Work {
 
 impl Work {
     /// Without sets.
-    pub fn new(alloc: Global, budget: u32) -> Work
-        requires { (1 ≤ budget) × (budget ≤ 200000) }
+    pub fn new(alloc: Global, budget: Budget) -> Work
         ensures budget { result.memo.budget ≡ budget }
         ensures sets { result.sets ≡ [] }
     {

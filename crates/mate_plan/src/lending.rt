@@ -13,6 +13,7 @@ use crate::names::PartName;
 use crate::stage::PartSet;
 use crate::tracks::mask_tracks;
 use auto_core::Auto;
+use limits::Budget;
 use lin_formula::SetId;
 use set_plan::{Left, PlanError, Sets, is_empty_set, remainder};
 use std::alloc::AllocError;
@@ -47,13 +48,13 @@ pub(crate) fn left_without(
     sets: &Sets,
     whole: PartSet,
     other: Option<&Auto>,
-    budget: u32,
+    budget: Budget,
 ) -> Result<Left, PlanError<PartName>>
     requires one { IsNameOn (tracks_at bench.now.position.now whole.part.mask) sets.now whole.name }
     requires other { IfSome other (λ a. IsSetOn (tracks_at bench.now.position.now whole.part.mask) a.now) }
-    requires budget { (1 ≤ budget) × (budget ≤ 200000) }
     ensures answers { Answers
-        (remainder_of (tracks_at bench.now.position.now whole.part.mask) whole.part (set_at sets.now whole.name) (lent_set other.entry))
+        (remainder_of (tracks_at bench.now.position.now whole.part.mask) whole.part (set_at sets.now whole.name)
+        (lent_set other.entry))
         budget (left_of (set_at sets.now whole.name)) result }
     ensures set { IfOk result (IsLeftOn (tracks_at bench.now.position.now whole.part.mask)) }
 {

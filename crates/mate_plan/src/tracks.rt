@@ -21,7 +21,9 @@ pub(crate) fn is_live(mask: u8, k: u8) -> bool
 fn push_man(tracks: &mut Vec<Var>, mask: u8, k: u8) -> Result<(), AllocError>
     requires low { 1 ≤ k }
     requires high { k ≤ 8 }
-    ensures { OnOk result (tracks.new.items ≡ (if live_in mask k then tracks.old.items ++ (own k).x ∷ (own k).y ∷ [] else tracks.old.items)) }
+    ensures { OnOk result
+        (tracks.new.items
+        ≡ (if live_in mask k then tracks.old.items ++ (own k).x ∷ (own k).y ∷ [] else tracks.old.items)) }
 {
     if is_live(mask, k) {
         tracks.push(Var(2 * k - 2))?;

@@ -28,7 +28,8 @@ PastStep-one (x ∷ xs) budget a b (inl (over, e)) (inr (within, rest)) = absurd
 PastStep-one (x ∷ xs) budget a b (inr (within, rest)) (inl (over, e)) = absurd (within over)
 PastStep-one (x ∷ xs) budget a b (inr (within, rest)) (inr (again, more)) = PastStep-one xs budget a b rest more
 
-pub numbered-same : {P : Type 0} (part : P) (at : ℕ) (fs gs : List Tree) (d e : ℕ → SetOf) (budget : ℕ) (answer : Option (StepName P)) → SameSteps fs d gs e → PastStep (numbered part at d fs) budget answer → PastStep (numbered part at e gs) budget answer
+pub numbered-same : {P : Type 0} (part : P) (at : ℕ) (fs gs : List Tree) (d e : ℕ → SetOf) (budget : ℕ) (answer : Option (StepName P))
+    → SameSteps fs d gs e → PastStep (numbered part at d fs) budget answer → PastStep (numbered part at e gs) budget answer
 numbered-same part at [] [] d e budget answer same h = h
 numbered-same part at [] (g ∷ gs) d e budget answer same h = absurd same
 numbered-same part at (f ∷ fs) [] d e budget answer same h = absurd same
@@ -36,7 +37,9 @@ numbered-same part at (f ∷ fs) (g ∷ gs) d e budget answer same (inl (over, i
 numbered-same part at (f ∷ fs) (g ∷ gs) d e budget answer same (inr (within, rest)) =
     inr (λ over. within ((same.0 budget).1 over), numbered-same part (at + 1) fs gs d e budget answer same.1 rest)
 
-pub entry-same : {P : Type 0} (d e : Entry P) (budget : ℕ) (answer : Option (StepName P)) → d.part ≡ e.part → d.at ≡ e.at → SameItem d.item e.item → PastStep (numbered d.part d.at d.item.sets (steps d.item.formula)) budget answer → PastStep (numbered e.part e.at e.item.sets (steps e.item.formula)) budget answer
+pub entry-same : {P : Type 0} (d e : Entry P) (budget : ℕ) (answer : Option (StepName P)) → d.part ≡ e.part → d.at ≡ e.at → SameItem d.item e.item
+    → PastStep (numbered d.part d.at d.item.sets (steps d.item.formula)) budget answer
+    → PastStep (numbered e.part e.at e.item.sets (steps e.item.formula)) budget answer
 entry-same {P} d e budget answer part at same h =
     let here = numbered-same d.part d.at (steps d.item.formula) (steps e.item.formula) d.item.sets e.item.sets budget answer same.steps h in
     let By : P → Type 0 = λ p. PastStep (numbered p d.at e.item.sets (steps e.item.formula)) budget answer in
@@ -57,7 +60,8 @@ pub SameSets-self : (s : SetOf) → SameSets s s
 SameSets-self s tuple = (λ h. h, λ h. h)
 
 -- an end of the one program is one of the other, with a value that is related
-ends_alike : {P A B : Type 0} (R : A → B → Type 0) (m : Program P A) (n : Program P B) (budget : ℕ) (xs : List (Entry P)) (a : A) → Alike R m n → Takes m xs (Some a) → Past xs budget None → (ys : List (Entry P)) × (b : B) × Takes n ys (Some b) × Past ys budget None × R a b
+ends_alike : {P A B : Type 0} (R : A → B → Type 0) (m : Program P A) (n : Program P B) (budget : ℕ) (xs : List (Entry P)) (a : A) → Alike R m n
+    → Takes m xs (Some a) → Past xs budget None → (ys : List (Entry P)) × (b : B) × Takes n ys (Some b) × Past ys budget None × R a b
 ends_alike R (Give c) (Give b) budget xs a same (e, inl is) past =
     let value : a ≡ c = cc in
     ([], b, (refl, inl refl), refl, subst (λ x. R x b) (sym value) same)
@@ -66,8 +70,14 @@ ends_alike R (Compute d next) (Compute e more) budget xs a same (inl (f, is)) pa
 ends_alike {P} R (Compute d next) (Compute e more) budget xs a (part, at, item, go) (inr (rest, s, whole, is, t)) past =
     let all : PastStep (numbered d.part d.at d.item.sets (steps d.item.formula) ++ all_steps rest) budget None = subst (λ (l : List (Entry P)). Past l budget None) whole past in
     let (front, back) = PastStep-split (numbered d.part d.at d.item.sets (steps d.item.formula)) (all_steps rest) budget all in
-    let (ys, b, takes, later, related) = ends_alike R (next s) (more s) budget rest a (go s s (SameSets-self s)) t back in
-    (e ∷ ys, b, inr (ys, s, refl, IsSetOf-same d.item e.item s item is, takes), PastStep-append (numbered e.part e.at e.item.sets (steps e.item.formula)) (all_steps ys) budget None (entry-same d e budget None part at item front) later, related)
+    let (ys, b, takes, later, related) = ends_alike R (next s) (more s) budget rest a (go s s (SameSets-self s)) t back in (
+      e ∷ ys,
+      b,
+      inr (ys, s, refl, IsSetOf-same d.item e.item s item is, takes),
+      PastStep-append (numbered e.part e.at e.item.sets (steps e.item.formula)) (all_steps ys) budget None
+          (entry-same d e budget None part at item front) later,
+      related,
+    )
 ends_alike R (Ask q if_yes if_no) (Ask r or_yes or_no) budget xs a same (inl (f, is)) past = none_some is
 ends_alike R (Ask q if_yes if_no) (Ask r or_yes or_no) budget xs a (same, yes_go, no_go) (inr (inl (is, t))) past =
     let (ys, b, takes, later, related) = ends_alike R if_yes or_yes budget xs a yes_go t past in
@@ -88,7 +98,8 @@ Ends-alike R m n budget a same h =
     (b, record { entries = ys; takes = takes; past = past }, related)
 
 -- where the one program stops, the other stops
-stops_alike : {P A B : Type 0} (R : A → B → Type 0) (m : Program P A) (n : Program P B) (budget : ℕ) (xs : List (Entry P)) (name : StepName P) → Alike R m n → Takes m xs None → Past xs budget (Some name) → (ys : List (Entry P)) × Takes n ys None × Past ys budget (Some name)
+stops_alike : {P A B : Type 0} (R : A → B → Type 0) (m : Program P A) (n : Program P B) (budget : ℕ) (xs : List (Entry P)) (name : StepName P)
+    → Alike R m n → Takes m xs None → Past xs budget (Some name) → (ys : List (Entry P)) × Takes n ys None × Past ys budget (Some name)
 stops_alike {P} R (Give c) (Give b) budget xs name same (e, is) past = none_some (subst (λ (l : List (Entry P)). Past l budget (Some name)) e past)
 stops_alike {P} R (Compute d next) (Compute e more) budget xs name same (inl (f, is)) past = none_some (subst (λ (l : List (Entry P)). Past l budget (Some name)) f past)
 stops_alike {P} R (Compute d next) (Compute e more) budget xs name (part, at, item, go) (inr (rest, s, whole, is, t)) past =

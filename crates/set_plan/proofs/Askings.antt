@@ -25,7 +25,8 @@ module _ {P : Type 0} (part : P) (budget at : ℕ) (item : Item) (items : List I
   next made = Ask (Empty (made.0 ∷ [])) (plan.are_empty part made.1 items) (Give false)
 
   -- the next set is empty
-  pub LeadsTo-empty : (made : plan.Made) → LeadsTo (plan.are_empty part at (item ∷ items)) whole budget → Ends (plan.make part at item) budget made → IsEmpty made.0 → LeadsTo (plan.are_empty part made.1 items) whole budget
+  pub LeadsTo-empty : (made : plan.Made) → LeadsTo (plan.are_empty part at (item ∷ items)) whole budget → Ends (plan.make part at item) budget made
+      → IsEmpty made.0 → LeadsTo (plan.are_empty part made.1 items) whole budget
   LeadsTo-empty made leads ends empty =
       LeadsTo-yes (Empty (made.0 ∷ [])) (plan.are_empty part made.1 items) (Give false) whole budget (inl empty)
       (LeadsTo-later (plan.make part at item) next whole budget made ends leads)
@@ -102,7 +103,8 @@ module _ {P : Type 0} (part : P) (budget : ℕ) where
             ])
       ]
 
-  pub Answers-thinned_empty : (is js : List Item) (at : ℕ) → Thinned is js → (r : Result Bool (PlanError P)) → Answers (plan.are_empty part at is) budget (λ (b : Bool). b) r → Answers (plan.are_empty part at js) budget (λ (b : Bool). b) r
+  pub Answers-thinned_empty : (is js : List Item) (at : ℕ) → Thinned is js → (r : Result Bool (PlanError P))
+      → Answers (plan.are_empty part at is) budget (λ (b : Bool). b) r → Answers (plan.are_empty part at js) budget (λ (b : Bool). b) r
   Answers-thinned_empty is js at thin (Ok b) h = Ends-thinned_empty is js at b thin h
   Answers-thinned_empty is js at thin (Err (plan_error.Over name)) h = Stops-thinned_empty is js at name thin h
   Answers-thinned_empty is js at thin (Err plan_error.Memory) h = tt

@@ -1,6 +1,6 @@
 -- Two automata over the same tracks, joined or met.
 use Rattle.std.proofs.Common.{◌≡◌, ◌↔◌, ◌⊎◌, ℕ, suc, ◌<◌, ◌≤◌, List, [], ◌∷◌, length, map, true, nat_lt, ◌==◌, if◌then◌else◌, refl, sym, ap, ◌∙◌, subst, inl, inr, arith, eq-eqb}
-use Rattle.std.specs.List.{AllPairs, slice_index_or}
+use Rattle.std.specs.List.{AllPairs}
 use Rattle.std.proofs.lemmas.Bool.{ltb-true}
 use Rattle.std.proofs.lemmas.List.Kept.{AllPairs-from_increasing}
 use Rattle.track_word.specs.declared.tracks.Var.{Var}
@@ -18,19 +18,12 @@ use Rattle.formula_auto.specs.Decides.{Decides}
 use Rattle.formula_auto.specs.declared.connective.Connective.TheVariants.{And as by_and, Or as by_or}
 use Rattle.formula_auto.proofs.Exceedings.{Exceeds-connect}
 use Rattle.formula_auto.proofs.Parts.{Decides-And, Decides-Or, Decides-Not, Decides-same}
+use Rattle.formula_auto.proofs.Projections.{above}
 use Rattle.set_plan.specs.Program.{IsSetOf}
 use Rattle.set_plan.specs.Sets.{IsSetOn}
 use Rattle.set_plan.specs.Unite.{difference, either, two}
 use Rattle.set_plan.proofs.Decided.{Decides-among, DecidesIntegers-decides, IsSetOf-decides, with_vars-ascending}
 use Rattle.set_plan.proofs.FewStates.{few_states}
-
-above : (x : ℕ) (ys : List Var) → ((j : ℕ) → j < length (map (λ v. v.0) ys) → x < slice_index_or (map (λ v. v.0) ys) j 0) → (y : Var) → IsOneOf y ys → x < y.0
-above x [] h y is = absurd is
-above x (z ∷ zs) h y (inl is) =
-    let first : x < z.0 = h 0 (omega arith) in
-    let same : y.0 ≡ z.0 = ap (λ (v : Var). v.0) is in
-    omega arith
-above x (z ∷ zs) h y (inr is) = above x zs (λ j within. h (suc j) (omega arith)) y is
 
 with_var-there : (x : Var) (ys : List Var) → AllPairs (λ a b. a < b) (map (λ v. v.0) ys) → IsOneOf x ys → with_var x ys ≡ ys
 with_var-there x [] h is = absurd is
@@ -98,7 +91,9 @@ module _ (tracks : List Var) (a b : Automaton) (left : IsSetOn tracks a) (right 
       → (budget : ℕ) → budget ≤ 200000 → (BothSpreadExceeds a.tracks b.tracks (Accepts a) (Accepts b) budget → ⊥) → IsSetOn tracks r
   either-set c r tracks_c words_c tracks_r words_r reduced budget high within =
       let decides = either-decides c r tracks_c words_c tracks_r words_r in
-      let states = few_states (members (two (Table a) (Table b))) budget (Or (Among 0 tracks) (Among 1 tracks)) r 1 (omega arith) decides reduced (inr (λ over. within ((either-exceeds budget).1 over), refl)) in
+      let states =
+      few_states (members (two (Table a) (Table b))) budget (Or (Among 0 tracks) (Among 1 tracks)) r 1 (omega arith) decides reduced
+      (inr (λ over. within ((either-exceeds budget).1 over), refl)) in
       record {
         reduced = reduced;
         integers = DecidesIntegers-decides (Or (Among 0 tracks) (Among 1 tracks)) (two (Table a) (Table b)) r decides;
@@ -115,7 +110,8 @@ module _ (tracks : List Var) (a b : Automaton) (left : IsSetOn tracks a) (right 
 
     except-decides : (c r : Automaton) → c.tracks ≡ with_vars a.tracks n.tracks
         → ((word : List ℕ) → IsWord (length c.tracks) word → Accepts c word ↔ (Accepts a (part_of c.tracks a.tracks word) × Accepts n (part_of c.tracks n.tracks word)))
-        → r.tracks ≡ c.tracks → ((word : List ℕ) → IsWord (length c.tracks) word → Accepts r word ↔ Accepts c word) → Decides r (And (Among 0 tracks) (Not (Among 1 tracks))) (members (two (Table a) (Table b)))
+        → r.tracks ≡ c.tracks → ((word : List ℕ) → IsWord (length c.tracks) word → Accepts r word ↔ Accepts c word)
+        → Decides r (And (Among 0 tracks) (Not (Among 1 tracks))) (members (two (Table a) (Table b)))
     except-decides c r tracks_c words_c tracks_r words_r =
         let e = members (two (Table a) (Table b)) in
         Decides-same e (And (Among 0 tracks) (Not (Among 1 tracks))) c r (Decides-And e (Among 0 tracks) (Not (Among 1 tracks)) a n c first not-second tracks_c words_c) tracks_r words_r
@@ -126,7 +122,9 @@ module _ (tracks : List Var) (a b : Automaton) (left : IsSetOn tracks a) (right 
     except-is c r tracks_c words_c tracks_r words_r =
         IsSetOf-decides (And (Among 0 tracks) (Not (Among 1 tracks))) (two (Table a) (Table b)) r (except-decides c r tracks_c words_c tracks_r words_r)
 
-    pub except-exceeds : (budget : ℕ) → BothSpreadExceeds a.tracks n.tracks (Accepts a) (Accepts n) budget ↔ Exceeds (And (Among 0 tracks) (Not (Among 1 tracks))) (members (two (Table a) (Table b))) budget
+    pub except-exceeds : (budget : ℕ)
+        → BothSpreadExceeds a.tracks n.tracks (Accepts a) (Accepts n) budget
+        ↔ Exceeds (And (Among 0 tracks) (Not (Among 1 tracks))) (members (two (Table a) (Table b))) budget
     except-exceeds budget = Exceeds-connect (members (two (Table a) (Table b))) (Among 0 tracks) (Not (Among 1 tracks)) a n budget first not-second by_and
 
     pub except-set : (c r : Automaton) → c.tracks ≡ with_vars a.tracks n.tracks
@@ -135,7 +133,9 @@ module _ (tracks : List Var) (a b : Automaton) (left : IsSetOn tracks a) (right 
         → (budget : ℕ) → budget ≤ 200000 → (BothSpreadExceeds a.tracks n.tracks (Accepts a) (Accepts n) budget → ⊥) → IsSetOn tracks r
     except-set c r tracks_c words_c tracks_r words_r reduced budget high within =
         let decides = except-decides c r tracks_c words_c tracks_r words_r in
-        let states = few_states (members (two (Table a) (Table b))) budget (And (Among 0 tracks) (Not (Among 1 tracks))) r 1 (omega arith) decides reduced (inr (λ over. within ((except-exceeds budget).1 over), refl)) in
+        let states =
+        few_states (members (two (Table a) (Table b))) budget (And (Among 0 tracks) (Not (Among 1 tracks))) r 1 (omega arith) decides reduced
+        (inr (λ over. within ((except-exceeds budget).1 over), refl)) in
         record {
           reduced = reduced;
           integers = DecidesIntegers-decides (And (Among 0 tracks) (Not (Among 1 tracks))) (two (Table a) (Table b)) r decides;

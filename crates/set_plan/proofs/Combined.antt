@@ -1,4 +1,4 @@
--- Programs that are made of programs that go on alike go on alike.
+-- Programs that are made of programs that go on alike go on alike. Crates above cite these lemmas.
 use Rattle.std.proofs.Common.{◌≡◌, ℕ, ◌+◌, suc, zero, List, [], ◌∷◌, length, refl, ap, inl, inr, subst}
 use Rattle.track_word.specs.declared.tracks.Var.{Var}
 use Rattle.lin_formula.specs.Tree.{Tree, Among, Not, And, Or, steps}
@@ -9,7 +9,9 @@ use Rattle.set_plan.specs.Same.{SameSets, SameItem, SameSteps}
 use Rattle.set_plan.proofs.Alike.{Alike, SameSets-self, SameQuestion}
 use Rattle.set_plan.proofs.SameSets.{SameItem-sets}
 
-pub bind-alike : {P A B C D : Type 0} (R : A → B → Type 0) (S : C → D → Type 0) (m : Program P A) (n : Program P B) (f : A → Program P C) (g : B → Program P D) → Alike R m n → ((a : A) (b : B) → R a b → Alike S (f a) (g b)) → Alike S (bind m f) (bind n g)
+pub bind-alike : {P A B C D : Type 0} (R : A → B → Type 0) (S : C → D → Type 0) (m : Program P A) (n : Program P B) (f : A → Program P C)
+    (g : B → Program P D)
+    → Alike R m n → ((a : A) (b : B) → R a b → Alike S (f a) (g b)) → Alike S (bind m f) (bind n g)
 bind-alike R S (Give a) (Give b) f g same go = go a b same
 bind-alike R S (Compute d next) (Compute e more) f g (part, at, item, rest) go = (part, at, item, λ s t same. bind-alike R S (next s) (more t) f g (rest s t same) go)
 bind-alike R S (Ask q if_yes if_no) (Ask r or_yes or_no) f g (same, yes_go, no_go) go = (same, bind-alike R S if_yes or_yes f g yes_go go, bind-alike R S if_no or_no f g no_go go)
@@ -52,7 +54,7 @@ make-alike part at i j same =
     (record { yes = same.positives.some; no = same.positives.none }, record { sets = SameSets-self Nothing; at = refl }, compute-alike part at i j same)
 
 -- the same formulas over sets of the same tuples
-two-same : (s t u v : SetOf) → SameSets s t → SameSets u v → (k : ℕ) → SameSets (two s u k) (two t v k)
+pub two-same : (s t u v : SetOf) → SameSets s t → SameSets u v → (k : ℕ) → SameSets (two s u k) (two t v k)
 two-same s t u v first second zero = first
 two-same s t u v first second (suc k) = second
 

@@ -3,15 +3,13 @@ use Rattle.std.proofs.Common.{◌≡◌, ◌⊎◌, ℕ, ◌+◌, ◌-◌, ◌�
 use Rattle.lin_formula.specs.Tree.{Tree, steps}
 use Rattle.lin_formula.specs.SetOf.{SetOf, Where, members}
 use Rattle.formula_auto.specs.Step.{FirstOver}
+pub use Rattle.formula_auto.proofs.FirstOvers.{none_some}
 use Rattle.set_plan.specs.Program.{Program, Give, Compute, Ask, Question, IsYes, IsNo, bind, Takes, Entry, IsSetOf}
 use Rattle.set_plan.specs.Past.{Step, numbered, all_steps, PastStep}
 use Rattle.set_plan.specs.Outcome.{Ends, Stops, IsPlanError, Answers}
 use Rattle.set_plan.specs.declared.stop.StepName.{StepName}
 use Rattle.set_plan.specs.declared.stop.PlanError.{PlanError}
 use Rattle.set_plan.specs.declared.stop.PlanError.TheVariants as plan_error
-
-pub none_some : {A : Type 0} {a : A} {P : Type 0} → Some a ≡ None → P
-none_some e = cc
 
 -- the first program comes to its end, and then the second takes its entries
 pub Takes-bind : {P A B : Type 0} (m : Program P A) (f : A → Program P B) (xs ys : List (Entry P)) (a : A) (end : Option B) → Takes m xs (Some a) → Takes (f a) ys end → Takes (bind m f) (xs ++ ys) end
@@ -136,7 +134,9 @@ Past-numbered part at from e (f ∷ fs) budget h =
       | inr (within, rest) ↦ inr (within, Past-numbered part (at + 1) (from + 1) e fs budget rest)
     ]
 
-pub Past-numbered_over : {P : Type 0} (part : P) (at from : ℕ) (e : ℕ → SetOf) (fs : List Tree) (budget k : ℕ) → FirstOver fs (members e) budget from (Some k) → PastStep (numbered part at e fs) budget (Some (record { part = part; at = at + k - from })) × (from ≤ k)
+pub Past-numbered_over : {P : Type 0} (part : P) (at from : ℕ) (e : ℕ → SetOf) (fs : List Tree) (budget k : ℕ)
+    → FirstOver fs (members e) budget from (Some k)
+    → PastStep (numbered part at e fs) budget (Some (record { part = part; at = at + k - from })) × (from ≤ k)
 Past-numbered_over part at from e [] budget k h = none_some h
 Past-numbered_over {P} part at from e (f ∷ fs) budget k h =
     elim h [
@@ -152,18 +152,25 @@ Past-numbered_over {P} part at from e (f ∷ fs) budget k h =
     ]
 
 module _ {P A : Type 0} (entry : Entry P) (next : SetOf → Program P A) (budget : ℕ) where
-  pub Ends-compute : (s : SetOf) (a : A) → IsSetOf entry.item s → FirstOver (steps entry.item.formula) (members entry.item.sets) budget 1 None → Ends (next s) budget a → Ends (Compute entry next) budget a
+  pub Ends-compute : (s : SetOf) (a : A) → IsSetOf entry.item s → FirstOver (steps entry.item.formula) (members entry.item.sets) budget 1 None
+      → Ends (next s) budget a → Ends (Compute entry next) budget a
   Ends-compute s a is within h = record {
     entries = entry ∷ h.entries;
     takes = inr (h.entries, s, refl, is, h.takes);
-    past = PastStep-append (numbered entry.part entry.at entry.item.sets (steps entry.item.formula)) (all_steps h.entries) budget None (Past-numbered entry.part entry.at 1 entry.item.sets (steps entry.item.formula) budget within) h.past;
+    past =
+        PastStep-append (numbered entry.part entry.at entry.item.sets (steps entry.item.formula)) (all_steps h.entries) budget None
+        (Past-numbered entry.part entry.at 1 entry.item.sets (steps entry.item.formula) budget within) h.past;
   }
 
-  pub Stops-compute_here : (k : ℕ) → FirstOver (steps entry.item.formula) (members entry.item.sets) budget 1 (Some k) → Stops (Compute entry next) budget (record { part = entry.part; at = entry.at + k - 1 })
+  pub Stops-compute_here : (k : ℕ) → FirstOver (steps entry.item.formula) (members entry.item.sets) budget 1 (Some k)
+      → Stops (Compute entry next) budget (record { part = entry.part; at = entry.at + k - 1 })
   Stops-compute_here k over = record {
     entries = entry ∷ [];
     takes = inr ([], Where entry.item.formula entry.item.sets, refl, record { same = λ t. (λ h. h, λ h. h) }, Takes-none (next (Where entry.item.formula entry.item.sets)));
-    past = PastStep-over (numbered entry.part entry.at entry.item.sets (steps entry.item.formula)) [] budget (record { part = entry.part; at = entry.at + k - 1 }) (Past-numbered_over entry.part entry.at 1 entry.item.sets (steps entry.item.formula) budget k over).0;
+    past =
+        PastStep-over (numbered entry.part entry.at entry.item.sets (steps entry.item.formula)) [] budget
+        (record { part = entry.part; at = entry.at + k - 1 })
+        (Past-numbered_over entry.part entry.at 1 entry.item.sets (steps entry.item.formula) budget k over).0;
   }
 
 -- an error of the first program is one of both
@@ -177,7 +184,8 @@ Error-later m f budget a ends (plan_error.Over name) h = Stops-bind_later m f bu
 Error-later m f budget a ends plan_error.Memory h = tt
 
 -- where the first program has come to its end, what the second answers is answered
-pub Answers-later : {P A B R : Type 0} (m : Program P A) (f : A → Program P B) (budget : ℕ) (view : R → B) (a : A) → Ends m budget a → (r : Result R (PlanError P)) → Answers (f a) budget view r → Answers (bind m f) budget view r
+pub Answers-later : {P A B R : Type 0} (m : Program P A) (f : A → Program P B) (budget : ℕ) (view : R → B) (a : A) → Ends m budget a
+    → (r : Result R (PlanError P)) → Answers (f a) budget view r → Answers (bind m f) budget view r
 Answers-later m f budget view a ends (Ok r) h = Ends-bind m f budget a (view r) ends h
 Answers-later m f budget view a ends (Err e) h = Error-later m f budget a ends e h
 
@@ -208,7 +216,8 @@ bind-assoc (Compute entry next) f g = λ i. Compute entry (λ s. bind-assoc (nex
 bind-assoc (Ask question if_yes if_no) f g = λ i. Ask question (bind-assoc if_yes f g i) (bind-assoc if_no f g i)
 
 -- the entries of two programs are those of the first and then those of the second
-pub Takes-split : {P A B : Type 0} (m : Program P A) (f : A → Program P B) (zs : List (Entry P)) (b : B) → Takes (bind m f) zs (Some b) → (xs : List (Entry P)) × (ys : List (Entry P)) × (a : A) × (zs ≡ xs ++ ys) × Takes m xs (Some a) × Takes (f a) ys (Some b)
+pub Takes-split : {P A B : Type 0} (m : Program P A) (f : A → Program P B) (zs : List (Entry P)) (b : B) → Takes (bind m f) zs (Some b)
+    → (xs : List (Entry P)) × (ys : List (Entry P)) × (a : A) × (zs ≡ xs ++ ys) × Takes m xs (Some a) × Takes (f a) ys (Some b)
 Takes-split (Give a) f zs b h = ([], zs, a, refl, (refl, inl refl), h)
 Takes-split {P} (Compute entry next) f zs b h =
     elim h [
@@ -241,7 +250,8 @@ pub Ends-give_is : {P A : Type 0} (a b : A) (budget : ℕ) → Ends {P = P} (Giv
 Ends-give_is a b budget h = elim h.takes.1 [ inl e ↦ (cc) | inr e ↦ none_some e ]
 
 -- what a program has taken when it stops is taken by the first, or by the whole of the first and then by the second
-pub Takes-split_cut : {P A B : Type 0} (m : Program P A) (f : A → Program P B) (zs : List (Entry P)) → Takes (bind m f) zs None → Takes m zs None ⊎ ((xs : List (Entry P)) × (ys : List (Entry P)) × (a : A) × (zs ≡ xs ++ ys) × Takes m xs (Some a) × Takes (f a) ys None)
+pub Takes-split_cut : {P A B : Type 0} (m : Program P A) (f : A → Program P B) (zs : List (Entry P)) → Takes (bind m f) zs None
+    → Takes m zs None ⊎ ((xs : List (Entry P)) × (ys : List (Entry P)) × (a : A) × (zs ≡ xs ++ ys) × Takes m xs (Some a) × Takes (f a) ys None)
 Takes-split_cut (Give a) f zs h = inr ([], zs, a, refl, (refl, inl refl), h)
 Takes-split_cut {P} (Compute entry next) f zs h =
     elim h [
@@ -281,7 +291,8 @@ Takes-cut (Ask question if_yes if_no) xs a h =
     ]
 
 -- a step past the budget is in the front, or none is in the front and it is in the end
-pub PastStep-cases : {P : Type 0} (xs ys : List (Step P)) (budget : ℕ) (name : StepName P) → PastStep (xs ++ ys) budget (Some name) → PastStep xs budget (Some name) ⊎ (PastStep xs budget None × PastStep ys budget (Some name))
+pub PastStep-cases : {P : Type 0} (xs ys : List (Step P)) (budget : ℕ) (name : StepName P) → PastStep (xs ++ ys) budget (Some name)
+    → PastStep xs budget (Some name) ⊎ (PastStep xs budget None × PastStep ys budget (Some name))
 PastStep-cases [] ys budget name h = inr (refl, h)
 PastStep-cases (x ∷ xs) ys budget name (inl w) = inl (inl w)
 PastStep-cases (x ∷ xs) ys budget name (inr (within, rest)) =
@@ -291,7 +302,8 @@ PastStep-cases (x ∷ xs) ys budget name (inr (within, rest)) =
     ]
 
 -- two programs stop where the first stops, or where it comes to its end and the second stops
-pub Stops-split : {P A B : Type 0} (m : Program P A) (f : A → Program P B) (budget : ℕ) (name : StepName P) → Stops (bind m f) budget name → Stops m budget name ⊎ ((a : A) × Ends m budget a × Stops (f a) budget name)
+pub Stops-split : {P A B : Type 0} (m : Program P A) (f : A → Program P B) (budget : ℕ) (name : StepName P) → Stops (bind m f) budget name
+    → Stops m budget name ⊎ ((a : A) × Ends m budget a × Stops (f a) budget name)
 Stops-split {P} m f budget name h =
     elim (Takes-split_cut m f h.entries h.takes) [
       | inl t ↦ inl (record { entries = h.entries; takes = t; past = h.past })

@@ -1,13 +1,13 @@
 -- An automaton that decides a formula has the tuples at which the formula holds.
-use Rattle.std.proofs.Common.{◌≡◌, ℕ, suc, ◌<◌, ◌^◌, List, [], ◌∷◌, length, map, ℤ, pos, Bool, true, refl, sym, ap, ◌∙◌, subst, inl, inr, arith, nat_lt, ◌==◌, if◌then◌else◌, slice_index_or}
+use Rattle.std.proofs.Common.{◌≡◌, ℕ, suc, ◌<◌, List, [], ◌∷◌, length, map, ℤ, pos, Bool, true, refl, sym, ap, ◌∙◌, subst, inl, inr, arith, nat_lt, ◌==◌, if◌then◌else◌, slice_index_or}
 use Rattle.std.specs.List.{AllPairs}
 use Rattle.std.proofs.lemmas.List.Kept.{AllPairs-from_increasing}
 use Rattle.std.proofs.lemmas.Bool.{lt-ltb}
-use Rattle.std.proofs.lemmas.List.Elements.{All-cons, All-head}
 use Rattle.track_word.specs.declared.tracks.Var.{Var}
 use Rattle.track_word.specs.Word.{IsWord, Spells, repeat_first, spelled}
 use Rattle.track_word.specs.Tracks.{Values, IsAscending, place, values_at, with_var, with_vars, word_values}
 use Rattle.track_word.proofs.Spelling.{Spells-spelled, fits-bound, bound_of}
+use Rattle.track_word.proofs.Repeats.{val-repeated, IsWord-again}
 use Rattle.auto_core.specs.Automaton.{Automaton}
 use Rattle.auto_core.specs.Integers.{DecidesIntegers, IsAccepted}
 use Rattle.lin_formula.specs.Tree.{Tree, Among, free_vars}
@@ -20,7 +20,7 @@ use Rattle.formula_auto.specs.Step.{Says}
 use Rattle.formula_auto.specs.Decides.{Decides}
 use Rattle.formula_auto.proofs.Values.{Cases, Same, Other, cases_of, place-here, place-later}
 use Rattle.formula_auto.proofs.Atoms.{accepted-values}
-use Rattle.formula_auto.proofs.Projections.{apart-ascending, val-repeated}
+use Rattle.formula_auto.proofs.Projections.{apart-ascending}
 use Rattle.set_plan.specs.Program.{IsSetOf}
 
 -- a variable's value stands at its place
@@ -68,13 +68,6 @@ has_word vars v =
           spells.values (place vars x) (omega (arith, count)) ∙ stands.value;
     }
 
-pub repeated-word : (k : ℕ) (word : List ℕ) → IsWord k word → IsWord k (repeat_first word)
-repeated-word k [] is = is
-repeated-word k (sign ∷ letters) is = record {
-  nonempty = λ e. cc;
-  letters = All-cons (λ l. l < 2 ^ k) sign (sign ∷ letters) (All-head (λ l. l < 2 ^ k) sign letters is.letters) is.letters;
-}
-
 module _ (f : Tree) (e : ℕ → SetOf) (a : Automaton) (decides : Decides a f (members e)) where
   accepted : (tuple : List ℤ) → HoldsAt (free_vars f) (Holds f (members e)) tuple → IsAccepted a tuple
   accepted tuple h =
@@ -106,7 +99,7 @@ module _ (f : Tree) (e : ℕ → SetOf) (a : Automaton) (decides : Decides a f (
   DecidesIntegers-decides = record {
     stable = λ word is.
         let here : IsWord (length (free_vars f)) word = subst (λ (t : List Var). IsWord (length t) word) decides.tracks is in
-        let more : IsWord (length (free_vars f)) (repeat_first word) = repeated-word (length (free_vars f)) word here in
+        let more : IsWord (length (free_vars f)) (repeat_first word) = IsWord-again (length (free_vars f)) word here in
         let w = decides.words word here in
         let r = decides.words (repeat_first word) more in
         let forth : Says f (members e) word → Says f (members e) (repeat_first word) =
@@ -116,16 +109,14 @@ module _ (f : Tree) (e : ℕ → SetOf) (a : Automaton) (decides : Decides a f (
         (λ h. r.1 (forth (w.0 h)), λ h. w.1 (back (r.0 h)));
   }
 
-below-first : (x y : Var) (ys : List Var) → AllPairs (λ a b. a < b) (map (λ v. v.0) (x ∷ y ∷ ys)) → x.0 < y.0
-below-first x y ys h = h 0 1 0 (omega arith) (omega arith)
-
 -- a list of tracks in order is the list of its variables
 with_vars-pairs : (tracks : List Var) → AllPairs (λ a b. a < b) (map (λ v. v.0) tracks) → with_vars tracks [] ≡ tracks
 with_vars-pairs [] h = refl
 with_vars-pairs (x ∷ []) h = refl
 with_vars-pairs (x ∷ y ∷ ys) h =
     let rest : with_vars (y ∷ ys) [] ≡ y ∷ ys = with_vars-pairs (y ∷ ys) (λ i j d less within. h (suc i) (suc j) d (omega arith) (omega arith)) in
-    let first : nat_lt x.0 y.0 ≡ true = lt-ltb x.0 y.0 (below-first x y ys h) in
+    let less : x.0 < y.0 = h 0 1 0 (omega arith) (omega arith) in
+    let first : nat_lt x.0 y.0 ≡ true = lt-ltb x.0 y.0 less in
     let Is : Bool → Type 0 = λ b. (if b then x ∷ y ∷ ys else (if x.0 == y.0 then y ∷ ys else y ∷ with_var x ys)) ≡ x ∷ y ∷ ys in
     ap (with_var x) rest ∙ subst Is (sym first) refl
 
@@ -133,7 +124,8 @@ pub with_vars-ascending : (tracks : List Var) → IsAscending tracks → with_va
 with_vars-ascending tracks h = with_vars-pairs tracks (AllPairs-from_increasing (map (λ v. v.0) tracks) h)
 
 -- an automaton that decides a set of integers decides that its tracks are in the set
-pub Decides-among : (e : ℕ → SetOf) (number : ℕ) (tracks : List Var) (a : Automaton) → e number ≡ Table a → DecidesIntegers a → IsAscending a.tracks → a.tracks ≡ tracks → Decides a (Among number tracks) (members e)
+pub Decides-among : (e : ℕ → SetOf) (number : ℕ) (tracks : List Var) (a : Automaton) → e number ≡ Table a → DecidesIntegers a → IsAscending a.tracks
+    → a.tracks ≡ tracks → Decides a (Among number tracks) (members e)
 Decides-among e number tracks a is integers ascending same =
     let ordered : with_vars tracks [] ≡ tracks = subst (λ (t : List Var). with_vars t [] ≡ t) same (with_vars-ascending a.tracks ascending) in
     record {

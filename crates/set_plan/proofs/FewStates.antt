@@ -9,7 +9,7 @@ use Rattle.track_word.specs.Tracks.{with_vars, without_var}
 use Rattle.auto_core.specs.Automaton.{Accepts, Automaton, is_final, state_of}
 use Rattle.auto_core.specs.Reduced.{IsReduced}
 use Rattle.auto_core.specs.Spread.{AlikeInBoth, AlikeLifted, HasMoreClasses, SameResidual}
-use Rattle.auto_reduce.proofs.Flags.{same_flag}
+use Rattle.auto_core.proofs.States.{same_flag}
 use Rattle.auto_reduce.proofs.States.{state_of-append}
 use Rattle.lin_formula.specs.Tree.{Tree, Lin, Value, Among, Not, And, Or, Ex, free_vars, steps}
 use Rattle.lin_formula.specs.Holds.{Sets}
@@ -45,7 +45,8 @@ module _ (a : Automaton) (reduced : IsReduced a) where
       }
 
   -- words with one residual don't lead to two states
-  one_state : (v w : List ℕ) → IsWord (length a.tracks) v → IsWord (length a.tracks) w → state_of a v < length a.accept → state_of a w < length a.accept → state_of a v ≢ state_of a w → SameResidual (length a.tracks) (Accepts a) v w → ⊥
+  one_state : (v w : List ℕ) → IsWord (length a.tracks) v → IsWord (length a.tracks) w → state_of a v < length a.accept
+      → state_of a w < length a.accept → state_of a v ≢ state_of a w → SameResidual (length a.tracks) (Accepts a) v w → ⊥
   one_state v w is_v is_w within_v within_w other alike =
       let apart = reduced.apart (state_of a v) (state_of a w) within_v within_w other in
       let flags = same_flag _ _ (alike.same apart.letters apart.are_letters) in
@@ -63,7 +64,8 @@ module _ (a : Automaton) (reduced : IsReduced a) where
             let many = states.many in
             let first = states.lead i d (omega arith) in
             let second = states.lead j d (omega arith) in
-            one_state (slice_index_or states.words i d) (slice_index_or states.words j d) (states.are_words i d (omega arith)) (states.are_words j d within) (omega arith) (omega arith) (λ e. omega arith);
+            one_state (slice_index_or states.words i d) (slice_index_or states.words j d) (states.are_words i d (omega arith))
+            (states.are_words j d within) (omega arith) (omega arith) (λ e. omega arith);
       }
 
 -- the last step doesn't exceed the budget where none does
@@ -104,7 +106,8 @@ module _ (e : Sets) (budget : ℕ) where
   few_classes (Among set vars) from some within many = absurd (omega arith)
   few_classes (Not f) from some within many =
       few_classes f from some within
-      (more_classes (length (free_vars f)) (SameResidual (length (free_vars f)) (Says (Not f) e)) (SameResidual (length (free_vars f)) (Says f e)) budget (λ v w is_v is_w alike. alike-Not e f v w alike) many)
+      (more_classes (length (free_vars f)) (SameResidual (length (free_vars f)) (Says (Not f) e)) (SameResidual (length (free_vars f)) (Says f e))
+      budget (λ v w is_v is_w alike. alike-Not e f v w alike) many)
   few_classes (And f g) from some within many = last_of_two (steps f) (steps g) (And f g) e budget from within (exceeds-And f g many)
   few_classes (Or f g) from some within many = last_of_two (steps f) (steps g) (Or f g) e budget from within (exceeds-Or f g many)
   few_classes (Ex x g) from some within many = last_within (steps g) (Ex x g) e budget from within (exceeds-Ex x g many)

@@ -17,7 +17,8 @@ all-at P [] i f h less e = absurd (omega arith)
 all-at P (g ∷ fs) zero f h less e = subst (λ (k : Formula). P (tree_of k)) (sym e) (All-head P (tree_of g) (map tree_of fs) h)
 all-at P (g ∷ fs) (suc i) f h less e = all-at P fs i f (λ k d within. h (suc k) d (omega arith)) (omega arith) e
 
-pub item-at : (tracks : List Var) (sets : List Automaton) (fs : List Formula) (i : ℕ) (f : Formula) → All (IsItemOn tracks sets) (map tree_of fs) → i < length fs → f ≡ get_or fs i f → IsItemOn tracks sets (tree_of f)
+pub item-at : (tracks : List Var) (sets : List Automaton) (fs : List Formula) (i : ℕ) (f : Formula) → All (IsItemOn tracks sets) (map tree_of fs)
+    → i < length fs → f ≡ get_or fs i f → IsItemOn tracks sets (tree_of f)
 item-at tracks sets fs i f h less e = all-at (IsItemOn tracks sets) fs i f h less e
 
 -- the set of a formula that has a step

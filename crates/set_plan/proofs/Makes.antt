@@ -24,14 +24,17 @@ module _ {P : Type 0} (part : P) (at : ℕ) (item : Item) (budget : ℕ) where
   Ends-item s is within =
       Ends-compute (record { part = part; at = at; item = item }) (λ s. Give (s, at + length (steps item.formula))) budget s _ is within (Ends-give budget _)
 
-  pub Ends-make : (s : SetOf) → NoneEmpty (map item.sets (plan.positives item.formula)) → IsSetOf item s → FirstOver (steps item.formula) (members item.sets) budget 1 None → Ends (plan.make part at item) budget (s, at + length (steps item.formula))
+  pub Ends-make : (s : SetOf) → NoneEmpty (map item.sets (plan.positives item.formula)) → IsSetOf item s
+      → FirstOver (steps item.formula) (members item.sets) budget 1 None → Ends (plan.make part at item) budget (s, at + length (steps item.formula))
   Ends-make s none is within =
       Ends-ask_no (Empty (map item.sets (plan.positives item.formula))) (Give (Nothing, at)) (plan.compute part at item) budget _ none (Ends-item s is within)
 
   pub Stops-item : (k : ℕ) → FirstOver (steps item.formula) (members item.sets) budget 1 (Some k) → Stops (plan.compute part at item) budget (record { part = part; at = at + k - 1 })
   Stops-item k over = Stops-compute_here (record { part = part; at = at; item = item }) (λ s. Give (s, at + length (steps item.formula))) budget k over
 
-  pub Stops-make : (k : ℕ) → NoneEmpty (map item.sets (plan.positives item.formula)) → FirstOver (steps item.formula) (members item.sets) budget 1 (Some k) → Stops (plan.make part at item) budget (record { part = part; at = at + k - 1 })
+  pub Stops-make : (k : ℕ) → NoneEmpty (map item.sets (plan.positives item.formula))
+      → FirstOver (steps item.formula) (members item.sets) budget 1 (Some k)
+      → Stops (plan.make part at item) budget (record { part = part; at = at + k - 1 })
   Stops-make k none over =
       Stops-ask_no (Empty (map item.sets (plan.positives item.formula))) (Give (Nothing, at)) (plan.compute part at item) budget _ none (Stops-item k over)
 
@@ -50,13 +53,17 @@ module _ {P : Type 0} (part : P) (at : ℕ) (item : Item) (budget : ℕ) where
       subst At same (Stops-item 1 (subst First (sym one) (inl (over, refl))))
 
 module _ {P : Type 0} (tracks : List Var) (part : P) (budget : ℕ) where
-  pub Ends-join : (s : SetOf) (next : plan.Made) (c : SetOf) → (IsEmpty next.0 → ⊥) → (IsEmpty s → ⊥) → IsSetOf (plan.either tracks s next.0) c → (Exceeds (Or (Among 0 tracks) (Among 1 tracks)) (members (plan.two s next.0)) budget → ⊥) → Ends (plan.join tracks part s next) budget (c, next.1 + 1)
+  pub Ends-join : (s : SetOf) (next : plan.Made) (c : SetOf) → (IsEmpty next.0 → ⊥) → (IsEmpty s → ⊥) → IsSetOf (plan.either tracks s next.0) c
+      → (Exceeds (Or (Among 0 tracks) (Among 1 tracks)) (members (plan.two s next.0)) budget → ⊥)
+      → Ends (plan.join tracks part s next) budget (c, next.1 + 1)
   Ends-join s next c some_next some_s is within =
       Ends-ask_no (Empty (next.0 ∷ [])) (Give (s, next.1)) (Ask (Empty (s ∷ [])) (Give next) (plan.compute part next.1 (plan.either tracks s next.0))) budget _ (some_next, tt)
       (Ends-ask_no (Empty (s ∷ [])) (Give next) (plan.compute part next.1 (plan.either tracks s next.0)) budget _ (some_s, tt)
       (Ends-one part next.1 (plan.either tracks s next.0) budget c (Or (Among 0 tracks) (Among 1 tracks)) refl is within))
 
-  pub Stops-join : (s : SetOf) (next : plan.Made) → (IsEmpty next.0 → ⊥) → (IsEmpty s → ⊥) → Exceeds (Or (Among 0 tracks) (Among 1 tracks)) (members (plan.two s next.0)) budget → Stops (plan.join tracks part s next) budget (record { part = part; at = next.1 })
+  pub Stops-join : (s : SetOf) (next : plan.Made) → (IsEmpty next.0 → ⊥) → (IsEmpty s → ⊥)
+      → Exceeds (Or (Among 0 tracks) (Among 1 tracks)) (members (plan.two s next.0)) budget
+      → Stops (plan.join tracks part s next) budget (record { part = part; at = next.1 })
   Stops-join s next some_next some_s over =
       Stops-ask_no (Empty (next.0 ∷ [])) (Give (s, next.1)) (Ask (Empty (s ∷ [])) (Give next) (plan.compute part next.1 (plan.either tracks s next.0))) budget _ (some_next, tt)
       (Stops-ask_no (Empty (s ∷ [])) (Give next) (plan.compute part next.1 (plan.either tracks s next.0)) budget _ (some_s, tt)
@@ -74,18 +81,22 @@ module _ {P : Type 0} (tracks : List Var) (part : P) (budget : ℕ) where
       (Ends-ask_yes (Empty (s ∷ [])) (Give next) (plan.compute part next.1 (plan.either tracks s next.0)) budget _ (inl empty) (Ends-give budget _))
 
   -- one more item
-  pub Ends-with_item : (so_far : plan.Made) (item : Item) (next more : plan.Made) → Ends (plan.make part so_far.1 item) budget next → Ends (plan.join tracks part so_far.0 next) budget more → Ends (plan.with_item tracks part item so_far) budget more
+  pub Ends-with_item : (so_far : plan.Made) (item : Item) (next more : plan.Made) → Ends (plan.make part so_far.1 item) budget next
+      → Ends (plan.join tracks part so_far.0 next) budget more → Ends (plan.with_item tracks part item so_far) budget more
   Ends-with_item so_far item next more made joined = Ends-bind (plan.make part so_far.1 item) (plan.join tracks part so_far.0) budget next more made joined
 
   -- one set without another
-  pub Ends-without : (s t c : SetOf) → (IsEmpty t → ⊥) → (IsEmpty s → ⊥) → IsSetOf (plan.difference tracks s t) c → (Exceeds (And (Among 0 tracks) (Not (Among 1 tracks))) (members (plan.two s t)) budget → ⊥) → Ends (plan.remainder tracks part s t) budget c
+  pub Ends-without : (s t c : SetOf) → (IsEmpty t → ⊥) → (IsEmpty s → ⊥) → IsSetOf (plan.difference tracks s t) c
+      → (Exceeds (And (Among 0 tracks) (Not (Among 1 tracks))) (members (plan.two s t)) budget → ⊥) → Ends (plan.remainder tracks part s t) budget c
   Ends-without s t c some_t some_s is within =
       Ends-bind (plan.without tracks part s t) (λ made. Give made.0) budget (c, 2) c
       (Ends-ask_no (Empty (t ∷ [])) (Give (s, 1)) (plan.make part 1 (plan.difference tracks s t)) budget _ (some_t, tt)
       (Ends-make part 1 (plan.difference tracks s t) budget c (some_s, tt) is (inr (within, refl))))
       (Ends-give budget c)
 
-  pub Stops-without : (s t : SetOf) → (IsEmpty t → ⊥) → (IsEmpty s → ⊥) → Exceeds (And (Among 0 tracks) (Not (Among 1 tracks))) (members (plan.two s t)) budget → Stops (plan.remainder tracks part s t) budget (record { part = part; at = 1 })
+  pub Stops-without : (s t : SetOf) → (IsEmpty t → ⊥) → (IsEmpty s → ⊥)
+      → Exceeds (And (Among 0 tracks) (Not (Among 1 tracks))) (members (plan.two s t)) budget
+      → Stops (plan.remainder tracks part s t) budget (record { part = part; at = 1 })
   Stops-without s t some_t some_s over =
       Stops-bind (plan.without tracks part s t) (λ made. Give made.0) budget _
       (Stops-ask_no (Empty (t ∷ [])) (Give (s, 1)) (plan.make part 1 (plan.difference tracks s t)) budget _ (some_t, tt)

@@ -6,21 +6,22 @@ use Rattle.std.proofs.lemmas.List.Elements.{All-cons, All-head, All-map, All-nil
 use Rattle.track_word.specs.declared.tracks.Var.{Var}
 use Rattle.track_word.specs.Word.{IsWord, repeat_first, repeated}
 use Rattle.track_word.specs.Tracks.{part_of, restrict, with_vars, without_var, word_values}
+use Rattle.track_word.proofs.Repeats.{repeated_some}
 use Rattle.auto_core.specs.Spread.{AlikeInBoth, AlikeLifted, IsLift, LiftsInto, SameResidual}
+use Rattle.auto_core.proofs.Restricted.{restrict-below}
 use Rattle.lin_formula.specs.Tree.{Tree, Not, And, Or, Ex, free_vars}
 use Rattle.lin_formula.specs.Holds.{Holds, Sets}
 use Rattle.formula_auto.specs.Step.{Says}
-use Rattle.formula_auto.proofs.Lifts.{repeated_some}
 use Rattle.formula_auto.proofs.Parts.{Holds-part}
 use Rattle.formula_auto.proofs.Projections.{Says-Ex}
-use Rattle.formula_auto.proofs.SameWords.{IsWord-append, restrict_below}
+use Rattle.formula_auto.proofs.SameWords.{IsWord-append}
 
 -- in a part
 module _ (f : Tree) (e : Sets) (all : List Var) (v w : List ℕ) (alike : SameResidual (length (free_vars f)) (Says f e) (part_of all (free_vars f) v) (part_of all (free_vars f) w)) where
   same_holds : (letters : List ℕ) → Holds f e (word_values all (v ++ letters)) ↔ Holds f e (word_values all (w ++ letters))
   same_holds letters =
       let cut = restrict all (free_vars f) in
-      let below = All-map (λ l. l < 2 ^ length (free_vars f)) cut letters (λ k d within. restrict_below all (free_vars f) (slice_index_or letters k d)) in
+      let below = All-map (λ l. l < 2 ^ length (free_vars f)) cut letters (λ k d within. restrict-below all (free_vars f) (slice_index_or letters k d)) in
       let same = alike.same (map cut letters) below in
       let at_v = Holds-part f e all (v ++ letters) in
       let at_w = Holds-part f e all (w ++ letters) in

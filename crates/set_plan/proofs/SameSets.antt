@@ -125,7 +125,9 @@ module _ (name : ℕ → ℕ) (e : Sets) where
   says_back : (f : Tree) → SameWords (length (free_vars (relabel name f))) (Says f (λ k. e (name k))) (Says (relabel name f) e)
   says_back f word is = let same = says_same' f word is in (same.1, same.0)
 
-  both_free : (f g : Tree) (F G : List ℕ → Type 0) (budget : ℕ) → BothSpreadExceeds (free_vars (relabel name f)) (free_vars (relabel name g)) F G budget ↔ BothSpreadExceeds (free_vars f) (free_vars g) F G budget
+  both_free : (f g : Tree) (F G : List ℕ → Type 0) (budget : ℕ)
+      → BothSpreadExceeds (free_vars (relabel name f)) (free_vars (relabel name g)) F G budget
+      ↔ BothSpreadExceeds (free_vars f) (free_vars g) F G budget
   both_free f g F G budget =
       let Left : List Var → Type 0 = λ fs. BothSpreadExceeds fs (free_vars (relabel name g)) F G budget in
       let Right : List Var → Type 0 = λ gs. BothSpreadExceeds (free_vars f) gs F G budget in
@@ -176,7 +178,12 @@ module _ (name : ℕ → ℕ) (e : ℕ → SetOf) where
         steps = subst Steps (sym (steps-relabel name f)) (steps-named (steps f));
         members = λ tuple.
             let Over : List Var → Type 0 = λ vars. HoldsAt vars (Holds f (λ k. Member (e (name k)))) tuple in (
-              λ h. record { values = h.values; is_tuple = ap (λ vars. values_at vars h.values) (sym (free_vars-relabel name f)) ∙ h.is_tuple; holds = (Holds-relabel name (members e) f h.values).0 h.holds },
+              λ h.
+                  record {
+                    values = h.values;
+                    is_tuple = ap (λ vars. values_at vars h.values) (sym (free_vars-relabel name f)) ∙ h.is_tuple;
+                    holds = (Holds-relabel name (members e) f h.values).0 h.holds;
+                  },
               λ h. record { values = h.values; is_tuple = ap (λ vars. values_at vars h.values) (free_vars-relabel name f) ∙ h.is_tuple; holds = (Holds-relabel name (members e) f h.values).1 h.holds },
             );
         positives = subst Same (sym named) (record { some = (λ h. h, λ h. h); none = (λ h. h, λ h. h) });

@@ -1,6 +1,7 @@
 -- Of an automaton that decides a set of integers it is known which tuples it has.
-use Rattle.std.proofs.Common.{◌≡◌, ℕ, ◌<◌, ◌⊎◌, Bool, true, false, List, length, get_or, IsTrue, inl, inr, ℤ, pos, refl, sym, ap, ◌∙◌, subst, arith}
+use Rattle.std.proofs.Common.{◌≡◌, ℕ, ◌<◌, ◌⊎◌, true, false, List, length, get_or, inl, inr, ℤ, pos, sym, ap, ◌∙◌, subst, arith}
 use Rattle.std.proofs.lemmas.List.{ext_get_or, get_or-map, length-map}
+use Rattle.std.proofs.lemmas.Bool.{cases_Bool, true≢false}
 use Rattle.track_word.specs.declared.tracks.Var.{Var}
 use Rattle.track_word.specs.Word.{IsWord, Spells, spelled, val}
 use Rattle.track_word.specs.Tracks.{IsAscending, values_at, word_values}
@@ -10,10 +11,6 @@ use Rattle.auto_core.specs.Integers.{DecidesIntegers, IsAccepted}
 use Rattle.auto_core.proofs.Ascents.{place-at}
 use Rattle.formula_auto.proofs.Atoms.{accepted-values}
 use Rattle.formula_auto.proofs.Projections.{apart-ascending}
-
-true_or_not : (b : Bool) → IsTrue b ⊎ (IsTrue b → ⊥)
-true_or_not true = inl refl
-true_or_not false = inr (λ e. cc)
 
 size : (a : Automaton) (word : List ℕ) → length (values_at a.tracks (word_values a.tracks word)) ≡ length a.tracks
 size a word = length-map a.tracks (λ (x : Var). word_values a.tracks word x.0)
@@ -43,9 +40,9 @@ module _ (a : Automaton) (tuple : List ℤ) (ascending : IsAscending a.tracks) (
   known : DecidesIntegers a → IsAccepted a tuple ⊎ (IsAccepted a tuple → ⊥)
   known integers =
       let accepted = accepted-values a word integers (apart-ascending a.tracks ascending) is_word in
-      elim (true_or_not (is_final a (state_of a word))) [
+      elim (cases_Bool (is_final a (state_of a word))) [
         | inl yes_it_is ↦ inl (subst (IsAccepted a) values (accepted.0 yes_it_is))
-        | inr never ↦ inr (λ h. never (accepted.1 (subst (IsAccepted a) (sym values) h)))
+        | inr never ↦ inr (λ h. true≢false (sym (accepted.1 (subst (IsAccepted a) (sym values) h)) ∙ never))
       ]
 
 number_same : (i j : ℕ) → (i ≡ j) ⊎ ((i ≡ j) → ⊥)

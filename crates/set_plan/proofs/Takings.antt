@@ -2,9 +2,9 @@
 use Rattle.std.proofs.Common.{◌≡◌, ◌↔◌, ℕ, ◌+◌, ◌⊎◌, if◌then◌else◌, Bool, true, false, List, [], ◌∷◌, ◌++◌, length, map, Some, inl, inr, ℤ, refl, sym, ap, ◌∙◌, subst, arith}
 use Rattle.std.specs.Prelude.{filter, Contains}
 use Rattle.std.specs.List.{flat_map}
-use Rattle.std.proofs.lemmas.List.Elements.{Contains-append_left, Contains-append_right, Contains-append_cases, Contains-push, Contains-push_cases}
 use Rattle.track_word.specs.declared.tracks.Var.{Var}
 use Rattle.track_word.specs.Tracks.{Values, values_at}
+pub use Rattle.auto_project.proofs.Lists.{Contains-head as contains_head, Contains-cons as contains_rest, Contains-cases as contains_cases}
 use Rattle.lin_formula.specs.Tree.{Tree, Lin, Value, Among, Not, And, Or, Ex, free_vars, steps}
 use Rattle.lin_formula.specs.Holds.{Holds, with_value}
 use Rattle.lin_formula.specs.SetOf.{SetOf, Nothing, Where, Member, members, SomeEmpty, HoldsAt}
@@ -81,7 +81,8 @@ module _ {P : Type 0} (tracks : List Var) (part : P) (free : free_vars (Or (Amon
       )
 
   -- a set joined to another has the tuples of both
-  pub join-members : (s : SetOf) (next : Made) (xs : List (Entry P)) (made : Made) → IsOver tracks s → IsOver tracks next.0 → Takes (join tracks part s next) xs (Some made) → (tuple : List ℤ) → Member made.0 tuple ↔ (Member s tuple ⊎ Member next.0 tuple)
+  pub join-members : (s : SetOf) (next : Made) (xs : List (Entry P)) (made : Made) → IsOver tracks s → IsOver tracks next.0
+      → Takes (join tracks part s next) xs (Some made) → (tuple : List ℤ) → Member made.0 tuple ↔ (Member s tuple ⊎ Member next.0 tuple)
   join-members s next xs made over_s over_n (inl (e, o)) tuple = none_some o
   join-members s next xs made over_s over_n (inr (inl (inl empty, t))) tuple =
       let same : made.0 ≡ s = ap (λ (m : Made). m.0) (Takes-give (s, next.1) made xs t) in
@@ -107,7 +108,8 @@ module _ {P : Type 0} (tracks : List Var) (part : P) (free : free_vars (Or (Amon
   join_over s next made over_s over_n same tuple h = elim ((same tuple).0 h) [ inl a ↦ over_s tuple a | inr b ↦ over_n tuple b ]
 
   -- the union has the tuples of what was there before and those of each item
-  unite-members : (items : List Item) (so_far : Made) (xs : List (Entry P)) (made : Made) → IsOver tracks so_far.0 → HaveTracks tracks items → Takes (unite tracks part so_far items) xs (Some made) → (tuple : List ℤ) → Member made.0 tuple ↔ (Member so_far.0 tuple ⊎ AnyItem items tuple)
+  unite-members : (items : List Item) (so_far : Made) (xs : List (Entry P)) (made : Made) → IsOver tracks so_far.0 → HaveTracks tracks items
+      → Takes (unite tracks part so_far items) xs (Some made) → (tuple : List ℤ) → Member made.0 tuple ↔ (Member so_far.0 tuple ⊎ AnyItem items tuple)
   unite-members [] so_far xs made over have t tuple =
       let same : made.0 ≡ so_far.0 = ap (λ (m : Made). m.0) (Takes-give so_far made xs t) in
       rw same (λ h. inl h, λ h. elim h [ inl a ↦ a | inr b ↦ absurd b ])
@@ -130,7 +132,8 @@ module _ {P : Type 0} (tracks : List Var) (part : P) (free : free_vars (Or (Amon
       )
 
   -- the union of items has the tuples of each
-  pub union-members : (items : List Item) (xs : List (Entry P)) (s : SetOf) → HaveTracks tracks items → Takes (union tracks part items) xs (Some s) → (tuple : List ℤ) → Member s tuple ↔ AnyItem items tuple
+  pub union-members : (items : List Item) (xs : List (Entry P)) (s : SetOf) → HaveTracks tracks items → Takes (union tracks part items) xs (Some s)
+      → (tuple : List ℤ) → Member s tuple ↔ AnyItem items tuple
   union-members items xs s have t tuple =
       let (us, vs, made, order, first, rest) = Takes-split (unite tracks part (Nothing, 1) items) (λ made. Give made.0) xs s t in
       let is : s ≡ made.0 = Takes-give made.0 s vs rest in
@@ -156,7 +159,8 @@ module _ {P : Type 0} (tracks : List Var) (part : P) (free : free_vars (Or (Amon
             subst Over (sym free) k,
       )
 
-  without-members : (s t : SetOf) (xs : List (Entry P)) (made : Made) → IsOver tracks s → Takes (without tracks part s t) xs (Some made) → (tuple : List ℤ) → Member made.0 tuple ↔ (Member s tuple × (Member t tuple → ⊥))
+  without-members : (s t : SetOf) (xs : List (Entry P)) (made : Made) → IsOver tracks s → Takes (without tracks part s t) xs (Some made)
+      → (tuple : List ℤ) → Member made.0 tuple ↔ (Member s tuple × (Member t tuple → ⊥))
   without-members s t xs made over_s (inl (e, o)) tuple = none_some o
   without-members s t xs made over_s (inr (inl (inl empty, take))) tuple =
       let same : made.0 ≡ s = ap (λ (m : Made). m.0) (Takes-give (s, 1) made xs take) in
@@ -168,7 +172,8 @@ module _ {P : Type 0} (tracks : List Var) (part : P) (free : free_vars (Or (Amon
       (λ h. both.0 ((is.same tuple).0 h), λ h. (is.same tuple).1 (both.1 h))
 
   -- one set without another has the tuples of the one that the other has not
-  pub remainder-members : (s t : SetOf) (xs : List (Entry P)) (u : SetOf) → IsOver tracks s → Takes (remainder tracks part s t) xs (Some u) → (tuple : List ℤ) → Member u tuple ↔ (Member s tuple × (Member t tuple → ⊥))
+  pub remainder-members : (s t : SetOf) (xs : List (Entry P)) (u : SetOf) → IsOver tracks s → Takes (remainder tracks part s t) xs (Some u)
+      → (tuple : List ℤ) → Member u tuple ↔ (Member s tuple × (Member t tuple → ⊥))
   remainder-members s t xs u over_s takes tuple =
       let (us, vs, made, order, first, rest) = Takes-split (without tracks part s t) (λ made. Give made.0) xs u takes in
       let is : u ≡ made.0 = Takes-give made.0 u vs rest in
@@ -179,32 +184,22 @@ module _ {P : Type 0} (tracks : List Var) (part : P) (free : free_vars (Or (Amon
   remainder_over s t xs u over_s takes tuple h = over_s tuple ((remainder-members s t xs u over_s takes tuple).0 h).0
 
   -- two sets together have the tuples of both
-  pub together-members : (s t : SetOf) (xs : List (Entry P)) (u : SetOf) → IsOver tracks s → IsOver tracks t → Takes (together tracks part s t) xs (Some u) → (tuple : List ℤ) → Member u tuple ↔ (Member s tuple ⊎ Member t tuple)
+  pub together-members : (s t : SetOf) (xs : List (Entry P)) (u : SetOf) → IsOver tracks s → IsOver tracks t
+      → Takes (together tracks part s t) xs (Some u) → (tuple : List ℤ) → Member u tuple ↔ (Member s tuple ⊎ Member t tuple)
   together-members s t xs u over_s over_t takes tuple =
       let (us, vs, made, order, first, rest) = Takes-split (join tracks part s (t, 1)) (λ made. Give made.0) xs u takes in
       let is : u ≡ made.0 = Takes-give made.0 u vs rest in
       let whole = join-members s (t, 1) us made over_s over_t first tuple in
       rw is whole
 
--- membership in a list by its head and its rest
-pub contains_head : {X : Type 0} (x : X) (xs : List X) → Contains (x ∷ xs) x
-contains_head x xs = Contains-append_left (x ∷ []) xs x (Contains-push [] x)
-
-pub contains_rest : {X : Type 0} (x : X) (xs : List X) (y : X) → Contains xs y → Contains (x ∷ xs) y
-contains_rest x xs y h = Contains-append_right (x ∷ []) xs y h
-
+-- nothing is in the empty list
 pub contains_none : {X : Type 0} (y : X) → Contains [] y → ⊥
 contains_none y h = omega (arith, h.1)
 
-pub contains_cases : {X : Type 0} (x : X) (xs : List X) (y : X) → Contains (x ∷ xs) y → (x ≡ y) ⊎ Contains xs y
-contains_cases x xs y h =
-    elim (Contains-append_cases (x ∷ []) xs y h) [
-      | inl one ↦ elim (Contains-push_cases [] x y one) [ inl none ↦ absurd (contains_none y none) | inr same ↦ inl same ]
-      | inr rest ↦ inr rest
-    ]
-
 -- what a test keeps of a list
-filter_step : {X : Type 0} (p : X → Bool) (c : X) (xs : List X) (o : X) (b : Bool) → p c ≡ b → Contains (filter p xs) o ↔ (Contains xs o × (p o ≡ true)) → Contains (if b then c ∷ filter p xs else filter p xs) o ↔ (Contains (c ∷ xs) o × (p o ≡ true))
+filter_step : {X : Type 0} (p : X → Bool) (c : X) (xs : List X) (o : X) (b : Bool) → p c ≡ b
+    → Contains (filter p xs) o ↔ (Contains xs o × (p o ≡ true))
+    → Contains (if b then c ∷ filter p xs else filter p xs) o ↔ (Contains (c ∷ xs) o × (p o ≡ true))
 filter_step p c xs o true e rest = (
   λ h. elim (contains_cases c (filter p xs) o h) [
     | inl same ↦ (subst (λ y. Contains (c ∷ xs) y) same (contains_head c xs), ap p (sym same) ∙ e)

@@ -35,7 +35,9 @@ module _ {P : Type 0} (part : P) (budget : ℕ) where
       record {
         entries = record { part = part; at = at; item = j } ∷ rest;
         takes = inr (rest, s, refl, IsSetOf-same i j s same is, subst Gives (same-count (steps i.formula) (steps j.formula) i.sets j.sets same.steps) t);
-        past = PastStep-append (numbered part at j.sets (steps j.formula)) (all_steps rest) budget None (numbered-same part at (steps i.formula) (steps j.formula) i.sets j.sets budget None same.steps front) back;
+        past =
+            PastStep-append (numbered part at j.sets (steps j.formula)) (all_steps rest) budget None
+            (numbered-same part at (steps i.formula) (steps j.formula) i.sets j.sets budget None same.steps front) back;
       }
 
   make-same : (at : ℕ) (i j : Item) (v : Made) (xs : List (Entry P)) → SameItem i j → Takes (make part at i) xs (Some v) → Past xs budget None → Ends (make part at j) budget v

@@ -22,5 +22,6 @@ module _ {P : Type 0} (tracks : List Var) (part : P) (sets : List Automaton) whe
         each-map (item_of sets) (with_item tracks part) (map tree_of fs) so_far
         ∙ each-map tree_of (λ t. with_item tracks part (item_of sets t)) fs so_far
 
-    pub united_answers : {R : Type 0} (view : R → Made) (r : Result R (PlanError P)) → Answers (each fs with_formula so_far) budget view r → Answers (unite tracks part so_far (map (item_of sets) (map tree_of fs))) budget view r
+    pub united_answers : {R : Type 0} (view : R → Made) (r : Result R (PlanError P)) → Answers (each fs with_formula so_far) budget view r
+        → Answers (unite tracks part so_far (map (item_of sets) (map tree_of fs))) budget view r
     united_answers view r h = subst (λ (m : Program P Made). Answers m budget view r) (sym same) h

@@ -24,15 +24,19 @@ yes-no (Within s t) h k = k h
 past-none : {P A : Type 0} (xs : List (Entry P)) (budget : ℕ) (name : StepName P) → xs ≡ [] → Past xs budget (Some name) → A
 past-none {P} xs budget name e past = none_some (subst (λ (l : List (Entry P)). Past l budget (Some name)) e past)
 
-steps-of : {P : Type 0} (d : Entry P) (rest xs : List (Entry P)) (budget : ℕ) (answer : Option (StepName P)) → xs ≡ d ∷ rest → Past xs budget answer → PastStep (numbered d.part d.at d.item.sets (steps d.item.formula) ++ all_steps rest) budget answer
+steps-of : {P : Type 0} (d : Entry P) (rest xs : List (Entry P)) (budget : ℕ) (answer : Option (StepName P)) → xs ≡ d ∷ rest → Past xs budget answer
+    → PastStep (numbered d.part d.at d.item.sets (steps d.item.formula) ++ all_steps rest) budget answer
 steps-of {P} d rest xs budget answer whole past = subst (λ (l : List (Entry P)). Past l budget answer) whole past
 
-none-name : {P A : Type 0} (d e : Entry P) (budget : ℕ) (name : StepName P) → d.part ≡ e.part → d.at ≡ e.at → SameItem d.item e.item → PastStep (numbered d.part d.at d.item.sets (steps d.item.formula)) budget None → PastStep (numbered e.part e.at e.item.sets (steps e.item.formula)) budget (Some name) → A
+none-name : {P A : Type 0} (d e : Entry P) (budget : ℕ) (name : StepName P) → d.part ≡ e.part → d.at ≡ e.at → SameItem d.item e.item
+    → PastStep (numbered d.part d.at d.item.sets (steps d.item.formula)) budget None
+    → PastStep (numbered e.part e.at e.item.sets (steps e.item.formula)) budget (Some name) → A
 none-name d e budget name part at same h k =
     none_some (sym (PastStep-one (numbered e.part e.at e.item.sets (steps e.item.formula)) budget None (Some name) (entry-same d e budget None part at same h) k))
 
 -- where the one program comes to its end, the other does not stop
-end-stop : {P A B : Type 0} (R : A → B → Type 0) (m : Program P A) (n : Program P B) (budget : ℕ) (xs ys : List (Entry P)) (a : A) (name : StepName P) → Alike R m n → Takes m xs (Some a) → Past xs budget None → Takes n ys None → Past ys budget (Some name) → ⊥
+end-stop : {P A B : Type 0} (R : A → B → Type 0) (m : Program P A) (n : Program P B) (budget : ℕ) (xs ys : List (Entry P)) (a : A) (name : StepName P)
+    → Alike R m n → Takes m xs (Some a) → Past xs budget None → Takes n ys None → Past ys budget (Some name) → ⊥
 end-stop R (Give c) (Give b) budget xs ys a name same t past (e, is) over = past-none ys budget name e over
 end-stop R (Compute d next) (Compute e more) budget xs ys a name same (inl (f, is)) past u over = none_some is
 end-stop R (Compute d next) (Compute e more) budget xs ys a name same (inr t) past (inl (f, is)) over = past-none ys budget name f over
@@ -60,7 +64,8 @@ end-stop R (Ask q if_yes if_no) (Give b) budget xs ys a name same t past u over 
 end-stop R (Ask q if_yes if_no) (Compute e more) budget xs ys a name same t past u over = absurd same
 
 -- both stop at the step of one name
-stop-stop : {P A B : Type 0} (R : A → B → Type 0) (m : Program P A) (n : Program P B) (budget : ℕ) (xs ys : List (Entry P)) (x y : StepName P) → Alike R m n → Takes m xs None → Past xs budget (Some x) → Takes n ys None → Past ys budget (Some y) → x ≡ y
+stop-stop : {P A B : Type 0} (R : A → B → Type 0) (m : Program P A) (n : Program P B) (budget : ℕ) (xs ys : List (Entry P)) (x y : StepName P)
+    → Alike R m n → Takes m xs None → Past xs budget (Some x) → Takes n ys None → Past ys budget (Some y) → x ≡ y
 stop-stop R (Give c) (Give b) budget xs ys x y same t past (e, is) over = past-none ys budget y e over
 stop-stop R (Compute d next) (Compute e more) budget xs ys x y same (inl (f, is)) past u over = past-none xs budget x f past
 stop-stop R (Compute d next) (Compute e more) budget xs ys x y same (inr t) past (inl (f, is)) over = past-none ys budget y f over

@@ -48,7 +48,8 @@ module _ {P : Type 0} (tracks : List Var) (part : P) (budget : ℕ) where
     known None is tuple = inr (λ h. h)
     known (Some b) is tuple = table_decided b.now (subst IsAscending (sym is.tracks_are) ordered) is.integers tuple
 
-    within-empty : (t : Option (Bor Automaton)) (rest : SetOf) → IfSome t (λ b. IsSetOn tracks b.now) → Ends (remainder tracks part (Table a) (lent t)) budget rest → IsEmpty rest → Ends (is_within tracks part (Table a) (lent t)) budget true
+    within-empty : (t : Option (Bor Automaton)) (rest : SetOf) → IfSome t (λ b. IsSetOn tracks b.now)
+        → Ends (remainder tracks part (Table a) (lent t)) budget rest → IsEmpty rest → Ends (is_within tracks part (Table a) (lent t)) budget true
     within-empty t rest is ends empty =
         ends-yes (Table a) (lent t) rest ends
         (λ tuple h. elim (known t is tuple) [
@@ -56,7 +57,8 @@ module _ {P : Type 0} (tracks : List Var) (part : P) (budget : ℕ) where
           | inr off ↦ absurd (empty tuple ((remainder-members tracks part (free tracks ordered) (Table a) (lent t) ends.entries rest over ends.takes tuple).1 (h, off)))
         ])
 
-    within-some : (t : Option (Bor Automaton)) (rest : SetOf) → Ends (remainder tracks part (Table a) (lent t)) budget rest → (IsEmpty rest → ⊥) → Ends (is_within tracks part (Table a) (lent t)) budget false
+    within-some : (t : Option (Bor Automaton)) (rest : SetOf) → Ends (remainder tracks part (Table a) (lent t)) budget rest → (IsEmpty rest → ⊥)
+        → Ends (is_within tracks part (Table a) (lent t)) budget false
     within-some t rest ends some =
         ends-no (Table a) (lent t) rest ends
         (λ within. some (λ tuple h.
@@ -64,6 +66,8 @@ module _ {P : Type 0} (tracks : List Var) (part : P) (budget : ℕ) where
         off (within tuple there)))
 
     -- as it is told whether nothing is left
-    pub within-told : (t : Option (Bor Automaton)) (rest : SetOf) (b : Bool) → IfSome t (λ b. IsSetOn tracks b.now) → Ends (remainder tracks part (Table a) (lent t)) budget rest → OnTrue b (IsEmpty rest) → OnFalse b (¬ IsEmpty rest) → Ends (is_within tracks part (Table a) (lent t)) budget b
+    pub within-told : (t : Option (Bor Automaton)) (rest : SetOf) (b : Bool) → IfSome t (λ b. IsSetOn tracks b.now)
+        → Ends (remainder tracks part (Table a) (lent t)) budget rest → OnTrue b (IsEmpty rest) → OnFalse b (¬ IsEmpty rest)
+        → Ends (is_within tracks part (Table a) (lent t)) budget b
     within-told t rest true is ends empty some = within-empty t rest is ends empty
     within-told t rest false is ends empty some = within-some t rest ends some

@@ -19,7 +19,8 @@ numbered part at sets (f ∷ fs) =
 
 abbrev pub all_steps : {P : Type 0} → List (Entry P) → List (Step P)
 all_steps [] = []
-all_steps (entry ∷ entries) = numbered entry.part entry.at entry.item.sets (steps entry.item.formula) ++ all_steps entries
+all_steps (entry ∷ entries) =
+    numbered entry.part entry.at entry.item.sets (steps entry.item.formula) ++ all_steps entries
 
 -- the name of the first step whose spread exceeds the budget, or none
 abbrev pub PastStep : {P : Type 0} → List (Step P) → ℕ → Option (StepName P) → Type 0

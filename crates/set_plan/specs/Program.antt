@@ -65,6 +65,8 @@ abbrev pub Takes : {P A : Type 0} → Program P A → List (Entry P) → Option 
 Takes (Give a) entries end = (entries ≡ []) × ((end ≡ Some a) ⊎ (end ≡ None))
 Takes {P} (Compute entry next) entries end =
     ((entries ≡ []) × (end ≡ None))
-    ⊎ ((rest : List (Entry P)) × (s : SetOf) × (entries ≡ entry ∷ rest) × IsSetOf entry.item s × Takes (next s) rest end)
+    ⊎ ((rest : List (Entry P)) × (s : SetOf) × (entries ≡ entry ∷ rest) × IsSetOf entry.item s
+    × Takes (next s) rest end)
 Takes (Ask question if_yes if_no) entries end =
-    ((entries ≡ []) × (end ≡ None)) ⊎ (IsYes question × Takes if_yes entries end) ⊎ (IsNo question × Takes if_no entries end)
+    ((entries ≡ []) × (end ≡ None)) ⊎ (IsYes question × Takes if_yes entries end)
+    ⊎ (IsNo question × Takes if_no entries end)

@@ -19,7 +19,8 @@ abbrev pub SameSteps : List Tree → (ℕ → SetOf) → List Tree → (ℕ → 
 SameSteps [] d [] e = Unit {0}
 SameSteps [] d (g ∷ gs) e = ⊥
 SameSteps (f ∷ fs) d [] e = ⊥
-SameSteps (f ∷ fs) d (g ∷ gs) e = ((budget : ℕ) → Exceeds f (members d) budget ↔ Exceeds g (members e) budget) × SameSteps fs d gs e
+SameSteps (f ∷ fs) d (g ∷ gs) e =
+    ((budget : ℕ) → Exceeds f (members d) budget ↔ Exceeds g (members e) budget) × SameSteps fs d gs e
 
 -- the same steps and the same tuples, and both lack a set or neither
 pub record SameItem (i j : Item) : Type 0 where
@@ -31,7 +32,9 @@ pub record SameItem (i j : Item) : Type 0 where
 abbrev pub IsLacking : Item → Type 0
 IsLacking item = SomeEmpty (map item.sets (positives item.formula))
 
--- the items of the first list are the same as those of the second, some of which may be missing that are left out of a union
+-- the items of the first list are the same as those of the second, some of which may be missing that are left out of a
+-- union
 abbrev pub Thinned : List Item → List Item → Type 0
 Thinned is [] = is ≡ []
-Thinned is (j ∷ js) = (IsLacking j × Thinned is js) ⊎ ((i : Item) × (rest : List Item) × (is ≡ i ∷ rest) × SameItem i j × Thinned rest js)
+Thinned is (j ∷ js) =
+    (IsLacking j × Thinned is js) ⊎ ((i : Item) × (rest : List Item) × (is ≡ i ∷ rest) × SameItem i j × Thinned rest js)

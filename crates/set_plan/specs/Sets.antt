@@ -1,6 +1,7 @@
 -- Sets that a program has made.
 use Rattle.std.specs.Prelude.{◌≡◌, ◌<◌, ◌≤◌, ℕ, List, length, Option, Some, None, IfSome, slice_get}
 use Rattle.std.specs.Borrow.{Bor}
+use Rattle.limits.specs.declared.numbers.TheConstants.{MOST_STATES}
 use Rattle.track_word.specs.declared.tracks.Var.{Var}
 use Rattle.auto_core.specs.Automaton.{Automaton}
 use Rattle.auto_core.specs.Integers.{DecidesIntegers}
@@ -14,19 +15,20 @@ use Rattle.set_plan.specs.declared.left.Left.{Left}
 use Rattle.set_plan.specs.declared.left.Left.TheVariants.{Whole, Part}
 use Rattle.set_plan.specs.declared.made.Made.{Made}
 
--- the automaton is reduced and decides a set of tuples of integers, one for each of the tracks; it has no more states than the greatest budget
+-- the automaton is reduced and decides a set of tuples of integers, one for each of the tracks; it has no more states
+-- than the greatest budget
 pub record IsSetOn (tracks : List Var) (a : Automaton) : Type 0 where
   pub reduced : IsReduced a
   pub integers : DecidesIntegers a
   pub tracks_are : a.tracks ≡ tracks
-  pub few : length a.accept ≤ 200000
+  pub few : length a.accept ≤ MOST_STATES
 
 -- the same over the free variables of a formula, where its number of states is known only if the formula has a step
 pub record IsSetBy (f : Tree) (a : Automaton) : Type 0 where
   pub reduced : IsReduced a
   pub integers : DecidesIntegers a
   pub tracks_are : a.tracks ≡ free_vars f
-  pub few : 0 < length (steps f) → length a.accept ≤ 200000
+  pub few : 0 < length (steps f) → length a.accept ≤ MOST_STATES
 
 -- an item whose symbols stand for the automata of a table
 abbrev pub item_of : List Automaton → Tree → Item

@@ -25,7 +25,8 @@ abbrev pub Made : Type 0
 Made = SetOf × ℕ
 
 abbrev pub compute : {P : Type 0} → P → ℕ → Item → Program P Made
-compute part at item = Compute (record { part = part; at = at; item = item }) (λ s. Give (s, at + length (steps item.formula)))
+compute part at item =
+    Compute (record { part = part; at = at; item = item }) (λ s. Give (s, at + length (steps item.formula)))
 
 -- the set of the item, which is left out where one of the sets that stand outside of any Not is empty
 abbrev pub make : {P : Type 0} → P → ℕ → Item → Program P Made
@@ -38,7 +39,8 @@ either tracks s t = record { formula = Or (Among 0 tracks) (Among 1 tracks); set
 -- a further set joined to what is there so far
 abbrev pub join : {P : Type 0} → List Var → P → SetOf → Made → Program P Made
 join tracks part so_far (next, at) =
-    Ask (Empty (next ∷ [])) (Give (so_far, at)) (Ask (Empty (so_far ∷ [])) (Give (next, at)) (compute part at (either tracks so_far next)))
+    Ask (Empty (next ∷ [])) (Give (so_far, at))
+    (Ask (Empty (so_far ∷ [])) (Give (next, at)) (compute part at (either tracks so_far next)))
 
 -- what is there so far with the set of one more item, which is joined directly after its own steps
 abbrev pub with_item : {P : Type 0} → List Var → P → Item → Made → Program P Made
@@ -68,7 +70,8 @@ remainder tracks part s t = bind (without tracks part s t) (λ made. Give made.0
 abbrev pub together : {P : Type 0} → List Var → P → SetOf → SetOf → Program P SetOf
 together tracks part s t = bind (join tracks part s (t, 1)) (λ made. Give made.0)
 
--- whether each of the items' sets is empty: they are made one after the other, up to the first that is not, and are one part
+-- whether each of the items' sets is empty: they are made one after the other, up to the first that is not, and are one
+-- part
 abbrev pub are_empty : {P : Type 0} → P → ℕ → List Item → Program P Bool
 are_empty part at [] = Give true
 are_empty part at (item ∷ items) =

@@ -12,6 +12,7 @@ use crate::parts::make;
 use crate::stop::PlanError;
 use auto_core::Auto;
 use formula_auto::{Memo, SetTable};
+use limits::Budget;
 use lin_formula::Formula;
 use std::alloc::Global;
 use track_word::Var;
@@ -49,11 +50,10 @@ pub fn is_within<P: Copy>(
     part: P,
     one: Option<&Auto>,
     other: Option<&Auto>,
-    budget: u32,
+    budget: Budget,
 ) -> Result<bool, PlanError<P>>
     requires one { IfSome one (λ a. IsSetOn tracks.now a.now) }
     requires other { IfSome other (λ a. IsSetOn tracks.now a.now) }
-    requires budget { (1 ≤ budget) × (budget ≤ 200000) }
     ensures answers { Answers
         (plan.is_within tracks.now part (lent one.entry) (lent other.entry))
         budget (λ (b : Bool). b) result }
@@ -62,7 +62,7 @@ pub fn is_within<P: Copy>(
     let Some(a) = one else {
         return Ok(true);
     };
-    let _ = a.tracks();
+    let _ = a.tracks(); // for its invariant
     match left {
         Left::Whole => Ok(is_empty_set(a)),
         Left::Part(set) => Ok(is_none_or_empty(&set)),

@@ -18,7 +18,7 @@ pub fn is_empty_set(a: &Auto) -> bool
     ensures yes { OnTrue result (IsEmpty (Table a.now)) }
     ensures none { OnFalse result (¬ IsEmpty (Table a.now)) }
 {
-    let _ = a.tracks();
+    let _ = a.tracks(); // for its invariant
     is_empty(a)
 }
 

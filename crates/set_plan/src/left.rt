@@ -9,6 +9,7 @@ use crate::pairs::except;
 use crate::stop::{PlanError, StepName};
 use auto_core::Auto;
 use auto_walk::Grown;
+use limits::Budget;
 use std::alloc::Global;
 use track_word::Var;
 
@@ -28,11 +29,10 @@ pub fn remainder<P: Copy>(
     part: P,
     one: Option<&Auto>,
     other: Option<&Auto>,
-    budget: u32,
+    budget: Budget,
 ) -> Result<Left, PlanError<P>>
     requires one { IfSome one (λ a. IsSetOn tracks.now a.now) }
     requires other { IfSome other (λ a. IsSetOn tracks.now a.now) }
-    requires budget { (1 ≤ budget) × (budget ≤ 200000) }
     ensures answers { Answers
         (remainder_of tracks.now part (lent one.entry) (lent other.entry))
         budget (left_of (lent one.entry)) result }

@@ -11,35 +11,54 @@ use auto_bool::{join, meet, not};
 use auto_core::Auto;
 use auto_reduce::reduce;
 use auto_walk::Grown;
+use limits::Budget;
 use std::alloc::Global;
 use track_word::Var;
 
 /// The set of the tuples of one set or the other.
-pub fn either(alloc: Global, tracks: &[Var], a: &Auto, b: &Auto, budget: u32) -> Result<Auto, Grown>
+pub fn either(
+    alloc: Global,
+    tracks: &[Var],
+    a: &Auto,
+    b: &Auto,
+    budget: Budget,
+) -> Result<Auto, Grown>
     requires first { IsSetOn tracks.now a.now }
     requires second { IsSetOn tracks.now b.now }
-    requires budget { (1 ≤ budget) × (budget ≤ 200000) }
     ensures ok { IfOk result (λ c. IsSetOf (either_of tracks.now (Table a.now) (Table b.now)) (Table c)) }
     ensures set { IfOk result (IsSetOn tracks.now) }
-    ensures within { OnOk result (¬ Exceeds (Or (Among 0 tracks.now) (Among 1 tracks.now)) (members (two (Table a.now) (Table b.now))) budget) }
-    ensures over { result ≡ Err Grown.Over → Exceeds (Or (Among 0 tracks.now) (Among 1 tracks.now)) (members (two (Table a.now) (Table b.now))) budget }
+    ensures within { OnOk result
+        (¬ Exceeds (Or (Among 0 tracks.now) (Among 1 tracks.now)) (members (two (Table a.now) (Table b.now))) budget) }
+    ensures over { result ≡ Err Grown.Over
+        → Exceeds (Or (Among 0 tracks.now) (Among 1 tracks.now)) (members (two (Table a.now) (Table b.now))) budget }
 {
-    let _ = a.tracks();
+    let _ = a.tracks(); // for its invariant
+    let _ = budget.states(); // for its invariant
     let c = join(alloc, a, b, budget)?;
     Ok(reduce(alloc, &c)?)
 }
 
 /// The set of the tuples of the one set that the other has not.
-pub fn except(alloc: Global, tracks: &[Var], a: &Auto, b: &Auto, budget: u32) -> Result<Auto, Grown>
+pub fn except(
+    alloc: Global,
+    tracks: &[Var],
+    a: &Auto,
+    b: &Auto,
+    budget: Budget,
+) -> Result<Auto, Grown>
     requires first { IsSetOn tracks.now a.now }
     requires second { IsSetOn tracks.now b.now }
-    requires budget { (1 ≤ budget) × (budget ≤ 200000) }
     ensures ok { IfOk result (λ c. IsSetOf (difference tracks.now (Table a.now) (Table b.now)) (Table c)) }
     ensures set { IfOk result (IsSetOn tracks.now) }
-    ensures within { OnOk result (¬ Exceeds (And (Among 0 tracks.now) (Not (Among 1 tracks.now))) (members (two (Table a.now) (Table b.now))) budget) }
-    ensures over { result ≡ Err Grown.Over → Exceeds (And (Among 0 tracks.now) (Not (Among 1 tracks.now))) (members (two (Table a.now) (Table b.now))) budget }
+    ensures within { OnOk result
+        (¬ Exceeds (And (Among 0 tracks.now) (Not (Among 1 tracks.now))) (members (two (Table a.now) (Table b.now)))
+        budget) }
+    ensures over { result ≡ Err Grown.Over
+        → Exceeds (And (Among 0 tracks.now) (Not (Among 1 tracks.now))) (members (two (Table a.now) (Table b.now)))
+        budget }
 {
-    let _ = a.tracks();
+    let _ = a.tracks(); // for its invariant
+    let _ = budget.states(); // for its invariant
     let others = not(alloc, b)?;
     let c = meet(alloc, a, &others, budget)?;
     Ok(reduce(alloc, &c)?)

@@ -18,6 +18,7 @@ use crate::stop::{PlanError, StepName};
 use auto_core::Auto;
 use auto_walk::Grown;
 use formula_auto::{CompileError, Memo, SetTable};
+use limits::Budget;
 use lin_formula::Formula;
 use std::alloc::Global;
 use track_word::Var;
@@ -43,7 +44,7 @@ pub fn make<P: Copy>(
         return Ok(Made { set: None, at });
     }
     let count = step_count(f);
-    let _ = memo.budget();
+    let _ = memo.budget(); // for its invariant
     match memo.compile(alloc, f, sets) {
         Ok(a) => Ok(Made {
             set: Some(a),
@@ -64,12 +65,11 @@ fn join<P: Copy>(
     part: P,
     so_far: Option<Auto>,
     next: Made,
-    budget: u32,
+    budget: Budget,
 ) -> Result<Made, PlanError<P>>
     requires so_far { IfSome so_far (IsSetOn tracks.now) }
     requires next { IfSome next.set (IsSetOn tracks.now) }
     requires room { next.at < 2 ^ 31 }
-    requires budget { (1 ≤ budget) × (budget ≤ 200000) }
     ensures answers { Answers (plan.join tracks.now part (as_set so_far) (made_of next)) budget made_of result }
     ensures set { IfOk result (λ made. IfSome made.set (IsSetOn tracks.now)) }
     ensures room { IfOk result (λ made. made.at ≤ next.at + 1) }
@@ -179,11 +179,10 @@ pub fn together<P: Copy>(
     part: P,
     first: Option<Auto>,
     second: Option<Auto>,
-    budget: u32,
+    budget: Budget,
 ) -> Result<Option<Auto>, PlanError<P>>
     requires first { IfSome first (IsSetOn tracks.now) }
     requires second { IfSome second (IsSetOn tracks.now) }
-    requires budget { (1 ≤ budget) × (budget ≤ 200000) }
     ensures answers { Answers (plan.together tracks.now part (as_set first) (as_set second)) budget as_set result }
     ensures set { IfOk result (λ set. IfSome set (IsSetOn tracks.now)) }
 {

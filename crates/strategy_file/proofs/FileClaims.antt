@@ -1,4 +1,4 @@
--- What has a file is a claim.
+-- What has a file is a claim. Other crates cite these lemmas.
 use Rattle.std.proofs.Common.{◌≡◌, ◌≢◌, ℕ, Bool, true, false, ◌&&◌, ◌==◌, List, [], ◌∷◌, map, Option, Some, None, inl, inr, refl, sym, ap, ◌∙◌, subst, arith}
 use Rattle.std.specs.Prelude.{Contains, if◌then◌else◌}
 use Rattle.std.proofs.lemmas.Bool.{eqb-true, eq-eqb, and_from, and_parts}
@@ -47,7 +47,7 @@ some_at : (b : Bool) (a : Automaton) (rest : Option Automaton) → b ≡ true �
 some_at true a rest h = λ e. cc
 some_at false a rest h = absurd cc
 
-is_some_in : (sets : List ClaimedSet) (ply mask : ℕ) → Contains {X = ℕ × ℕ} (map place_of sets) (ply, mask) → claimed_in sets ply mask ≢ None
+pub is_some_in : (sets : List ClaimedSet) (ply mask : ℕ) → Contains {X = ℕ × ℕ} (map place_of sets) (ply, mask) → claimed_in sets ply mask ≢ None
 is_some_in [] ply mask h = absurd (contains_none (ply, mask) h)
 is_some_in (s ∷ sets) ply mask h =
     let test = (s.ply == ply) && (s.mask == mask) in
@@ -67,15 +67,17 @@ place_in (d ∷ sets) s h =
       | inr later ↦ contains_rest (place_of d) (map place_of sets) (place_of s) (place_in sets s later)
     ]
 
+-- where the sets have all places, a set that is there has a place of the loser
+pub at_place : (c : Claim) → map place_of c.sets ≡ places_of c.winner c.position c.moves → (ply mask : ℕ) (a : Automaton) → IsFound c.sets ply mask a
+    → IsLosersPly c.winner c.position c.moves ply × IsGameMask c.position mask
+at_place c places ply mask a f =
+    let there = subst (λ ps. Contains ps (place_of f.claimed)) places (place_in c.sets f.claimed f.has) in
+    let both = (places_of-are c.winner c.position c.moves f.claimed.ply f.claimed.mask).0 there in
+    (subst (IsLosersPly c.winner c.position c.moves) f.ply_is both.0, subst (IsGameMask c.position) f.mask_is both.1)
+
 module _ (c : Claim) (h : HasFile c) where
   places : map place_of c.sets ≡ places_of c.winner c.position c.moves
   places = h.places ∙ ap (λ (w : Side). places_of w c.position c.moves) (sym h.white)
-
-  at_place : (ply mask : ℕ) (a : Automaton) → IsFound c.sets ply mask a → IsLosersPly c.winner c.position c.moves ply × IsGameMask c.position mask
-  at_place ply mask a f =
-      let there = subst (λ ps. Contains ps (place_of f.claimed)) places (place_in c.sets f.claimed f.has) in
-      let both = (places_of-are c.winner c.position c.moves f.claimed.ply f.claimed.mask).0 there in
-      (subst (IsLosersPly c.winner c.position c.moves) f.ply_is both.0, subst (IsGameMask c.position) f.mask_is both.1)
 
   formed : (s : ClaimedSet) → Contains c.sets s → IsFormed c.position s
   formed s has = All-contains (IsFormed c.position) c.sets s h.sets has
@@ -86,7 +88,7 @@ module _ (c : Claim) (h : HasFile c) where
     few = let most = h.most in omega (arith, most);
     found = λ ply mask losers game.
         is_some_in c.sets ply mask (subst (λ (ps : List (ℕ × ℕ)). Contains {X = ℕ × ℕ} ps (ply, mask)) (sym places) ((places_of-are c.winner c.position c.moves ply mask).1 (losers, game)));
-    only = λ ply mask a is. at_place ply mask a (found_in c.sets ply mask a is);
+    only = λ ply mask a is. at_place c places ply mask a (found_in c.sets ply mask a is);
     tracks = λ ply mask a is.
         let f = found_in c.sets ply mask a is in
         let own = (formed f.claimed f.has).tracks in

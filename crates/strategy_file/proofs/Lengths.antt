@@ -71,5 +71,6 @@ men_step p n m total step whole is size so_far =
     let front : drop n p.men ≡ m ∷ drop (n + 1) p.men = rw add-one (drop-cons p.men n m (slice_get_within p.men n m there) ∙ ap (λ x. x ∷ drop (suc n) p.men) same) in
     let cons = flat_map-cons man_bytes m (drop (n + 1) p.men) in
     let both = length-append (man_bytes m) (flat_map man_bytes (drop (n + 1) p.men)) in
-    let e : length (flat_map man_bytes (drop n p.men)) ≡ length (man_bytes m) + length (flat_map man_bytes (drop (n + 1) p.men)) = ap (λ l. length (flat_map man_bytes l)) front ∙ ap length cons ∙ both in
+    let e : length (flat_map man_bytes (drop n p.men)) ≡ length (man_bytes m) + length (flat_map man_bytes (drop (n + 1) p.men)) =
+    ap (λ l. length (flat_map man_bytes l)) front ∙ ap length cons ∙ both in
     omega (arith, e, size, so_far)

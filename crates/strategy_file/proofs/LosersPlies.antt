@@ -12,19 +12,10 @@ use Rattle.rule_formula.proofs.MasksTheorem.{masks_are}
 use Rattle.set_plan.proofs.Takings.{contains_cases, contains_head, contains_none, contains_rest}
 use Rattle.mate_plan.specs.PlanOf.{last_ply}
 use Rattle.mate_plan.specs.Claim.{IsLosersPly, every_second, losers_plies}
+use Rattle.claim_plan.proofs.PlaceLemmas.{plies-have}
 use Rattle.strategy_file.specs.StrategyFile.{places_of}
 
 -- ---- every second ply
-
-every_second-has : (start count k : ℕ) → k < count → Contains (every_second start count) (start + 2 * k)
-every_second-has start zero k h = absurd (omega (arith, h))
-every_second-has start (suc count) zero h =
-    let e : start ≡ start + 2 * 0 = omega arith in
-    subst (λ j. Contains (every_second start (suc count)) j) e (contains_head start (every_second (start + 2) count))
-every_second-has start (suc count) (suc k) h =
-    let e : start + 2 + 2 * k ≡ start + 2 * suc k = omega arith in
-    let there = every_second-has (start + 2) count k (omega (arith, h)) in
-    contains_rest start (every_second (start + 2) count) (start + 2 * suc k) (subst (λ j. Contains (every_second (start + 2) count) j) e there)
 
 every_second-of : (start count ply : ℕ) → Contains (every_second start count) ply → (k : ℕ) × (k < count) × (start + 2 * k ≡ ply)
 every_second-of start zero ply h = absurd (contains_none ply h)
@@ -37,16 +28,6 @@ every_second-of start (suc count) ply h =
           let is = there.2 in
           (suc there.0, omega (arith, below), omega (arith, is))
     ]
-
-odd_ply : (moves ply left : ℕ) → ply + (2 * left + 1) ≡ 2 * moves → Contains (every_second 1 moves) ply
-odd_ply moves ply left e =
-    let at : 1 + 2 * (moves - left - 1) ≡ ply = omega (arith, e) in
-    subst (λ j. Contains (every_second 1 moves) j) at (every_second-has 1 moves (moves - left - 1) (omega (arith, e)))
-
-even_ply : (moves ply left : ℕ) → ply + (2 * left + 1) ≡ 2 * moves + 1 → Contains (every_second 0 (suc moves)) ply
-even_ply moves ply left e =
-    let at : 0 + 2 * (moves - left) ≡ ply = omega (arith, e) in
-    subst (λ j. Contains (every_second 0 (suc moves)) j) at (every_second-has 0 (suc moves) (moves - left) (omega (arith, e)))
 
 odd_left : (moves ply : ℕ) → Contains (every_second 1 moves) ply → (left : ℕ) × (ply + (2 * left + 1) ≡ 2 * moves)
 odd_left moves ply h =
@@ -62,12 +43,6 @@ even_left moves ply h =
     let is = there.2 in
     (moves - there.0, omega (arith, below, is))
 
-plies_at : (winner s : Side) (moves ply left : ℕ) → ply + (2 * left + 1) ≡ last_ply winner s moves → Contains (losers_plies winner s moves) ply
-plies_at White White moves ply left e = odd_ply moves ply left e
-plies_at Black Black moves ply left e = odd_ply moves ply left e
-plies_at White Black moves ply left e = even_ply moves ply left e
-plies_at Black White moves ply left e = even_ply moves ply left e
-
 left_at : (winner s : Side) (moves ply : ℕ) → Contains (losers_plies winner s moves) ply → (left : ℕ) × (ply + (2 * left + 1) ≡ last_ply winner s moves)
 left_at White White moves ply h = odd_left moves ply h
 left_at Black Black moves ply h = odd_left moves ply h
@@ -78,7 +53,7 @@ left_at Black White moves ply h = even_left moves ply h
 pub losers_plies-are : (winner : Side) (p : Position) (moves ply : ℕ) → Contains (losers_plies winner p.turn moves) ply ↔ IsLosersPly winner p moves ply
 losers_plies-are winner p moves ply = (
   λ h. let there = left_at winner p.turn moves ply h in record { left = there.0; before = there.1 },
-  λ h. plies_at winner p.turn moves ply h.left h.before,
+  λ h. plies-have winner p moves ply h,
 )
 
 -- ---- pairs of the numbers of two lists

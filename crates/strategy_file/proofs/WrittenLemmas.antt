@@ -50,7 +50,8 @@ version_rest : Layout Start
 unfolding moves_rest
 version_rest = bind (one (between w8 1 1 why.Version)) (λ v. moves_rest)
 
-start_again : (p : Position) (moves : ℕ) → moves ≤ 20 → 2 ≤ length p.men → length p.men ≤ 5 → AllByRecursion (λ m. FitsPlace m.place) p.men → Again start_layout (start_bytes p moves) (record { moves = moves; position = p })
+start_again : (p : Position) (moves : ℕ) → moves ≤ 20 → 2 ≤ length p.men → length p.men ≤ 5 → AllByRecursion (λ m. FitsPlace m.place) p.men
+    → Again start_layout (start_bytes p moves) (record { moves = moves; position = p })
 unfolding start_layout start_bytes men_rest count_rest turn_rest moves_rest version_rest
 start_again p moves few least most places =
     let t = side_byte p.turn in
@@ -62,7 +63,9 @@ start_again p moves few least most places =
     let turn = then_again (one (between w8 0 1 why.Turn)) (λ c. count_rest moves c) (t ∷ []) (n ∷ (bytes ++ [])) t made (byte_again 0 1 t why.Turn (omega arith) (side_small p.turn)) count in
     let move = then_again (one (between w8 0 20 why.Moves)) turn_rest (moves ∷ []) (t ∷ n ∷ (bytes ++ [])) moves made (byte_again 0 20 moves why.Moves (omega arith) few) turn in
     let version = then_again (one (between w8 1 1 why.Version)) (λ v. moves_rest) (1 ∷ []) (moves ∷ t ∷ n ∷ (bytes ++ [])) 1 made (byte_again 1 1 1 why.Version (omega arith) (omega arith)) move in
-    let magic = then_again (one (between w32 (from_be_bytes w32 (codes "ICSF")) (from_be_bytes w32 (codes "ICSF")) why.Magic)) (λ m. version_rest) (codes "ICSF") (1 ∷ moves ∷ t ∷ n ∷ (bytes ++ [])) (from_be_bytes w32 (codes "ICSF")) made
+    let magic =
+    then_again (one (between w32 (from_be_bytes w32 (codes "ICSF")) (from_be_bytes w32 (codes "ICSF")) why.Magic)) (λ m. version_rest)
+    (codes "ICSF") (1 ∷ moves ∷ t ∷ n ∷ (bytes ++ [])) (from_be_bytes w32 (codes "ICSF")) made
     (field_again (between w32 (from_be_bytes w32 (codes "ICSF")) (from_be_bytes w32 (codes "ICSF")) why.Magic) (from_be_bytes w32 (codes "ICSF")) (codes "ICSF") refl refl refl) version in
     let same : made ≡ record { moves = moves; position = p } = ap (λ s. record { moves = moves; position = record { men = p.men; turn = s } }) (side_again p.turn) in
     subst (λ s. Again start_layout (start_bytes p moves) s) same
@@ -74,25 +77,37 @@ start_again p moves few least most places =
 
 -- ---- a set
 
-chart_again : (p : Position) (c : ClaimedSet) → IsAutomaton c.set → length c.set.accept ≤ 200000 → c.set.tracks ≡ mask_tracks p c.mask → Again (chart_layout p (c.ply, c.mask)) (set_bytes c) (chart_of c)
+chart_again : (p : Position) (c : ClaimedSet) → IsAutomaton c.set → length c.set.accept ≤ 200000 → c.set.tracks ≡ mask_tracks p c.mask
+    → Again (chart_layout p (c.ply, c.mask)) (set_bytes c) (chart_of c)
 unfolding chart_layout set_bytes
 chart_again p c valid few tracks =
     let made : Chart = chart_with p (c.ply, c.mask) (table_of c.set) in
     let bytes = table_bytes c.set in
-    let table : Again (table_layout (length (mask_tracks p c.mask))) bytes (table_of c.set) = subst (λ ts. Again (table_layout (length ts)) bytes (table_of c.set)) tracks (automaton_again c.set valid few) in
+    let table : Again (table_layout (length (mask_tracks p c.mask))) bytes (table_of c.set) =
+    subst (λ ts. Again (table_layout (length ts)) bytes (table_of c.set)) tracks (automaton_again c.set valid few) in
     let last = then_again (table_layout (length (mask_tracks p c.mask))) (λ t. Give (chart_with p (c.ply, c.mask) t)) bytes [] (table_of c.set) made table (give_again made) in
-    let mask = then_again (one (between w8 c.mask c.mask why.Men)) (λ m. bind (table_layout (length (mask_tracks p c.mask))) (λ t. Give (chart_with p (c.ply, c.mask) t))) (c.mask ∷ []) (bytes ++ []) c.mask made (byte_again c.mask c.mask c.mask why.Men (omega arith) (omega arith)) last in
-    let ply = then_again (one (between w8 c.ply c.ply why.Ply)) (λ q. bind (one (between w8 c.mask c.mask why.Men)) (λ m. bind (table_layout (length (mask_tracks p c.mask))) (λ t. Give (chart_with p (c.ply, c.mask) t)))) (c.ply ∷ []) (c.mask ∷ (bytes ++ [])) c.ply made (byte_again c.ply c.ply c.ply why.Ply (omega arith) (omega arith)) mask in
+    let mask =
+    then_again (one (between w8 c.mask c.mask why.Men))
+    (λ m. bind (table_layout (length (mask_tracks p c.mask))) (λ t. Give (chart_with p (c.ply, c.mask) t))) (c.mask ∷ []) (bytes ++ []) c.mask
+    made (byte_again c.mask c.mask c.mask why.Men (omega arith) (omega arith)) last in
+    let ply =
+    then_again (one (between w8 c.ply c.ply why.Ply))
+    (λ q. bind (one (between w8 c.mask c.mask why.Men))
+    (λ m. bind (table_layout (length (mask_tracks p c.mask))) (λ t. Give (chart_with p (c.ply, c.mask) t))))
+    (c.ply ∷ []) (c.mask ∷ (bytes ++ [])) c.ply made (byte_again c.ply c.ply c.ply why.Ply (omega arith) (omega arith)) mask in
     let same : made ≡ chart_of c = ap (λ ts. record { ply = c.ply; mask = c.mask; tracks = ts; table = table_of c.set }) (sym tracks) in
     subst (λ x. Again (chart_layout p (c.ply, c.mask)) (set_bytes c) x) same
     (as_again (chart_layout p (c.ply, c.mask)) (c.ply ∷ c.mask ∷ (bytes ++ [])) (set_bytes c) made (ap (λ b. c.ply ∷ c.mask ∷ b) (append-nil bytes)) ply)
 
 -- ---- the file
 
-each_set : {A P C : Type 0} (f : P → Layout A) (place : C → P) (value : C → A) (bytes : C → List ℕ) (cs : List C) → AllByRecursion (λ c. Again (f (place c)) (bytes c) (value c)) cs → Again (each (map place cs) f) (flat_map bytes cs) (map value cs)
+each_set : {A P C : Type 0} (f : P → Layout A) (place : C → P) (value : C → A) (bytes : C → List ℕ) (cs : List C)
+    → AllByRecursion (λ c. Again (f (place c)) (bytes c) (value c)) cs → Again (each (map place cs) f) (flat_map bytes cs) (map value cs)
 each_set f place value bytes [] all = give_again []
 each_set f place value bytes (c ∷ cs) all =
-    let rest = then_again (each (map place cs) f) (λ ys. Give (value c ∷ ys)) (flat_map bytes cs) [] (map value cs) (value c ∷ map value cs) (each_set f place value bytes cs all.1) (give_again (value c ∷ map value cs)) in
+    let rest =
+    then_again (each (map place cs) f) (λ ys. Give (value c ∷ ys)) (flat_map bytes cs) [] (map value cs) (value c ∷ map value cs)
+    (each_set f place value bytes cs all.1) (give_again (value c ∷ map value cs)) in
     as_again (each (place c ∷ map place cs) f) (bytes c ++ (flat_map bytes cs ++ [])) (flat_map bytes (c ∷ cs)) (value c ∷ map value cs)
     (ap (λ b. bytes c ++ b) (append-nil (flat_map bytes cs)) ∙ sym (flat_map-cons bytes c cs))
     (then_again (f (place c)) (λ y. bind (each (map place cs) f) (λ ys. Give (y ∷ ys))) (bytes c) (flat_map bytes cs ++ []) (value c) (value c ∷ map value cs) all.0 rest)
@@ -122,9 +137,12 @@ module _ (c : Claim) (h : HasFile c) where
   unfolding charts_layout start
   sets_again =
       let all = each_set (chart_layout c.position) (λ (s : ClaimedSet). (s.ply, s.mask)) chart_of set_bytes c.sets (charts c.sets h.sets) in
-      let placed : Again (each (places_of White c.position c.moves) (chart_layout c.position)) (flat_map set_bytes c.sets) (map chart_of c.sets) = subst (λ ps. Again (each ps (chart_layout c.position)) (flat_map set_bytes c.sets) (map chart_of c.sets)) h.places all in
+      let placed : Again (each (places_of White c.position c.moves) (chart_layout c.position)) (flat_map set_bytes c.sets) (map chart_of c.sets) =
+      subst (λ ps. Again (each ps (chart_layout c.position)) (flat_map set_bytes c.sets) (map chart_of c.sets)) h.places all in
       as_again (charts_layout start) (flat_map set_bytes c.sets ++ []) (flat_map set_bytes c.sets) (charts_with start (map chart_of c.sets)) (append-nil (flat_map set_bytes c.sets))
-      (then_again (each (places_of White c.position c.moves) (chart_layout c.position)) (λ sets. Give (charts_with start sets)) (flat_map set_bytes c.sets) [] (map chart_of c.sets) (charts_with start (map chart_of c.sets)) placed (give_again (charts_with start (map chart_of c.sets))))
+      (then_again (each (places_of White c.position c.moves) (chart_layout c.position)) (λ sets. Give (charts_with start sets))
+      (flat_map set_bytes c.sets) [] (map chart_of c.sets) (charts_with start (map chart_of c.sets)) placed
+      (give_again (charts_with start (map chart_of c.sets))))
 
   pub written_is_read : File (written c) (Ok (charts_of c))
   unfolding written start

@@ -25,7 +25,8 @@ charts_in sets = map (λ s. chart_of (set_of s)) sets
 
 -- the set whose automaton has a table
 abbrev pub set_with : Chart → ClaimedSet
-set_with c = record { ply = c.ply; mask = c.mask; set = automaton_of c.tracks c.table.first c.table.next c.table.accept }
+set_with c =
+    record { ply = c.ply; mask = c.mask; set = automaton_of c.tracks c.table.first c.table.next c.table.accept }
 
 -- the claim of such sets
 abbrev pub claim_with : Charts → Claim

@@ -1,6 +1,7 @@
 -- Claims that have a file.
 use Rattle.std.specs.Prelude.{◌≡◌, ◌≤◌, length, map}
 use Rattle.std.specs.List.{All}
+use Rattle.limits.specs.declared.numbers.TheConstants.{MOST_MOVES, MOST_STATES}
 use Rattle.auto_core.specs.Automaton.{IsAutomaton}
 use Rattle.game_rules.specs.Game.{Position, Sound}
 use Rattle.game_rules.specs.declared.men.Side.TheVariants.{White}
@@ -13,14 +14,14 @@ use Rattle.strategy_file.specs.StrategyFile.{places_of}
 pub record IsFormed (p : Position) (s : ClaimedSet) : Type 0 where
   pub tracks : s.set.tracks ≡ mask_tracks p s.mask
   pub valid : IsAutomaton s.set
-  pub few : length s.set.accept ≤ 200000
+  pub few : length s.set.accept ≤ MOST_STATES
 
 -- The claim has a file of version 1: White is to mate within at most 20 moves, from a sound position of two to five
 -- men whose coordinates are numbers of 64 bits; and there is a set for each ply of Black and each mask, in order.
 pub record HasFile (c : Claim) : Type 0 where
   pub white : c.winner ≡ White
   pub sound : Sound c.position
-  pub moves : c.moves ≤ 20
+  pub moves : c.moves ≤ MOST_MOVES
   pub least : 2 ≤ length c.position.men
   pub most : length c.position.men ≤ 5
   pub narrow : IsNarrowPosition c.position

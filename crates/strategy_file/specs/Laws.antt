@@ -33,7 +33,8 @@ OneFile = (s : Solution) (a b : List ℕ) → IsFileOf s a → IsFileOf s b → 
 pub record HasOneKeptFile (winner : Side) (p : Position) (moves : ℕ) : Type 0 where
   pub one_file : (a b : List ℕ) → IsKeptFile winner p moves a → IsKeptFile winner p moves b → a ≡ b
   pub one_size : (a b : ℕ) → IsKeptTooLarge winner p moves a → IsKeptTooLarge winner p moves b → a ≡ b
-  pub same_size : (bytes : List ℕ) (size : ℕ) → IsKeptFile winner p moves bytes → IsKeptTooLarge winner p moves size → size ≡ length bytes
+  pub same_size : (bytes : List ℕ) (size : ℕ) → IsKeptFile winner p moves bytes → IsKeptTooLarge winner p moves size
+      → size ≡ length bytes
 
 abbrev pub OneKeptFile : Type 0
 OneKeptFile = (winner : Side) (p : Position) (moves : ℕ) → HasOneKeptFile winner p moves

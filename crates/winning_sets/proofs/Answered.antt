@@ -58,7 +58,10 @@ module _ (p : Position) (budget : ℕ) (masks : List ℕ) (empties table : List 
       (All-take (AreNames p.men table (masks_of p)) (suc last) levels is.names) are
 
   -- a solution of it
-  pub solution_is : (winner : Side) (moves last : ℕ) (after : List Automaton) (kept reach : List (List Automaton)) → last ≡ last_ply winner p.turn moves → 0 < last → last < length levels → moves ≤ 20 → Grows table after → reach ≡ map (sets_or after empties) (take (last + 1) levels) → AreKept winner p moves (sets_at (masks_of p) kept) → IsSolution (record { origin = Plan; position = p; winner = winner; moves = moves; kept = kept; reach = reach })
+  pub solution_is : (winner : Side) (moves last : ℕ) (after : List Automaton) (kept reach : List (List Automaton))
+      → last ≡ last_ply winner p.turn moves → 0 < last → last < length levels → moves ≤ 20 → Grows table after
+      → reach ≡ map (sets_or after empties) (take (last + 1) levels) → AreKept winner p moves (sets_at (masks_of p) kept)
+      → IsSolution (record { origin = Plan; position = p; winner = winner; moves = moves; kept = kept; reach = reach })
   solution_is winner moves last after kept reach is_last some within small grows made keeps =
       let one : last + 1 ≡ suc last = omega arith in
       let named = All-take (AreNames p.men table (masks_of p)) (last + 1) levels is.names in
@@ -81,20 +84,25 @@ module _ (p : Position) (budget : ℕ) (masks : List ℕ) (empties table : List 
       subst (λ (l : List Names). AreReached p (length levels - 1) (sets_at (masks_of p) (map (sets_or table empties) l))) whole (reached_are (length levels - 1) (omega (arith, some)))
 
   -- what is kept by names in a table
-  pub kept_are : (winner : Side) (moves : ℕ) (after : List Automaton) (kept : List Names) → 0 < length levels → 0 < last_ply winner p.turn moves → All (AreNames p.men after (masks_of p)) kept → Ends (plan_of winner p moves) budget (map (level_of after (masks_of p)) kept) → AreKept winner p moves (sets_at (masks_of p) (map (sets_or after empties) kept))
+  pub kept_are : (winner : Side) (moves : ℕ) (after : List Automaton) (kept : List Names) → 0 < length levels → 0 < last_ply winner p.turn moves
+      → All (AreNames p.men after (masks_of p)) kept → Ends (plan_of winner p moves) budget (map (level_of after (masks_of p)) kept)
+      → AreKept winner p moves (sets_at (masks_of p) (map (sets_or after empties) kept))
   kept_are winner moves after kept some last named ends =
       let decided = names_known p is.sound is.few after (masks_of p) kept named in
       let are = plan_means winner p moves ends.entries (map (level_of after (masks_of p)) kept) is.sound is.few last decided ends.takes in
       lent_sets_are (Kept winner p moves) p (mean p is.sound is.few).game (last_ply winner p.turn moves) after empties kept (is.empties_are some) named are
 
 -- nothing is kept where the winner is to move and has no move
-pub none_kept_are : (winner : Side) (p : Position) (moves : ℕ) (empties : List Automaton) → Sound p → length p.men ≤ 8 → last_ply winner p.turn moves ≡ 0 → AreEmpties p.men (masks_of p) empties → AreKept winner p moves (sets_at (masks_of p) (empties ∷ []))
+pub none_kept_are : (winner : Side) (p : Position) (moves : ℕ) (empties : List Automaton) → Sound p → length p.men ≤ 8
+    → last_ply winner p.turn moves ≡ 0 → AreEmpties p.men (masks_of p) empties → AreKept winner p moves (sets_at (masks_of p) (empties ∷ []))
 none_kept_are winner p moves empties sound few last are =
     let none : (q : Position) → Kept winner p moves 0 q → ⊥ = λ q h. kept_end winner p moves q (subst (λ (n : ℕ). Kept winner p moves n q) (sym last) h) in
     let zero_sets = empty_sets_are (Kept winner p moves) p (mean p sound few).game empties are none in
     subst (λ (n : ℕ). AreSets (Kept winner p moves) p n (sets_at (masks_of p) (empties ∷ []))) (sym last) zero_sets
 
-pub none_solution : (winner : Side) (p : Position) (moves : ℕ) (empties : List Automaton) (kept reach : List (List Automaton)) → Sound p → length p.men ≤ 8 → moves ≤ 20 → last_ply winner p.turn moves ≡ 0 → AreEmpties p.men (masks_of p) empties → kept ≡ empties ∷ [] → reach ≡ [] → IsSolution (record { origin = Plan; position = p; winner = winner; moves = moves; kept = kept; reach = reach })
+pub none_solution : (winner : Side) (p : Position) (moves : ℕ) (empties : List Automaton) (kept reach : List (List Automaton)) → Sound p
+    → length p.men ≤ 8 → moves ≤ 20 → last_ply winner p.turn moves ≡ 0 → AreEmpties p.men (masks_of p) empties → kept ≡ empties ∷ [] → reach ≡ []
+    → IsSolution (record { origin = Plan; position = p; winner = winner; moves = moves; kept = kept; reach = reach })
 none_solution winner p moves empties kept reach sound few small last are is none =
     let none_at : (ply mask : ℕ) → sets_at (masks_of p) reach ply mask ≡ None = λ ply mask. ap (λ r. sets_at (masks_of p) r ply mask) none in
     record {

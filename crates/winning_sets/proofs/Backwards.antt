@@ -33,15 +33,18 @@ odd_is : (n : ℕ) → (n % 2 ≡ 0 → ⊥) → is_even n ≡ false
 odd_is n odd = elim (two_steps n) [ inl (k, e, is) ↦ absurd (odd (omega (arith, e))) | inr (k, e, is) ↦ is ]
 
 -- at an even number of plies before the last the winner is to move
-kept_won : (rules : Rules) (first : Side) (ply left : ℕ) (reach reach1 kept1 : Level) → left % 2 ≡ 0 → kept_level rules first ply left reach reach1 kept1 ≡ win_level rules (turn_at first ply) ply reach kept1
+kept_won : (rules : Rules) (first : Side) (ply left : ℕ) (reach reach1 kept1 : Level) → left % 2 ≡ 0
+    → kept_level rules first ply left reach reach1 kept1 ≡ win_level rules (turn_at first ply) ply reach kept1
 kept_won rules first ply left reach reach1 kept1 even =
     ap (λ (b : Bool). if b then win_level rules (turn_at first ply) ply reach kept1 else lost_level rules (turn_at first ply) ply reach reach1 kept1) (even_is left even)
 
-kept_lost : (rules : Rules) (first : Side) (ply left : ℕ) (reach reach1 kept1 : Level) → (left % 2 ≡ 0 → ⊥) → kept_level rules first ply left reach reach1 kept1 ≡ lost_level rules (turn_at first ply) ply reach reach1 kept1
+kept_lost : (rules : Rules) (first : Side) (ply left : ℕ) (reach reach1 kept1 : Level) → (left % 2 ≡ 0 → ⊥)
+    → kept_level rules first ply left reach reach1 kept1 ≡ lost_level rules (turn_at first ply) ply reach reach1 kept1
 kept_lost rules first ply left reach reach1 kept1 odd =
     ap (λ (b : Bool). if b then win_level rules (turn_at first ply) ply reach kept1 else lost_level rules (turn_at first ply) ply reach reach1 kept1) (odd_is left odd)
 
-module _ {R : Type 0} (rules : Rules) (first side : Side) (ply left : ℕ) (reach reach1 kept1 : Level) (budget : ℕ) (view : R → Level) (r : Result R (PlanError PartName)) (turn : side ≡ turn_at first ply) where
+module _ {R : Type 0} (rules : Rules) (first side : Side) (ply left : ℕ) (reach reach1 kept1 : Level) (budget : ℕ) (view : R → Level)
+    (r : Result R (PlanError PartName)) (turn : side ≡ turn_at first ply) where
   pub won_answers : left % 2 ≡ 0 → Answers (win_level rules side ply reach kept1) budget view r → Answers (kept_level rules first ply left reach reach1 kept1) budget view r
   won_answers even h =
       let here = subst (λ (s : Side). Answers (win_level rules s ply reach kept1) budget view r) turn h in
@@ -51,9 +54,6 @@ module _ {R : Type 0} (rules : Rules) (first side : Side) (ply left : ℕ) (reac
   lost_answers odd h =
       let here = subst (λ (s : Side). Answers (lost_level rules s ply reach reach1 kept1) budget view r) turn h in
       subst (λ (m : Program Level). Answers m budget view r) (sym (kept_lost rules first ply left reach reach1 kept1 odd)) here
-
-reverse_push : {X : Type 0} (xs : List X) (x : X) → reverse (xs ++ x ∷ []) ≡ x ∷ reverse xs
-reverse_push xs x = reverse-append xs (x ∷ [])
 
 pub map-reverse : {X Y : Type 0} (f : X → Y) (xs : List X) → map f (reverse xs) ≡ reverse (map f xs)
 map-reverse f [] = refl
@@ -65,7 +65,7 @@ map-reverse f (x ∷ xs) =
 pub reversed_more : {X Y : Type 0} (f : X → Y) (xs : List X) (i : ℕ) (d : X) → i < length xs → reverse (map f (take (suc i) xs)) ≡ f (get_or xs i d) ∷ reverse (map f (take i xs))
 reversed_more {X} f xs i d within =
     let one : suc i ≡ i + 1 = omega arith in
-    ap (λ n. reverse (map f (take n xs))) one ∙ ap reverse (map_more f xs i d within) ∙ reverse_push (map f (take i xs)) (f (get_or xs i d))
+    ap (λ n. reverse (map f (take n xs))) one ∙ ap reverse (map_more f xs i d within) ∙ reverse-append (map f (take i xs)) (f (get_or xs i d) ∷ [])
 
 count_turned : {X Y : Type 0} (f : X → Y) (xs : List X) (i : ℕ) → i ≤ length xs → length (reverse (map f (take i xs))) ≡ i
 count_turned f xs i within =
@@ -80,7 +80,9 @@ abbrev pub IsLeft : Rules → Side → ℕ → Program (List Level) → List ℕ
 IsLeft rules first budget whole masks table reach kept = LeadsTo (way_back rules first (turned masks table reach) (turned masks table kept)) whole budget
 
 module _ (rules : Rules) (first : Side) (budget : ℕ) (whole : Program (List Level)) (masks : List ℕ) where
-  module _ (table : List Automaton) (reach kept : List Names) (ply left : ℕ) (r0 r1 k1 : Names) (sum : suc (ply + left) ≡ length reach) (some : 0 < left) (count : length kept ≡ left) (is0 : r0 ≡ get_or reach ply r0) (is1 : r1 ≡ get_or reach (suc ply) r1) (is_kept : k1 ≡ get_or kept (left - 1) k1) where
+  module _ (table : List Automaton) (reach kept : List Names) (ply left : ℕ) (r0 r1 k1 : Names) (sum : suc (ply + left) ≡ length reach)
+      (some : 0 < left) (count : length kept ≡ left) (is0 : r0 ≡ get_or reach ply r0) (is1 : r1 ≡ get_or reach (suc ply) r1)
+      (is_kept : k1 ≡ get_or kept (left - 1) k1) where
     abbrev level : Names → Level
     level ids = level_of table masks ids
 
@@ -122,20 +124,27 @@ module _ (rules : Rules) (first : Side) (budget : ℕ) (whole : Program (List Le
         ∙ ap (λ n. bind (kept_level rules first n (suc (length later)) (level r0) (level r1) (level k1)) (λ l. way_back rules first (level r0 ∷ before) (l ∷ level k1 ∷ later))) before_count
         ∙ ap (λ n. bind (kept_level rules first ply n (level r0) (level r1) (level k1)) (λ l. way_back rules first (level r0 ∷ before) (l ∷ level k1 ∷ later))) later_count
 
-    opened : IsLeft rules first budget whole masks table (take (suc (suc ply)) reach) kept → LeadsTo (bind one_level (λ l. way_back rules first (level r0 ∷ before) (l ∷ level k1 ∷ later))) whole budget
+    opened : IsLeft rules first budget whole masks table (take (suc (suc ply)) reach) kept
+        → LeadsTo (bind one_level (λ l. way_back rules first (level r0 ∷ before) (l ∷ level k1 ∷ later))) whole budget
     opened leads = subst (λ (m : Program (List Level)). LeadsTo m whole budget) way_opens leads
 
-    pub left_error : (e : PlanError PartName) → IsLeft rules first budget whole masks table (take (suc (suc ply)) reach) kept → IsPlanError (kept_level rules first ply left (level_of table masks r0) (level_of table masks r1) (level_of table masks k1)) budget e → IsPlanError whole budget e
+    pub left_error : (e : PlanError PartName) → IsLeft rules first budget whole masks table (take (suc (suc ply)) reach) kept
+        → IsPlanError (kept_level rules first ply left (level_of table masks r0) (level_of table masks r1) (level_of table masks k1)) budget e
+        → IsPlanError whole budget e
     left_error e leads h =
         LeadsTo-error (bind one_level (λ l. way_back rules first (level r0 ∷ before) (l ∷ level k1 ∷ later))) whole budget (opened leads) e
         (Error-bind one_level (λ l. way_back rules first (level r0 ∷ before) (l ∷ level k1 ∷ later)) budget e h)
 
-    pub left_next : (new : List Automaton) (ids : Names) → turned masks new (take (suc ply) reach) ≡ turned masks table (take (suc ply) reach) → turned masks new kept ≡ turned masks table kept → IsLeft rules first budget whole masks table (take (suc (suc ply)) reach) kept → Ends (kept_level rules first ply left (level_of table masks r0) (level_of table masks r1) (level_of table masks k1)) budget (level_of new masks ids) → IsLeft rules first budget whole masks new (take (suc ply) reach) (kept ++ ids ∷ [])
+    pub left_next : (new : List Automaton) (ids : Names) → turned masks new (take (suc ply) reach) ≡ turned masks table (take (suc ply) reach)
+        → turned masks new kept ≡ turned masks table kept → IsLeft rules first budget whole masks table (take (suc (suc ply)) reach) kept
+        → Ends (kept_level rules first ply left (level_of table masks r0) (level_of table masks r1) (level_of table masks k1)) budget
+        (level_of new masks ids)
+        → IsLeft rules first budget whole masks new (take (suc ply) reach) (kept ++ ids ∷ [])
     left_next new ids same_reach same_kept leads h =
         let next = LeadsTo-later one_level (λ l. way_back rules first (level r0 ∷ before) (l ∷ level k1 ∷ later)) whole budget (level_of new masks ids) h (opened leads) in
         let reaches : turned masks new (take (suc ply) reach) ≡ level r0 ∷ before = same_reach ∙ rest_opens in
         let keeps : turned masks new (kept ++ ids ∷ []) ≡ level_of new masks ids ∷ level k1 ∷ later =
-        ap reverse (map_push (level_of new masks) kept ids) ∙ reverse_push (map (level_of new masks) kept) (level_of new masks ids)
+        ap reverse (map_push (level_of new masks) kept ids) ∙ reverse-append (map (level_of new masks) kept) (level_of new masks ids ∷ [])
         ∙ ap (λ (l : List Level). level_of new masks ids ∷ l) (same_kept ∙ kept_opens) in
         subst (λ (ks : List Level). LeadsTo (way_back rules first (turned masks new (take (suc ply) reach)) ks) whole budget) (sym keeps)
         (subst (λ (rs : List Level). LeadsTo (way_back rules first rs (level_of new masks ids ∷ level k1 ∷ later)) whole budget) (sym reaches) next)
@@ -157,22 +166,36 @@ module _ (p : Position) (budget : ℕ) (old : List Automaton) (reach : List Name
   starts [] none = absurd (omega (arith, none))
   starts (r ∷ rs) some = refl
 
-  module _ (table : List Automaton) (kept : List Names) (ply left : ℕ) (r0 r1 k1 : Names) (sum : suc (ply + left) ≡ length reach) (some : 0 < left) (is : IsBack p budget (whole_back p old reach) old table reach kept left) (is0 : r0 ≡ get_or reach ply r0) (is1 : r1 ≡ get_or reach (suc ply) r1) (is_kept : k1 ≡ get_or kept (left - 1) k1) where
+  module _ (table : List Automaton) (kept : List Names) (ply left : ℕ) (r0 r1 k1 : Names) (sum : suc (ply + left) ≡ length reach) (some : 0 < left)
+      (is : IsBack p budget (whole_back p old reach) old table reach kept left) (is0 : r0 ≡ get_or reach ply r0)
+      (is1 : r1 ≡ get_or reach (suc ply) r1) (is_kept : k1 ≡ get_or kept (left - 1) k1) where
     abbrev taken : ℕ → Type 0
     taken n = IsLeft (rules_of p) p.turn budget (whole_back p old reach) (masks_of p) table (take n reach) kept
 
     leads : IsLeft (rules_of p) p.turn budget (whole_back p old reach) (masks_of p) table (take (suc (suc ply)) reach) kept
     leads = let n : suc (length reach) - left ≡ suc (suc ply) = omega (arith, sum) in subst taken n is.leads
 
-    pub back_error : (e : PlanError PartName) → IsPlanError (kept_level (rules_of p) p.turn ply left (level_of table (masks_of p) r0) (level_of table (masks_of p) r1) (level_of table (masks_of p) k1)) budget e → IsPlanError (whole_back p old reach) budget e
+    pub back_error : (e : PlanError PartName)
+        → IsPlanError
+        (kept_level (rules_of p) p.turn ply left (level_of table (masks_of p) r0) (level_of table (masks_of p) r1)
+        (level_of table (masks_of p) k1))
+        budget e
+        → IsPlanError (whole_back p old reach) budget e
     back_error e h = left_error (rules_of p) p.turn budget (whole_back p old reach) (masks_of p) table reach kept ply left r0 r1 k1 sum some is.count is0 is1 is_kept e leads h
 
-    pub back_next : (new : List Automaton) (ids : Names) → Grows table new → AreNames p.men new (masks_of p) ids → Ends (kept_level (rules_of p) p.turn ply left (level_of table (masks_of p) r0) (level_of table (masks_of p) r1) (level_of table (masks_of p) k1)) budget (level_of new (masks_of p) ids) → IsBack p budget (whole_back p old reach) old new reach (kept ++ ids ∷ []) (left + 1)
+    pub back_next : (new : List Automaton) (ids : Names) → Grows table new → AreNames p.men new (masks_of p) ids
+        → Ends
+        (kept_level (rules_of p) p.turn ply left (level_of table (masks_of p) r0) (level_of table (masks_of p) r1)
+        (level_of table (masks_of p) k1))
+        budget (level_of new (masks_of p) ids)
+        → IsBack p budget (whole_back p old reach) old new reach (kept ++ ids ∷ []) (left + 1)
     back_next new ids grows named h =
         let front = All-take (AreNames p.men table (masks_of p)) (suc ply) reach is.reach_named in
         let same_reach = ap reverse (levels-grow table new grows p.men (masks_of p) (take (suc ply) reach) front) in
         let same_kept = ap reverse (levels-grow table new grows p.men (masks_of p) kept is.kept_named) in
-        let next = left_next (rules_of p) p.turn budget (whole_back p old reach) (masks_of p) table reach kept ply left r0 r1 k1 sum some is.count is0 is1 is_kept new ids same_reach same_kept leads h in
+        let next =
+        left_next (rules_of p) p.turn budget (whole_back p old reach) (masks_of p) table reach kept ply left r0 r1 k1 sum some is.count is0 is1
+        is_kept new ids same_reach same_kept leads h in
         let n : suc ply ≡ suc (length reach) - (left + 1) = omega (arith, sum) in
         record {
           grows = grows-trans old table new is.grows grows;
@@ -189,11 +212,14 @@ module _ (p : Position) (budget : ℕ) (old : List Automaton) (reach : List Name
   ends_at (r ∷ s ∷ rs) (k ∷ ks) one some = absurd (omega (arith, one))
 
   -- at the first ply all is kept
-  pub back_last : (table : List Automaton) (kept : List Names) (left : ℕ) → 0 < left → left ≡ length reach → IsBack p budget (whole_back p old reach) old table reach kept left → Ends (whole_back p old reach) budget (map (level_of table (masks_of p)) (reverse kept))
+  pub back_last : (table : List Automaton) (kept : List Names) (left : ℕ) → 0 < left → left ≡ length reach
+      → IsBack p budget (whole_back p old reach) old table reach kept left
+      → Ends (whole_back p old reach) budget (map (level_of table (masks_of p)) (reverse kept))
   back_last table kept left some at_first is =
       let rs = turned (masks_of p) table (take (suc (length reach) - left) reach) in
       let ks = turned (masks_of p) table kept in
       let one : length rs ≡ 1 = count_turned (level_of table (masks_of p)) reach (suc (length reach) - left) (omega (arith, at_first, some)) ∙ omega (arith, at_first) in
       let many : length ks ≡ left = length-reverse (map (level_of table (masks_of p)) kept) ∙ length-map kept (level_of table (masks_of p)) ∙ is.count in
-      let given : LeadsTo (Give ks) (whole_back p old reach) budget = subst (λ (m : Program (List Level)). LeadsTo m (whole_back p old reach) budget) (ends_at rs ks one (omega (arith, many, some))) is.leads in
+      let given : LeadsTo (Give ks) (whole_back p old reach) budget =
+      subst (λ (m : Program (List Level)). LeadsTo m (whole_back p old reach) budget) (ends_at rs ks one (omega (arith, many, some))) is.leads in
       subst (λ (ls : List Level). Ends (whole_back p old reach) budget ls) (sym (map-reverse (level_of table (masks_of p)) kept)) (given.ends ks (Ends-give budget ks))

@@ -36,7 +36,8 @@ fits_sound p side q fits safe = record {
 }
 
 module _ (c : Claim) (is : IsClaim c) where
-  set_there : (ply : ℕ) (q : Position) (o : Option Automaton) → claimed_at c ply (mask_of q) ≡ o → IsSomeAnd o (λ a. IsAccepted a (tuple_of q)) → IsLosersPly c.winner c.position c.moves ply × IsGameMask c.position (mask_of q)
+  set_there : (ply : ℕ) (q : Position) (o : Option Automaton) → claimed_at c ply (mask_of q) ≡ o → IsSomeAnd o (λ a. IsAccepted a (tuple_of q))
+      → IsLosersPly c.winner c.position c.moves ply × IsGameMask c.position (mask_of q)
   set_there ply q None e h = absurd h
   set_there ply q (Some a) e h = is.only ply (mask_of q) a e
 

@@ -18,10 +18,11 @@ use Rattle.mate_plan.specs.Levels.{AreNames, level_of}
 use Rattle.mate_plan.specs.Plan.{Level, Program, Rules, backward_from, forward, plan, point_level, reach_level, reach_more, turn_at}
 use Rattle.mate_plan.specs.PlanOf.{plan_to, rules_of}
 use Rattle.mate_plan.specs.declared.names.PartName.{PartName}
+use Rattle.mate_plan.proofs.LevelLemmas.{length-grows}
 use Rattle.winning_sets.specs.Finished.{AreFinished}
 use Rattle.winning_sets.specs.Lent.{AreEmpties}
 use Rattle.winning_sets.proofs.Backwards.{reversed_more}
-use Rattle.winning_sets.proofs.Growing.{all_names-grow, grows-trans, grows_length, level-grows, levels-grow, take-grows}
+use Rattle.winning_sets.proofs.Growing.{all_names-grow, grows-trans, level-grows, levels-grow, take-grows}
 use Rattle.winning_sets.proofs.LentLemmas.{Names}
 
 module _ (rules : Rules) (first : Side) (mask budget : ℕ) where
@@ -39,18 +40,23 @@ module _ (rules : Rules) (first : Side) (mask budget : ℕ) where
   abbrev next_level : ℕ → Level → Program Level
   next_level ply level = reach_level rules (turn_at first ply) (suc ply) level
 
-  pub forward_next : (ply : ℕ) (level more : Level) (before : List Level) → Ends (forward rules first mask ply) budget (level ∷ before) → Ends (reach_level rules (turn_at first ply) (suc ply) level) budget more → Ends (forward rules first mask (suc ply)) budget (more ∷ level ∷ before)
+  pub forward_next : (ply : ℕ) (level more : Level) (before : List Level) → Ends (forward rules first mask ply) budget (level ∷ before)
+      → Ends (reach_level rules (turn_at first ply) (suc ply) level) budget more
+      → Ends (forward rules first mask (suc ply)) budget (more ∷ level ∷ before)
   forward_next ply level more before h k =
       Ends-bind (Way ply) (reach_more rules first ply) budget (level ∷ before) (more ∷ level ∷ before) h
       (Ends-bind (next_level ply level) (λ l. Give (l ∷ level ∷ before)) budget more (more ∷ level ∷ before) k (Ends-give budget (more ∷ level ∷ before)))
 
-  pub forward_next_error : (ply : ℕ) (level : Level) (before : List Level) (e : PlanError PartName) → Ends (forward rules first mask ply) budget (level ∷ before) → IsPlanError (reach_level rules (turn_at first ply) (suc ply) level) budget e → IsPlanError (forward rules first mask (suc ply)) budget e
+  pub forward_next_error : (ply : ℕ) (level : Level) (before : List Level) (e : PlanError PartName)
+      → Ends (forward rules first mask ply) budget (level ∷ before) → IsPlanError (reach_level rules (turn_at first ply) (suc ply) level) budget e
+      → IsPlanError (forward rules first mask (suc ply)) budget e
   forward_next_error ply level before e h k =
       Error-later (Way ply) (reach_more rules first ply) budget (level ∷ before) h e
       (Error-bind (next_level ply level) (λ l. Give (l ∷ level ∷ before)) budget e k)
 
   -- an error on the way to a ply is one on the way to a later one
-  pub forward_later_error : (more ply last : ℕ) (e : PlanError PartName) → more + ply ≡ last → IsPlanError (forward rules first mask ply) budget e → IsPlanError (forward rules first mask last) budget e
+  pub forward_later_error : (more ply last : ℕ) (e : PlanError PartName) → more + ply ≡ last → IsPlanError (forward rules first mask ply) budget e
+      → IsPlanError (forward rules first mask last) budget e
   forward_later_error zero ply last e sum h =
       let same : ply ≡ last = omega (arith, sum) in
       subst (λ (n : ℕ). IsPlanError (Way n) budget e) same h
@@ -78,12 +84,10 @@ module _ (p : Position) (budget last : ℕ) (some : 0 < last) where
   plan_error e h =
       to_plan (λ m. IsPlanError m budget e) (Error-bind (forward rules p.turn (mask_of p) last) (backward_from rules p.turn) budget e h)
 
-  pub plan_later_error : (levels : List Level) (e : PlanError PartName) → Ends (forward rules p.turn (mask_of p) last) budget levels → IsPlanError (backward_from rules p.turn levels) budget e → IsPlanError (plan_to p last) budget e
+  pub plan_later_error : (levels : List Level) (e : PlanError PartName) → Ends (forward rules p.turn (mask_of p) last) budget levels
+      → IsPlanError (backward_from rules p.turn levels) budget e → IsPlanError (plan_to p last) budget e
   plan_later_error levels e h k =
       to_plan (λ m. IsPlanError m budget e) (Error-later (forward rules p.turn (mask_of p) last) (backward_from rules p.turn) budget levels h e k)
-
-reverse_push : {X : Type 0} (xs : List X) (x : X) → reverse (xs ++ x ∷ []) ≡ x ∷ reverse xs
-reverse_push xs x = reverse-append xs (x ∷ [])
 
 module _ (p : Position) (budget : ℕ) where
   abbrev LevelsIn : List Automaton → List Names → List Level
@@ -101,7 +105,9 @@ module _ (p : Position) (budget : ℕ) where
         ap reverse (levels-grow old new grows p.men (masks_of p) (take (suc ply) levels) there) in
         subst (λ (l : List Level). Ends (forward (rules_of p) p.turn (mask_of p) ply) budget l) (sym same) (is.ends ply within)
 
-    module _ (masks' : List ℕ) (empties' : List Automaton) (ids : Names) (room : length levels ≤ 41) (named : AreNames p.men new (masks_of p) ids) (masks_are : masks' ≡ masks_of p) (empties_are : AreEmpties p.men (masks_of p) empties') (ends : Ends (forward (rules_of p) p.turn (mask_of p) (length levels)) budget (level_of new (masks_of p) ids ∷ LevelsIn new levels)) where
+    module _ (masks' : List ℕ) (empties' : List Automaton) (ids : Names) (room : length levels ≤ 41) (named : AreNames p.men new (masks_of p) ids)
+        (masks_are : masks' ≡ masks_of p) (empties_are : AreEmpties p.men (masks_of p) empties')
+        (ends : Ends (forward (rules_of p) p.turn (mask_of p) (length levels)) budget (level_of new (masks_of p) ids ∷ LevelsIn new levels)) where
       more : List Names
       more = levels ++ ids ∷ []
 
@@ -118,7 +124,7 @@ module _ (p : Position) (budget : ℕ) where
                 let at_end : length levels ≡ ply = omega (arith, within, count, least) in
                 let whole : take (suc ply) (levels ++ ids ∷ []) ≡ levels ++ ids ∷ [] = take_all (suc ply) (levels ++ ids ∷ []) (omega (arith, count, at_end)) in
                 let turned : LevelsIn new (levels ++ ids ∷ []) ≡ level_of new (masks_of p) ids ∷ LevelsIn new levels =
-                ap reverse (map_push (level_of new (masks_of p)) levels ids) ∙ reverse_push (map (level_of new (masks_of p)) levels) (level_of new (masks_of p) ids) in
+                ap reverse (map_push (level_of new (masks_of p)) levels ids) ∙ reverse-append (map (level_of new (masks_of p)) levels) (level_of new (masks_of p) ids ∷ []) in
                 let here = subst (λ (l : List Level). Ends (forward (rules_of p) p.turn (mask_of p) (length levels)) budget l) (sym turned) ends in
                 let there = subst (λ (l : List Names). Ends (forward (rules_of p) p.turn (mask_of p) (length levels)) budget (LevelsIn new l)) (sym whole) here in
                 subst (λ (n : ℕ). Ends (forward (rules_of p) p.turn (mask_of p) n) budget (LevelsIn new (take (suc ply) (levels ++ ids ∷ [])))) at_end there
@@ -159,18 +165,23 @@ module _ (p : Position) (budget : ℕ) (masks : List ℕ) (empties old table : L
     abbrev next : Side → Program Level
     next s = reach_level (rules_of p) s (suc n) (level_of table (masks_of p) ids)
 
-    pub next_error : (e : PlanError PartName) → IsPlanError (reach_level (rules_of p) side (suc n) (level_of table (masks_of p) ids)) budget e → IsPlanError (forward (rules_of p) p.turn (mask_of p) (suc n)) budget e
+    pub next_error : (e : PlanError PartName) → IsPlanError (reach_level (rules_of p) side (suc n) (level_of table (masks_of p) ids)) budget e
+        → IsPlanError (forward (rules_of p) p.turn (mask_of p) (suc n)) budget e
     next_error e h =
         forward_next_error (rules_of p) p.turn (mask_of p) budget n (level_of table (masks_of p) ids) before e ends
         (subst (λ (s : Side). IsPlanError (next s) budget e) turn h)
 
-    pub next_finished : (new : List Automaton) (more : Names) → Grows table new → length levels ≤ 41 → AreNames p.men new (masks_of p) more → Ends (reach_level (rules_of p) side (suc n) (level_of table (masks_of p) ids)) budget (level_of new (masks_of p) more) → AreFinished p budget masks empties new (levels ++ more ∷ [])
+    pub next_finished : (new : List Automaton) (more : Names) → Grows table new → length levels ≤ 41 → AreNames p.men new (masks_of p) more
+        → Ends (reach_level (rules_of p) side (suc n) (level_of table (masks_of p) ids)) budget (level_of new (masks_of p) more)
+        → AreFinished p budget masks empties new (levels ++ more ∷ [])
     next_finished new more later room named_more h =
         let all = grows-trans old table new grows later in
         let whole : take (suc n) levels ≡ levels = take_all (suc n) levels (omega (arith, count)) in
         let same : LevelsIn p budget new levels ≡ level_of table (masks_of p) ids ∷ before =
         ap reverse (levels-grow old new all p.men (masks_of p) levels is.names) ∙ ap (LevelsIn p budget old) (sym whole) ∙ opens in
-        let here = forward_next (rules_of p) p.turn (mask_of p) budget n (level_of table (masks_of p) ids) (level_of new (masks_of p) more) before ends (subst (λ (s : Side). Ends (next s) budget (level_of new (masks_of p) more)) turn h) in
+        let here =
+        forward_next (rules_of p) p.turn (mask_of p) budget n (level_of table (masks_of p) ids) (level_of new (masks_of p) more) before ends
+        (subst (λ (s : Side). Ends (next s) budget (level_of new (masks_of p) more)) turn h) in
         let there = subst (λ (l : List Level). Ends (forward (rules_of p) p.turn (mask_of p) (suc n)) budget (level_of new (masks_of p) more ∷ l)) (sym same) here in
         let at_end = subst (λ (k : ℕ). Ends (forward (rules_of p) p.turn (mask_of p) k) budget (level_of new (masks_of p) more ∷ LevelsIn p budget new levels)) (sym count) there in
         finished_push p budget masks empties old new levels is all masks empties more room named_more (is.masks_are (omega (arith, count))) (is.empties_are (omega (arith, count))) at_end
@@ -180,35 +191,50 @@ module _ (p : Position) (budget : ℕ) (masks : List ℕ) (empties old table : L
     whole_ends =
         let one : suc last ≡ last + 1 = omega arith in
         let named = All-take (AreNames p.men old (masks_of p)) (last + 1) levels is.names in
-        let same : LevelsIn p budget table (take (last + 1) levels) ≡ LevelsIn p budget old (take (last + 1) levels) = ap reverse (levels-grow old table grows p.men (masks_of p) (take (last + 1) levels) named) in
+        let same : LevelsIn p budget table (take (last + 1) levels) ≡ LevelsIn p budget old (take (last + 1) levels) =
+        ap reverse (levels-grow old table grows p.men (masks_of p) (take (last + 1) levels) named) in
         let here = subst (λ (k : ℕ). Ends (forward (rules_of p) p.turn (mask_of p) last) budget (LevelsIn p budget old (take k levels))) one (is.ends last within) in
         subst (λ (l : List Level). Ends (forward (rules_of p) p.turn (mask_of p) last) budget l) (sym same) here
 
-    pub finished_plan : (kept : List Level) → Ends (backward_from (rules_of p) p.turn (reverse (map (level_of table (masks_of p)) (take (last + 1) levels)))) budget kept → Ends (plan_to p last) budget kept
+    pub finished_plan : (kept : List Level)
+        → Ends (backward_from (rules_of p) p.turn (reverse (map (level_of table (masks_of p)) (take (last + 1) levels)))) budget kept
+        → Ends (plan_to p last) budget kept
     finished_plan kept h = plan_ends p budget last some (LevelsIn p budget table (take (last + 1) levels)) kept whole_ends h
 
-    pub finished_plan_error : (e : PlanError PartName) → IsPlanError (backward_from (rules_of p) p.turn (reverse (map (level_of table (masks_of p)) (take (last + 1) levels)))) budget e → IsPlanError (plan_to p last) budget e
+    pub finished_plan_error : (e : PlanError PartName)
+        → IsPlanError (backward_from (rules_of p) p.turn (reverse (map (level_of table (masks_of p)) (take (last + 1) levels)))) budget e
+        → IsPlanError (plan_to p last) budget e
     finished_plan_error e h = plan_later_error p budget last some (LevelsIn p budget table (take (last + 1) levels)) e whole_ends h
 
 -- the first ply
-pub first_finished : (p : Position) (budget : ℕ) (masks : List ℕ) (empties old new : List Automaton) (masks' : List ℕ) (empties' : List Automaton) (ids : Names) → AreFinished p budget masks empties old [] → Grows old new → AreNames p.men new (masks_of p) ids → masks' ≡ masks_of p → AreEmpties p.men (masks_of p) empties' → Ends (point_level (rules_of p) (mask_of p)) budget (level_of new (masks_of p) ids) → AreFinished p budget masks' empties' new (ids ∷ [])
+pub first_finished : (p : Position) (budget : ℕ) (masks : List ℕ) (empties old new : List Automaton) (masks' : List ℕ) (empties' : List Automaton)
+    (ids : Names)
+    → AreFinished p budget masks empties old [] → Grows old new → AreNames p.men new (masks_of p) ids → masks' ≡ masks_of p
+    → AreEmpties p.men (masks_of p) empties' → Ends (point_level (rules_of p) (mask_of p)) budget (level_of new (masks_of p) ids)
+    → AreFinished p budget masks' empties' new (ids ∷ [])
 first_finished p budget masks empties old new masks' empties' ids is grows named masks_are empties_are h =
-    finished_push p budget masks empties old new [] is grows masks' empties' ids (omega arith) named masks_are empties_are (forward_first (rules_of p) p.turn (mask_of p) budget (level_of new (masks_of p) ids) h)
+    finished_push p budget masks empties old new [] is grows masks' empties' ids (omega arith) named masks_are empties_are
+    (forward_first (rules_of p) p.turn (mask_of p) budget (level_of new (masks_of p) ids) h)
 
 -- the same under other names
-pub same_finished : (p : Position) (budget other : ℕ) (masks : List ℕ) (empties table shown : List Automaton) (levels more : List Names) → other ≡ budget → shown ≡ table → more ≡ levels → AreFinished p budget masks empties table levels → AreFinished p other masks empties shown more
+pub same_finished : (p : Position) (budget other : ℕ) (masks : List ℕ) (empties table shown : List Automaton) (levels more : List Names)
+    → other ≡ budget → shown ≡ table → more ≡ levels → AreFinished p budget masks empties table levels → AreFinished p other masks empties shown more
 same_finished p budget other masks empties table shown levels more b t l is =
     subst (λ (n : ℕ). AreFinished p n masks empties shown more) (sym b)
     (subst (λ (sets : List Automaton). AreFinished p budget masks empties sets more) (sym t)
     (subst (λ (names : List Names). AreFinished p budget masks empties table names) (sym l) is))
 
 -- a table that has grown begins with what is finished
-pub grown_finished : (p : Position) (budget other : ℕ) (masks : List ℕ) (empties old new : List Automaton) (count : ℕ) (levels more : List Names) → count ≤ length old → Grows old new → other ≡ budget → more ≡ levels → AreFinished p budget masks empties (take count old) levels → (count ≤ length new) × AreFinished p other masks empties (take count new) more
+pub grown_finished : (p : Position) (budget other : ℕ) (masks : List ℕ) (empties old new : List Automaton) (count : ℕ) (levels more : List Names)
+    → count ≤ length old → Grows old new → other ≡ budget → more ≡ levels → AreFinished p budget masks empties (take count old) levels
+    → (count ≤ length new) × AreFinished p other masks empties (take count new) more
 grown_finished p budget other masks empties old new count levels more within grows same names is =
-    let longer = grows_length old new grows in
+    let longer = length-grows old new grows in
     (omega (arith, within, longer), same_finished p budget other masks empties (take count old) (take count new) levels more same (take-grows old new count grows within) names is)
 
 -- and with one more ply all of it is finished
-pub all_finished : (p : Position) (budget other : ℕ) (masks : List ℕ) (empties table : List Automaton) (count : ℕ) (levels more : List Names) → other ≡ budget → count ≡ length table → more ≡ levels → AreFinished p budget masks empties table levels → (count ≤ length table) × AreFinished p other masks empties (take count table) more
+pub all_finished : (p : Position) (budget other : ℕ) (masks : List ℕ) (empties table : List Automaton) (count : ℕ) (levels more : List Names)
+    → other ≡ budget → count ≡ length table → more ≡ levels → AreFinished p budget masks empties table levels
+    → (count ≤ length table) × AreFinished p other masks empties (take count table) more
 all_finished p budget other masks empties table count levels more same all names is =
     (omega (arith, all), same_finished p budget other masks empties table (take count table) levels more same (take_all count table (omega (arith, all))) names is)

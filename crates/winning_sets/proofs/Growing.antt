@@ -36,12 +36,6 @@ take-grows (a ∷ old) (b ∷ new) (suc n) grows within =
     let rest = take-grows old new n (λ k c e. grows (suc k) c e) (omega (arith, within)) in
     ap (λ (x : Automaton). x ∷ take n new) same ∙ ap (λ (l : List Automaton). a ∷ l) rest
 
--- and is no shorter
-pub grows_length : (old new : List Automaton) → Grows old new → length old ≤ length new
-grows_length [] new grows = omega arith
-grows_length (a ∷ old) [] grows = none_some (sym (grows 0 a refl))
-grows_length (a ∷ old) (b ∷ new) grows = let rest = grows_length old new (λ k c e. grows (suc k) c e) in omega (arith, rest)
-
 module _ (old new : List Automaton) (grows : Grows old new) where
   name-grows : (tracks : List Var) (id : Option SetId) → IsNameOn tracks old id → IsNameOn tracks new id
   name-grows tracks None is = is

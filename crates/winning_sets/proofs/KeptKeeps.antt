@@ -14,7 +14,8 @@ use Rattle.mate_plan.specs.Plan.{turn_at}
 use Rattle.winning_sets.specs.Solve.{AreKept, HasTuplesOf, IsKeptIn, IsTupleOf, Solution, end_of, kept_at}
 use Rattle.winning_sets.proofs.KeptPlan.{fits_reached}
 
-module _ (s : Solution) (sound : Sound s.position) (few : length s.position.men ≤ 8) (mean : RulesMean s.position) (some_point : point_of s.position.men ≡ None → ⊥) (sets : AreKept s.winner s.position s.moves (kept_at s)) (ply : ℕ) (q : Position) where
+module _ (s : Solution) (sound : Sound s.position) (few : length s.position.men ≤ 8) (mean : RulesMean s.position)
+    (some_point : point_of s.position.men ≡ None → ⊥) (sets : AreKept s.winner s.position s.moves (kept_at s)) (ply : ℕ) (q : Position) where
   abbrev IsKept : Position → Type 0
   IsKept r = Kept s.winner s.position s.moves ply r
 

@@ -30,7 +30,8 @@ module _ (p : Position) (game : GameMeans p) where
       let same : as_set (Some a) ≡ set_at sets (Some id) = ap as_set (sym found) in
       subst IsDecided same (set_decided mask a on)
 
-  level_decided : (sets : List Automaton) (masks : List ℕ) (ids : List (Option SetId)) (level : Level) → AreNames p.men sets masks ids → ((m : ℕ) → IsDecided (level m)) → (m : ℕ) → IsDecided (level_from sets level masks ids m)
+  level_decided : (sets : List Automaton) (masks : List ℕ) (ids : List (Option SetId)) (level : Level) → AreNames p.men sets masks ids
+      → ((m : ℕ) → IsDecided (level m)) → (m : ℕ) → IsDecided (level_from sets level masks ids m)
   level_decided sets [] ids level names decided m = decided m
   level_decided sets (mask ∷ masks) [] level names decided m = absurd names
   level_decided sets (mask ∷ masks) (id ∷ ids) level (is, names) decided m =

@@ -285,7 +285,9 @@ module _ (winner : Side) (p : Position) (sound : Sound p) (n : ℕ) where
       (λ h. here.1 (part.0 h), λ h. part.1 (here.0 h))
 
   -- what is kept at a ply of the loser
-  pub lost-step : (j k : ℕ) → j + (2 * k + 1) ≡ last_ply winner p.turn n → ((q : Position) → Reach p (suc j) q → Kept winner p n (suc j) q ⊎ (Kept winner p n (suc j) q → ⊥)) → (q : Position) → LostPart (Reach p j) (Reach p (suc j)) (Kept winner p n (suc j)) q ↔ Kept winner p n j q
+  pub lost-step : (j k : ℕ) → j + (2 * k + 1) ≡ last_ply winner p.turn n
+      → ((q : Position) → Reach p (suc j) q → Kept winner p n (suc j) q ⊎ (Kept winner p n (suc j) q → ⊥)) → (q : Position)
+      → LostPart (Reach p j) (Reach p (suc j)) (Kept winner p n (suc j)) q ↔ Kept winner p n j q
   lost-step j k e decided q =
       let next : suc j + 2 * k ≡ last_ply winner p.turn n = omega (arith, e) in
       let turn = λ (r : Position) (h : Reach p j r). turn-reach p r j h ∙ turn_odd winner p.turn n j k e in

@@ -44,10 +44,14 @@ branch : {A : Type 0} (b c : Bool) (f g : Program A) (xs : Entries) (a : A) → 
 branch b c f g xs a e t = subst (λ (d : Bool). Takes (if d then f else g) xs (Some a)) e t
 
 -- the sets that were there before are among those that are given at last
-backward-all : (rules : Rules) (first : Side) (P : Level → Type 0) (before : List Level) (reach1 kept1 : Level) (later levels : List Level) (xs : Entries) → Takes (backward rules first reach1 before kept1 later) xs (Some levels) → All P levels → All P (kept1 ∷ later)
+backward-all : (rules : Rules) (first : Side) (P : Level → Type 0) (before : List Level) (reach1 kept1 : Level) (later levels : List Level)
+    (xs : Entries)
+    → Takes (backward rules first reach1 before kept1 later) xs (Some levels) → All P levels → All P (kept1 ∷ later)
 backward-all rules first P [] reach1 kept1 later levels xs t all = subst (All P) (Takes-give (kept1 ∷ later) levels xs t) all
 backward-all rules first P (reach ∷ before) reach1 kept1 later levels xs t all =
-    let (us, vs, level, order, one, rest) = Takes-split (kept_level rules first (length before) (suc (length later)) reach reach1 kept1) (λ level. backward rules first reach before level (kept1 ∷ later)) xs levels t in
+    let (us, vs, level, order, one, rest) =
+    Takes-split (kept_level rules first (length before) (suc (length later)) reach reach1 kept1)
+    (λ level. backward rules first reach before level (kept1 ∷ later)) xs levels t in
     All-tail P level (kept1 ∷ later) (backward-all rules first P before reach level (kept1 ∷ later) levels vs rest all)
 
 module _ (p : Position) (sound : Sound p) (few : length p.men ≤ 8) (mean : RulesMean p) (some_point : point_of p.men ≡ None → ⊥) where
@@ -142,7 +146,8 @@ module _ (p : Position) (sound : Sound p) (few : length p.men ≤ 8) (mean : Rul
   AllReached [] = Unit {0}
   AllReached (level ∷ before) = IsReached (length before) level × AllReached before
 
-  more-reached : (ply : ℕ) (levels more : List Level) (xs : Entries) → AllReached levels → length levels ≡ suc ply → Takes (reach_more rules p.turn ply levels) xs (Some more) → AllReached more × (length more ≡ suc (suc ply))
+  more-reached : (ply : ℕ) (levels more : List Level) (xs : Entries) → AllReached levels → length levels ≡ suc ply
+      → Takes (reach_more rules p.turn ply levels) xs (Some more) → AllReached more × (length more ≡ suc (suc ply))
   more-reached ply [] more xs all count t = absurd (omega (arith, count))
   more-reached ply (level ∷ before) more xs all count t =
       let same : ply ≡ length before = omega (arith, count) in
@@ -166,20 +171,23 @@ module _ (p : Position) (sound : Sound p) (few : length p.men ≤ 8) (mean : Rul
   free m = mean.game.tracks m 0 1
 
   -- the tuples of a union of pre are in its source
-  union_pre : (side : Side) (ply : ℕ) (k : Part) (m : ℕ) (source : SetOf) (targets : Level) (s : SetOf) (xs : Entries) → IsGameMask p m → Takes (union rules ply m k (pre_items rules side m source targets)) xs (Some s) → (tuple : List ℤ) → Member s tuple → Member source tuple
+  union_pre : (side : Side) (ply : ℕ) (k : Part) (m : ℕ) (source : SetOf) (targets : Level) (s : SetOf) (xs : Entries) → IsGameMask p m
+      → Takes (union rules ply m k (pre_items rules side m source targets)) xs (Some s) → (tuple : List ℤ) → Member s tuple → Member source tuple
   union_pre side ply k m source targets s xs game t tuple h =
       let whole = union-members (mask_tracks p m) (name ply m k) (free m) (pre_items rules side m source targets) xs s (pre_have p mean side m source targets game) t tuple in
       let (o, i, member) = (any-map (pre_item rules m source targets) (options_of p.men m side) tuple).0 (whole.0 h) in
       pre_within p.men m o 0 1 (two source (targets (target_of m o))) tuple few ((mean.options side m o game i).pre_tracks 0 1) member
 
   -- and so are those of a union of bear
-  union_bear : (side : Side) (ply m : ℕ) (source s : SetOf) (xs : Entries) → IsGameMask p m → Takes (union rules ply m kind.Check (bear_items rules side m source)) xs (Some s) → (tuple : List ℤ) → Member s tuple → Member source tuple
+  union_bear : (side : Side) (ply m : ℕ) (source s : SetOf) (xs : Entries) → IsGameMask p m
+      → Takes (union rules ply m kind.Check (bear_items rules side m source)) xs (Some s) → (tuple : List ℤ) → Member s tuple → Member source tuple
   union_bear side ply m source s xs game t tuple h =
       let whole = union-members (mask_tracks p m) (name ply m kind.Check) (free m) (bear_items rules side m source) xs s (bear_have p mean side m source game) t tuple in
       let (b, i, member) = (any-map (bear_item rules m source) (bearings_of p.men m side) tuple).0 (whole.0 h) in
       bear_within p.men m b.man b.ray b.king 0 (λ _. source) tuple ((mean.bearings m side b game i).bear_tracks 0) member
 
-  lost_within : (side : Side) (ply m : ℕ) (reach s : SetOf) (reach1 rests : Level) (xs : Entries) → IsGameMask p m → IsOver (mask_tracks p m) reach → Takes (lost_set rules side ply m reach reach1 rests) xs (Some s) → (tuple : List ℤ) → Member s tuple → Member reach tuple
+  lost_within : (side : Side) (ply m : ℕ) (reach s : SetOf) (reach1 rests : Level) (xs : Entries) → IsGameMask p m → IsOver (mask_tracks p m) reach
+      → Takes (lost_set rules side ply m reach reach1 rests) xs (Some s) → (tuple : List ℤ) → Member s tuple → Member reach tuple
   lost_within side ply m reach s reach1 rests xs game over t tuple h =
       let (a1, b1, escape, order, t1, r1) = Takes-split (union rules ply m kind.Escape (pre_items rules side m reach rests)) _ xs s t in
       let (a2, b2, calm, order, t2, r2) = Takes-split (difference rules ply m kind.Calm reach escape) _ b1 s r1 in
@@ -197,7 +205,9 @@ module _ (p : Position) (sound : Sound p) (few : length p.men ≤ 8) (mean : Rul
         | inr r ↦ (calms.0 (quiets.0 (union_pre side ply kind.Reply m quiet reach1 reply a5 game t5 tuple r)).0).0
       ]
 
-  lost_within_if : (side : Side) (ply m : ℕ) (reach reach1 rests : Level) (s : SetOf) (xs : Entries) → IsGameMask p m → IsOver (mask_tracks p m) (reach m) → Takes (lost_set_if rules side ply reach reach1 rests m) xs (Some s) → (tuple : List ℤ) → Member s tuple → Member (reach m) tuple
+  lost_within_if : (side : Side) (ply m : ℕ) (reach reach1 rests : Level) (s : SetOf) (xs : Entries) → IsGameMask p m
+      → IsOver (mask_tracks p m) (reach m) → Takes (lost_set_if rules side ply reach reach1 rests m) xs (Some s) → (tuple : List ℤ) → Member s tuple
+      → Member (reach m) tuple
   lost_within_if side ply m reach reach1 rests s xs game over (inl (e, o)) tuple h = none_some o
   lost_within_if side ply m reach reach1 rests s xs game over (inr (inl (inl empty, t))) tuple h =
       let In_it : SetOf → Type 0 = λ u. Member u tuple in
@@ -222,7 +232,8 @@ module _ (p : Position) (sound : Sound p) (few : length p.men ≤ 8) (mean : Rul
     }
 
     -- a ply of the winner
-    kept-win : (j k : ℕ) (reach kept1 level : Level) (xs : Entries) → j + 2 * suc k ≡ end → IsReached j reach → IsKept (suc j) kept1 → Takes (win_level rules (side_at j) j reach kept1) xs (Some level) → IsKept j level
+    kept-win : (j k : ℕ) (reach kept1 level : Level) (xs : Entries) → j + 2 * suc k ≡ end → IsReached j reach → IsKept (suc j) kept1
+        → Takes (win_level rules (side_at j) j reach kept1) xs (Some level) → IsKept j level
     kept-win j k reach kept1 level xs e reached kept t =
         let f = win_set rules (side_at j) j reach kept1 in
         let stands = win-stands p mean (side_at j) j reach kept1 level xs (Reach p j) (Kept winner p moves (suc j)) (reached_sound p sound j) reached.stands kept.stands t in
@@ -236,14 +247,20 @@ module _ (p : Position) (sound : Sound p) (few : length p.men ≤ 8) (mean : Rul
         }
 
     -- a ply of the loser
-    kept-lost : (j k : ℕ) (reach reach1 kept1 level : Level) (xs : Entries) → j + (2 * k + 1) ≡ end → IsReached j reach → IsReached (suc j) reach1 → IsKept (suc j) kept1 → ((m : ℕ) → IsDecided (kept1 m)) → Takes (lost_level rules (side_at j) j reach reach1 kept1) xs (Some level) → IsKept j level
+    kept-lost : (j k : ℕ) (reach reach1 kept1 level : Level) (xs : Entries) → j + (2 * k + 1) ≡ end → IsReached j reach → IsReached (suc j) reach1
+        → IsKept (suc j) kept1 → ((m : ℕ) → IsDecided (kept1 m)) → Takes (lost_level rules (side_at j) j reach reach1 kept1) xs (Some level)
+        → IsKept j level
     kept-lost j k reach reach1 kept1 level xs e reached reached1 kept decided t =
-        let stands = lost-stands p mean (side_at j) j reach reach1 kept1 level xs (Reach p j) (Reach p (suc j)) (Kept winner p moves (suc j)) (reached_sound p sound j) reached.over reached1.over reached.stands reached1.stands kept.stands t in
+        let stands =
+        lost-stands p mean (side_at j) j reach reach1 kept1 level xs (Reach p j) (Reach p (suc j)) (Kept winner p moves (suc j))
+        (reached_sound p sound j) reached.over reached1.over reached.stands reached1.stands kept.stands t in
         let kept_or_not : (q : Position) → Reach p (suc j) q → Kept winner p moves (suc j) q ⊎ (Kept winner p moves (suc j) q → ⊥) = λ q h.
         let is = kept.stands q (fits_reached (suc j) q h) in
         elim (decided (mask_of q) (tuple_of q)) [ inl a ↦ inl (is.0 a) | inr n ↦ inr (λ c. n (is.1 c)) ] in
         let rest_of = rest_set rules (suc j) reach1 kept1 in
-        let (us, vs, rests, order, first, last) = Takes-split (for_masks (masks_of p) rest_of no_sets) (λ rests. for_masks (masks_of p) (lost_set_if rules (side_at j) j reach reach1 rests) no_sets) xs level t in
+        let (us, vs, rests, order, first, last) =
+        Takes-split (for_masks (masks_of p) rest_of no_sets)
+        (λ rests. for_masks (masks_of p) (lost_set_if rules (side_at j) j reach reach1 rests) no_sets) xs level t in
         record {
           stands = λ q fits.
               let step = lost-step winner p sound moves j k e kept_or_not q in
@@ -258,7 +275,9 @@ module _ (p : Position) (sound : Sound p) (few : length p.men ≤ 8) (mean : Rul
     KeptFrom j [] = Unit {0}
     KeptFrom j (level ∷ later) = IsKept j level × KeptFrom (suc j) later
 
-    kept-next : (j left : ℕ) (reach reach1 kept1 level : Level) (xs : Entries) → j + suc left ≡ end → IsReached j reach → IsReached (suc j) reach1 → IsKept (suc j) kept1 → ((m : ℕ) → IsDecided (kept1 m)) → Takes (kept_level rules p.turn j (suc left) reach reach1 kept1) xs (Some level) → IsKept j level
+    kept-next : (j left : ℕ) (reach reach1 kept1 level : Level) (xs : Entries) → j + suc left ≡ end → IsReached j reach → IsReached (suc j) reach1
+        → IsKept (suc j) kept1 → ((m : ℕ) → IsDecided (kept1 m)) → Takes (kept_level rules p.turn j (suc left) reach reach1 kept1) xs (Some level)
+        → IsKept j level
     kept-next j left reach reach1 kept1 level xs e reached reached1 kept decided t =
         elim (two_steps (suc left)) [
           | inl (zero, is, even) ↦ absurd (omega (arith, is))
@@ -270,33 +289,40 @@ module _ (p : Position) (sound : Sound p) (few : length p.men ≤ 8) (mean : Rul
               (branch (is_even (suc left)) false (win_level rules (side_at j) j reach kept1) (lost_level rules (side_at j) j reach reach1 kept1) xs level odd t)
         ]
 
-    backward-kept : (before : List Level) (reach1 kept1 : Level) (later levels : List Level) (xs : Entries) → IsReached (length before) reach1 → AllReached before → KeptFrom (length before) (kept1 ∷ later) → length before + length later ≡ end → AreDecided levels → Takes (backward rules p.turn reach1 before kept1 later) xs (Some levels) → KeptFrom 0 levels × (length levels ≡ suc end)
+    backward-kept : (before : List Level) (reach1 kept1 : Level) (later levels : List Level) (xs : Entries) → IsReached (length before) reach1
+        → AllReached before → KeptFrom (length before) (kept1 ∷ later) → length before + length later ≡ end → AreDecided levels
+        → Takes (backward rules p.turn reach1 before kept1 later) xs (Some levels) → KeptFrom 0 levels × (length levels ≡ suc end)
     backward-kept [] reach1 kept1 later levels xs reached1 all kept sum decided t =
         let is : levels ≡ kept1 ∷ later = Takes-give (kept1 ∷ later) levels xs t in
         let count : length (kept1 ∷ later) ≡ suc end = omega (arith, sum) in
         (subst (KeptFrom 0) (sym is) kept, ap length is ∙ count)
     backward-kept (reach ∷ before) reach1 kept1 later levels xs reached1 all kept sum decided t =
         let j = length before in
-        let (us, vs, level, order, one, rest) = Takes-split (kept_level rules p.turn j (suc (length later)) reach reach1 kept1) (λ level. backward rules p.turn reach before level (kept1 ∷ later)) xs levels t in
+        let (us, vs, level, order, one, rest) =
+        Takes-split (kept_level rules p.turn j (suc (length later)) reach reach1 kept1)
+        (λ level. backward rules p.turn reach before level (kept1 ∷ later)) xs levels t in
         let here = All-head (λ l. (m : ℕ) → IsDecided (l m)) kept1 later (backward-all rules p.turn (λ l. (m : ℕ) → IsDecided (l m)) (reach ∷ before) reach1 kept1 later levels xs t decided) in
         let e : j + suc (length later) ≡ end = omega (arith, sum) in
         let now = kept-next j (length later) reach reach1 kept1 level us e all.0 reached1 kept.0 here one in
         backward-kept before reach level (kept1 ∷ later) levels vs all.0 all.1 (now, kept) e decided rest
 
-    plan-kept : (last : ℕ) (levels : List Level) (xs : Entries) → last ≡ end → AreDecided levels → Takes (plan rules p.turn (mask_of p) last) xs (Some levels) → KeptFrom 0 levels × (length levels ≡ suc end)
+    plan-kept : (last : ℕ) (levels : List Level) (xs : Entries) → last ≡ end → AreDecided levels
+        → Takes (plan rules p.turn (mask_of p) last) xs (Some levels) → KeptFrom 0 levels × (length levels ≡ suc end)
     plan-kept last levels xs is decided t =
         let (us, vs, reached, order, first, rest) = Takes-split (forward rules p.turn (mask_of p) last) (backward_from rules p.turn) xs levels t in
         let (all, count) = forward-reached last reached us first in
         from reached vs all count rest
       where
-        from : (reached : List Level) (vs : Entries) → AllReached reached → length reached ≡ suc last → Takes (backward_from rules p.turn reached) vs (Some levels) → KeptFrom 0 levels × (length levels ≡ suc end)
+        from : (reached : List Level) (vs : Entries) → AllReached reached → length reached ≡ suc last
+            → Takes (backward_from rules p.turn reached) vs (Some levels) → KeptFrom 0 levels × (length levels ≡ suc end)
         from [] vs all count rest = absurd (omega (arith, count))
         from (reach ∷ before) vs all count rest =
             let at_end : end ≡ length before = omega (arith, count, is) in
             let kept : IsKept (length before) no_sets = subst (λ (n : ℕ). IsKept n no_sets) at_end kept-last in
             backward-kept before reach no_sets [] levels vs all.0 all.1 (kept, tt) (omega (arith, at_end)) decided rest
 
-    pub plan_to-kept : (last : ℕ) (levels : List Level) (xs : Entries) → last ≡ end → 0 < last → AreDecided levels → Takes (plan_to p last) xs (Some levels) → KeptFrom 0 levels × (length levels ≡ suc end)
+    pub plan_to-kept : (last : ℕ) (levels : List Level) (xs : Entries) → last ≡ end → 0 < last → AreDecided levels
+        → Takes (plan_to p last) xs (Some levels) → KeptFrom 0 levels × (length levels ≡ suc end)
     plan_to-kept zero levels xs is more decided t = absurd (omega (arith, more))
     plan_to-kept (suc last) levels xs is more decided t = plan-kept (suc last) levels xs is decided t
 
@@ -347,7 +373,8 @@ module _ (p : Position) (sound : Sound p) (few : length p.men ≤ 8) (mean : Rul
       }
 
   -- what a plan gives
-  pub plan_is_kept : (winner : Side) (moves : ℕ) (xs : Entries) (levels : List Level) → 0 < last_ply winner p.turn moves → AreDecided levels → Takes (plan_of winner p moves) xs (Some levels) → AreLevelsOf (Kept winner p moves) (last_ply winner p.turn moves) levels
+  pub plan_is_kept : (winner : Side) (moves : ℕ) (xs : Entries) (levels : List Level) → 0 < last_ply winner p.turn moves → AreDecided levels
+      → Takes (plan_of winner p moves) xs (Some levels) → AreLevelsOf (Kept winner p moves) (last_ply winner p.turn moves) levels
   plan_is_kept winner moves xs levels more decided t =
       let (all, count) = plan_to-kept winner moves (last_ply winner p.turn moves) levels xs refl more decided t in
       record {
@@ -362,7 +389,9 @@ module _ (p : Position) (sound : Sound p) (few : length p.men ≤ 8) (mean : Rul
   IsFirst levels = IsSomeAnd (slice_get levels 0) (λ level. Member (level (mask_of p)) (tuple_of p))
 
   -- the first set that a plan gives
-  pub first_is_value : (winner : Side) (moves : ℕ) (xs : Entries) (levels : List Level) → AreDecided levels → Takes (plan_of winner p moves) xs (Some levels) → Value winner moves p ↔ IsSomeAnd (slice_get levels 0) (λ level. Member (level (mask_of p)) (tuple_of p))
+  pub first_is_value : (winner : Side) (moves : ℕ) (xs : Entries) (levels : List Level) → AreDecided levels
+      → Takes (plan_of winner p moves) xs (Some levels)
+      → Value winner moves p ↔ IsSomeAnd (slice_get levels 0) (λ level. Member (level (mask_of p)) (tuple_of p))
   first_is_value winner moves xs levels decided t = by (last_ply winner p.turn moves) refl t
     where
       of : (l : List Level) → KeptFrom winner moves 0 l → length l ≡ suc (last_ply winner p.turn moves) → Value winner moves p ↔ IsFirst l

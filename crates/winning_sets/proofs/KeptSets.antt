@@ -30,7 +30,9 @@ abbrev pub Entries : Type 0
 Entries = List (Entry PartName)
 
 -- the level that is made mask by mask has at each mask what was made for it, or what it had before
-pub for_masks-level : (f : ℕ → Program SetOf) (P : ℕ → SetOf → Type 0) (masks : List ℕ) → ((m : ℕ) → Contains masks m → (s : SetOf) (xs : Entries) → Takes (f m) xs (Some s) → P m s) → (so_far level : Level) (xs : Entries) → Takes (for_masks masks f so_far) xs (Some level) → (m : ℕ) → P m (so_far m) ⊎ Contains masks m → P m (level m)
+pub for_masks-level : (f : ℕ → Program SetOf) (P : ℕ → SetOf → Type 0) (masks : List ℕ)
+    → ((m : ℕ) → Contains masks m → (s : SetOf) (xs : Entries) → Takes (f m) xs (Some s) → P m s) → (so_far level : Level) (xs : Entries)
+    → Takes (for_masks masks f so_far) xs (Some level) → (m : ℕ) → P m (so_far m) ⊎ Contains masks m → P m (level m)
 for_masks-level f P [] each so_far level xs t m h =
     let is : level ≡ so_far = Takes-give so_far level xs t in
     let At : Level → Type 0 = λ l. P m (l m) in
@@ -89,7 +91,9 @@ module _ (p : Position) (mean : RulesMean p) where
       (mean.options side m o (game_mask m in_m) j).image_tracks 0 ∙ ap (mask_tracks p) (eqb-true (target_of m o) to e)))
 
   -- a union of pre over all choices, at a position that fits
-  pub pre-stands : (side : Side) (ply : ℕ) (k : Part) (q : Position) (source s : SetOf) (targets : Level) (xs : Entries) (S Q : Positions) → Fits p side q → (S q → Sound q) → Member source (tuple_of q) ↔ S q → Stands p (other side) targets Q → Takes (union rules ply (mask_of q) k (pre_items rules side (mask_of q) source targets)) xs (Some s) → Member s (tuple_of q) ↔ Pre S Q q
+  pub pre-stands : (side : Side) (ply : ℕ) (k : Part) (q : Position) (source s : SetOf) (targets : Level) (xs : Entries) (S Q : Positions)
+      → Fits p side q → (S q → Sound q) → Member source (tuple_of q) ↔ S q → Stands p (other side) targets Q
+      → Takes (union rules ply (mask_of q) k (pre_items rules side (mask_of q) source targets)) xs (Some s) → Member s (tuple_of q) ↔ Pre S Q q
   pre-stands side ply k q source s targets xs S Q fits sound sources leads t =
       let m = mask_of q in
       let game = mean.game.mask_is side q fits in
@@ -117,7 +121,9 @@ module _ (p : Position) (mean : RulesMean p) where
       )
 
   -- the level of a winner's ply stands for what a step leads from into what is kept
-  pub win-stands : (side : Side) (ply : ℕ) (reach kept1 level : Level) (xs : Entries) (AtPly KeptAfter : Positions) → ((q : Position) → AtPly q → Sound q) → Stands p side reach AtPly → Stands p (other side) kept1 KeptAfter → Takes (win_level rules side ply reach kept1) xs (Some level) → Stands p side level (Pre AtPly KeptAfter)
+  pub win-stands : (side : Side) (ply : ℕ) (reach kept1 level : Level) (xs : Entries) (AtPly KeptAfter : Positions)
+      → ((q : Position) → AtPly q → Sound q) → Stands p side reach AtPly → Stands p (other side) kept1 KeptAfter
+      → Takes (win_level rules side ply reach kept1) xs (Some level) → Stands p side level (Pre AtPly KeptAfter)
   win-stands side ply reach kept1 level xs AtPly KeptAfter sound reaches keeps t q fits =
       let Is : ℕ → SetOf → Type 0 = λ m s. (ys : Entries) × Takes (win_set rules side ply reach kept1 m) ys (Some s) in
       let (ys, made) = for_masks-level (win_set rules side ply reach kept1) Is (masks_of p) (λ m i s zs h. (zs, h)) no_sets level xs t (mask_of q) (inr (in_masks side q fits)) in
@@ -134,7 +140,10 @@ module _ (p : Position) (mean : RulesMean p) where
       subst P (other_other side ∙ sym fits.turn) h
 
   -- a union of bear over all bearings on the king of the side to move
-  pub check-stands : (side : Side) (ply : ℕ) (q : Position) (source s : SetOf) (xs : Entries) (S : Positions) → Fits p side q → Member source (tuple_of q) ↔ S q → Takes (union rules ply (mask_of q) kind.Check (bear_items rules (other side) (mask_of q) source)) xs (Some s) → Member s (tuple_of q) ↔ Checked S q
+  pub check-stands : (side : Side) (ply : ℕ) (q : Position) (source s : SetOf) (xs : Entries) (S : Positions) → Fits p side q
+      → Member source (tuple_of q) ↔ S q
+      → Takes (union rules ply (mask_of q) kind.Check (bear_items rules (other side) (mask_of q) source)) xs (Some s)
+      → Member s (tuple_of q) ↔ Checked S q
   check-stands side ply q source s xs S fits sources t =
       let m = mask_of q in
       let game = mean.game.mask_is side q fits in
@@ -151,7 +160,9 @@ module _ (p : Position) (mean : RulesMean p) where
       )
 
   -- one set without another
-  pub difference-stands : (ply : ℕ) (k : Part) (q : Position) (s t u : SetOf) (xs : Entries) (S T : Positions) → IsOver (mask_tracks p (mask_of q)) s → Member s (tuple_of q) ↔ S q → Member t (tuple_of q) ↔ T q → Takes (difference rules ply (mask_of q) k s t) xs (Some u) → Member u (tuple_of q) ↔ Without S T q
+  pub difference-stands : (ply : ℕ) (k : Part) (q : Position) (s t u : SetOf) (xs : Entries) (S T : Positions) → IsOver (mask_tracks p (mask_of q)) s
+      → Member s (tuple_of q) ↔ S q → Member t (tuple_of q) ↔ T q → Takes (difference rules ply (mask_of q) k s t) xs (Some u)
+      → Member u (tuple_of q) ↔ Without S T q
   difference-stands ply k q s t u xs S T over in_s in_t takes =
       let m = mask_of q in
       let both = remainder-members (mask_tracks p m) (name ply m k) (free m) s t xs u over takes (tuple_of q) in (
@@ -160,7 +171,11 @@ module _ (p : Position) (mean : RulesMean p) where
       )
 
   -- the parts of a loser's ply at one mask
-  lost_set-stands : (side : Side) (ply : ℕ) (q : Position) (reach s : SetOf) (reach1 rests : Level) (xs : Entries) (AtPly AfterPly KeptAfter : Positions) → Fits p side q → (AtPly q → Sound q) → IsOver (mask_tracks p (mask_of q)) reach → Member reach (tuple_of q) ↔ AtPly q → Stands p (other side) reach1 AfterPly → Stands p (other side) rests (Rest AfterPly KeptAfter) → Takes (lost_set rules side ply (mask_of q) reach reach1 rests) xs (Some s) → Member s (tuple_of q) ↔ LostPart AtPly AfterPly KeptAfter q
+  lost_set-stands : (side : Side) (ply : ℕ) (q : Position) (reach s : SetOf) (reach1 rests : Level) (xs : Entries)
+      (AtPly AfterPly KeptAfter : Positions)
+      → Fits p side q → (AtPly q → Sound q) → IsOver (mask_tracks p (mask_of q)) reach → Member reach (tuple_of q) ↔ AtPly q
+      → Stands p (other side) reach1 AfterPly → Stands p (other side) rests (Rest AfterPly KeptAfter)
+      → Takes (lost_set rules side ply (mask_of q) reach reach1 rests) xs (Some s) → Member s (tuple_of q) ↔ LostPart AtPly AfterPly KeptAfter q
   lost_set-stands side ply q reach s reach1 rests xs AtPly AfterPly KeptAfter fits sound over reaches reaches1 rested t =
       let m = mask_of q in
       let game = mean.game.mask_is side q fits in
@@ -182,7 +197,12 @@ module _ (p : Position) (mean : RulesMean p) where
         λ h. elim h [ inl c ↦ joined.1 (inl (checks.1 c)) | inr r ↦ joined.1 (inr (replies.1 r)) ],
       )
 
-  lost_or_empty : (side : Side) (ply : ℕ) (q : Position) (reach reach1 rests : Level) (s : SetOf) (xs : Entries) (AtPly AfterPly KeptAfter : Positions) → Fits p side q → (AtPly q → Sound q) → IsOver (mask_tracks p (mask_of q)) (reach (mask_of q)) → Member (reach (mask_of q)) (tuple_of q) ↔ AtPly q → Stands p (other side) reach1 AfterPly → Stands p (other side) rests (Rest AfterPly KeptAfter) → Takes (lost_set_if rules side ply reach reach1 rests (mask_of q)) xs (Some s) → Member s (tuple_of q) ↔ LostPart AtPly AfterPly KeptAfter q
+  lost_or_empty : (side : Side) (ply : ℕ) (q : Position) (reach reach1 rests : Level) (s : SetOf) (xs : Entries)
+      (AtPly AfterPly KeptAfter : Positions)
+      → Fits p side q → (AtPly q → Sound q) → IsOver (mask_tracks p (mask_of q)) (reach (mask_of q))
+      → Member (reach (mask_of q)) (tuple_of q) ↔ AtPly q → Stands p (other side) reach1 AfterPly
+      → Stands p (other side) rests (Rest AfterPly KeptAfter) → Takes (lost_set_if rules side ply reach reach1 rests (mask_of q)) xs (Some s)
+      → Member s (tuple_of q) ↔ LostPart AtPly AfterPly KeptAfter q
   lost_or_empty side ply q reach reach1 rests s xs AtPly AfterPly KeptAfter fits sound over reaches reaches1 rested (inl (e, o)) = none_some o
   lost_or_empty side ply q reach reach1 rests s xs AtPly AfterPly KeptAfter fits sound over reaches reaches1 rested (inr (inl (inl empty, t))) =
       let is : s ≡ Nothing = Takes-give Nothing s xs t in
@@ -197,10 +217,15 @@ module _ (p : Position) (mean : RulesMean p) where
   AreOver level = (m : ℕ) → IsOver (mask_tracks p m) (level m)
 
   -- the level of a loser's ply stands for what is lost
-  pub lost-stands : (side : Side) (ply : ℕ) (reach reach1 kept1 level : Level) (xs : Entries) (AtPly AfterPly KeptAfter : Positions) → ((q : Position) → AtPly q → Sound q) → AreOver reach → AreOver reach1 → Stands p side reach AtPly → Stands p (other side) reach1 AfterPly → Stands p (other side) kept1 KeptAfter → Takes (lost_level rules side ply reach reach1 kept1) xs (Some level) → Stands p side level (LostPart AtPly AfterPly KeptAfter)
+  pub lost-stands : (side : Side) (ply : ℕ) (reach reach1 kept1 level : Level) (xs : Entries) (AtPly AfterPly KeptAfter : Positions)
+      → ((q : Position) → AtPly q → Sound q) → AreOver reach → AreOver reach1 → Stands p side reach AtPly → Stands p (other side) reach1 AfterPly
+      → Stands p (other side) kept1 KeptAfter → Takes (lost_level rules side ply reach reach1 kept1) xs (Some level)
+      → Stands p side level (LostPart AtPly AfterPly KeptAfter)
   lost-stands side ply reach reach1 kept1 level xs AtPly AfterPly KeptAfter sound over over1 reaches reaches1 keeps t q fits =
       let rest_of = rest_set rules (suc ply) reach1 kept1 in
-      let (us, vs, rests, order, first, last) = Takes-split (for_masks (masks_of p) rest_of no_sets) (λ rests. for_masks (masks_of p) (lost_set_if rules side ply reach reach1 rests) no_sets) xs level t in
+      let (us, vs, rests, order, first, last) =
+      Takes-split (for_masks (masks_of p) rest_of no_sets)
+      (λ rests. for_masks (masks_of p) (lost_set_if rules side ply reach reach1 rests) no_sets) xs level t in
       let IsRest : ℕ → SetOf → Type 0 = λ m s. (ys : Entries) × Takes (rest_of m) ys (Some s) in
       let rested : Stands p (other side) rests (Rest AfterPly KeptAfter) = λ r fits_r.
       let (ys, made) = for_masks-level rest_of IsRest (masks_of p) (λ m i s zs h. (zs, h)) no_sets rests us first (mask_of r) (inr (in_masks (other side) r fits_r)) in
@@ -222,13 +247,17 @@ module _ (p : Position) (mean : RulesMean p) where
   abbrev AreFitting : Side → Level → Type 0
   AreFitting side level = (m : ℕ) → HoldsFitting p side m (level m)
 
-  image-tuples : (side : Side) (ply to : ℕ) (reach : Level) (s : SetOf) (xs : Entries) → AreFitting side reach → Takes (union rules ply to kind.Image (image_items rules side to reach)) xs (Some s) → (tuple : List ℤ) → Member s tuple ↔ IsImageTuple side to reach tuple
+  image-tuples : (side : Side) (ply to : ℕ) (reach : Level) (s : SetOf) (xs : Entries) → AreFitting side reach
+      → Takes (union rules ply to kind.Image (image_items rules side to reach)) xs (Some s) → (tuple : List ℤ)
+      → Member s tuple ↔ IsImageTuple side to reach tuple
   image-tuples side ply to reach s xs fitting t tuple =
       let whole = union-members (mask_tracks p to) (name ply to kind.Image) (free to) (image_items rules side to reach) xs s (image_have side to reach) t tuple in
       let any = any-flat_map (λ m. map (image_item rules m (reach m)) (choices_into rules side m to)) (masks_of p) tuple in
       let one = λ (m : ℕ). any-map (image_item rules m (reach m)) (choices_into rules side m to) tuple in
       let kept = λ (m : ℕ) (o : Opt). contains_filter (λ c. target_of m c == to) (options_of p.men m side) o in
-      let means = λ (m : ℕ) (o : Opt) (in_m : Contains (masks_of p) m) (j : Contains (options_of p.men m side) o). (mean.options side m o (game_mask m in_m) j).image 0 (λ _. reach m) tuple (fitting m) in (
+      let means =
+      λ (m : ℕ) (o : Opt) (in_m : Contains (masks_of p) m) (j : Contains (options_of p.men m side) o).
+      (mean.options side m o (game_mask m in_m) j).image 0 (λ _. reach m) tuple (fitting m) in (
         λ h.
             let (m, in_m, some) = any.0 (whole.0 h) in
             let (o, i, member) = (one m).0 some in
@@ -242,7 +271,8 @@ module _ (p : Position) (mean : RulesMean p) where
       )
 
   -- each tuple of an image is one of a position that fits
-  image_fitting : (side : Side) (ply to : ℕ) (reach : Level) (s : SetOf) (xs : Entries) → AreFitting side reach → Takes (union rules ply to kind.Image (image_items rules side to reach)) xs (Some s) → HoldsFitting p (other side) to s
+  image_fitting : (side : Side) (ply to : ℕ) (reach : Level) (s : SetOf) (xs : Entries) → AreFitting side reach
+      → Takes (union rules ply to kind.Image (image_items rules side to reach)) xs (Some s) → HoldsFitting p (other side) to s
   image_fitting side ply to reach s xs fitting t tuple h =
       let it = (image-tuples side ply to reach s xs fitting t tuple).0 h in
       let (q, r, fits, mask, takes, from, is) = it.image in
@@ -252,7 +282,9 @@ module _ (p : Position) (mean : RulesMean p) where
       (r, fits_r, target ∙ same, is)
 
   -- the union of images at a position that fits
-  image-stands : (side : Side) (ply : ℕ) (r : Position) (reach : Level) (s : SetOf) (xs : Entries) (AtPly : Positions) → AreFitting side reach → Stands p side reach AtPly → ((q : Position) → AtPly q → Fits p side q × Sound q) → Fits p (other side) r → Takes (union rules ply (mask_of r) kind.Image (image_items rules side (mask_of r) reach)) xs (Some s) → Member s (tuple_of r) ↔ Image AtPly r
+  image-stands : (side : Side) (ply : ℕ) (r : Position) (reach : Level) (s : SetOf) (xs : Entries) (AtPly : Positions) → AreFitting side reach
+      → Stands p side reach AtPly → ((q : Position) → AtPly q → Fits p side q × Sound q) → Fits p (other side) r
+      → Takes (union rules ply (mask_of r) kind.Image (image_items rules side (mask_of r) reach)) xs (Some s) → Member s (tuple_of r) ↔ Image AtPly r
   image-stands side ply r reach s xs AtPly fitting stands inside fits t =
       let tuples = image-tuples side ply (mask_of r) reach s xs fitting t (tuple_of r) in (
         λ h.
@@ -287,7 +319,10 @@ module _ (p : Position) (mean : RulesMean p) where
       )
 
   -- the set made narrower by bearings
-  narrow-each : (side : Side) (ply : ℕ) (r : Position) (last : Made) → Fits p side r → (bearings : List Bearing) → ((b : Bearing) → Contains bearings b → BearingsMean p (mask_of r) b) → (made : Made) (xs : Entries) → Takes (each bearings (narrow_by rules ply (mask_of r)) made) xs (Some last) → Member last.0 (tuple_of r) ↔ (Member made.0 (tuple_of r) × ((b : Bearing) → Contains bearings b → BearsOnKing b r → ⊥))
+  narrow-each : (side : Side) (ply : ℕ) (r : Position) (last : Made) → Fits p side r → (bearings : List Bearing)
+      → ((b : Bearing) → Contains bearings b → BearingsMean p (mask_of r) b) → (made : Made) (xs : Entries)
+      → Takes (each bearings (narrow_by rules ply (mask_of r)) made) xs (Some last)
+      → Member last.0 (tuple_of r) ↔ (Member made.0 (tuple_of r) × ((b : Bearing) → Contains bearings b → BearsOnKing b r → ⊥))
   narrow-each side ply r last fits [] means made xs t =
       let is : last ≡ made = Takes-give made last xs t in
       rw is (λ h. (h, λ b i bears. contains_none b i), λ h. h.0)
@@ -303,13 +338,17 @@ module _ (p : Position) (mean : RulesMean p) where
         λ (c, none). more.1 ((is.same (tuple_of r)).1 (safe.1 (c, λ bears. none b (contains_head b bearings) bears)), λ k j bears. none k (contains_rest b bearings k j) bears),
       )
 
-  narrow-stands : (side : Side) (ply : ℕ) (r : Position) (s u : SetOf) → Fits p side r → (bearings : List Bearing) → ((b : Bearing) → Contains bearings b → BearingsMean p (mask_of r) b) → (xs : Entries) → Takes (narrow rules ply (mask_of r) bearings s) xs (Some u) → Member u (tuple_of r) ↔ (Member s (tuple_of r) × ((b : Bearing) → Contains bearings b → BearsOnKing b r → ⊥))
+  narrow-stands : (side : Side) (ply : ℕ) (r : Position) (s u : SetOf) → Fits p side r → (bearings : List Bearing)
+      → ((b : Bearing) → Contains bearings b → BearingsMean p (mask_of r) b) → (xs : Entries)
+      → Takes (narrow rules ply (mask_of r) bearings s) xs (Some u)
+      → Member u (tuple_of r) ↔ (Member s (tuple_of r) × ((b : Bearing) → Contains bearings b → BearsOnKing b r → ⊥))
   narrow-stands side ply r s u fits bearings means xs t =
       let (us, vs, last, order, first, given) = Takes-split (each bearings (narrow_by rules ply (mask_of r)) (s, 1)) (λ made. Give made.0) xs u t in
       let is : u ≡ last.0 = Takes-give last.0 u vs given in
       rw is (narrow-each side ply r last fits bearings means (s, 1) us first)
 
-  each_within : (ply m : ℕ) (last : Made) (tuple : List ℤ) (bearings : List Bearing) → ((b : Bearing) → Contains bearings b → BearingsMean p m b) → (made : Made) (xs : Entries) → Takes (each bearings (narrow_by rules ply m) made) xs (Some last) → Member last.0 tuple → Member made.0 tuple
+  each_within : (ply m : ℕ) (last : Made) (tuple : List ℤ) (bearings : List Bearing) → ((b : Bearing) → Contains bearings b → BearingsMean p m b)
+      → (made : Made) (xs : Entries) → Takes (each bearings (narrow_by rules ply m) made) xs (Some last) → Member last.0 tuple → Member made.0 tuple
   each_within ply m last tuple [] means made xs t h =
       let is : last ≡ made = Takes-give made last xs t in
       let P : Made → Type 0 = λ n. Member n.0 tuple in
@@ -320,7 +359,8 @@ module _ (p : Position) (mean : RulesMean p) where
       let later = each_within ply m last tuple bearings (λ c i. means c (contains_rest b bearings c i)) next vs rest h in
       (means b (contains_head b bearings)).safe_within 0 (λ _. made.0) tuple ((is.same tuple).0 later)
 
-  narrow_within : (ply m : ℕ) (s u : SetOf) (tuple : List ℤ) (bearings : List Bearing) → ((b : Bearing) → Contains bearings b → BearingsMean p m b) → (xs : Entries) → Takes (narrow rules ply m bearings s) xs (Some u) → Member u tuple → Member s tuple
+  narrow_within : (ply m : ℕ) (s u : SetOf) (tuple : List ℤ) (bearings : List Bearing) → ((b : Bearing) → Contains bearings b → BearingsMean p m b)
+      → (xs : Entries) → Takes (narrow rules ply m bearings s) xs (Some u) → Member u tuple → Member s tuple
   narrow_within ply m s u tuple bearings means xs t h =
       let (us, vs, last, order, first, given) = Takes-split (each bearings (narrow_by rules ply m) (s, 1)) (λ made. Give made.0) xs u t in
       let is : u ≡ last.0 = Takes-give last.0 u vs given in
@@ -328,7 +368,9 @@ module _ (p : Position) (mean : RulesMean p) where
       each_within ply m last tuple bearings means (s, 1) us first (subst P is h)
 
   -- what is reached at the next ply with one mask
-  pub reach_set-stands : (side : Side) (ply : ℕ) (reach : Level) (s : SetOf) (xs : Entries) (AtPly : Positions) (r : Position) → AreFitting side reach → Stands p side reach AtPly → ((q : Position) → AtPly q → Fits p side q × Sound q) → Fits p (other side) r → Takes (reach_set rules side ply reach (mask_of r)) xs (Some s) → Member s (tuple_of r) ↔ Safe (Image AtPly) r
+  pub reach_set-stands : (side : Side) (ply : ℕ) (reach : Level) (s : SetOf) (xs : Entries) (AtPly : Positions) (r : Position) → AreFitting side reach
+      → Stands p side reach AtPly → ((q : Position) → AtPly q → Fits p side q × Sound q) → Fits p (other side) r
+      → Takes (reach_set rules side ply reach (mask_of r)) xs (Some s) → Member s (tuple_of r) ↔ Safe (Image AtPly) r
   reach_set-stands side ply reach s xs AtPly r fitting stands inside fits t =
       let m = mask_of r in
       let game = mean.game.mask_is (other side) r fits in
@@ -344,13 +386,15 @@ module _ (p : Position) (mean : RulesMean p) where
         λ h. narrows.1 (images.1 h.is_in, λ b i bears. h.safe (subst P (sym fits.turn) (checks.1 (b, i, bears)))),
       )
 
-  pub reach_set_fitting : (side : Side) (ply : ℕ) (reach : Level) (m : ℕ) (s : SetOf) (xs : Entries) → Contains (masks_of p) m → AreFitting side reach → Takes (reach_set rules side ply reach m) xs (Some s) → HoldsFitting p (other side) m s
+  pub reach_set_fitting : (side : Side) (ply : ℕ) (reach : Level) (m : ℕ) (s : SetOf) (xs : Entries) → Contains (masks_of p) m → AreFitting side reach
+      → Takes (reach_set rules side ply reach m) xs (Some s) → HoldsFitting p (other side) m s
   reach_set_fitting side ply reach m s xs in_m fitting t tuple h =
       let bearings = bearings_of p.men m (other side) in
       let (us, vs, moved, order, first, rest) = Takes-split (union rules ply m kind.Image (image_items rules side m reach)) (narrow rules ply m bearings) xs s t in
       image_fitting side ply m reach moved us fitting first tuple (narrow_within ply m moved s tuple bearings (λ b i. mean.bearings m (other side) b (game_mask m in_m) i) vs rest h)
 
-  pub reach_set_over : (side : Side) (ply : ℕ) (reach : Level) (m : ℕ) (s : SetOf) (xs : Entries) → Contains (masks_of p) m → Takes (reach_set rules side ply reach m) xs (Some s) → IsOver (mask_tracks p m) s
+  pub reach_set_over : (side : Side) (ply : ℕ) (reach : Level) (m : ℕ) (s : SetOf) (xs : Entries) → Contains (masks_of p) m
+      → Takes (reach_set rules side ply reach m) xs (Some s) → IsOver (mask_tracks p m) s
   reach_set_over side ply reach m s xs in_m t tuple h =
       let bearings = bearings_of p.men m (other side) in
       let (us, vs, moved, order, first, rest) = Takes-split (union rules ply m kind.Image (image_items rules side m reach)) (narrow rules ply m bearings) xs s t in

@@ -11,8 +11,9 @@ use Rattle.lin_formula.specs.Holds.{Holds, with_value}
 use Rattle.lin_formula.specs.SetOf.{Member, SetOf, Where, members}
 use Rattle.rule_formula.specs.declared.opt.Opt.{Opt}
 use Rattle.rule_formula.specs.Placed.{is_live, without}
-use Rattle.rule_formula.specs.Seats.{new_seat, new_seats, own, var, vars_to}
+use Rattle.rule_formula.specs.Seats.{elsewhere, new_seat, new_seats, own, vars_to}
 use Rattle.rule_formula.specs.Trees.{and_all, bear_of, bear_tree, clear_as, ex_swept, on, pre_body, pre_of, pre_tree, ray_atoms, ray_at, tracks_of}
+use Rattle.rule_formula.specs.Ways.{before, onto}
 use Rattle.rule_formula.proofs.ChainLemmas.{and_all_holds, clear_holds}
 
 -- the values agree on the variables of eight men
@@ -23,7 +24,8 @@ values-append : (xs ys : List Var) (v : Values) → values_at (xs ++ ys) v ≡ v
 values-append [] ys v = refl
 values-append (x ∷ xs) ys v = ap (λ zs. v x.0 ∷ zs) (values-append xs ys v)
 
-agree_if : (b : Bool) (xs ys : List Var) (v w : Values) → values_at xs v ≡ values_at xs w → values_at ys v ≡ values_at ys w → values_at (if b then xs ++ ys else xs) v ≡ values_at (if b then xs ++ ys else xs) w
+agree_if : (b : Bool) (xs ys : List Var) (v w : Values) → values_at xs v ≡ values_at xs w → values_at ys v ≡ values_at ys w
+    → values_at (if b then xs ++ ys else xs) v ≡ values_at (if b then xs ++ ys else xs) w
 agree_if true xs ys v w e d = values-append xs ys v ∙ (ap (λ zs. zs ++ values_at ys v) e ∙ (ap (λ zs. values_at xs w ++ zs) d ∙ sym (values-append xs ys w)))
 agree_if false xs ys v w e d = e
 
@@ -59,20 +61,22 @@ pre_body_source : (n mask i : ℕ) (r : Ray) (t s q : ℕ) (e : ℕ → SetOf) (
 pre_body_source n mask i r t s q e v h =
     let both = tree.And (tree.Among s (vars_to own (is_live mask) n)) (tree.Among q (vars_to (new_seats r i t) (without (is_live mask) t) n)) in
     let chain = and_all both (ray_atoms r (own i) (new_seat r i t)) in
-    let first = (clear_holds chain (λ k. on r (own i) (new_seat r i t) (pos 0) (own k)) (is_live mask) i t n (members e) v).0 h in
+    let first = (clear_holds chain (λ k. on r (own i) (new_seat r i t) onto (own k)) (is_live mask) i t n (members e) v).0 h in
     ((and_all_holds both (ray_atoms r (own i) (new_seat r i t)) (members e) v).0 first.0).0.0
 
-pre_tree_source : (n mask i : ℕ) (r : Ray) (t s q : ℕ) (e : ℕ → SetOf) (v : Values) → n ≤ 8 → Holds (pre_tree n mask i r t s q) (members e) v → Member (e s) (values_at (vars_to own (is_live mask) n) v)
+pre_tree_source : (n mask i : ℕ) (r : Ray) (t s q : ℕ) (e : ℕ → SetOf) (v : Values) → n ≤ 8 → Holds (pre_tree n mask i r t s q) (members e) v
+    → Member (e s) (values_at (vars_to own (is_live mask) n) v)
 pre_tree_source n mask i r zero s q e v few h =
     let body = pre_body n mask i r 0 s q in
-    let one = swept r.dx (var 16) (ex_swept r.dy (var 17) body) e v (omega arith) h in
-    let two = swept r.dy (var 17) body e one.values (omega arith) one.holds in
+    let one = swept r.dx elsewhere.x (ex_swept r.dy elsewhere.y body) e v (omega arith) h in
+    let two = swept r.dy elsewhere.y body e one.values (omega arith) one.holds in
     let same = agree-vars (is_live mask) n two.values v few (λ x low. two.agree x low ∙ one.agree x low) in
     subst (Member (e s)) same (pre_body_source n mask i r 0 s q e two.values two.holds)
 pre_tree_source n mask i r (suc t) s q e v few h = pre_body_source n mask i r (suc t) s q e v h
 
 -- from where a step leads into a set
-pub pre_within : (men : List Man) (mask : ℕ) (o : Opt) (s q : ℕ) (e : ℕ → SetOf) (tuple : List ℤ) → length men ≤ 8 → free_vars (pre_of men mask o s q) ≡ tracks_of men (is_live mask) → Member (Where (pre_of men mask o s q) e) tuple → Member (e s) tuple
+pub pre_within : (men : List Man) (mask : ℕ) (o : Opt) (s q : ℕ) (e : ℕ → SetOf) (tuple : List ℤ) → length men ≤ 8
+    → free_vars (pre_of men mask o s q) ≡ tracks_of men (is_live mask) → Member (Where (pre_of men mask o s q) e) tuple → Member (e s) tuple
 pre_within men mask o s q e tuple few tracks h =
     let source = pre_tree_source (length men) mask o.man (ray_at men o.man o.ray) o.taken s q e h.values few h.holds in
     subst (Member (e s)) (ap (λ vars. values_at vars h.values) (sym tracks) ∙ h.is_tuple) source
@@ -85,11 +89,12 @@ bear_tree_source : (n mask k : ℕ) (r : Ray) (g s : ℕ) (e : ℕ → SetOf) (v
 bear_tree_source n mask k r g s e v h =
     let among = tree.Among s (vars_to own (is_live mask) n) in
     let chain = and_all among (ray_atoms r (own k) (own g)) in
-    let first = bear_first r.far chain (λ l. on r (own k) (own g) (negsuc 0) (own l)) (is_live mask) k g n e v h in
+    let first = bear_first r.far chain (λ l. on r (own k) (own g) before (own l)) (is_live mask) k g n e v h in
     ((and_all_holds among (ray_atoms r (own k) (own g)) (members e) v).0 first).0
 
 -- where a man bears on a king
-pub bear_within : (men : List Man) (mask k n g s : ℕ) (e : ℕ → SetOf) (tuple : List ℤ) → free_vars (bear_of men mask k n g s) ≡ tracks_of men (is_live mask) → Member (Where (bear_of men mask k n g s) e) tuple → Member (e s) tuple
+pub bear_within : (men : List Man) (mask k n g s : ℕ) (e : ℕ → SetOf) (tuple : List ℤ)
+    → free_vars (bear_of men mask k n g s) ≡ tracks_of men (is_live mask) → Member (Where (bear_of men mask k n g s) e) tuple → Member (e s) tuple
 bear_within men mask k n g s e tuple tracks h =
     let source = bear_tree_source (length men) mask k (ray_at men k n) g s e h.values h.holds in
     subst (Member (e s)) (ap (λ vars. values_at vars h.values) (sym tracks) ∙ h.is_tuple) source

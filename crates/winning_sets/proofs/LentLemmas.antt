@@ -77,7 +77,9 @@ module _ (table : List Automaton) where
   level_from-other (mask ∷ masks) [] level m off = refl
   level_from-other (mask ∷ masks) (id ∷ ids) level m off =
       let later = level_from-other masks ids (level_with level mask (set_at table id)) m (λ i. off (contains_rest mask masks m i)) in
-      if_cases (m == mask) (set_at table id) (level m) (λ (s : SetOf). level_from table (level_with level mask (set_at table id)) masks ids m ≡ s → level_from table (level_with level mask (set_at table id)) masks ids m ≡ level m)
+      if_cases (m == mask) (set_at table id) (level m)
+      (λ (s : SetOf). level_from table (level_with level mask (set_at table id)) masks ids m ≡ s
+      → level_from table (level_with level mask (set_at table id)) masks ids m ≡ level m)
       (λ e h. let same : m ≡ mask = eqb-true m mask e in absurd (off (subst (λ k. Contains (mask ∷ masks) k) (sym same) (contains_head mask masks))))
       (λ e h. h) later
 
@@ -107,7 +109,9 @@ module _ (table : List Automaton) (stock : List Man) where
   formed_of : (m : ℕ) (a : Automaton) → IsSetOn (tracks_of stock (is_live m)) a → IsSetAt stock m a
   formed_of m a on = record { reduced = on.reduced; integers = on.integers; tracks = on.tracks_are; few = on.few }
 
-  lent_here : (mask : ℕ) (masks : List ℕ) (other : Automaton) (id : Option SetId) (ids : Names) (level : Level) → (Contains masks mask → ⊥) → IsEmptyOn (tracks_of stock (is_live mask)) other → IsNameOn (tracks_of stock (is_live mask)) table id → IsLentAt stock (mask ∷ masks) (level_from table (level_with level mask (set_at table id)) masks ids) mask (set_or table other id)
+  lent_here : (mask : ℕ) (masks : List ℕ) (other : Automaton) (id : Option SetId) (ids : Names) (level : Level) → (Contains masks mask → ⊥)
+      → IsEmptyOn (tracks_of stock (is_live mask)) other → IsNameOn (tracks_of stock (is_live mask)) table id
+      → IsLentAt stock (mask ∷ masks) (level_from table (level_with level mask (set_at table id)) masks ids) mask (set_or table other id)
   lent_here mask masks other id ids level off empty name =
       let with_it : Level = level_with level mask (set_at table id) in
       let self : with_it mask ≡ set_at table id = if_true (mask == mask) (set_at table id) (level mask) (eq-eqb mask mask refl) in
@@ -118,28 +122,36 @@ module _ (table : List Automaton) (stock : List Man) where
         formed = formed_of mask (set_or table other id) (set_on table stock mask other empty id name);
       }
 
-  lent_from : (masks : List ℕ) (others : List Automaton) (ids : Names) (level : Level) → Apart masks → AreEmpties stock masks others → AreNames stock table masks ids → (m : ℕ) (a : Automaton) → set_of masks (sets_or table others ids) m ≡ Some a → IsLentAt stock masks (level_from table level masks ids) m a
+  lent_from : (masks : List ℕ) (others : List Automaton) (ids : Names) (level : Level) → Apart masks → AreEmpties stock masks others
+      → AreNames stock table masks ids → (m : ℕ) (a : Automaton) → set_of masks (sets_or table others ids) m ≡ Some a
+      → IsLentAt stock masks (level_from table level masks ids) m a
   lent_from [] others ids level apart empties names m a e = none_some (sym e)
   lent_from (mask ∷ masks) [] ids level apart empties names m a e = absurd empties
   lent_from (mask ∷ masks) (other ∷ others) [] level apart empties names m a e = absurd names
   lent_from (mask ∷ masks) (other ∷ others) (id ∷ ids) level (first, rest) (empty, empties) (name, names) m a e =
       by (mask == m) refl (lent_from masks others ids (level_with level mask (set_at table id)) rest empties names m a) e
     where
-      by : (b : Bool) → mask == m ≡ b → (set_of masks (sets_or table others ids) m ≡ Some a → IsLentAt stock masks (level_from table (level_with level mask (set_at table id)) masks ids) m a) → (if b then Some (set_or table other id) else set_of masks (sets_or table others ids) m) ≡ Some a → IsLentAt stock (mask ∷ masks) (level_from table (level_with level mask (set_at table id)) masks ids) m a
+      by : (b : Bool) → mask == m ≡ b
+          → (set_of masks (sets_or table others ids) m ≡ Some a
+          → IsLentAt stock masks (level_from table (level_with level mask (set_at table id)) masks ids) m a)
+          → (if b then Some (set_or table other id) else set_of masks (sets_or table others ids) m) ≡ Some a
+          → IsLentAt stock (mask ∷ masks) (level_from table (level_with level mask (set_at table id)) masks ids) m a
       by true q later h =
           let here = lent_here mask masks other id ids level first empty name in
           let there = subst (λ (k : ℕ). IsLentAt stock (mask ∷ masks) (level_from table (level_with level mask (set_at table id)) masks ids) k (set_or table other id)) (eqb-true mask m q) here in
           subst (λ (s : Automaton). IsLentAt stock (mask ∷ masks) (level_from table (level_with level mask (set_at table id)) masks ids) m s) (same_some h) there
       by false q later h = let is = later h in record { among = contains_rest mask masks m is.among; same = is.same; formed = is.formed }
 
-  lent_found : (masks : List ℕ) (others : List Automaton) (ids : Names) → AreEmpties stock masks others → AreNames stock table masks ids → (m : ℕ) → Contains masks m → (a : Automaton) × (set_of masks (sets_or table others ids) m ≡ Some a)
+  lent_found : (masks : List ℕ) (others : List Automaton) (ids : Names) → AreEmpties stock masks others → AreNames stock table masks ids → (m : ℕ)
+      → Contains masks m → (a : Automaton) × (set_of masks (sets_or table others ids) m ≡ Some a)
   lent_found [] others ids empties names m i = absurd (contains_none m i)
   lent_found (mask ∷ masks) [] ids empties names m i = absurd empties
   lent_found (mask ∷ masks) (other ∷ others) [] empties names m i = absurd names
   lent_found (mask ∷ masks) (other ∷ others) (id ∷ ids) (empty, empties) (name, names) m i =
       by (mask == m) refl (lent_found masks others ids empties names m)
     where
-      by : (b : Bool) → mask == m ≡ b → (Contains masks m → (a : Automaton) × (set_of masks (sets_or table others ids) m ≡ Some a)) → (a : Automaton) × ((if b then Some (set_or table other id) else set_of masks (sets_or table others ids) m) ≡ Some a)
+      by : (b : Bool) → mask == m ≡ b → (Contains masks m → (a : Automaton) × (set_of masks (sets_or table others ids) m ≡ Some a))
+          → (a : Automaton) × ((if b then Some (set_or table other id) else set_of masks (sets_or table others ids) m) ≡ Some a)
       by true q later = (set_or table other id, refl)
       by false q later =
           elim (contains_cases mask masks m i) [
@@ -183,7 +195,9 @@ mapped_at f [] k ids e = none_some (sym e)
 mapped_at f (first ∷ names) zero ids e = ap (λ (n : Names). Some (f n)) (same_some e)
 mapped_at f (first ∷ names) (suc k) ids e = mapped_at f names k ids e
 
-module _ (Set : ℕ → Position → Type 0) (p : Position) (game : GameMeans p) (last : ℕ) (table others : List Automaton) (names : List Names) (empties : AreEmpties p.men (masks_of p) others) (named : All (AreNames p.men table (masks_of p)) names) (levels : AreLevelsOf Set last (map (level_of table (masks_of p)) names)) where
+module _ (Set : ℕ → Position → Type 0) (p : Position) (game : GameMeans p) (last : ℕ) (table others : List Automaton) (names : List Names)
+    (empties : AreEmpties p.men (masks_of p) others) (named : All (AreNames p.men table (masks_of p)) names)
+    (levels : AreLevelsOf Set last (map (level_of table (masks_of p)) names)) where
   abbrev lent_at : ℕ → ℕ → Option Automaton
   lent_at = sets_at (masks_of p) (map (sets_or table others) names)
 
@@ -236,7 +250,8 @@ module _ (Set : ℕ → Position → Type 0) (p : Position) (game : GameMeans p)
   }
 
 -- where the set has no position, the sets of one ply without a tuple
-pub empty_sets_are : (Set : ℕ → Position → Type 0) (p : Position) → GameMeans p → (others : List Automaton) → AreEmpties p.men (masks_of p) others → ((q : Position) → Set 0 q → ⊥) → AreSets Set p 0 (sets_at (masks_of p) (others ∷ []))
+pub empty_sets_are : (Set : ℕ → Position → Type 0) (p : Position) → GameMeans p → (others : List Automaton) → AreEmpties p.men (masks_of p) others
+    → ((q : Position) → Set 0 q → ⊥) → AreSets Set p 0 (sets_at (masks_of p) (others ∷ []))
 empty_sets_are Set p game others empties none =
     let ids : Names = replicate (length (masks_of p)) None in
     let AreNamed : Names → Type 0 = AreNames p.men [] (masks_of p) in
@@ -255,7 +270,8 @@ empty_sets_are Set p game others empties none =
     one zero l at = subst (IsLevelOf (Set 0)) (same_some at) nothing
     one (suc number) l at = none_some (sym at)
 
-pub names_within : (stock : List Man) (table : List Automaton) (masks : List ℕ) (others : List Automaton) (ids : Names) → AreEmpties stock masks others → AreNames stock table masks ids → AreWithin (length table) (length others) ids
+pub names_within : (stock : List Man) (table : List Automaton) (masks : List ℕ) (others : List Automaton) (ids : Names)
+    → AreEmpties stock masks others → AreNames stock table masks ids → AreWithin (length table) (length others) ids
 names_within stock table [] [] [] empties names = record { names = All-nil (λ id. IfSome id (λ k. k.0 < length table)); count = omega arith }
 names_within stock table [] [] (id ∷ ids) empties names = absurd names
 names_within stock table [] (other ∷ others) ids empties names = absurd empties
@@ -273,18 +289,22 @@ names_within stock table (mask ∷ masks) (other ∷ others) (id ∷ ids) (empty
     within (Some i) (a, found, on) = slice_get_within table i.0 a found
 
 -- what is copied is there
-pub all_within : (stock : List Man) (table : List Automaton) (masks : List ℕ) (others : List Automaton) (levels : List Names) → AreEmpties stock masks others → All (AreNames stock table masks) levels → All (AreWithin (length table) (length others)) levels
+pub all_within : (stock : List Man) (table : List Automaton) (masks : List ℕ) (others : List Automaton) (levels : List Names)
+    → AreEmpties stock masks others → All (AreNames stock table masks) levels → All (AreWithin (length table) (length others)) levels
 all_within stock table masks others levels empties named =
     All-weaker (AreNames stock table masks) (AreWithin (length table) (length others)) (λ ids is. names_within stock table masks others ids empties is) levels named
 
-zip_push : (stock : List Man) (masks : List ℕ) (sets : List Automaton) (mask : ℕ) (a : Automaton) → AreEmpties stock masks sets → IsEmptyOn (tracks_of stock (is_live mask)) a → AreEmpties stock (masks ++ mask ∷ []) (sets ++ a ∷ [])
+zip_push : (stock : List Man) (masks : List ℕ) (sets : List Automaton) (mask : ℕ) (a : Automaton) → AreEmpties stock masks sets
+    → IsEmptyOn (tracks_of stock (is_live mask)) a → AreEmpties stock (masks ++ mask ∷ []) (sets ++ a ∷ [])
 zip_push stock [] [] mask a are is = (is, tt)
 zip_push stock [] (b ∷ sets) mask a are is = absurd are
 zip_push stock (m ∷ masks) [] mask a are is = absurd are
 zip_push stock (m ∷ masks) (b ∷ sets) mask a (first, are) is = (first, zip_push stock masks sets mask a are is)
 
 -- an empty set for one more of the masks
-pub empties_more : (stock : List Man) (masks : List ℕ) (sets : List Automaton) (i d : ℕ) (a : Automaton) → i < length masks → AreEmpties stock (take i masks) sets → IsEmptyOn (tracks_of stock (is_live (get_or masks i d))) a → AreEmpties stock (take (i + 1) masks) (sets ++ a ∷ [])
+pub empties_more : (stock : List Man) (masks : List ℕ) (sets : List Automaton) (i d : ℕ) (a : Automaton) → i < length masks
+    → AreEmpties stock (take i masks) sets → IsEmptyOn (tracks_of stock (is_live (get_or masks i d))) a
+    → AreEmpties stock (take (i + 1) masks) (sets ++ a ∷ [])
 empties_more stock masks sets i d a within are is =
     subst (λ (ms : List ℕ). AreEmpties stock ms (sets ++ a ∷ [])) (sym (take_more masks i d within)) (zip_push stock (take i masks) sets (get_or masks i d) a are is)
 
@@ -294,14 +314,17 @@ lent_count table [] (id ∷ ids) few = absurd (omega (arith, few))
 lent_count table (other ∷ others) [] few = refl
 lent_count table (other ∷ others) (id ∷ ids) few = ap suc (lent_count table others ids (omega (arith, few)))
 
-pub lent_at_place : (table others : List Automaton) (ids : Names) (k : ℕ) (a d : Automaton) (id : Option SetId) → k < length ids → k < length others → get_or (sets_or table others ids) k d ≡ set_or table (get_or others k a) (get_or ids k id)
+pub lent_at_place : (table others : List Automaton) (ids : Names) (k : ℕ) (a d : Automaton) (id : Option SetId) → k < length ids → k < length others
+    → get_or (sets_or table others ids) k d ≡ set_or table (get_or others k a) (get_or ids k id)
 lent_at_place table [] ids k a d id in_ids in_others = absurd (omega (arith, in_others))
 lent_at_place table (other ∷ others) [] k a d id in_ids in_others = absurd (omega (arith, in_ids))
 lent_at_place table (other ∷ others) (i ∷ ids) zero a d id in_ids in_others = refl
 lent_at_place table (other ∷ others) (i ∷ ids) (suc k) a d id in_ids in_others = lent_at_place table others ids k a d id (omega (arith, in_ids)) (omega (arith, in_others))
 
 -- one more of the sets that are lent
-pub lent_more : (table others : List Automaton) (ids : Names) (k : ℕ) (a : Automaton) (id : Option SetId) (sets : List Automaton) → k < length ids → length ids ≤ length others → sets ≡ take k (sets_or table others ids) → sets ++ set_or table (get_or others k a) (get_or ids k id) ∷ [] ≡ take (k + 1) (sets_or table others ids)
+pub lent_more : (table others : List Automaton) (ids : Names) (k : ℕ) (a : Automaton) (id : Option SetId) (sets : List Automaton) → k < length ids
+    → length ids ≤ length others → sets ≡ take k (sets_or table others ids)
+    → sets ++ set_or table (get_or others k a) (get_or ids k id) ∷ [] ≡ take (k + 1) (sets_or table others ids)
 lent_more table others ids k a id sets within few are =
     let here = lent_at_place table others ids k a a id within (omega (arith, within, few)) in
     ap (λ l. l ++ set_or table (get_or others k a) (get_or ids k id) ∷ []) are

@@ -53,5 +53,6 @@ pub keeps_kept : KeepsIsKept
 keeps_kept = λ s ply q sound few sets. keeps_is_kept s sound few (mean s.position sound few) (some_point s.position sound) sets ply q
 
 -- of levels of names of sets it is known which tuples they have
-pub names_known : (p : Position) → Sound p → length p.men ≤ 8 → (sets : List Automaton) (masks : List ℕ) (names : List (List (Option SetId))) → All (AreNames p.men sets masks) names → AreDecided (map (level_of sets masks) names)
+pub names_known : (p : Position) → Sound p → length p.men ≤ 8 → (sets : List Automaton) (masks : List ℕ) (names : List (List (Option SetId)))
+    → All (AreNames p.men sets masks) names → AreDecided (map (level_of sets masks) names)
 names_known p sound few sets masks names all = levels_decided p (mean p sound few).game sets masks names all

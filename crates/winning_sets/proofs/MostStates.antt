@@ -28,7 +28,8 @@ states_within None n each = omega arith
 states_within (Some a) n each = each a refl
 
 -- each set of a ply is the set of one of the masks of the position
-pub ply_within : (s : Solution) → IsValid s → (masks : List ℕ) → masks ≡ masks_of s.position → (ply most : ℕ) → ((j : ℕ) → j < length masks → states_of (kept_at s ply (get_or masks j 0)) ≤ most) → (mask : ℕ) → states_of (kept_at s ply mask) ≤ most
+pub ply_within : (s : Solution) → IsValid s → (masks : List ℕ) → masks ≡ masks_of s.position → (ply most : ℕ)
+    → ((j : ℕ) → j < length masks → states_of (kept_at s ply (get_or masks j 0)) ≤ most) → (mask : ℕ) → states_of (kept_at s ply mask) ≤ most
 ply_within s valid masks is ply most each mask =
     states_within (kept_at s ply mask) most (λ a some.
     let game = (valid_only s valid ply mask a some).1 in
@@ -37,7 +38,8 @@ ply_within s valid masks is ply most each mask =
     subst (λ (o : Option Automaton). states_of o ≤ most) some found)
 
 -- each kept set is one of a ply up to the last
-pub most_is : (s : Solution) → IsValid s → (count : ℕ) → ((i : ℕ) → i < end_of s + 1 → (mask : ℕ) → states_of (kept_at s i mask) ≤ count) → ((n : ℕ) → ((ply mask : ℕ) → states_of (kept_at s ply mask) ≤ n) → count ≤ n) → IsMostStates s count
+pub most_is : (s : Solution) → IsValid s → (count : ℕ) → ((i : ℕ) → i < end_of s + 1 → (mask : ℕ) → states_of (kept_at s i mask) ≤ count)
+    → ((n : ℕ) → ((ply mask : ℕ) → states_of (kept_at s ply mask) ≤ n) → count ≤ n) → IsMostStates s count
 most_is s valid count within least = record {
   within = λ ply mask a some.
       let high = (valid_only s valid ply mask a some).0 in

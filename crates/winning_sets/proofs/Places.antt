@@ -16,7 +16,8 @@ sets_at-ply masks (x ∷ xs) zero mask = refl
 sets_at-ply masks (x ∷ xs) (suc ply) mask = sets_at-ply masks xs ply mask
 
 -- the kept sets of a ply as they are handed out
-pub kept_at-table : (s : Solution) (ply mask : ℕ) (masks : List ℕ) (sets : List Automaton) (t : Table) → masks ≡ masks_of s.position → sets ≡ get_or s.kept ply [] → t ≡ record { masks = masks; sets = sets } → set_at t mask ≡ kept_at s ply mask
+pub kept_at-table : (s : Solution) (ply mask : ℕ) (masks : List ℕ) (sets : List Automaton) (t : Table) → masks ≡ masks_of s.position
+    → sets ≡ get_or s.kept ply [] → t ≡ record { masks = masks; sets = sets } → set_at t mask ≡ kept_at s ply mask
 kept_at-table s ply mask masks sets t masks_are sets_are is =
     ap (λ u. set_at u mask) is
     ∙ (ap (λ l. set_of l sets mask) masks_are ∙ (ap (λ l. set_of (masks_of s.position) l mask) sets_are ∙ sets_at-ply (masks_of s.position) s.kept ply mask))

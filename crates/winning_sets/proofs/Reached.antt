@@ -41,11 +41,13 @@ mapped f [] k x within is = absurd (omega (arith, within))
 mapped f (y ∷ xs) zero x within is = ap (λ z. Some (f z)) (sym is)
 mapped f (y ∷ xs) (suc k) x within is = mapped f xs k x (omega (arith, within)) is
 
-module _ (p : Position) (winner : Side) (budget : ℕ) (masks : List ℕ) (empties table after : List Automaton) (levels : List Names) (is : AreFinished p budget masks empties table levels) (grows : Grows table after) where
+module _ (p : Position) (winner : Side) (budget : ℕ) (masks : List ℕ) (empties table after : List Automaton) (levels : List Names)
+    (is : AreFinished p budget masks empties table levels) (grows : Grows table after) where
   abbrev state : SolverState
   state = record { position = p; winner = winner; budget = budget; reach = map (sets_or table empties) levels }
 
-  module _ (ply mask k : ℕ) (some : 0 < ply) (within : ply < length levels) (ids : Names) (at : ids ≡ get_or levels ply ids) (in_masks : k < length masks) (found : get_or masks k 0 ≡ mask) (before : (j : ℕ) → j < k → get_or masks j 0 ≡ mask → ⊥) where
+  module _ (ply mask k : ℕ) (some : 0 < ply) (within : ply < length levels) (ids : Names) (at : ids ≡ get_or levels ply ids)
+      (in_masks : k < length masks) (found : get_or masks k 0 ≡ mask) (before : (j : ℕ) → j < k → get_or masks j 0 ≡ mask → ⊥) where
     masks_are : masks ≡ masks_of p
     masks_are = is.masks_are (omega (arith, within))
 
@@ -101,7 +103,8 @@ module _ (p : Position) (winner : Side) (budget : ℕ) (masks : List ℕ) (empti
           }
 
   -- nor of a mask that is none of the position
-  pub none_of : (ply mask : ℕ) → 0 < length levels → ((j : ℕ) → j < length masks → get_or masks j 0 ≡ mask → ⊥) → IsUnreached (record { position = p; winner = winner; budget = budget; reach = map (sets_or table empties) levels }) ply mask
+  pub none_of : (ply mask : ℕ) → 0 < length levels → ((j : ℕ) → j < length masks → get_or masks j 0 ≡ mask → ⊥)
+      → IsUnreached (record { position = p; winner = winner; budget = budget; reach = map (sets_or table empties) levels }) ply mask
   none_of ply mask some none =
       let masks_are = is.masks_are some in
       inr (inr (λ game.

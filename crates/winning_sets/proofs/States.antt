@@ -47,7 +47,8 @@ module _ (p : Position) (winner : Side) (empties : List Automaton) where
         subst (λ (s : SolverState). IsSolverAfter (state_of budget (take count old) levels) s) (sym (state-grows more is)) (after_self (state_of budget (take count old) levels))
 
     -- one more ply
-    pub after_push : (size : ℕ) (ids : Names) (more : List Names) → All (AreNames p.men (take count old) (masks_of p)) levels → size ≡ length new → more ≡ levels ++ ids ∷ [] → IsSolverAfter (state_of budget (take count old) levels) (state_of other (take size new) more)
+    pub after_push : (size : ℕ) (ids : Names) (more : List Names) → All (AreNames p.men (take count old) (masks_of p)) levels → size ≡ length new
+        → more ≡ levels ++ ids ∷ [] → IsSolverAfter (state_of budget (take count old) levels) (state_of other (take size new) more)
     after_push size ids more named all is =
         let whole : take size new ≡ new = take_all size new (omega (arith, all)) in
         let later = grows-trans (take count old) old new (grows-take count old) grows in

@@ -16,6 +16,7 @@ use Rattle.rule_formula.proofs.FitLemmas.{placed_values, tuple_placed, values_of
 use Rattle.rule_formula.proofs.LawTheorem.{squares_of}
 use Rattle.mate_plan.specs.Plan.{turn_at}
 use Rattle.rule_formula.proofs.StockLemmas.{stock_placed}
+use Rattle.rule_formula.proofs.PlacedLemmas.{stock_man-men}
 use Rattle.set_plan.proofs.Takings.{same_some}
 
 -- they are as many as its live men have variables
@@ -46,22 +47,19 @@ abbrev pub AreAlikeTo : Position → Position → ℕ → Type 0
 AreAlikeTo stock p count =
     (k : ℕ) (m n : Man) → k ≤ count → stock_man stock.men k ≡ Some m → man_at p k ≡ Some n → (n.side ≡ m.side) × (n.kind ≡ m.kind)
 
-same_number : (p : Position) (k : ℕ) → stock_man p.men k ≡ man_at p k
-same_number p zero = refl
-same_number p (suc k) = refl
-
 man_within : (men : List Man) (k : ℕ) (m : Man) → stock_man men k ≡ Some m → k ≤ length men
 man_within men zero m is = omega arith
 man_within men (suc k) m is = let less = slice_get_within men k m is in omega (arith, less)
 
 -- and one more
-pub alike_more : (stock p : Position) (i : ℕ) (m n : Man) → AreAlikeTo stock p i → man_at stock (i + 1) ≡ Some m → man_at p (i + 1) ≡ Some n → (n.side ≡ m.side) × (n.kind ≡ m.kind) → AreAlikeTo stock p (i + 1)
+pub alike_more : (stock p : Position) (i : ℕ) (m n : Man) → AreAlikeTo stock p i → man_at stock (i + 1) ≡ Some m → man_at p (i + 1) ≡ Some n
+    → (n.side ≡ m.side) × (n.kind ≡ m.kind) → AreAlikeTo stock p (i + 1)
 alike_more stock p i m n so_far is_m is_n same = λ k a b within is_a is_b.
     elim (cases_lt i k) [
       | inr before ↦ so_far k a b before is_a is_b
       | inl last ↦
           let at : k ≡ i + 1 = omega (arith, last, within) in
-          let first : a ≡ m = same_some (sym is_a ∙ (same_number stock k ∙ (ap (man_at stock) at ∙ is_m))) in
+          let first : a ≡ m = same_some (sym is_a ∙ (stock_man-men stock k ∙ (ap (man_at stock) at ∙ is_m))) in
           let second : b ≡ n = same_some (sym is_b ∙ (ap (man_at p) at ∙ is_n)) in
           (ap (λ x. x.side) second ∙ same.0 ∙ ap (λ x. x.side) (sym first), ap (λ x. x.kind) second ∙ same.1 ∙ ap (λ x. x.kind) (sym first))
     ]
@@ -73,4 +71,4 @@ alike_all stock p count same is alike = record {
 }
 
 pub stock_at : (stock p : Position) (k : ℕ) (m n : Man) → HasStock stock.men p → man_at stock k ≡ Some m → man_at p k ≡ Some n → (n.side ≡ m.side) × (n.kind ≡ m.kind)
-stock_at stock p k m n h is_m is_n = h.men k m n (same_number stock k ∙ is_m) is_n
+stock_at stock p k m n h is_m is_n = h.men k m n (stock_man-men stock k ∙ is_m) is_n

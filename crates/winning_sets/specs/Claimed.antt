@@ -1,5 +1,6 @@
 -- Solutions whose sets were claimed, and which solutions are valid, wherever their sets come from.
 use Rattle.std.specs.Prelude.{◌≡◌, ℕ, suc, ◌≤◌, List, [], ◌∷◌, ◌++◌, Some, None}
+use Rattle.limits.specs.declared.numbers.TheConstants.{MOST_MOVES}
 use Rattle.auto_core.specs.Automaton.{Automaton}
 use Rattle.game_rules.specs.Game.{Position}
 use Rattle.rule_formula.specs.Fits.{masks_of}
@@ -24,17 +25,32 @@ sets_from ply masks (sets ∷ plies) = sets_of_ply ply masks sets ++ sets_from (
 
 -- the sets of a solution as a claim
 abbrev pub claim_of : Solution → Claim
-claim_of s = record { position = s.position; winner = s.winner; moves = s.moves; sets = sets_from 0 (masks_of s.position) s.kept }
+claim_of s =
+    record {
+      position = s.position;
+      winner = s.winner;
+      moves = s.moves;
+      sets = sets_from 0 (masks_of s.position) s.kept;
+    }
 
 -- what a position with claimed sets is as a solution
 abbrev pub solution_of : ClaimedSets → Solution
-solution_of c = record { origin = Claimed; position = c.position; winner = c.winner; moves = c.moves; kept = c.plies.items; reach = [] }
+solution_of c =
+    record {
+      origin = Claimed;
+      position = c.position;
+      winner = c.winner;
+      moves = c.moves;
+      kept = c.plies.items;
+      reach = [];
+    }
 
--- the sets of the solution are those of a won claim, formed as sets of a solution are, and no set is told of what is reached
+-- the sets of the solution are those of a won claim, formed as sets of a solution are, and no set is told of what is
+-- reached
 pub record IsWonClaim (s : Solution) : Type 0 where
   pub claim : IsClaim (claim_of s)
   pub won : Won (claim_of s)
-  pub moves : s.moves ≤ 20
+  pub moves : s.moves ≤ MOST_MOVES
   pub formed : (ply mask : ℕ) (a : Automaton) → kept_at s ply mask ≡ Some a → IsSetAt s.position.men mask a
   pub unreached : (ply mask : ℕ) → reach_at s ply mask ≡ None
 

@@ -10,13 +10,18 @@ use Rattle.mate_plan.specs.Plan.{forward}
 use Rattle.mate_plan.specs.PlanOf.{rules_of}
 use Rattle.winning_sets.specs.Lent.{AreEmpties}
 
--- of a sound position the names in a table of the sets that are reached at each ply, the first one first, in the order of the masks,
--- and sets to lend where there is no name: up to each ply they are those with which the plan's way forward ends within the budget
-pub record AreFinished (p : Position) (budget : ℕ) (masks : List ℕ) (empties table : List Automaton) (levels : List (List (Option SetId))) : Type 0 where
+-- of a sound position the names in a table of the sets that are reached at each ply, the first one first, in the order
+-- of the masks,
+-- and sets to lend where there is no name: up to each ply they are those with which the plan's way forward ends within
+-- the budget
+pub record AreFinished (p : Position) (budget : ℕ) (masks : List ℕ) (empties table : List Automaton)
+    (levels : List (List (Option SetId))) : Type 0 where
   pub sound : Sound p
   pub few : length p.men ≤ 8
   pub short : length levels ≤ 42
   pub names : All (AreNames p.men table (masks_of p)) levels
   pub masks_are : 0 < length levels → masks ≡ masks_of p
   pub empties_are : 0 < length levels → AreEmpties p.men (masks_of p) empties
-  pub ends : (ply : ℕ) → ply < length levels → Ends (forward (rules_of p) p.turn (mask_of p) ply) budget (reverse (map (level_of table (masks_of p)) (take (suc ply) levels)))
+  pub ends : (ply : ℕ) → ply < length levels
+      → Ends (forward (rules_of p) p.turn (mask_of p) ply) budget
+      (reverse (map (level_of table (masks_of p)) (take (suc ply) levels)))

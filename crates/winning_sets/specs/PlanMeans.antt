@@ -46,7 +46,8 @@ ForwardIsReach =
 -- what a plan gives is what is kept, the first ply first
 abbrev pub PlanIsKept : Type 0
 PlanIsKept =
-    (winner : Side) (p : Position) (moves : ℕ) (entries : List (Entry PartName)) (levels : List Level) → Sound p → length p.men ≤ 8
+    (winner : Side) (p : Position) (moves : ℕ) (entries : List (Entry PartName)) (levels : List Level) → Sound p
+    → length p.men ≤ 8
     → 0 < last_ply winner p.turn moves → AreDecided levels → Gives winner p moves entries levels
     → AreLevelsOf (Kept winner p moves) (last_ply winner p.turn moves) levels
 
@@ -54,7 +55,8 @@ PlanIsKept =
 abbrev pub MovesAreCounted : Type 0
 MovesAreCounted =
     (winner : Side) (moves ply : ℕ)
-    → (moves_left (last_ply winner winner moves) ply ≡ moves - (ply + 1) / 2) × (moves_left (last_ply winner (other winner) moves) ply ≡ moves - ply / 2)
+    → (moves_left (last_ply winner winner moves) ply ≡ moves - (ply + 1) / 2)
+    × (moves_left (last_ply winner (other winner) moves) ply ≡ moves - ply / 2)
 
 -- at the last ply nothing is kept
 abbrev pub NoneIsKeptLast : Type 0
@@ -63,7 +65,8 @@ NoneIsKeptLast = (winner : Side) (p q : Position) (moves : ℕ) → Kept winner 
 -- the winner mates in time exactly where the starting position is in the first set that the plan gives
 abbrev pub FirstIsValue : Type 0
 FirstIsValue =
-    (winner : Side) (p : Position) (moves : ℕ) (entries : List (Entry PartName)) (levels : List Level) → Sound p → length p.men ≤ 8
+    (winner : Side) (p : Position) (moves : ℕ) (entries : List (Entry PartName)) (levels : List Level) → Sound p
+    → length p.men ≤ 8
     → AreDecided levels → Gives winner p moves entries levels
     → Value winner moves p ↔ IsSomeAnd (slice_get levels 0) (λ level. Member (level (mask_of p)) (tuple_of p))
 
@@ -74,5 +77,6 @@ TablesAreDecided = (a : Automaton) → IsAscending a.tracks → DecidesIntegers 
 -- with the kept sets, a position is in the set of its own mask exactly where it is kept
 abbrev pub KeepsIsKept : Type 0
 KeepsIsKept =
-    (s : Solution) (ply : ℕ) (q : Position) → Sound s.position → length s.position.men ≤ 8 → AreKept s.winner s.position s.moves (kept_at s)
+    (s : Solution) (ply : ℕ) (q : Position) → Sound s.position → length s.position.men ≤ 8
+    → AreKept s.winner s.position s.moves (kept_at s)
     → IsKeptIn s ply q ↔ ((ply ≤ end_of s) × Kept s.winner s.position s.moves ply q)

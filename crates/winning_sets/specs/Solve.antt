@@ -1,5 +1,6 @@
 -- What `solve` answers, and the sets that it hands out.
 use Rattle.std.specs.Prelude.{◌≡◌, ◌↔◌, ◌⊎◌, ℕ, zero, suc, ◌-◌, ◌<◌, ◌≤◌, List, ◌++◌, length, Option, Some, None, IsSomeAnd, ℤ, option_and_then, slice_get}
+use Rattle.limits.specs.declared.numbers.TheConstants.{MOST_MOVES, MOST_STATES}
 use Rattle.auto_core.specs.Automaton.{Automaton}
 use Rattle.auto_core.specs.Integers.{DecidesIntegers, IsAccepted}
 use Rattle.auto_core.specs.Reduced.{IsReduced}
@@ -34,13 +35,14 @@ pub record IsTupleOf (Set : Position → Type 0) (mask : ℕ) (tuple : List ℤ)
 pub record HasTuplesOf (Set : Position → Type 0) (mask : ℕ) (a : Automaton) : Type 0 where
   pub same : (tuple : List ℤ) → IsAccepted a tuple ↔ IsTupleOf Set mask tuple
 
--- the automaton is reduced and decides a set of integers, its tracks are those of the mask's men, ascending, and it has no more states than
+-- the automaton is reduced and decides a set of integers, its tracks are those of the mask's men, ascending, and it has
+-- no more states than
 -- the greatest budget
 pub record IsSetAt (stock : List Man) (mask : ℕ) (a : Automaton) : Type 0 where
   pub reduced : IsReduced a
   pub integers : DecidesIntegers a
   pub tracks : a.tracks ≡ tracks_of stock (is_live mask)
-  pub few : length a.accept ≤ 200000
+  pub few : length a.accept ≤ MOST_STATES
 
 -- the sets of the plies and masks, where there are any
 abbrev pub Sets : Type 0
@@ -50,7 +52,8 @@ Sets = ℕ → ℕ → Option Automaton
 abbrev pub sets_at : List ℕ → List (List Automaton) → Sets
 sets_at masks plies ply mask = option_and_then (λ sets. set_of masks sets mask) (slice_get plies ply)
 
--- what a solved position is seen as: where its sets come from, and the sets ply by ply, in each ply in the order of the masks of the
+-- what a solved position is seen as: where its sets come from, and the sets ply by ply, in each ply in the order of the
+-- masks of the
 -- position, or none of them
 pub record Solution : Type 0 where
   pub origin : Origin
@@ -84,7 +87,8 @@ AreKept winner p moves sets = AreSets (Kept winner p moves) p (last_ply winner p
 abbrev pub AreReached : Position → ℕ → Sets → Type 0
 AreReached p last sets = AreSets (Reach p) p last sets
 
--- the sets are exactly what is reached up to the last ply; where that is the first, the plan has no step, and there is no set
+-- the sets are exactly what is reached up to the last ply; where that is the first, the plan has no step, and there is
+-- no set
 abbrev pub AreReachedTo : Position → ℕ → Sets → Type 0
 AreReachedTo p zero sets = (ply mask : ℕ) → sets ply mask ≡ None
 AreReachedTo p (suc last) sets = AreReached p (suc last) sets
@@ -93,7 +97,7 @@ AreReachedTo p (suc last) sets = AreReached p (suc last) sets
 pub record IsSolution (s : Solution) : Type 0 where
   pub sound : Sound s.position
   pub few : length s.position.men ≤ 8
-  pub moves : s.moves ≤ 20
+  pub moves : s.moves ≤ MOST_MOVES
   pub kept : AreKept s.winner s.position s.moves (kept_at s)
   pub reached : AreReachedTo s.position (end_of s) (reach_at s)
 
@@ -105,13 +109,16 @@ pub record IsWithin {A : Type 0} (program : Program A) (budget : ℕ) : Type 0 w
 -- the step is the first of the plan of so many moves that exceeds the budget
 abbrev pub IsSolveError : {A : Type 0} → Program A → ℕ → ℕ → SolveError → Type 0
 IsSolveError program moves budget (solve_error.Over name) =
-    (name.moves ≡ moves) × Stops program budget (record { part = record { ply = name.ply; mask = name.mask; part = name.part }; at = name.at })
+    (name.moves ≡ moves)
+    × Stops program budget
+    (record { part = record { ply = name.ply; mask = name.mask; part = name.part }; at = name.at })
 IsSolveError program moves budget solve_error.Memory = Unit {0}
 
 -- why there is no answer, from why the plan of so many moves has no end
 abbrev pub solve_error_of : ℕ → PlanError PartName → SolveError
 solve_error_of moves (plan_error.Over name) =
-    solve_error.Over (record { moves = moves; ply = name.part.ply; mask = name.part.mask; part = name.part.part; at = name.at })
+    solve_error.Over
+    (record { moves = moves; ply = name.part.ply; mask = name.part.mask; part = name.part.part; at = name.at })
 solve_error_of moves plan_error.Memory = solve_error.Memory
 
 -- the position has the stock and the turn of the ply, and its coordinates are in the set of its own mask
@@ -142,7 +149,8 @@ pub record IsAnswer (p : Position) (winner : Side) (moves : ℕ) (s : Solution) 
   pub of : IsOf p winner moves s
   pub valid : IsSolution s
 
--- what a solver is seen as: the sets that are reached at each ply that is finished, in the order of the masks of the position
+-- what a solver is seen as: the sets that are reached at each ply that is finished, in the order of the masks of the
+-- position
 pub record SolverState : Type 0 where
   pub position : Position
   pub winner : Side

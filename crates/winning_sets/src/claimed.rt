@@ -2,7 +2,6 @@
 
 use crate::ply_sets::PlySets;
 use chess_game::{Position, Side};
-use smallvec::SmallVec;
 
 /// A position with the sets that are claimed of it, whether the claim is won or not: ply by ply, and in each ply of the loser in the order
 /// of the masks. A ply of the winner has none.
@@ -12,6 +11,6 @@ pub struct ClaimedSets {
     pub winner: Side,
     pub moves: u8,
     /// The masks of the position, ascending.
-    pub masks: SmallVec<u8, 32>,
+    pub masks: Vec<u8>,
     pub plies: Vec<PlySets>,
 }

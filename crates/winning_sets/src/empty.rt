@@ -5,13 +5,14 @@ ghost use Rattle.winning_sets.specs.Lent.{IsEmptyOn};
 
 use auto_core::Auto;
 use letter_diagram::Diagrams;
+use limits::MOST_TRACKS;
 use std::alloc::{AllocError, Global};
 use track_word::Var;
 
 /// An automaton of one state, which does not accept.
 pub(crate) fn empty_set(alloc: Global, tracks: Vec<Var>) -> Result<Auto, AllocError>
     requires ascending { IsAscending tracks.items }
-    requires few { length tracks.items ≤ 20 }
+    requires few { length tracks.items ≤ MOST_TRACKS }
     ensures { IfOk result (IsEmptyOn tracks.items) }
 {
     let mut diagrams = Diagrams::new(alloc);

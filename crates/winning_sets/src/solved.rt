@@ -15,8 +15,8 @@ use crate::stock::has_stock;
 use crate::turns::{last_ply, side_at};
 use auto_core::Auto;
 use chess_game::{Position, Side};
+use limits::MOST_STATES;
 use mask_sets::MaskSets;
-use smallvec::SmallVec;
 use std::alloc::Global;
 use std::marker::Model;
 
@@ -28,7 +28,7 @@ pub struct Solved {
     position: Position,
     winner: Side,
     moves: u8,
-    masks: SmallVec<u8, 32>,
+    masks: Vec<u8>,
     kept: Vec<PlySets>,
     reach: Vec<PlySets>,
 }
@@ -41,9 +41,26 @@ impl Model for Solved {
 
     ghost Value = { Solution };
 
-    ghost view = { λ s. record { origin = s.origin; position = s.position; winner = s.winner; moves = s.moves; kept = s.kept.items; reach = s.reach.items } };
+    ghost view = { λ s.
+        record {
+          origin = s.origin;
+          position = s.position;
+          winner = s.winner;
+          moves = s.moves;
+          kept = s.kept.items;
+          reach = s.reach.items;
+        } };
 
-    ghost invariant = { λ s. IsValid (record { origin = s.origin; position = s.position; winner = s.winner; moves = s.moves; kept = s.kept.items; reach = s.reach.items }) × (s.masks.items ≡ masks_of s.position) };
+    ghost invariant = { λ s. IsValid
+        (record {
+          origin = s.origin;
+          position = s.position;
+          winner = s.winner;
+          moves = s.moves;
+          kept = s.kept.items;
+          reach = s.reach.items;
+        })
+        × (s.masks.items ≡ masks_of s.position) };
 }
 
 impl Solved {
@@ -52,13 +69,29 @@ impl Solved {
         position: Position,
         winner: Side,
         moves: u8,
-        masks: SmallVec<u8, 32>,
+        masks: Vec<u8>,
         kept: Vec<PlySets>,
         reach: Vec<PlySets>,
     ) -> Solved
         requires masks { masks.items ≡ masks_of position }
-        requires valid { IsSolution (record { origin = Origin.Plan; position = position; winner = winner; moves = moves; kept = kept.items; reach = reach.items }) }
-        ensures { result ≡ record { origin = Origin.Plan; position = position; winner = winner; moves = moves; kept = kept.items; reach = reach.items } }
+        requires valid { IsSolution
+            (record {
+              origin = Origin.Plan;
+              position = position;
+              winner = winner;
+              moves = moves;
+              kept = kept.items;
+              reach = reach.items;
+            }) }
+        ensures { result
+            ≡ record {
+              origin = Origin.Plan;
+              position = position;
+              winner = winner;
+              moves = moves;
+              kept = kept.items;
+              reach = reach.items;
+            } }
     {
         Solved {
             origin: Origin::Plan,
@@ -127,7 +160,7 @@ impl Solved {
     /// none at the plies of the winner.
     pub fn set(&self, ply: u8, mask: u8) -> Option<&Auto>
         ensures set { option_copied result ≡ kept_at self.now ply mask }
-        ensures few { IfSome result (λ a. length a.now.accept ≤ 200000) }
+        ensures few { IfSome result (λ a. length a.now.accept ≤ MOST_STATES) }
         ensures valid { IsValid self.now }
     {
         set_at(self.masks.as_slice(), self.kept.as_slice(), ply, mask)
@@ -137,7 +170,7 @@ impl Solved {
     /// none with a claim.
     pub fn reach(&self, ply: u8, mask: u8) -> Option<&Auto>
         ensures set { option_copied result ≡ reach_at self.now ply mask }
-        ensures few { IfSome result (λ a. length a.now.accept ≤ 200000) }
+        ensures few { IfSome result (λ a. length a.now.accept ≤ MOST_STATES) }
         ensures valid { IsValid self.now }
     {
         set_at(self.masks.as_slice(), self.reach.as_slice(), ply, mask)
@@ -146,7 +179,7 @@ impl Solved {
     /// The greatest number of states among the sets that `set` hands out.
     pub fn most_states(&self) -> u32
         ensures most { IsMostStates self.now result }
-        ensures few { result ≤ 200000 }
+        ensures few { result ≤ MOST_STATES }
     {
         let mut most: u32 = 0;
         for ply in 0..self.plies() {
@@ -214,7 +247,8 @@ impl Solved {
     /// Whether the coordinates of the position are in the set of its own live men.
     fn has_tuple(&self, ply: u8, p: &Position) -> bool
         requires { HasStock self.now.position.men p.now }
-        ensures { IsTrue result ↔ IsSomeAnd (kept_at self.now ply (mask_of p.now)) (λ a. IsAccepted a (tuple_of p.now)) }
+        ensures { IsTrue result
+            ↔ IsSomeAnd (kept_at self.now ply (mask_of p.now)) (λ a. IsAccepted a (tuple_of p.now)) }
     {
         MaskSets::new(self.masks(), self.kept_sets(ply)).contains(p)
     }

@@ -15,11 +15,11 @@ use crate::solved::Solved;
 use crate::turns::{last_ply, side_at};
 use auto_core::Auto;
 use chess_game::{Position, Side};
+use limits::{Budget, MOST_MOVES};
 use mask_sets::place_of_mask;
 use mate_plan::{Bench, LevelNames, PartName, Reaching, Work, point_level, reach_level};
 use rule_formula::masks;
 use set_plan::PlanError;
-use smallvec::SmallVec;
 use std::alloc::{AllocError, Global};
 use std::marker::Model;
 
@@ -33,7 +33,7 @@ pub struct Solver {
     work: Work,
     /// The number of sets of the levels.
     count: u32,
-    masks: SmallVec<u8, 32>,
+    masks: Vec<u8>,
     empties: Vec<Auto>,
     /// What is reached at each ply.
     levels: Vec<LevelNames>,
@@ -47,17 +47,24 @@ impl Model for Solver {
 
     ghost Value = { SolverState };
 
-    ghost view = { λ s. record { position = s.position; winner = s.winner; budget = s.work.memo.budget; reach = map (sets_or (take s.count s.work.sets) s.empties.items) s.levels.items } };
+    ghost view = { λ s.
+        record {
+          position = s.position;
+          winner = s.winner;
+          budget = s.work.memo.budget;
+          reach = map (sets_or (take s.count s.work.sets) s.empties.items) s.levels.items;
+        } };
 
-    ghost invariant = { λ s. (s.count ≤ length s.work.sets) × AreFinished s.position s.work.memo.budget s.masks.items s.empties.items (take s.count s.work.sets) s.levels.items };
+    ghost invariant = { λ s. (s.count ≤ length s.work.sets)
+        × AreFinished s.position s.work.memo.budget s.masks.items s.empties.items (take s.count s.work.sets)
+        s.levels.items };
 }
 
 impl Solver {
     /// A solver of a position with two to eight men. A step may need so many states.
-    pub fn new(alloc: Global, p: &Position, winner: Side, budget: u32) -> Solver
+    pub fn new(alloc: Global, p: &Position, winner: Side, budget: Budget) -> Solver
         requires sound { Sound p.now }
         requires men { length p.now.men ≤ 8 }
-        requires budget { (1 ≤ budget) × (budget ≤ 200000) }
         ensures { result ≡ record { position = p.now; winner = winner; budget = budget; reach = [] } }
     {
         Solver {
@@ -66,7 +73,7 @@ impl Solver {
             winner,
             work: Work::new(alloc, budget),
             count: 0,
-            masks: SmallVec::new(alloc),
+            masks: Vec::new(alloc),
             empties: Vec::new(alloc),
             levels: Vec::new(alloc),
         }
@@ -105,12 +112,14 @@ impl Solver {
     /// Solves the position for so many moves of the winner. What is reached at the plies that were finished before is not made again, also
     /// where the earlier call had no answer.
     pub fn solve(&mut self, moves: u8) -> Result<Solved, SolveError>
-        requires moves { moves ≤ 20 }
+        requires moves { moves ≤ MOST_MOVES }
         ensures game { IfOk result (IsOf self.old.position self.old.winner moves) }
         ensures kept { IfOk result (λ s. AreKept self.old.winner self.old.position moves (kept_at s)) }
-        ensures reached { IfOk result (λ s. AreReachedTo self.old.position (last_of self.old.winner self.old.position.turn moves) (reach_at s)) }
+        ensures reached { IfOk result
+            (λ s. AreReachedTo self.old.position (last_of self.old.winner self.old.position.turn moves) (reach_at s)) }
         ensures within { OnOk result (IsWithin (plan_of self.old.winner self.old.position moves) self.old.budget) }
-        ensures error { IfErr result (IsSolveError (plan_of self.old.winner self.old.position moves) moves self.old.budget) }
+        ensures error { IfErr result
+            (IsSolveError (plan_of self.old.winner self.old.position moves) moves self.old.budget) }
         ensures after { IsSolverAfter self.old self.new }
         ensures plies { OnOk result (last_of self.old.winner self.old.position.turn moves ≤ plies_of self.new) }
     {
@@ -124,7 +133,7 @@ impl Solver {
 
     /// The answer of the plan. Sets that are not of the levels may be left.
     fn answer(&mut self, moves: u8) -> Result<Solved, PlanError<PartName>>
-        requires moves { moves ≤ 20 }
+        requires moves { moves ≤ MOST_MOVES }
         ensures answer { IfOk result (IsAnswer self.old.position self.old.winner moves) }
         ensures within { OnOk result (IsWithin (plan_of self.old.winner self.old.position moves) self.old.budget) }
         ensures error { IfErr result (IsPlanError (plan_of self.old.winner self.old.position moves) self.old.budget) }
@@ -142,7 +151,7 @@ impl Solver {
 
     /// The answer where the winner is to move and has no move.
     fn without_steps(&self, moves: u8) -> Result<Solved, AllocError>
-        requires moves { moves ≤ 20 }
+        requires moves { moves ≤ MOST_MOVES }
         requires none { last_of self.now.winner self.now.position.turn moves ≡ 0 }
         ensures { IfOk result (IsAnswer self.now.position self.now.winner moves) }
     {
@@ -162,11 +171,12 @@ impl Solver {
 
     /// The answer with what is kept at each ply.
     fn with_steps(&self, moves: u8, last: u8, kept: Vec<PlySets>) -> Result<Solved, AllocError>
-        requires moves { moves ≤ 20 }
+        requires moves { moves ≤ MOST_MOVES }
         requires last { last ≡ last_of self.now.winner self.now.position.turn moves }
         requires some { 0 < last }
         requires finished { last < length self.now.reach }
-        requires kept { AreKept self.now.winner self.now.position moves (sets_at (masks_of self.now.position) kept.items) }
+        requires kept { AreKept self.now.winner self.now.position moves
+            (sets_at (masks_of self.now.position) kept.items) }
         ensures { IfOk result (IsAnswer self.now.position self.now.winner moves) }
     {
         let all = masks(self.alloc, &self.position)?;
@@ -178,7 +188,9 @@ impl Solver {
     /// Makes what is reached at the plies up to the last that are not finished.
     fn reach_to(&mut self, last: u8) -> Result<(), PlanError<PartName>>
         requires { last ≤ 41 }
-        ensures error { IfErr result (IsPlanError (forward (rules_of self.old.position) self.old.position.turn (mask_of self.old.position) last) self.old.budget) }
+        ensures error { IfErr result
+            (IsPlanError (forward (rules_of self.old.position) self.old.position.turn (mask_of self.old.position) last)
+            self.old.budget) }
         ensures after { IsSolverAfter self.old self.new }
         ensures plies { OnOk result (last < length self.new.reach) }
     {
@@ -194,7 +206,9 @@ impl Solver {
     /// Makes what is reached at the first ply.
     fn start(&mut self) -> Result<(), PlanError<PartName>>
         requires { self.old.reach ≡ [] }
-        ensures error { IfErr result (IsPlanError (forward (rules_of self.old.position) self.old.position.turn (mask_of self.old.position) 0) self.old.budget) }
+        ensures error { IfErr result
+            (IsPlanError (forward (rules_of self.old.position) self.old.position.turn (mask_of self.old.position) 0)
+            self.old.budget) }
         ensures after { IsSolverAfter self.old self.new }
         ensures count { OnOk result (length self.new.reach ≡ 1) }
     {
@@ -217,7 +231,11 @@ impl Solver {
     fn reach_next(&mut self) -> Result<(), PlanError<PartName>>
         requires some { 0 < length self.old.reach }
         requires room { length self.old.reach ≤ 41 }
-        ensures error { IfErr result (IsPlanError (forward (rules_of self.old.position) self.old.position.turn (mask_of self.old.position) (length self.old.reach)) self.old.budget) }
+        ensures error { IfErr result
+            (IsPlanError
+            (forward (rules_of self.old.position) self.old.position.turn (mask_of self.old.position)
+            (length self.old.reach))
+            self.old.budget) }
         ensures after { IsSolverAfter self.old self.new }
         ensures count { OnOk result (length self.new.reach ≡ length self.old.reach + 1) }
     {
@@ -244,7 +262,9 @@ impl Solver {
         requires last { last ≡ last_of self.old.winner self.old.position.turn moves }
         requires some { 0 < last }
         requires finished { last < length self.old.reach }
-        ensures kept { IfOk result (λ sets. AreKept self.old.winner self.old.position moves (sets_at (masks_of self.old.position) sets.items)) }
+        ensures kept { IfOk result
+            (λ sets. AreKept self.old.winner self.old.position moves
+            (sets_at (masks_of self.old.position) sets.items)) }
         ensures within { OnOk result (IsWithin (plan_of self.old.winner self.old.position moves) self.old.budget) }
         ensures error { IfErr result (IsPlanError (plan_of self.old.winner self.old.position moves) self.old.budget) }
         ensures same { self.new ≡ self.old }
@@ -279,12 +299,11 @@ pub fn solve(
     p: &Position,
     winner: Side,
     moves: u8,
-    budget: u32,
+    budget: Budget,
 ) -> Result<Solved, SolveError>
     requires sound { Sound p.now }
     requires men { length p.now.men ≤ 8 }
-    requires moves { moves ≤ 20 }
-    requires budget { (1 ≤ budget) × (budget ≤ 200000) }
+    requires moves { moves ≤ MOST_MOVES }
     ensures game { IfOk result (IsOf p.now winner moves) }
     ensures kept { IfOk result (λ s. AreKept winner p.now moves (kept_at s)) }
     ensures reached { IfOk result (λ s. AreReachedTo p.now (last_of winner p.now.turn moves) (reach_at s)) }

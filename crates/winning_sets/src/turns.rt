@@ -4,6 +4,7 @@ ghost use Rattle.mate_plan.specs.Plan.{turn_at};
 ghost use Rattle.mate_plan.specs.PlanOf.{last_ply as last_of};
 
 use chess_game::Side;
+use limits::MOST_MOVES;
 
 /// Whose turn it is after so many moves.
 pub(crate) fn side_at(first: Side, ply: u8) -> Side
@@ -14,7 +15,7 @@ pub(crate) fn side_at(first: Side, ply: u8) -> Side
 
 /// The last ply of so many moves of the winner. He is to move there, and has no move left.
 pub(crate) fn last_ply(winner: Side, first: Side, moves: u8) -> u8
-    requires { moves ≤ 20 }
+    requires { moves ≤ MOST_MOVES }
     ensures last { result ≡ last_of winner first moves }
     ensures few { result ≤ 41 }
 {

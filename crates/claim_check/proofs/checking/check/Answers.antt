@@ -10,7 +10,7 @@ use Rattle.claim_check.proofs.checking.check.Goals as goal
 pub invariant_of-bench : goal.invariant_of-bench
 invariant_of-bench c =
     let ready = c.in_ok-claimed.ensures.ready in
-    record { few = ready.claim.few; masks_are = c.as_slice.ensures ∙ ready.masks }
+    record { few = ready.claim.few; masks_are = c.as_slice.ensures.value ∙ ready.masks }
 
 pub from_sets-requires-clause-valid : goal.from_sets-requires-clause-valid
 from_sets-requires-clause-valid c =

@@ -9,5 +9,5 @@ pub returns : goal.returns
 returns c =
     let s = solution_of c.args.claimed.now in
     c.set_at.ensures
-    ∙ (ap (λ masks. sets_at masks c.as_slice-2.result.now c.args.ply c.args.mask) (c.as_slice.ensures ∙ c.requires)
+    ∙ (ap (λ masks. sets_at masks c.as_slice-2.result.now c.args.ply c.args.mask) (c.as_slice.ensures.value ∙ c.requires)
     ∙ (ap (λ plies. sets_at (masks_of s.position) plies c.args.ply c.args.mask) c.as_slice-2.ensures.value ∙ sym (claimed_kept s c.args.ply c.args.mask)))

@@ -9,11 +9,11 @@ use Rattle.claim_check.proofs.reduced.reduced_claim.Goals as goal
 pub reduced_plies-requires-clause-places : goal.reduced_plies-requires-clause-places
 reduced_plies-requires-clause-places c =
     let plies = c.losers_plies-losers.result in
-    places_here c.args.claim c.requires.file plies.first plies.count c.as_slice.result.now (c.as_slice.ensures ∙ c.in_ok-all.ensures.list) (rw c.turn.ensures at c.losers_plies-losers.ensures.plies)
+    places_here c.args.claim c.requires.file plies.first plies.count c.as_slice.result.now (c.as_slice.ensures.value ∙ c.in_ok-all.ensures.list) (rw c.turn.ensures at c.losers_plies-losers.ensures.plies)
 
 pub returns-clause-same : goal.returns-clause-same
 returns-clause-same c =
-    let masks = c.as_slice.ensures ∙ c.in_ok-all.ensures.list in
+    let masks = c.as_slice.ensures.value ∙ c.in_ok-all.ensures.list in
     let Over : List ℕ → Type 0 = λ l. AreReduced (map set_of c.args.claim.sets.items) (sets_from 0 l c.in_ok-plies.plies.items) in
     let s : ClaimedSets = record {
       position = c.args.claim.position;
@@ -26,7 +26,7 @@ returns-clause-same c =
 
 pub returns-clause-ready : goal.returns-clause-ready
 returns-clause-ready c =
-    let masks = c.as_slice.ensures ∙ c.in_ok-all.ensures.list in
+    let masks = c.as_slice.ensures.value ∙ c.in_ok-all.ensures.list in
     let Over : List ℕ → Type 0 = λ l. AreReduced (map set_of c.args.claim.sets.items) (sets_from 0 l c.in_ok-plies.plies.items) in
     let s : ClaimedSets = record {
       position = c.args.claim.position;

@@ -18,7 +18,7 @@ each-requires c =
         c.requires.ready,
         c.requires.of,
         c.requires.replies,
-        each_mask p (IsGameMask p) c.as_slice.result.now (c.as_slice.ensures ∙ c.requires.ready.masks) (λ mask game. game),
+        each_mask p (IsGameMask p) c.as_slice.result.now (c.as_slice.ensures.value ∙ c.requires.ready.masks) (λ mask game. game),
       );
     }
 
@@ -29,4 +29,4 @@ returns-clause-finds c =
     let Over : List ℕ → Type 0 = λ l. Finds
     (for_each l (check_stale (rules_of s.position) (other s.winner) r.ply (claimed_level (claim_in s) r.ply) (level_in s.position c.args.work.now.sets r.reached)))
     c.args.work.now.memo.budget c.each.result in
-    subst Over (c.as_slice.ensures ∙ c.requires.ready.masks) c.each.ensures.answers
+    subst Over (c.as_slice.ensures.value ∙ c.requires.ready.masks) c.each.ensures.answers

@@ -42,7 +42,10 @@ returns-clause-finds c =
     let Into : Level → Type 0 = λ l. Finds (holds_by (rule_at (r.ply + 1) c.args.mask rule.Left) (are_answered (rules_of p) w (r.ply + 1) (level_in p sets r.reached) l c.args.mask)) budget result in
     let Next : ℕ → Type 0 = λ k. Finds (check_left (rules_of p) w k (level_in p sets r.reached) (claimed_level (claim_in c.args.claimed.now) (r.ply + 2)) c.args.mask) budget result in
     let next : r.ply + 1 ≡ suc r.ply = omega arith in
-    subst Next next (subst Into c.requires.replies.later_is (subst By c.rule_at.ensures (subst At c.requires.of (c.judged_by.ensures (asked c.args.bench.now.position.now) budget c.are_answered.ensures.answers))))
+    subst Next next
+    (subst Into c.requires.replies.later_is
+    (subst By c.rule_at.ensures
+    (subst At c.requires.of (c.judged_by.ensures (asked c.args.bench.now.position.now) budget c.are_answered.ensures.answers))))
 
 pub returns-clause-grows : goal.returns-clause-grows
 returns-clause-grows c =

@@ -42,7 +42,9 @@ returns-in_err-left-clause-finds c =
     let stale_of = for_each masks (check_stale (rules_of p) (other d.winner) r.ply (claimed_level d r.ply) reached) in
     let leads = ply_leads d c.args.ply budget r.ply masks reached c.in_ok-replies.ensures.replies.ply_is refl c.in_ok-replies.ensures.reached in
     let e = err_from_is_err_and c.from_residual-in_err-left.result c.from_residual-in_err-left.ensures.1 in
-    rw (e.1, e.2) (stopped_in left_of stale_of (check_ply d c.args.ply) budget c.replies_at.new.work.memo.budget c.in_ok-replies.ensures.budget leads c.in_err-left.field-0.0 c.in_err-left.ensures.finds)
+    rw (e.1, e.2)
+    (stopped_in left_of stale_of (check_ply d c.args.ply) budget c.replies_at.new.work.memo.budget c.in_ok-replies.ensures.budget leads
+    c.in_err-left.field-0.0 c.in_err-left.ensures.finds)
 
 pub returns-then-is_some-clause-finds : goal.returns-then-is_some-clause-finds
 returns-then-is_some-clause-finds c =
@@ -77,9 +79,13 @@ returns-in_err-stale-clause-finds c =
     c.in_ok-left.left (sym c.is_some.ensures ∙ c.if-is_some.false) c.in_ok-left.ensures.finds in
     let within = c.in_ok-left.ensures.budget ∙ c.in_ok-replies.ensures.budget in
     let grown = level-grows p.men one c.check_all_left.new.work.sets (masks_of p) r.reached c.in_ok-left.ensures.grows c.in_ok-replies.ensures.replies.reached in
-    let From : Level → Type 0 = λ l. Finds (for_each masks (check_stale (rules_of p) (other d.winner) r.ply (claimed_level d r.ply) l)) c.check_all_left.new.work.memo.budget (Err c.in_err-stale.field-0.0) in
+    let From : Level → Type 0 =
+    λ l. Finds (for_each masks (check_stale (rules_of p) (other d.winner) r.ply (claimed_level d r.ply) l)) c.check_all_left.new.work.memo.budget
+    (Err c.in_err-stale.field-0.0) in
     let e = err_from_is_err_and c.from_residual-in_err-stale.result c.from_residual-in_err-stale.ensures.1 in
-    rw (e.1, e.2) (left_finds stale_of (check_ply d c.args.ply) budget c.check_all_left.new.work.memo.budget within after_left (Err c.in_err-stale.field-0.0) (subst From grown c.in_err-stale.ensures.finds))
+    rw (e.1, e.2)
+    (left_finds stale_of (check_ply d c.args.ply) budget c.check_all_left.new.work.memo.budget within after_left (Err c.in_err-stale.field-0.0)
+    (subst From grown c.in_err-stale.ensures.finds))
 
 pub truncate-requires : goal.truncate-requires
 truncate-requires c =
@@ -107,7 +113,9 @@ returns-clause-finds c =
     c.in_ok-left.left (sym c.is_some.ensures ∙ c.if-is_some.false) c.in_ok-left.ensures.finds in
     let within = c.in_ok-left.ensures.budget ∙ c.in_ok-replies.ensures.budget in
     let grown = level-grows p.men one c.check_all_left.new.work.sets (masks_of p) r.reached c.in_ok-left.ensures.grows c.in_ok-replies.ensures.replies.reached in
-    let From : Level → Type 0 = λ l. Finds (for_each masks (check_stale (rules_of p) (other d.winner) r.ply (claimed_level d r.ply) l)) c.check_all_left.new.work.memo.budget (Ok c.in_ok-stale.stale) in
+    let From : Level → Type 0 =
+    λ l. Finds (for_each masks (check_stale (rules_of p) (other d.winner) r.ply (claimed_level d r.ply) l)) c.check_all_left.new.work.memo.budget
+    (Ok c.in_ok-stale.stale) in
     left_finds stale_of (check_ply d c.args.ply) budget c.check_all_left.new.work.memo.budget within after_left (Ok c.in_ok-stale.stale) (subst From grown c.in_ok-stale.ensures.finds)
 
 pub returns-in_err-left-clause-grows : goal.returns-in_err-left-clause-grows

@@ -28,12 +28,18 @@ returns-in_err-reached-clause-reached c =
     let one = c.claimed_level.new.work.sets in
     let budget = c.args.work.now.memo.budget in
     let next : c.args.ply + 1 ≡ suc c.args.ply = omega arith in
-    let Of : Side → Type 0 = λ s. IsPlanError (reach_level (rules_of c.args.bench.now.position.now) s (c.args.ply + 1) (level_in c.args.bench.now.position.now one c.in_ok-here.here)) c.claimed_level.new.work.memo.budget error in
+    let Of : Side → Type 0 =
+    λ s. IsPlanError
+    (reach_level (rules_of c.args.bench.now.position.now) s (c.args.ply + 1) (level_in c.args.bench.now.position.now one c.in_ok-here.here))
+    c.claimed_level.new.work.memo.budget error in
     let At : Position → Type 0 = λ p. IsPlanError (reach_level (rules_of p) (other d.winner) (c.args.ply + 1) (level_in p one c.in_ok-here.here)) c.claimed_level.new.work.memo.budget error in
     let Within : ℕ → Type 0 = λ b. IsPlanError (reach_level (rules_of d.position) (other d.winner) (c.args.ply + 1) (level_in d.position one c.in_ok-here.here)) b error in
     let From : Level → Type 0 = λ l. IsPlanError (reach_level (rules_of d.position) (other d.winner) (c.args.ply + 1) l) budget error in
     let Next : ℕ → Type 0 = λ k. IsPlanError (reach_level (rules_of d.position) (other d.winner) k (claimed_level d c.args.ply)) budget error in
-    rw (e.1, e.2) (subst Next next (subst From c.in_ok-here.ensures.level (subst Within c.in_ok-here.ensures.budget (subst At c.requires.of (subst Of c.other.ensures c.in_err-reached.ensures.answers)))))
+    rw (e.1, e.2)
+    (subst Next next
+    (subst From c.in_ok-here.ensures.level
+    (subst Within c.in_ok-here.ensures.budget (subst At c.requires.of (subst Of c.other.ensures c.in_err-reached.ensures.answers)))))
 
 pub returns-clause-reached : goal.returns-clause-reached
 returns-clause-reached c =
@@ -47,16 +53,24 @@ returns-clause-reached c =
     let next : c.args.ply + 1 ≡ suc c.args.ply = omega arith in
     let names : Position → Type 0 = λ q. AreNamesIn q two c.in_ok-reached.reached in
     let named = subst names c.requires.of c.in_ok-reached.ensures.names in
-    let Of : Side → Type 0 = λ s. Ends (reach_level (rules_of c.args.bench.now.position.now) s (c.args.ply + 1) (level_in c.args.bench.now.position.now one c.in_ok-here.here)) c.claimed_level.new.work.memo.budget
+    let Of : Side → Type 0 =
+    λ s. Ends
+    (reach_level (rules_of c.args.bench.now.position.now) s (c.args.ply + 1) (level_in c.args.bench.now.position.now one c.in_ok-here.here))
+    c.claimed_level.new.work.memo.budget
     (level_in c.args.bench.now.position.now two c.in_ok-reached.reached) in
-    let At : Position → Type 0 = λ q. Ends (reach_level (rules_of q) w (c.args.ply + 1) (level_in q one c.in_ok-here.here)) c.claimed_level.new.work.memo.budget (level_in q two c.in_ok-reached.reached) in
+    let At : Position → Type 0 =
+    λ q. Ends (reach_level (rules_of q) w (c.args.ply + 1) (level_in q one c.in_ok-here.here)) c.claimed_level.new.work.memo.budget
+    (level_in q two c.in_ok-reached.reached) in
     let reached = level_in p two c.in_ok-reached.reached in
     let Within : ℕ → Type 0 = λ b. Ends (reach_level (rules_of p) w (c.args.ply + 1) (level_in p one c.in_ok-here.here)) b reached in
     let From : Level → Type 0 = λ l. Ends (reach_level (rules_of p) w (c.args.ply + 1) l) budget reached in
     let Next : ℕ → Type 0 = λ k. Ends (reach_level (rules_of p) w k (claimed_level d c.args.ply)) budget reached in
     let To : Level → Type 0 = λ l. Ends (reach_level (rules_of p) w (suc c.args.ply) (claimed_level d c.args.ply)) budget l in
     let grown = level-grows p.men two three (masks_of p) c.in_ok-reached.reached c.in_ok-later.ensures.grows named in
-    subst To (sym grown) (subst Next next (subst From c.in_ok-here.ensures.level (subst Within c.in_ok-here.ensures.budget (subst At c.requires.of (subst Of c.other.ensures c.in_ok-reached.ensures.answers)))))
+    subst To (sym grown)
+    (subst Next next
+    (subst From c.in_ok-here.ensures.level
+    (subst Within c.in_ok-here.ensures.budget (subst At c.requires.of (subst Of c.other.ensures c.in_ok-reached.ensures.answers)))))
 
 pub returns-clause-replies : goal.returns-clause-replies
 returns-clause-replies c =

@@ -65,7 +65,9 @@ returns-in_err-same-clause-finds c =
     let after_sign = left_after (check_sign c.args.ply c.args.mask (Some c.in-Some.set.now)) (and_then same guard) (check_set d c.args.ply c.args.mask) budget budget refl leads
     c.in_ok-sign.sign (sym c.is_some.ensures ∙ c.if-is_some.false) (c.in_ok-sign.ensures.finds budget) in
     let e = err_from_is_err_and c.from_residual-in_err-same.result c.from_residual-in_err-same.ensures.1 in
-    rw (e.1, e.2) (stopped_in same guard (check_set d c.args.ply c.args.mask) budget c.lone_level.new.work.memo.budget c.in_ok-level.ensures.budget after_sign c.in_err-same.field-0.0 c.in_err-same.ensures.finds)
+    rw (e.1, e.2)
+    (stopped_in same guard (check_set d c.args.ply c.args.mask) budget c.lone_level.new.work.memo.budget c.in_ok-level.ensures.budget after_sign
+    c.in_err-same.field-0.0 c.in_err-same.ensures.finds)
 
 pub returns-then-is_some-2-clause-finds : goal.returns-then-is_some-2-clause-finds
 returns-then-is_some-2-clause-finds c =
@@ -97,8 +99,12 @@ returns-in_err-guard-clause-finds c =
     let after_same = left_after same guard (check_set d c.args.ply c.args.mask) budget c.lone_level.new.work.memo.budget c.in_ok-level.ensures.budget after_sign
     c.in_ok-same.same (sym c.is_some-2.ensures ∙ c.if-is_some-2.false) c.in_ok-same.ensures.finds in
     let within = c.in_ok-same.ensures.budget ∙ c.in_ok-level.ensures.budget in
-    let By : Side → Type 0 = λ side. Finds (check_guard (rules_of p) side c.args.ply c.args.mask (level_in p c.check_same.new.work.sets c.in_ok-level.level c.args.mask)) c.check_same.new.work.memo.budget (Err c.in_err-guard.field-0.0) in
-    let Over : List Automaton → Type 0 = λ t. Finds (check_guard (rules_of p) (other d.winner) c.args.ply c.args.mask (level_in p t c.in_ok-level.level c.args.mask)) c.check_same.new.work.memo.budget (Err c.in_err-guard.field-0.0) in
+    let By : Side → Type 0 =
+    λ side. Finds (check_guard (rules_of p) side c.args.ply c.args.mask (level_in p c.check_same.new.work.sets c.in_ok-level.level c.args.mask))
+    c.check_same.new.work.memo.budget (Err c.in_err-guard.field-0.0) in
+    let Over : List Automaton → Type 0 =
+    λ t. Finds (check_guard (rules_of p) (other d.winner) c.args.ply c.args.mask (level_in p t c.in_ok-level.level c.args.mask))
+    c.check_same.new.work.memo.budget (Err c.in_err-guard.field-0.0) in
     let h = subst Over c.in_ok-same.ensures.sets (subst By c.other.ensures c.in_err-guard.ensures.finds) in
     let e = err_from_is_err_and c.from_residual-in_err-guard.result c.from_residual-in_err-guard.ensures.1 in
     rw (e.1, e.2) (left_finds guard (check_set d c.args.ply c.args.mask) budget c.check_same.new.work.memo.budget within after_same (Err c.in_err-guard.field-0.0) h)
@@ -123,8 +129,12 @@ returns-clause-finds c =
     let after_same = left_after same guard (check_set d c.args.ply c.args.mask) budget c.lone_level.new.work.memo.budget c.in_ok-level.ensures.budget after_sign
     c.in_ok-same.same (sym c.is_some-2.ensures ∙ c.if-is_some-2.false) c.in_ok-same.ensures.finds in
     let within = c.in_ok-same.ensures.budget ∙ c.in_ok-level.ensures.budget in
-    let By : Side → Type 0 = λ side. Finds (check_guard (rules_of p) side c.args.ply c.args.mask (level_in p c.check_same.new.work.sets c.in_ok-level.level c.args.mask)) c.check_same.new.work.memo.budget (Ok c.in_ok-guard.guard) in
-    let Over : List Automaton → Type 0 = λ t. Finds (check_guard (rules_of p) (other d.winner) c.args.ply c.args.mask (level_in p t c.in_ok-level.level c.args.mask)) c.check_same.new.work.memo.budget (Ok c.in_ok-guard.guard) in
+    let By : Side → Type 0 =
+    λ side. Finds (check_guard (rules_of p) side c.args.ply c.args.mask (level_in p c.check_same.new.work.sets c.in_ok-level.level c.args.mask))
+    c.check_same.new.work.memo.budget (Ok c.in_ok-guard.guard) in
+    let Over : List Automaton → Type 0 =
+    λ t. Finds (check_guard (rules_of p) (other d.winner) c.args.ply c.args.mask (level_in p t c.in_ok-level.level c.args.mask))
+    c.check_same.new.work.memo.budget (Ok c.in_ok-guard.guard) in
     let h = subst Over c.in_ok-same.ensures.sets (subst By c.other.ensures c.in_ok-guard.ensures.finds) in
     left_finds guard (check_set d c.args.ply c.args.mask) budget c.check_same.new.work.memo.budget within after_same (Ok c.in_ok-guard.guard) h
 
@@ -141,4 +151,5 @@ pub returns-clause-grows : goal.returns-clause-grows
 returns-clause-grows c =
     let Cut : List Automaton → Type 0 = λ t. Grows c.args.work.now.sets (take c.count-count.result t) in
     rw c.truncate.ensures
-    (subst Cut (sym (c.in_ok-guard.ensures.sets ∙ c.in_ok-same.ensures.sets)) (grows_cut c.args.work.now.sets c.lone_level.new.work.sets c.count-count.result c.count-count.ensures c.in_ok-level.ensures.grows))
+    (subst Cut (sym (c.in_ok-guard.ensures.sets ∙ c.in_ok-same.ensures.sets))
+    (grows_cut c.args.work.now.sets c.lone_level.new.work.sets c.count-count.result c.count-count.ensures c.in_ok-level.ensures.grows))

@@ -10,10 +10,17 @@ use Rattle.claim_check.proofs.sets.check_sets_at.Goals as goal
 pub each-requires : goal.each-requires
 each-requires c =
     let d = claim_in c.args.claimed.now in
-    record { fits = (c.requires.ready, c.requires.of, each_mask d.position (λ mask. IsSome (claimed_at d c.args.ply mask)) c.as_slice.result.now (c.as_slice.ensures ∙ c.requires.ready.masks) c.requires.there) }
+    record {
+      fits = (
+        c.requires.ready,
+        c.requires.of,
+        each_mask d.position (λ mask. IsSome (claimed_at d c.args.ply mask)) c.as_slice.result.now (c.as_slice.ensures.value ∙ c.requires.ready.masks)
+            c.requires.there,
+      );
+    }
 
 pub returns-clause-finds : goal.returns-clause-finds
 returns-clause-finds c =
     let d = claim_in c.args.claimed.now in
     let Over : List ℕ → Type 0 = λ l. Finds (for_each l (check_set d c.args.ply)) c.args.work.now.memo.budget c.each.result in
-    subst Over (c.as_slice.ensures ∙ c.requires.ready.masks) c.each.ensures.answers
+    subst Over (c.as_slice.ensures.value ∙ c.requires.ready.masks) c.each.ensures.answers

@@ -39,8 +39,12 @@ returns-in_err-found-clause-answers c =
     let stage = c.args.moves.now.set.stage in
     let source = set_at c.args.sets.now c.args.moves.now.set.name in
     let level = level_of c.args.sets.now (masks_of c.args.bench.now.position.now) c.args.moves.now.into.now in
-    let found : Program SetOf = union (rules_of c.args.bench.now.position.now) stage.ply stage.mask c.args.moves.now.part (pre_items (rules_of c.args.bench.now.position.now) stage.side stage.mask source level) in
-    rw (p.1, p.2) (Error-bind found (is_within (mask_tracks c.args.bench.now.position.now stage.mask) (name stage.ply stage.mask c.args.missing) source) c.args.memo.now.budget c.in_err-found.field-0.0 c.in_err-found.ensures.answers)
+    let found : Program SetOf =
+    union (rules_of c.args.bench.now.position.now) stage.ply stage.mask c.args.moves.now.part
+    (pre_items (rules_of c.args.bench.now.position.now) stage.side stage.mask source level) in
+    rw (p.1, p.2)
+    (Error-bind found (is_within (mask_tracks c.args.bench.now.position.now stage.mask) (name stage.ply stage.mask c.args.missing) source)
+    c.args.memo.now.budget c.in_err-found.field-0.0 c.in_err-found.ensures.answers)
 
 pub returns-clause-answers : goal.returns-clause-answers
 returns-clause-answers c =
@@ -51,7 +55,9 @@ returns-clause-answers c =
     let source = set_at c.args.sets.now c.args.moves.now.set.name in
     let level = level_of c.args.sets.now (masks_of c.args.bench.now.position.now) c.args.moves.now.into.now in
     let set = as_set c.in_ok-found.found in
-    let found : Program SetOf = union (rules_of c.args.bench.now.position.now) stage.ply stage.mask c.args.moves.now.part (pre_items (rules_of c.args.bench.now.position.now) stage.side stage.mask source level) in
+    let found : Program SetOf =
+    union (rules_of c.args.bench.now.position.now) stage.ply stage.mask c.args.moves.now.part
+    (pre_items (rules_of c.args.bench.now.position.now) stage.side stage.mask source level) in
     let r = c.is_within.result in
     let copied = lent-copied c.as_ref.result c.in_ok-found.found c.as_ref.ensures.value in
     let By_tracks : List Var → Type 0 = λ ts. Answers (is_within ts c.part.result (lent c.lent.result) (lent c.as_ref.result)) c.budget.result (λ (b : Bool). b) r in
@@ -60,4 +66,5 @@ returns-clause-answers c =
     let By_other : SetOf → Type 0 = λ s. Answers (is_within tracks part source s) c.budget.result (λ (b : Bool). b) r in
     let By_budget : ℕ → Type 0 = λ n. Answers (is_within tracks part source set) n (λ (b : Bool). b) r in
     Answers-later found (is_within tracks part source) c.args.memo.now.budget (λ (b : Bool). b) set c.in_ok-found.ensures.answers r
-    (subst By_budget (c.budget.ensures.is ∙ c.in_ok-found.ensures.budget) (subst By_other copied (subst By_one c.lent.ensures.set (subst By_part c.part.ensures (subst By_tracks same c.is_within.ensures.answers)))))
+    (subst By_budget (c.budget.ensures.is ∙ c.in_ok-found.ensures.budget)
+    (subst By_other copied (subst By_one c.lent.ensures.set (subst By_part c.part.ensures (subst By_tracks same c.is_within.ensures.answers)))))

@@ -16,17 +16,22 @@ use Rattle.mate_plan.proofs.answering.have_replies.Goals as goal
 
 pub is_lacking-requires : goal.is_lacking-requires
 is_lacking-requires c =
-    let masks = masks_of c.args.bench.now.position.now in
-    (mask_tracks c.args.bench.now.position.now c.args.moves.now.stage.mask, name_is_found c.args.bench.now.position.now.men c.args.work.now.sets masks masks c.args.moves.now.from.now c.args.moves.now.stage.mask c.name_in-name.result refl c.name_in-name.ensures c.requires.from)
+    let masks = masks_of c.args.bench.now.position.now in (
+      mask_tracks c.args.bench.now.position.now c.args.moves.now.stage.mask,
+      name_is_found c.args.bench.now.position.now.men c.args.work.now.sets masks masks c.args.moves.now.from.now c.args.moves.now.stage.mask
+          c.name_in-name.result refl c.name_in-name.ensures c.requires.from,
+    )
 
 pub quiet_name-requires-clause-source : goal.quiet_name-requires-clause-source
 quiet_name-requires-clause-source c =
     let masks = masks_of c.args.bench.now.position.now in
-    name_is_found c.args.bench.now.position.now.men c.args.work.now.sets masks masks c.args.moves.now.from.now c.args.moves.now.stage.mask c.name_in-name.result refl c.name_in-name.ensures c.requires.from
+    name_is_found c.args.bench.now.position.now.men c.args.work.now.sets masks masks c.args.moves.now.from.now c.args.moves.now.stage.mask
+    c.name_in-name.result refl c.name_in-name.ensures c.requires.from
 
 pub have_moves-requires-clause-into : goal.have_moves-requires-clause-into
 have_moves-requires-clause-into c =
-    names-grow c.args.bench.now.position.now.men c.args.work.now.sets c.quiet_name.new.work.sets (masks_of c.args.bench.now.position.now) c.args.moves.now.into.now c.in_ok-quiet.ensures.grows c.requires.into
+    names-grow c.args.bench.now.position.now.men c.args.work.now.sets c.quiet_name.new.work.sets (masks_of c.args.bench.now.position.now)
+    c.args.moves.now.into.now c.in_ok-quiet.ensures.grows c.requires.into
 
 pub truncate-requires : goal.truncate-requires
 truncate-requires c =
@@ -39,7 +44,8 @@ returns-then-is_lacking-clause-answers c =
     let stage = c.args.moves.now.stage in
     let is = set_is_found c.args.work.now.sets masks masks c.args.moves.now.from.now stage.mask c.name_in-name.result refl c.name_in-name.ensures in
     let empty : IsEmpty (set_at c.args.work.now.sets c.name_in-name.result) = rw c.if-is_lacking.true at c.is_lacking.ensures.yes in
-    none_asked (rules_of c.args.bench.now.position.now) stage.side stage.ply stage.mask c.args.work.now.memo.budget (level_of c.args.work.now.sets masks c.args.moves.now.from.now) (level_of c.args.work.now.sets masks c.args.moves.now.into.now)
+    none_asked (rules_of c.args.bench.now.position.now) stage.side stage.ply stage.mask c.args.work.now.memo.budget
+    (level_of c.args.work.now.sets masks c.args.moves.now.from.now) (level_of c.args.work.now.sets masks c.args.moves.now.into.now)
     (subst IsEmpty is empty)
 
 pub returns-in_err-quiet-clause-answers : goal.returns-in_err-quiet-clause-answers
@@ -50,7 +56,8 @@ returns-in_err-quiet-clause-answers c =
     let is = set_is_found c.args.work.now.sets masks masks c.args.moves.now.from.now stage.mask c.name_in-name.result refl c.name_in-name.ensures in
     let some : ¬ IsEmpty (set_at c.args.work.now.sets c.name_in-name.result) = rw c.if-is_lacking.false at c.is_lacking.ensures.none in
     rw (p.1, p.2)
-    (quiet_error (rules_of c.args.bench.now.position.now) stage.side stage.ply stage.mask c.args.work.now.memo.budget (level_of c.args.work.now.sets masks c.args.moves.now.from.now) (level_of c.args.work.now.sets masks c.args.moves.now.into.now)
+    (quiet_error (rules_of c.args.bench.now.position.now) stage.side stage.ply stage.mask c.args.work.now.memo.budget
+    (level_of c.args.work.now.sets masks c.args.moves.now.from.now) (level_of c.args.work.now.sets masks c.args.moves.now.into.now)
     (set_at c.args.work.now.sets c.name_in-name.result) is some c.in_err-quiet.field-0.0 c.in_err-quiet.ensures.answers)
 
 pub returns-in_err-answered-clause-answers : goal.returns-in_err-answered-clause-answers
@@ -65,10 +72,13 @@ returns-in_err-answered-clause-answers c =
     let is = set_is_found c.args.work.now.sets masks masks c.args.moves.now.from.now stage.mask c.name_in-name.result refl c.name_in-name.ensures in
     let some : ¬ IsEmpty (set_at c.args.work.now.sets c.name_in-name.result) = rw c.if-is_lacking.false at c.is_lacking.ensures.none in
     let grown = level-grows c.args.bench.now.position.now.men c.args.work.now.sets c.quiet_name.new.work.sets masks c.args.moves.now.into.now c.in_ok-quiet.ensures.grows c.requires.into in
-    let Over : Level → Type 0 = λ level. Answers (have_moves rules stage.side stage.ply stage.mask kind.Reply kind.Stale quiet level) c.quiet_name.new.work.memo.budget (λ (b : Bool). b) (Err c.in_err-answered.field-0.0) in
+    let Over : Level → Type 0 =
+    λ level. Answers (have_moves rules stage.side stage.ply stage.mask kind.Reply kind.Stale quiet level) c.quiet_name.new.work.memo.budget
+    (λ (b : Bool). b) (Err c.in_err-answered.field-0.0) in
     let Within : ℕ → Type 0 = λ n. Answers (have_moves rules stage.side stage.ply stage.mask kind.Reply kind.Stale quiet into) n (λ (b : Bool). b) (Err c.in_err-answered.field-0.0) in
     rw (p.1, p.2)
-    (reply_answers rules stage.side stage.ply stage.mask c.args.work.now.memo.budget from into (set_at c.args.work.now.sets c.name_in-name.result) is some quiet (Err c.in_err-answered.field-0.0) c.in_ok-quiet.ensures.answers
+    (reply_answers rules stage.side stage.ply stage.mask c.args.work.now.memo.budget from into (set_at c.args.work.now.sets c.name_in-name.result)
+    is some quiet (Err c.in_err-answered.field-0.0) c.in_ok-quiet.ensures.answers
     (subst Within c.in_ok-quiet.ensures.budget (subst Over grown c.in_err-answered.ensures.answers)))
 
 pub returns-clause-answers : goal.returns-clause-answers
@@ -82,9 +92,12 @@ returns-clause-answers c =
     let is = set_is_found c.args.work.now.sets masks masks c.args.moves.now.from.now stage.mask c.name_in-name.result refl c.name_in-name.ensures in
     let some : ¬ IsEmpty (set_at c.args.work.now.sets c.name_in-name.result) = rw c.if-is_lacking.false at c.is_lacking.ensures.none in
     let grown = level-grows c.args.bench.now.position.now.men c.args.work.now.sets c.quiet_name.new.work.sets masks c.args.moves.now.into.now c.in_ok-quiet.ensures.grows c.requires.into in
-    let Over : Level → Type 0 = λ level. Answers (have_moves rules stage.side stage.ply stage.mask kind.Reply kind.Stale quiet level) c.quiet_name.new.work.memo.budget (λ (b : Bool). b) (Ok c.in_ok-answered.answered) in
+    let Over : Level → Type 0 =
+    λ level. Answers (have_moves rules stage.side stage.ply stage.mask kind.Reply kind.Stale quiet level) c.quiet_name.new.work.memo.budget
+    (λ (b : Bool). b) (Ok c.in_ok-answered.answered) in
     let Within : ℕ → Type 0 = λ n. Answers (have_moves rules stage.side stage.ply stage.mask kind.Reply kind.Stale quiet into) n (λ (b : Bool). b) (Ok c.in_ok-answered.answered) in
-    reply_answers rules stage.side stage.ply stage.mask c.args.work.now.memo.budget from into (set_at c.args.work.now.sets c.name_in-name.result) is some quiet (Ok c.in_ok-answered.answered) c.in_ok-quiet.ensures.answers
+    reply_answers rules stage.side stage.ply stage.mask c.args.work.now.memo.budget from into (set_at c.args.work.now.sets c.name_in-name.result)
+    is some quiet (Ok c.in_ok-answered.answered) c.in_ok-quiet.ensures.answers
     (subst Within c.in_ok-quiet.ensures.budget (subst Over grown c.in_ok-answered.ensures.answers))
 
 pub returns-clause-grows : goal.returns-clause-grows

@@ -37,6 +37,9 @@ returns-clause-answers c =
     let s = level_of c.args.work.now.sets masks c.args.at.now.level.now mask in
     let trees : map tree_of c.deref.result.now ≡ twin_trees c.args.bench.now.position.now mask source = ap (λ l. map tree_of l) c.deref.ensures.value ∙ c.in_ok-formulas.ensures in
     let is = set_is_found c.args.work.now.sets masks masks c.args.at.now.level.now mask source refl c.name_in-source.ensures in
-    empty_answers c.table.result.now c.args.work.now.sets c.table.ensures c.deref.result.now (twin_trees c.args.bench.now.position.now mask source) trees c.part-part.result (name c.args.at.now.stage.ply mask kind.Same)
+    empty_answers c.table.result.now c.args.work.now.sets c.table.ensures c.deref.result.now (twin_trees c.args.bench.now.position.now mask source)
+    trees c.part-part.result (name c.args.at.now.stage.ply mask kind.Same)
     (twin_items c.args.bench.now.position.now mask s) c.args.work.now.memo.budget c.are_empty.result c.part-part.ensures
-    (twins_thin c.args.bench.now.position.now (game_of c.args.bench.now.position.now c.requires.sound c.args.bench.now.few) c.args.work.now.sets mask c.requires.mask source s (sym is)) c.are_empty.ensures.answers
+    (twins_thin c.args.bench.now.position.now (game_of c.args.bench.now.position.now c.requires.sound c.args.bench.now.few) c.args.work.now.sets mask
+    c.requires.mask source s (sym is))
+    c.are_empty.ensures.answers

@@ -22,7 +22,8 @@ are_empty-requires-clause-items c =
     let source = c.name_in-source.result in
     let trees : map tree_of c.deref.result.now ≡ bear_trees c.args.bench.now.position.now side mask source = ap (λ l. map tree_of l) c.deref.ensures.value ∙ c.in_ok-formulas.ensures in
     let on = name_is_found c.args.bench.now.position.now.men c.args.work.now.sets masks masks c.args.at.now.level.now mask source refl c.name_in-source.ensures c.requires.level in
-    empty_items c.table.result.now c.args.work.now.sets c.table.ensures c.deref.result.now (bear_trees c.args.bench.now.position.now side mask source) trees (mask_tracks c.args.bench.now.position.now mask)
+    empty_items c.table.result.now c.args.work.now.sets c.table.ensures c.deref.result.now (bear_trees c.args.bench.now.position.now side mask source)
+    trees (mask_tracks c.args.bench.now.position.now mask)
     (bears_on c.args.bench.now.position.now (game_of c.args.bench.now.position.now c.requires.sound c.args.bench.now.few) c.args.work.now.sets side mask source c.requires.mask on)
 
 pub are_empty-requires-clause-few : goal.are_empty-requires-clause-few
@@ -42,6 +43,9 @@ returns-clause-answers c =
     let s = level_of c.args.work.now.sets masks c.args.at.now.level.now mask in
     let trees : map tree_of c.deref.result.now ≡ bear_trees c.args.bench.now.position.now side mask source = ap (λ l. map tree_of l) c.deref.ensures.value ∙ c.in_ok-formulas.ensures in
     let is = set_is_found c.args.work.now.sets masks masks c.args.at.now.level.now mask source refl c.name_in-source.ensures in
-    empty_answers c.table.result.now c.args.work.now.sets c.table.ensures c.deref.result.now (bear_trees c.args.bench.now.position.now side mask source) trees c.part-part.result (name c.args.at.now.stage.ply mask kind.Guard)
+    empty_answers c.table.result.now c.args.work.now.sets c.table.ensures c.deref.result.now
+    (bear_trees c.args.bench.now.position.now side mask source) trees c.part-part.result (name c.args.at.now.stage.ply mask kind.Guard)
     (bear_items (rules_of c.args.bench.now.position.now) side mask s) c.args.work.now.memo.budget c.are_empty.result c.part-part.ensures
-    (bears_thin c.args.bench.now.position.now (game_of c.args.bench.now.position.now c.requires.sound c.args.bench.now.few) c.args.work.now.sets side mask source s (sym is)) c.are_empty.ensures.answers
+    (bears_thin c.args.bench.now.position.now (game_of c.args.bench.now.position.now c.requires.sound c.args.bench.now.few) c.args.work.now.sets side
+    mask source s (sym is))
+    c.are_empty.ensures.answers

@@ -17,7 +17,9 @@ returns-clause-answers g c =
     let bench = c.args.bench.now in
     let sets = c.args.work.now.sets in
     let program = g.M.MaskSets.program c.args.making.now bench.position.now sets in
-    let Over : List ℕ → Type 0 = λ ms. Answers (for_masks ms program (level_in bench.position.now sets [])) c.args.work.now.memo.budget (level_in bench.position.now c.each.new.work.sets) c.each.result in
+    let Over : List ℕ → Type 0 =
+    λ ms. Answers (for_masks ms program (level_in bench.position.now sets [])) c.args.work.now.memo.budget
+    (level_in bench.position.now c.each.new.work.sets) c.each.result in
     let From : Level → Type 0 = λ l. Answers (for_masks (masks_of bench.position.now) program l) c.args.work.now.memo.budget (level_in bench.position.now c.each.new.work.sets) c.each.result in
     subst From (level_none bench.position.now sets) (subst Over bench.masks_are (rw c.new.ensures at c.each.ensures.answers))
 

@@ -25,7 +25,9 @@ returns-clause-answers c =
     let is = set_is_found c.args.sets.now masks masks c.args.start.now c.mask.result c.name_in-name.result refl c.name_in-name.ensures in
     let into = level_of c.args.sets.now masks c.args.into.now in
     let Of : SetOf → Type 0 = λ s. Answers (union (rules_of p) 0 c.mask.result kind.First (pre_items (rules_of p) p.turn c.mask.result s into)) c.args.memo.now.budget as_set c.pre_set.result in
-    let At : ℕ → Type 0 = λ m. Answers (union (rules_of p) 0 m kind.First (pre_items (rules_of p) p.turn m (level_of c.args.sets.now masks c.args.start.now m) into)) c.args.memo.now.budget as_set c.pre_set.result in
+    let At : ℕ → Type 0 =
+    λ m. Answers (union (rules_of p) 0 m kind.First (pre_items (rules_of p) p.turn m (level_of c.args.sets.now masks c.args.start.now m) into))
+    c.args.memo.now.budget as_set c.pre_set.result in
     subst At (mask_one p c.mask.result c.mask.ensures) (subst Of is (rw c.turn.ensures at c.pre_set.ensures.answers))
 
 pub returns-clause-set : goal.returns-clause-set

@@ -7,4 +7,6 @@ use Rattle.mate_plan.proofs.formulas.image_formulas.Given as goal
 
 abbrev pub invariant-loop-mask : goal.invariant-loop-mask
 invariant-loop-mask l =
-    map tree_of l.formulas.items ≡ flat_map (λ m. images_from l.bench.position.now l.stage.side l.stage.mask m (name_of (masks_of l.bench.position.now) l.level m)) (take l.mask-index l.bench.masks.now)
+    map tree_of l.formulas.items ≡ flat_map
+    (λ m. images_from l.bench.position.now l.stage.side l.stage.mask m (name_of (masks_of l.bench.position.now) l.level m))
+    (take l.mask-index l.bench.masks.now)

@@ -3,4 +3,6 @@ use Rattle.mate_plan.proofs.PartItems.{options_all}
 use Rattle.mate_plan.proofs.formulas.pre_formulas.Goals as goal
 
 pub pre_options-requires-clause-options : goal.pre_options-requires-clause-options
-pre_options-requires-clause-options c = options_all c.args.bench.now.position.now.men c.args.source.stage.mask c.args.source.stage.side c.as_slice.result.now (c.as_slice.ensures ∙ c.in_ok-all.ensures.list)
+pre_options-requires-clause-options c =
+    options_all c.args.bench.now.position.now.men c.args.source.stage.mask c.args.source.stage.side c.as_slice.result.now
+    (c.as_slice.ensures.value ∙ c.in_ok-all.ensures.list)

@@ -7,4 +7,6 @@ use Rattle.mate_plan.proofs.formulas.pre_options.Given as goal
 
 abbrev pub invariant-loop-option : goal.invariant-loop-option
 invariant-loop-option l =
-    map tree_of l.formulas.items ≡ flat_map (λ o. pre_to l.bench.position.now l.from.mask l.from.set o (name_of (masks_of l.bench.position.now) l.targets (target_of l.from.mask o))) (take l.option-index l.options)
+    map tree_of l.formulas.items ≡ flat_map
+    (λ o. pre_to l.bench.position.now l.from.mask l.from.set o (name_of (masks_of l.bench.position.now) l.targets (target_of l.from.mask o)))
+    (take l.option-index l.options)

@@ -3,4 +3,6 @@ use Rattle.mate_plan.proofs.UnionAnswers.{game_of}
 use Rattle.mate_plan.proofs.formulas.push_image.Goals as goal
 
 pub target-requires : goal.target-requires
-target-requires c low = (game_means c.args.bench.now.position.now (game_of c.args.bench.now.position.now c.requires.sound c.args.bench.now.few)).taken c.args.from.mask c.args.option c.requires.option low
+target-requires c low =
+    (game_means c.args.bench.now.position.now (game_of c.args.bench.now.position.now c.requires.sound c.args.bench.now.few)).taken c.args.from.mask
+    c.args.option c.requires.option low

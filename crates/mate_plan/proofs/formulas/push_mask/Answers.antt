@@ -3,4 +3,4 @@ use Rattle.mate_plan.proofs.PartItems.{options_all}
 use Rattle.mate_plan.proofs.formulas.push_mask.Goals as goal
 
 pub push_images-requires-clause-options : goal.push_images-requires-clause-options
-push_images-requires-clause-options c = options_all c.args.bench.now.position.now.men c.args.mask c.args.stage.side c.as_slice.result.now (c.as_slice.ensures ∙ c.in_ok-all.ensures.list)
+push_images-requires-clause-options c = options_all c.args.bench.now.position.now.men c.args.mask c.args.stage.side c.as_slice.result.now (c.as_slice.ensures.value ∙ c.in_ok-all.ensures.list)

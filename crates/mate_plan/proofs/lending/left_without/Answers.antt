@@ -11,5 +11,7 @@ pub returns-clause-answers : goal.returns-clause-answers
 returns-clause-answers c =
     let tracks : c.deref.result.now ≡ mask_tracks c.args.bench.now.position.now c.args.whole.part.mask = c.deref.ensures.value ∙ c.in_ok-tracks.ensures in
     let Over : List Var → Type 0 = λ t. Answers (remainder t c.args.whole.part (lent c.lent.result) (lent c.args.other)) c.args.budget (left_of (lent c.lent.result)) c.remainder.result in
-    let Of : SetOf → Type 0 = λ s. Answers (remainder (mask_tracks c.args.bench.now.position.now c.args.whole.part.mask) c.args.whole.part s (lent c.args.other)) c.args.budget (left_of s) c.remainder.result in
+    let Of : SetOf → Type 0 =
+    λ s. Answers (remainder (mask_tracks c.args.bench.now.position.now c.args.whole.part.mask) c.args.whole.part s (lent c.args.other))
+    c.args.budget (left_of s) c.remainder.result in
     subst Of c.lent.ensures.set (subst Over tracks c.remainder.ensures.answers)

@@ -21,7 +21,8 @@ returns-in_err-rests-clause-answers c =
     let e = err_from_is_err_and c.from_residual.result c.from_residual.ensures.1 in
     let from = c.args.from.now in
     rw (e.1, e.2)
-    (rests_error c.args.bench.now.position.now from.side from.ply c.args.work.now.memo.budget c.args.work.now.sets from.reach.now from.next_reach.now from.next_kept.now c.in_err-rests.field-0.0 c.in_err-rests.ensures.answers)
+    (rests_error c.args.bench.now.position.now from.side from.ply c.args.work.now.memo.budget c.args.work.now.sets from.reach.now from.next_reach.now
+    from.next_kept.now c.in_err-rests.field-0.0 c.in_err-rests.ensures.answers)
 
 pub returns-clause-answers : goal.returns-clause-answers
 returns-clause-answers c =
@@ -29,4 +30,5 @@ returns-clause-answers c =
     let from = c.args.from.now in
     let ended = rw c.in_ok-rests.ensures.budget at c.level_by-2.ensures.answers in
     lost_answers p from.side from.ply c.args.work.now.memo.budget c.args.work.now.sets from.reach.now from.next_reach.now from.next_kept.now
-    (level_in p c.level_by-2.new.work.sets) c.level_by-2.result c.level_by.new.work.sets c.in_ok-rests.rests c.in_ok-rests.ensures.grows c.requires.reach c.requires.next_reach c.in_ok-rests.ensures.answers ended
+    (level_in p c.level_by-2.new.work.sets) c.level_by-2.result c.level_by.new.work.sets c.in_ok-rests.rests c.in_ok-rests.ensures.grows
+    c.requires.reach c.requires.next_reach c.in_ok-rests.ensures.answers ended

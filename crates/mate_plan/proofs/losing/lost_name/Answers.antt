@@ -11,11 +11,18 @@ use Rattle.mate_plan.proofs.LostParts.{lost_none, lost_some}
 use Rattle.mate_plan.proofs.losing.lost_name.Goals as goal
 
 pub is_lacking-requires : goal.is_lacking-requires
-is_lacking-requires c =
-    (mask_tracks c.args.bench.now.position.now c.args.mask, name_is_found c.args.bench.now.position.now.men c.args.work.now.sets (masks_of c.args.bench.now.position.now) (masks_of c.args.bench.now.position.now) c.args.from.now.reach.now c.args.mask c.name_in-name.result refl c.name_in-name.ensures c.requires.reach)
+is_lacking-requires c = (
+  mask_tracks c.args.bench.now.position.now c.args.mask,
+  name_is_found c.args.bench.now.position.now.men c.args.work.now.sets (masks_of c.args.bench.now.position.now)
+      (masks_of c.args.bench.now.position.now) c.args.from.now.reach.now c.args.mask c.name_in-name.result refl c.name_in-name.ensures
+      c.requires.reach,
+)
 
 pub lost_set-requires-clause-reach : goal.lost_set-requires-clause-reach
-lost_set-requires-clause-reach c = name_is_found c.args.bench.now.position.now.men c.args.work.now.sets (masks_of c.args.bench.now.position.now) (masks_of c.args.bench.now.position.now) c.args.from.now.reach.now c.args.mask c.name_in-name.result refl c.name_in-name.ensures c.requires.reach
+lost_set-requires-clause-reach c =
+    name_is_found c.args.bench.now.position.now.men c.args.work.now.sets (masks_of c.args.bench.now.position.now)
+    (masks_of c.args.bench.now.position.now) c.args.from.now.reach.now c.args.mask c.name_in-name.result refl c.name_in-name.ensures
+    c.requires.reach
 
 pub truncate-requires : goal.truncate-requires
 truncate-requires c =
@@ -27,7 +34,9 @@ returns-then-is_lacking-clause-answers c =
     let masks = masks_of c.args.bench.now.position.now in
     let is = set_is_found c.args.work.now.sets masks masks c.args.from.now.reach.now c.args.mask c.name_in-name.result refl c.name_in-name.ensures in
     let empty : IsEmpty (set_at c.args.work.now.sets c.name_in-name.result) = rw c.if-is_lacking.true at c.is_lacking.ensures.yes in
-    lost_none (rules_of c.args.bench.now.position.now) c.args.from.now.side c.args.from.now.ply c.args.mask c.args.work.now.memo.budget (level_of c.args.work.now.sets masks c.args.from.now.reach.now) (level_of c.args.work.now.sets masks c.args.from.now.next_reach.now) (level_of c.args.work.now.sets masks c.args.from.now.rests.now)
+    lost_none (rules_of c.args.bench.now.position.now) c.args.from.now.side c.args.from.now.ply c.args.mask c.args.work.now.memo.budget
+    (level_of c.args.work.now.sets masks c.args.from.now.reach.now) (level_of c.args.work.now.sets masks c.args.from.now.next_reach.now)
+    (level_of c.args.work.now.sets masks c.args.from.now.rests.now)
     (subst IsEmpty is empty)
 
 pub returns-in_err-set-clause-answers : goal.returns-in_err-set-clause-answers
@@ -37,7 +46,10 @@ returns-in_err-set-clause-answers c =
     let is = set_is_found c.args.work.now.sets masks masks c.args.from.now.reach.now c.args.mask c.name_in-name.result refl c.name_in-name.ensures in
     let some : ¬ IsEmpty (set_at c.args.work.now.sets c.name_in-name.result) = rw c.if-is_lacking.false at c.is_lacking.ensures.none in
     rw (p.1, p.2)
-    (lost_some (rules_of c.args.bench.now.position.now) c.args.from.now.side c.args.from.now.ply c.args.mask c.args.work.now.memo.budget (level_of c.args.work.now.sets masks c.args.from.now.reach.now) (level_of c.args.work.now.sets masks c.args.from.now.next_reach.now) (level_of c.args.work.now.sets masks c.args.from.now.rests.now) (set_at c.args.work.now.sets c.name_in-name.result) is some as_set (Err c.in_err-set.field-0.0) c.in_err-set.ensures.answers)
+    (lost_some (rules_of c.args.bench.now.position.now) c.args.from.now.side c.args.from.now.ply c.args.mask c.args.work.now.memo.budget
+    (level_of c.args.work.now.sets masks c.args.from.now.reach.now) (level_of c.args.work.now.sets masks c.args.from.now.next_reach.now)
+    (level_of c.args.work.now.sets masks c.args.from.now.rests.now) (set_at c.args.work.now.sets c.name_in-name.result) is some as_set
+    (Err c.in_err-set.field-0.0) c.in_err-set.ensures.answers)
 
 pub returns-clause-answers : goal.returns-clause-answers
 returns-clause-answers c =
@@ -45,7 +57,12 @@ returns-clause-answers c =
     let is = set_is_found c.args.work.now.sets masks masks c.args.from.now.reach.now c.args.mask c.name_in-name.result refl c.name_in-name.ensures in
     let some : ¬ IsEmpty (set_at c.args.work.now.sets c.name_in-name.result) = rw c.if-is_lacking.false at c.is_lacking.ensures.none in
     rw c.in_ok-keep.ensures.ok
-    (lost_some (rules_of c.args.bench.now.position.now) c.args.from.now.side c.args.from.now.ply c.args.mask c.args.work.now.memo.budget (level_of c.args.work.now.sets masks c.args.from.now.reach.now) (level_of c.args.work.now.sets masks c.args.from.now.next_reach.now) (level_of c.args.work.now.sets masks c.args.from.now.rests.now) (set_at c.args.work.now.sets c.name_in-name.result) is some as_set (Ok c.in_ok-set.set) c.in_ok-set.ensures.answers)
+    (lost_some (rules_of c.args.bench.now.position.now) c.args.from.now.side c.args.from.now.ply c.args.mask c.args.work.now.memo.budget
+    (level_of c.args.work.now.sets masks c.args.from.now.reach.now) (level_of c.args.work.now.sets masks c.args.from.now.next_reach.now)
+    (level_of c.args.work.now.sets masks c.args.from.now.rests.now) (set_at c.args.work.now.sets c.name_in-name.result) is some as_set
+    (Ok c.in_ok-set.set) c.in_ok-set.ensures.answers)
 
 pub returns-clause-name : goal.returns-clause-name
-returns-clause-name c = on_from_kept (mask_tracks c.args.bench.now.position.now c.args.mask) c.keep.new.self c.in_ok-set.set c.in_ok-keep.field-0 c.in_ok-set.ensures.set c.in_ok-keep.ensures.ok c.in_ok-keep.ensures.within
+returns-clause-name c =
+    on_from_kept (mask_tracks c.args.bench.now.position.now c.args.mask) c.keep.new.self c.in_ok-set.set c.in_ok-keep.field-0 c.in_ok-set.ensures.set
+    c.in_ok-keep.ensures.ok c.in_ok-keep.ensures.within

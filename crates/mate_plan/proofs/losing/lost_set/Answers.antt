@@ -16,7 +16,9 @@ pub reply_set-requires-clause-check : goal.reply_set-requires-clause-check
 reply_set-requires-clause-check c = on-copied (mask_tracks c.args.bench.now.position.now c.args.reach.stage.mask) c.as_ref.result c.in_ok-check.check c.as_ref.ensures.value c.in_ok-check.ensures.set
 
 pub reply_set-requires-clause-next_reach : goal.reply_set-requires-clause-next_reach
-reply_set-requires-clause-next_reach c = names-grow c.args.bench.now.position.now.men c.args.work.now.sets c.calm_name.new.work.sets (masks_of c.args.bench.now.position.now) c.args.next_reach.now c.in_ok-name.ensures.grows c.requires.next_reach
+reply_set-requires-clause-next_reach c =
+    names-grow c.args.bench.now.position.now.men c.args.work.now.sets c.calm_name.new.work.sets (masks_of c.args.bench.now.position.now)
+    c.args.next_reach.now c.in_ok-name.ensures.grows c.requires.next_reach
 
 pub together-requires-clause-first : goal.together-requires-clause-first
 together-requires-clause-first c =
@@ -35,7 +37,9 @@ returns-in_err-name-clause-answers c =
     let p = err_from_is_err_and c.from_residual.result c.from_residual.ensures.1 in
     let masks = masks_of c.args.bench.now.position.now in
     rw (p.1, p.2)
-    (calm_error (rules_of c.args.bench.now.position.now) c.args.reach.stage.side c.args.reach.stage.ply c.args.reach.stage.mask (set_at c.args.work.now.sets c.args.reach.name) (level_of c.args.work.now.sets masks c.args.next_reach.now) (level_of c.args.work.now.sets masks c.args.rests.now) c.args.work.now.memo.budget c.in_err-name.field-0.0 c.in_err-name.ensures.answers)
+    (calm_error (rules_of c.args.bench.now.position.now) c.args.reach.stage.side c.args.reach.stage.ply c.args.reach.stage.mask
+    (set_at c.args.work.now.sets c.args.reach.name) (level_of c.args.work.now.sets masks c.args.next_reach.now)
+    (level_of c.args.work.now.sets masks c.args.rests.now) c.args.work.now.memo.budget c.in_err-name.field-0.0 c.in_err-name.ensures.answers)
 
 pub returns-in_err-check-clause-answers : goal.returns-in_err-check-clause-answers
 returns-in_err-check-clause-answers c =
@@ -43,7 +47,10 @@ returns-in_err-check-clause-answers c =
     let masks = masks_of c.args.bench.now.position.now in
     let error = rw c.in_ok-name.ensures.budget at c.in_err-check.ensures.answers in
     rw (p.1, p.2)
-    (check_error (rules_of c.args.bench.now.position.now) c.args.reach.stage.side c.args.reach.stage.ply c.args.reach.stage.mask (set_at c.args.work.now.sets c.args.reach.name) (level_of c.args.work.now.sets masks c.args.next_reach.now) (level_of c.args.work.now.sets masks c.args.rests.now) c.args.work.now.memo.budget (set_at c.calm_name.new.work.sets c.in_ok-name.name) c.in_err-check.field-0.0 c.in_ok-name.ensures.answers error)
+    (check_error (rules_of c.args.bench.now.position.now) c.args.reach.stage.side c.args.reach.stage.ply c.args.reach.stage.mask
+    (set_at c.args.work.now.sets c.args.reach.name) (level_of c.args.work.now.sets masks c.args.next_reach.now)
+    (level_of c.args.work.now.sets masks c.args.rests.now) c.args.work.now.memo.budget (set_at c.calm_name.new.work.sets c.in_ok-name.name)
+    c.in_err-check.field-0.0 c.in_ok-name.ensures.answers error)
 
 pub returns-in_err-reply-clause-answers : goal.returns-in_err-reply-clause-answers
 returns-in_err-reply-clause-answers c =
@@ -52,8 +59,13 @@ returns-in_err-reply-clause-answers c =
     let calm = set_at c.calm_name.new.work.sets c.in_ok-name.name in
     let second = rw c.in_ok-name.ensures.budget at c.in_ok-check.ensures.answers in
     rw (p.1, p.2)
-    (reply_error (rules_of c.args.bench.now.position.now) c.args.reach.stage.side c.args.reach.stage.ply c.args.reach.stage.mask (set_at c.args.work.now.sets c.args.reach.name) (level_of c.args.work.now.sets masks c.args.next_reach.now) (level_of c.args.work.now.sets masks c.args.rests.now) c.args.work.now.memo.budget calm (as_set c.in_ok-check.check) c.in_err-reply.field-0.0 c.in_ok-name.ensures.answers second
-    (reply_here c.args.bench.now.position.now c.args.reach.stage.side c.args.reach.stage.ply c.args.reach.stage.mask c.check_set.new.memo.budget c.args.work.now.memo.budget (c.in_ok-check.ensures.budget ∙ c.in_ok-name.ensures.budget) c.args.work.now.sets c.calm_name.new.work.sets c.args.next_reach.now calm (as_set c.in_ok-check.check) (lent c.as_ref.result) c.in_ok-name.ensures.grows c.requires.next_reach
+    (reply_error (rules_of c.args.bench.now.position.now) c.args.reach.stage.side c.args.reach.stage.ply c.args.reach.stage.mask
+    (set_at c.args.work.now.sets c.args.reach.name) (level_of c.args.work.now.sets masks c.args.next_reach.now)
+    (level_of c.args.work.now.sets masks c.args.rests.now) c.args.work.now.memo.budget calm (as_set c.in_ok-check.check) c.in_err-reply.field-0.0
+    c.in_ok-name.ensures.answers second
+    (reply_here c.args.bench.now.position.now c.args.reach.stage.side c.args.reach.stage.ply c.args.reach.stage.mask c.check_set.new.memo.budget
+    c.args.work.now.memo.budget (c.in_ok-check.ensures.budget ∙ c.in_ok-name.ensures.budget) c.args.work.now.sets c.calm_name.new.work.sets
+    c.args.next_reach.now calm (as_set c.in_ok-check.check) (lent c.as_ref.result) c.in_ok-name.ensures.grows c.requires.next_reach
     (lent-copied c.as_ref.result c.in_ok-check.check c.as_ref.ensures.value) as_set (Err c.in_err-reply.field-0.0) c.in_err-reply.ensures.answers))
 
 pub returns-clause-answers : goal.returns-clause-answers
@@ -64,10 +76,17 @@ returns-clause-answers c =
     let tracks : c.deref.result.now ≡ mask_tracks c.args.bench.now.position.now c.args.reach.stage.mask = c.deref.ensures.value ∙ c.in_ok-tracks.ensures in
     let second = rw c.in_ok-name.ensures.budget at c.in_ok-check.ensures.answers in
     let kept : c.check_set.new.memo.budget ≡ c.args.work.now.memo.budget = c.in_ok-check.ensures.budget ∙ c.in_ok-name.ensures.budget in
-    last_answers (rules_of c.args.bench.now.position.now) c.args.reach.stage.side c.args.reach.stage.ply c.args.reach.stage.mask (set_at c.args.work.now.sets c.args.reach.name) (level_of c.args.work.now.sets masks c.args.next_reach.now) (level_of c.args.work.now.sets masks c.args.rests.now) c.args.work.now.memo.budget as_set calm check (as_set c.in_ok-reply.reply) c.together.result c.in_ok-name.ensures.answers second
-    (reply_here c.args.bench.now.position.now c.args.reach.stage.side c.args.reach.stage.ply c.args.reach.stage.mask c.check_set.new.memo.budget c.args.work.now.memo.budget kept c.args.work.now.sets c.calm_name.new.work.sets c.args.next_reach.now calm check (lent c.as_ref.result) c.in_ok-name.ensures.grows c.requires.next_reach
+    last_answers (rules_of c.args.bench.now.position.now) c.args.reach.stage.side c.args.reach.stage.ply c.args.reach.stage.mask
+    (set_at c.args.work.now.sets c.args.reach.name) (level_of c.args.work.now.sets masks c.args.next_reach.now)
+    (level_of c.args.work.now.sets masks c.args.rests.now) c.args.work.now.memo.budget as_set calm check (as_set c.in_ok-reply.reply)
+    c.together.result c.in_ok-name.ensures.answers second
+    (reply_here c.args.bench.now.position.now c.args.reach.stage.side c.args.reach.stage.ply c.args.reach.stage.mask c.check_set.new.memo.budget
+    c.args.work.now.memo.budget kept c.args.work.now.sets c.calm_name.new.work.sets c.args.next_reach.now calm check (lent c.as_ref.result)
+    c.in_ok-name.ensures.grows c.requires.next_reach
     (lent-copied c.as_ref.result c.in_ok-check.check c.as_ref.ensures.value) as_set (Ok c.in_ok-reply.reply) c.in_ok-reply.ensures.answers)
-    (last_here c.args.bench.now.position.now c.args.reach.stage.side c.args.reach.stage.ply c.args.reach.stage.mask c.budget.result c.args.work.now.memo.budget (c.budget.ensures.is ∙ c.in_ok-reply.ensures.budget ∙ kept) c.deref.result.now c.part.result check (as_set c.in_ok-reply.reply) tracks c.part.ensures as_set c.together.result c.together.ensures.answers)
+    (last_here c.args.bench.now.position.now c.args.reach.stage.side c.args.reach.stage.ply c.args.reach.stage.mask c.budget.result
+    c.args.work.now.memo.budget (c.budget.ensures.is ∙ c.in_ok-reply.ensures.budget ∙ kept) c.deref.result.now c.part.result check
+    (as_set c.in_ok-reply.reply) tracks c.part.ensures as_set c.together.result c.together.ensures.answers)
 
 pub returns-clause-set : goal.returns-clause-set
 returns-clause-set c =

@@ -19,4 +19,5 @@ pub returns-clause-answers : goal.returns-clause-answers
 returns-clause-answers c =
     let by : Bearing → Made → Program Made = narrow_by (rules_of c.args.bench.now.position.now) c.args.stage.ply c.args.stage.mask in
     let made = made_of c.in_ok-made.made in
-    Ends-bind (each c.args.bearings.now by (as_set c.args.moved, 1)) (λ made. Give made.0) c.args.work.now.memo.budget made made.0 c.in_ok-made.ensures.answers (Ends-give c.args.work.now.memo.budget made.0)
+    Ends-bind (each c.args.bearings.now by (as_set c.args.moved, 1)) (λ made. Give made.0) c.args.work.now.memo.budget made made.0
+    c.in_ok-made.ensures.answers (Ends-give c.args.work.now.memo.budget made.0)

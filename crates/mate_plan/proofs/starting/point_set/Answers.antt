@@ -22,11 +22,15 @@ make-requires-clause-few c =
     omega (arith, few)
 
 pub returns-clause-answers : goal.returns-clause-answers
-returns-clause-answers c = point_answers c.args.bench.now.position.now c.args.mask c.table.result.now (tree_of c.in_ok-formula.formula) c.args.memo.now.budget c.in_ok-formula.ensures.tree made_of c.make.result c.make.ensures.answers
+returns-clause-answers c =
+    point_answers c.args.bench.now.position.now c.args.mask c.table.result.now (tree_of c.in_ok-formula.formula) c.args.memo.now.budget
+    c.in_ok-formula.ensures.tree made_of c.make.result c.make.ensures.answers
 
 pub returns-clause-set : goal.returns-clause-set
 returns-clause-set c =
     let f = tree_of c.in_ok-formula.formula in
     let means = point_mean c.args.bench.now.position.now in
     IfOk-weaker c.make.result _ _
-    (λ made is. made_on (mask_tracks c.args.bench.now.position.now (mask_of c.args.bench.now.position.now)) f (point_step c.args.bench.now.position.now.men f c.in_ok-formula.ensures.tree) (means.tracks f c.in_ok-formula.ensures.tree) made.set is) c.make.ensures.set
+    (λ made is. made_on (mask_tracks c.args.bench.now.position.now (mask_of c.args.bench.now.position.now)) f
+    (point_step c.args.bench.now.position.now.men f c.in_ok-formula.ensures.tree) (means.tracks f c.in_ok-formula.ensures.tree) made.set is)
+    c.make.ensures.set

@@ -23,4 +23,5 @@ returns-clause-answers c =
     let tracks = c.deref.ensures.value ∙ c.in_ok-tracks.ensures in
     let items = map (item_of c.args.sets.now) (map tree_of c.args.formulas.now) in
     let ends = rw (c.table.ensures, tracks) at c.in_ok-made.ensures.answers in
-    Ends-bind (unite (mask_tracks c.args.bench.now.position.now c.args.part.mask) c.args.part (Nothing, 1) items) (λ made. Give made.0) c.args.memo.now.budget (made_of c.in_ok-made.made) _ ends (Ends-give c.args.memo.now.budget _)
+    Ends-bind (unite (mask_tracks c.args.bench.now.position.now c.args.part.mask) c.args.part (Nothing, 1) items) (λ made. Give made.0)
+    c.args.memo.now.budget (made_of c.in_ok-made.made) _ ends (Ends-give c.args.memo.now.budget _)

@@ -32,5 +32,7 @@ loop-f-preserved g c =
     record {
       room = omega (arith, c.in_ok-made.ensures.room, c.loop-f.invariant.room);
       budget = c.in_ok-made.ensures.budget ∙ c.loop-f.invariant.budget;
-      left = LeadsTo-empty c.args.part c.args.memo.now.budget c.loop-f.at (item_of c.args.sets.now (tree_of c.f-item.result)) _ _ (made_of c.in_ok-made.made) leads made c.if-not-is_none_or_empty.ensures.yes;
+      left =
+          LeadsTo-empty c.args.part c.args.memo.now.budget c.loop-f.at (item_of c.args.sets.now (tree_of c.f-item.result)) _ _
+          (made_of c.in_ok-made.made) leads made c.if-not-is_none_or_empty.ensures.yes;
     }

@@ -21,20 +21,34 @@ pub returns-in-Some-clause-none : goal.returns-in-Some-clause-none
 returns-in-Some-clause-none t c =
     let same : tables c.args.sets.now c.in-Among.set.0 ≡ Table c.in-Some.a.now = ap as_set c.in-Some.ensures in
     let Some_tuple : SetOf → Type 0 = λ s. IsEmpty s → ⊥ in
-    rw c.in-Among.is (OnFalse_from c.is_empty_set.result ((¬ IsEmpty (tables c.args.sets.now c.in-Among.set.0)) × Unit {0}) (λ no. (subst Some_tuple (sym same) (OnFalse_at no c.is_empty_set.ensures.none), tt)))
+    rw c.in-Among.is
+    (OnFalse_from c.is_empty_set.result ((¬ IsEmpty (tables c.args.sets.now c.in-Among.set.0)) × Unit {0})
+    (λ no. (subst Some_tuple (sym same) (OnFalse_at no c.is_empty_set.ensures.none), tt)))
 
 pub returns-then-lacks_a_set-clause-yes : goal.returns-then-lacks_a_set-clause-yes
 returns-then-lacks_a_set-clause-yes t c =
     let said = rw c.deref.ensures at c.lacks_a_set.ensures.yes in
-    rw c.in-And.is (OnTrue_from c.lacks_a_set.result (SomeEmpty (map (tables c.args.sets.now) (positives (tree_of c.in-And.g.value) ++ positives (tree_of c.in-And.h.value)))) (λ is. some-left (tables c.args.sets.now) (positives (tree_of c.in-And.g.value)) (positives (tree_of c.in-And.h.value)) (OnTrue_at is said)))
+    rw c.in-And.is
+    (OnTrue_from c.lacks_a_set.result
+    (SomeEmpty (map (tables c.args.sets.now) (positives (tree_of c.in-And.g.value) ++ positives (tree_of c.in-And.h.value))))
+    (λ is. some-left (tables c.args.sets.now) (positives (tree_of c.in-And.g.value)) (positives (tree_of c.in-And.h.value))
+    (OnTrue_at is said)))
 
 pub returns-else-lacks_a_set-clause-yes : goal.returns-else-lacks_a_set-clause-yes
 returns-else-lacks_a_set-clause-yes t c =
     let said = rw c.deref-else-lacks_a_set.ensures at c.lacks_a_set-else-lacks_a_set.ensures.yes in
-    rw c.in-And.is (OnTrue_from c.lacks_a_set-else-lacks_a_set.result (SomeEmpty (map (tables c.args.sets.now) (positives (tree_of c.in-And.g.value) ++ positives (tree_of c.in-And.h.value)))) (λ is. some-right (tables c.args.sets.now) (positives (tree_of c.in-And.g.value)) (positives (tree_of c.in-And.h.value)) (OnTrue_at is said)))
+    rw c.in-And.is
+    (OnTrue_from c.lacks_a_set-else-lacks_a_set.result
+    (SomeEmpty (map (tables c.args.sets.now) (positives (tree_of c.in-And.g.value) ++ positives (tree_of c.in-And.h.value))))
+    (λ is. some-right (tables c.args.sets.now) (positives (tree_of c.in-And.g.value)) (positives (tree_of c.in-And.h.value))
+    (OnTrue_at is said)))
 
 pub returns-else-lacks_a_set-clause-none : goal.returns-else-lacks_a_set-clause-none
 returns-else-lacks_a_set-clause-none t c =
     let first = rw c.deref.ensures at c.if-lacks_a_set.ensures.none in
     let second = rw c.deref-else-lacks_a_set.ensures at c.lacks_a_set-else-lacks_a_set.ensures.none in
-    rw c.in-And.is (OnFalse_from c.lacks_a_set-else-lacks_a_set.result (NoneEmpty (map (tables c.args.sets.now) (positives (tree_of c.in-And.g.value) ++ positives (tree_of c.in-And.h.value)))) (λ is. none-both (tables c.args.sets.now) (positives (tree_of c.in-And.g.value)) (positives (tree_of c.in-And.h.value)) first (OnFalse_at is second)))
+    rw c.in-And.is
+    (OnFalse_from c.lacks_a_set-else-lacks_a_set.result
+    (NoneEmpty (map (tables c.args.sets.now) (positives (tree_of c.in-And.g.value) ++ positives (tree_of c.in-And.h.value))))
+    (λ is. none-both (tables c.args.sets.now) (positives (tree_of c.in-And.g.value)) (positives (tree_of c.in-And.h.value)) first
+    (OnFalse_at is second)))

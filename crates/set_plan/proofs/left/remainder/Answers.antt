@@ -15,7 +15,8 @@ returns-then-is_empty_set-2-clause-answers g c =
 pub returns-in-Ok-clause-answers : goal.returns-in-Ok-clause-answers
 returns-in-Ok-clause-answers g c =
     rw (c.in-Some.is, c.in-Some-one.is)
-    (Ends-without c.args.tracks.now c.args.part c.args.budget (Table c.in-Some-one.a.now) (Table c.in-Some.b.now) (Table c.in-Ok.c) c.if-is_empty_set.ensures.none c.if-is_empty_set-2.ensures.none c.in-Ok.ensures.ok c.in-Ok.ensures.within)
+    (Ends-without c.args.tracks.now c.args.part c.args.budget (Table c.in-Some-one.a.now) (Table c.in-Some.b.now) (Table c.in-Ok.c)
+    c.if-is_empty_set.ensures.none c.if-is_empty_set-2.ensures.none c.in-Ok.ensures.ok c.in-Ok.ensures.within)
 
 pub returns-in-Err-Over-clause-answers : goal.returns-in-Err-Over-clause-answers
 returns-in-Err-Over-clause-answers g c =

@@ -17,11 +17,14 @@ returns-in_err-c-clause-over c = λ is.
 
 pub returns-clause-ok : goal.returns-clause-ok
 returns-clause-ok c =
-    either-is c.args.tracks.now c.args.a.now c.args.b.now c.requires.first c.requires.second c.tracks.ensures.valid.ascending c.in_ok-c.c c.in_ok-reduce.field-0 c.in_ok-c.ensures.tracks c.in_ok-c.ensures.words c.in_ok-reduce.ensures.tracks c.in_ok-reduce.ensures.words
+    either-is c.args.tracks.now c.args.a.now c.args.b.now c.requires.first c.requires.second c.tracks.ensures.valid.ascending c.in_ok-c.c
+    c.in_ok-reduce.field-0 c.in_ok-c.ensures.tracks c.in_ok-c.ensures.words c.in_ok-reduce.ensures.tracks c.in_ok-reduce.ensures.words
 
 pub returns-clause-set : goal.returns-clause-set
 returns-clause-set c =
-    either-set c.args.tracks.now c.args.a.now c.args.b.now c.requires.first c.requires.second c.tracks.ensures.valid.ascending c.in_ok-c.c c.in_ok-reduce.field-0 c.in_ok-c.ensures.tracks c.in_ok-c.ensures.words c.in_ok-reduce.ensures.tracks c.in_ok-reduce.ensures.words c.in_ok-reduce.ensures.reduced c.args.budget c.requires.budget.1 c.in_ok-c.ensures.within
+    either-set c.args.tracks.now c.args.a.now c.args.b.now c.requires.first c.requires.second c.tracks.ensures.valid.ascending c.in_ok-c.c
+    c.in_ok-reduce.field-0 c.in_ok-c.ensures.tracks c.in_ok-c.ensures.words c.in_ok-reduce.ensures.tracks c.in_ok-reduce.ensures.words
+    c.in_ok-reduce.ensures.reduced c.args.budget (rw c.states.ensures.is at c.states.ensures.within).1 c.in_ok-c.ensures.within
 
 pub returns-clause-within : goal.returns-clause-within
 returns-clause-within c = λ over.

@@ -36,8 +36,10 @@ returns-in-Ok-clause-set g c = record {
   integers = DecidesIntegers-decides (tree_of c.args.f.now) (tables c.args.sets.now) c.in-Ok.a c.in-Ok.ensures.decides;
   tracks_are = c.in-Ok.ensures.decides.tracks;
   few = λ some.
-      let high = c.budget.ensures.high in
-      let states = few_states (members (tables c.args.sets.now)) c.args.memo.now.budget (tree_of c.args.f.now) c.in-Ok.a 1 some c.in-Ok.ensures.decides c.in-Ok.ensures.reduced c.in-Ok.ensures.within in
+      let high = c.budget.ensures.valid.most in
+      let states =
+      few_states (members (tables c.args.sets.now)) c.args.memo.now.budget (tree_of c.args.f.now) c.in-Ok.a 1 some c.in-Ok.ensures.decides
+      c.in-Ok.ensures.reduced c.in-Ok.ensures.within in
       omega (arith, states, high, c.budget.ensures.is);
 }
 

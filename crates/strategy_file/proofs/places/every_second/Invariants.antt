@@ -4,4 +4,7 @@ use Rattle.mate_plan.specs.Claim.{every_second}
 use Rattle.strategy_file.proofs.places.every_second.Given as goal
 
 abbrev pub invariant-loop-i : goal.invariant-loop-i
-invariant-loop-i l = l.places.items ++ flat_map (λ ply. map (λ mask. (ply, mask)) l.masks) (every_second (l.first + 2 * l.i) (l.count - l.i)) ≡ flat_map (λ ply. map (λ mask. (ply, mask)) l.masks) (every_second l.first l.count)
+invariant-loop-i l =
+    l.places.items
+    ++ flat_map (λ ply. map (λ mask. (ply, mask)) l.masks) (every_second (l.first + 2 * l.i) (l.count - l.i)) ≡ flat_map
+    (λ ply. map (λ mask. (ply, mask)) l.masks) (every_second l.first l.count)

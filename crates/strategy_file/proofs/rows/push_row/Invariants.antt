@@ -6,4 +6,5 @@ use Rattle.strategy_file.proofs.rows.push_row.Given as goal
 
 abbrev pub invariant-loop : goal.invariant-loop
 invariant-loop l =
-    with_front l.row.items (taken (repeated (l.width - l.counter) (entry_layout l.states)) l.left.at l.left.bytes.now) ≡ with_front l.fn.row.items (taken (repeated l.width (entry_layout l.states)) l.rest.at l.rest.bytes.now)
+    with_front l.row.items (taken (repeated (l.width - l.counter) (entry_layout l.states)) l.left.at l.left.bytes.now) ≡ with_front l.fn.row.items
+    (taken (repeated l.width (entry_layout l.states)) l.rest.at l.rest.bytes.now)

@@ -8,7 +8,9 @@ use Rattle.strategy_file.proofs.writing.men_length.Goals as goal
 
 pub loop-n-preserved : goal.loop-n-preserved
 loop-n-preserved c = record {
-  total = men_step c.args.position.now c.loop-n.n c.man.result c.loop-n.total c.man_length-total.result (length (flat_map man_bytes c.args.position.now.men)) c.man.ensures c.man_length-total.ensures.length c.loop-n.invariant.total;
+  total =
+      men_step c.args.position.now c.loop-n.n c.man.result c.loop-n.total c.man_length-total.result
+      (length (flat_map man_bytes c.args.position.now.men)) c.man.ensures c.man_length-total.ensures.length c.loop-n.invariant.total;
   bound = let more = c.man_length-total.ensures.bound in let so_far = c.loop-n.invariant.bound in omega (arith, more, so_far);
   narrow = narrow_more c.args.position.now c.loop-n.n c.man.result c.man.ensures c.man_length-total.ensures.narrow c.loop-n.invariant.narrow;
 }

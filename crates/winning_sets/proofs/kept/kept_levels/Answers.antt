@@ -27,7 +27,8 @@ next_reach c =
 abbrev part : After-kept_at → Program Level
 part c =
     let level = level_of c.loop-left.work.sets (masks_of c.args.bench.now.position.now) in
-    kept_level (rules_of c.args.bench.now.position.now) c.args.bench.now.position.now.turn (ply c) c.loop-left.left (level c.index-reach-ply.result) (level c.index-reach-ply-in-loop-left.result) (level c.index.result.now)
+    kept_level (rules_of c.args.bench.now.position.now) c.args.bench.now.position.now.turn (ply c) c.loop-left.left (level c.index-reach-ply.result)
+    (level c.index-reach-ply-in-loop-left.result) (level c.index.result.now)
 
 pub returns-in_err-level-clause-answers : goal.returns-in_err-level-clause-answers
 returns-in_err-level-clause-answers c =
@@ -37,7 +38,8 @@ returns-in_err-level-clause-answers c =
     let budget = c.args.work.now.memo.budget in
     let said = subst (λ b. IsPlanError (part turn) b error) c.loop-left.invariant.1 c.in_err-level.ensures.answers in
     rw (why.1, why.2)
-    (back_error c.args.bench.now.position.now budget c.args.work.now.sets c.args.reach.now c.loop-left.work.sets c.loop-left.kept.items (ply turn) c.loop-left.left c.index-reach-ply.result c.index-reach-ply-in-loop-left.result c.index.result.now
+    (back_error c.args.bench.now.position.now budget c.args.work.now.sets c.args.reach.now c.loop-left.work.sets c.loop-left.kept.items (ply turn)
+    c.loop-left.left c.index-reach-ply.result c.index-reach-ply-in-loop-left.result c.index.result.now
     (before_last turn) c.loop-left.auto.left c.loop-left.invariant.0 c.index-reach-ply.is (next_reach turn) c.index.ensures error said)
 
 pub loop-left-preserved : goal.loop-left-preserved
@@ -48,9 +50,14 @@ loop-left-preserved c =
     let new = c.kept_at.new.work.sets in
     let more = c.in_ok-level.level in
     let said = subst (λ b. Ends (part turn) b (level_of new (masks_of p) more)) c.loop-left.invariant.1 c.in_ok-level.ensures.answers in
-    let back = back_next p budget c.args.work.now.sets c.args.reach.now c.loop-left.work.sets c.loop-left.kept.items (ply turn) c.loop-left.left c.index-reach-ply.result c.index-reach-ply-in-loop-left.result c.index.result.now
+    let back =
+    back_next p budget c.args.work.now.sets c.args.reach.now c.loop-left.work.sets c.loop-left.kept.items (ply turn) c.loop-left.left
+    c.index-reach-ply.result c.index-reach-ply-in-loop-left.result c.index.result.now
     (before_last turn) c.loop-left.auto.left c.loop-left.invariant.0 c.index-reach-ply.is (next_reach turn) c.index.ensures new more c.in_ok-level.ensures.grows c.in_ok-level.ensures.names said in (
-      subst (λ (kept : List Names). IsBack p budget (whole_back p c.args.work.now.sets c.args.reach.now) c.args.work.now.sets new c.args.reach.now kept (c.loop-left.left + 1)) (sym c.in_ok-push_level-2.ensures.ok) back,
+      subst
+          (λ (kept : List Names). IsBack p budget (whole_back p c.args.work.now.sets c.args.reach.now) c.args.work.now.sets new c.args.reach.now kept
+          (c.loop-left.left + 1))
+          (sym c.in_ok-push_level-2.ensures.ok) back,
       c.in_ok-level.ensures.budget ∙ c.loop-left.invariant.1,
     )
 
@@ -61,4 +68,7 @@ returns-clause-answers c =
     let last = c.loop-left.auto.left-end c.requires.some in
     let whole : c.loop-left.left ≡ length reach = omega (arith, c.loop-left-test.false) in
     let ends = back_last p c.args.work.now.memo.budget c.args.work.now.sets reach c.loop-left.work.sets c.loop-left.kept.items c.loop-left.left c.loop-left.auto.left whole c.loop-left.invariant.0 in
-    subst (λ (kept : List Names). Ends (whole_back p c.args.work.now.sets reach) c.args.work.now.memo.budget (map (level_of c.loop-left.work.sets (masks_of p)) kept)) (sym c.reverse.ensures.items) ends
+    subst
+    (λ (kept : List Names). Ends (whole_back p c.args.work.now.sets reach) c.args.work.now.memo.budget
+    (map (level_of c.loop-left.work.sets (masks_of p)) kept))
+    (sym c.reverse.ensures.items) ends

@@ -11,7 +11,9 @@ returns-then-not-is_same_man c = (
 )
 
 pub loop-n-preserved : goal.loop-n-preserved
-loop-n-preserved c = alike_more c.args.stock.now c.args.p.now c.loop-n.n c.man.result c.man-in-loop-n.result c.loop-n.invariant c.man.ensures c.man-in-loop-n.ensures (c.is_same_man.ensures.0 c.if-not-is_same_man.false)
+loop-n-preserved c =
+    alike_more c.args.stock.now c.args.p.now c.loop-n.n c.man.result c.man-in-loop-n.result c.loop-n.invariant c.man.ensures c.man-in-loop-n.ensures
+    (c.is_same_man.ensures.0 c.if-not-is_same_man.false)
 
 pub returns : goal.returns
 returns c = (

@@ -30,7 +30,8 @@ returns-then-is_some-clause-answers c =
     let s = c.args.self.now.claimed.now in
     let r = c.args.self.now.replies.now in
     let reached = level_in s.position c.args.work.now.sets r.reached in
-    goes_past (check_stale (rules_of s.position) (other s.winner) r.ply (claimed_level (claim_in s) r.ply) reached c.args.mask.now) c.args.work.now.memo.budget c.args.found (sym c.is_some.ensures ∙ c.if-is_some.true)
+    goes_past (check_stale (rules_of s.position) (other s.winner) r.ply (claimed_level (claim_in s) r.ply) reached c.args.mask.now)
+    c.args.work.now.memo.budget c.args.found (sym c.is_some.ensures ∙ c.if-is_some.true)
 
 pub returns-then-is_some-clause-fits : goal.returns-then-is_some-clause-fits
 returns-then-is_some-clause-fits c =
@@ -50,7 +51,13 @@ pub returns-clause-fits : goal.returns-clause-fits
 returns-clause-fits c =
     let s = c.args.self.now.claimed.now in
     let r = c.args.self.now.replies.now in
-    if_ok c.check_stale.result _ (λ value rest h. (h.0, h.1, replies_grow s r.ply c.args.work.now.sets c.check_stale.new.work.sets r c.check_stale.ensures.grows h.2, All-tail (IsGameMask s.position) c.args.mask.now rest h.3))
+    if_ok c.check_stale.result _
+    (λ value rest h. (
+      h.0,
+      h.1,
+      replies_grow s r.ply c.args.work.now.sets c.check_stale.new.work.sets r c.check_stale.ensures.grows h.2,
+      All-tail (IsGameMask s.position) c.args.mask.now rest h.3,
+    ))
 
 pub returns-clause-program : goal.returns-clause-program
 returns-clause-program c =

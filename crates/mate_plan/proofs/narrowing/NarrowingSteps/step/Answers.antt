@@ -20,7 +20,13 @@ use Rattle.mate_plan.proofs.narrowing.NarrowingSteps.step.Goals as goal
 pub make-requires-clause-compilable : goal.make-requires-clause-compilable
 make-requires-clause-compilable c =
     let on : IsSetOn (mask_tracks c.args.self.now.bench.now.position.now c.args.self.now.stage.mask) c.in-Some.source = rw c.in-Some.is at c.requires.fits.1.2 in
-    let item = safe_item_on c.args.self.now.bench.now.position.now (game_of c.args.self.now.bench.now.position.now c.requires.fits.1.0 c.args.self.now.bench.now.few) c.put.new.self c.args.self.now.stage.mask c.args.bearing.now (All-head (λ b. IsBearer c.args.self.now.bench.now.position.now.men c.args.self.now.stage.mask b.man b.ray b.king) c.args.bearing.now c.requires.fits.0 c.requires.fits.1.1) c.in_ok-id.id (tree_of c.in_ok-formula.formula) c.in_ok-formula.ensures.tree c.in-Some.source c.in_ok-id.ensures.ok on in
+    let item =
+    safe_item_on c.args.self.now.bench.now.position.now
+    (game_of c.args.self.now.bench.now.position.now c.requires.fits.1.0 c.args.self.now.bench.now.few) c.put.new.self
+    c.args.self.now.stage.mask c.args.bearing.now
+    (All-head (λ b. IsBearer c.args.self.now.bench.now.position.now.men c.args.self.now.stage.mask b.man b.ray b.king) c.args.bearing.now
+    c.requires.fits.0 c.requires.fits.1.1)
+    c.in_ok-id.id (tree_of c.in_ok-formula.formula) c.in_ok-formula.ensures.tree c.in-Some.source c.in_ok-id.ensures.ok on in
     rw c.table.ensures item.compilable
 
 pub make-requires-clause-few : goal.make-requires-clause-few
@@ -37,14 +43,30 @@ pub returns-clause-answers : goal.returns-clause-answers
 returns-clause-answers c =
     let on : IsSetOn (mask_tracks c.args.self.now.bench.now.position.now c.args.self.now.stage.mask) c.in-Some.source = rw c.in-Some.is at c.requires.fits.1.2 in
     let is : as_set c.args.so_far.set ≡ tables c.put.new.self c.in_ok-id.id.0 = ap as_set c.in-Some.is ∙ sym (ap as_set c.in_ok-id.ensures.ok) in
-    let same = safe_item_same c.args.self.now.bench.now.position.now (game_of c.args.self.now.bench.now.position.now c.requires.fits.1.0 c.args.self.now.bench.now.few) c.put.new.self c.args.self.now.stage.mask c.args.bearing.now (All-head (λ b. IsBearer c.args.self.now.bench.now.position.now.men c.args.self.now.stage.mask b.man b.ray b.king) c.args.bearing.now c.requires.fits.0 c.requires.fits.1.1) c.in_ok-id.id (tree_of c.in_ok-formula.formula) c.in_ok-formula.ensures.tree c.in-Some.source c.in_ok-id.ensures.ok on (as_set c.args.so_far.set) is in
+    let same =
+    safe_item_same c.args.self.now.bench.now.position.now
+    (game_of c.args.self.now.bench.now.position.now c.requires.fits.1.0 c.args.self.now.bench.now.few) c.put.new.self
+    c.args.self.now.stage.mask c.args.bearing.now
+    (All-head (λ b. IsBearer c.args.self.now.bench.now.position.now.men c.args.self.now.stage.mask b.man b.ray b.king) c.args.bearing.now
+    c.requires.fits.0 c.requires.fits.1.1)
+    c.in_ok-id.id (tree_of c.in_ok-formula.formula) c.in_ok-formula.ensures.tree c.in-Some.source c.in_ok-id.ensures.ok on
+    (as_set c.args.so_far.set) is in
     let made = rw (c.table.ensures, c.part-part.ensures) at c.in_ok-made.ensures.answers in
-    Ends-make_same (name c.args.self.now.stage.ply c.args.self.now.stage.mask kind.Safe) c.args.work.now.memo.budget c.args.so_far.at (item_of c.put.new.self (tree_of c.in_ok-formula.formula)) (safe_item (rules_of c.args.self.now.bench.now.position.now) c.args.self.now.stage.mask (as_set c.args.so_far.set) c.args.bearing.now) (made_of c.in_ok-made.made) same made
+    Ends-make_same (name c.args.self.now.stage.ply c.args.self.now.stage.mask kind.Safe) c.args.work.now.memo.budget c.args.so_far.at
+    (item_of c.put.new.self (tree_of c.in_ok-formula.formula))
+    (safe_item (rules_of c.args.self.now.bench.now.position.now) c.args.self.now.stage.mask (as_set c.args.so_far.set) c.args.bearing.now)
+    (made_of c.in_ok-made.made) same made
 
 pub returns-clause-fits : goal.returns-clause-fits
 returns-clause-fits c = λ rest (sound, all, set, room).
     let on : IsSetOn (mask_tracks c.args.self.now.bench.now.position.now c.args.self.now.stage.mask) c.in-Some.source = rw c.in-Some.is at c.requires.fits.1.2 in
-    let item = safe_item_on c.args.self.now.bench.now.position.now (game_of c.args.self.now.bench.now.position.now c.requires.fits.1.0 c.args.self.now.bench.now.few) c.put.new.self c.args.self.now.stage.mask c.args.bearing.now (All-head (λ b. IsBearer c.args.self.now.bench.now.position.now.men c.args.self.now.stage.mask b.man b.ray b.king) c.args.bearing.now c.requires.fits.0 c.requires.fits.1.1) c.in_ok-id.id (tree_of c.in_ok-formula.formula) c.in_ok-formula.ensures.tree c.in-Some.source c.in_ok-id.ensures.ok on in (
+    let item =
+    safe_item_on c.args.self.now.bench.now.position.now
+    (game_of c.args.self.now.bench.now.position.now c.requires.fits.1.0 c.args.self.now.bench.now.few) c.put.new.self
+    c.args.self.now.stage.mask c.args.bearing.now
+    (All-head (λ b. IsBearer c.args.self.now.bench.now.position.now.men c.args.self.now.stage.mask b.man b.ray b.king) c.args.bearing.now
+    c.requires.fits.0 c.requires.fits.1.1)
+    c.in_ok-id.id (tree_of c.in_ok-formula.formula) c.in_ok-formula.ensures.tree c.in-Some.source c.in_ok-id.ensures.ok on in (
       sound,
       λ k d within. all (suc k) d (omega (arith, within)),
       made_on (mask_tracks c.args.self.now.bench.now.position.now c.args.self.now.stage.mask) (tree_of c.in_ok-formula.formula) item.some item.over c.in_ok-made.made.set c.in_ok-made.ensures.set,
@@ -58,10 +80,21 @@ pub returns-in_err-made-clause-answers : goal.returns-in_err-made-clause-answers
 returns-in_err-made-clause-answers c =
     let on : IsSetOn (mask_tracks c.args.self.now.bench.now.position.now c.args.self.now.stage.mask) c.in-Some.source = rw c.in-Some.is at c.requires.fits.1.2 in
     let is : as_set c.args.so_far.set ≡ tables c.put.new.self c.in_ok-id.id.0 = ap as_set c.in-Some.is ∙ sym (ap as_set c.in_ok-id.ensures.ok) in
-    let same = safe_item_same c.args.self.now.bench.now.position.now (game_of c.args.self.now.bench.now.position.now c.requires.fits.1.0 c.args.self.now.bench.now.few) c.put.new.self c.args.self.now.stage.mask c.args.bearing.now (All-head (λ b. IsBearer c.args.self.now.bench.now.position.now.men c.args.self.now.stage.mask b.man b.ray b.king) c.args.bearing.now c.requires.fits.0 c.requires.fits.1.1) c.in_ok-id.id (tree_of c.in_ok-formula.formula) c.in_ok-formula.ensures.tree c.in-Some.source c.in_ok-id.ensures.ok on (as_set c.args.so_far.set) is in
+    let same =
+    safe_item_same c.args.self.now.bench.now.position.now
+    (game_of c.args.self.now.bench.now.position.now c.requires.fits.1.0 c.args.self.now.bench.now.few) c.put.new.self
+    c.args.self.now.stage.mask c.args.bearing.now
+    (All-head (λ b. IsBearer c.args.self.now.bench.now.position.now.men c.args.self.now.stage.mask b.man b.ray b.king) c.args.bearing.now
+    c.requires.fits.0 c.requires.fits.1.1)
+    c.in_ok-id.id (tree_of c.in_ok-formula.formula) c.in_ok-formula.ensures.tree c.in-Some.source c.in_ok-id.ensures.ok on
+    (as_set c.args.so_far.set) is in
     let made = rw (c.table.ensures, c.part-part.ensures) at c.in_err-made.ensures.answers in
     let p = err_from_is_err_and c.from_residual-in_err-made.result c.from_residual-in_err-made.ensures.1 in
-    rw (p.1, p.2) (Error-make (name c.args.self.now.stage.ply c.args.self.now.stage.mask kind.Safe) c.args.work.now.memo.budget c.args.so_far.at (item_of c.put.new.self (tree_of c.in_ok-formula.formula)) (safe_item (rules_of c.args.self.now.bench.now.position.now) c.args.self.now.stage.mask (as_set c.args.so_far.set) c.args.bearing.now) same c.in_err-made.field-0.0 made)
+    rw (p.1, p.2)
+    (Error-make (name c.args.self.now.stage.ply c.args.self.now.stage.mask kind.Safe) c.args.work.now.memo.budget c.args.so_far.at
+    (item_of c.put.new.self (tree_of c.in_ok-formula.formula))
+    (safe_item (rules_of c.args.self.now.bench.now.position.now) c.args.self.now.stage.mask (as_set c.args.so_far.set) c.args.bearing.now)
+    same c.in_err-made.field-0.0 made)
 
 pub safe_formula-requires : goal.safe_formula-requires
 safe_formula-requires c =

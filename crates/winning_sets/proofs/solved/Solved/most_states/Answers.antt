@@ -9,7 +9,8 @@ loop-ply-preserved c =
     let at = c.most_states_at in
     record {
       within = λ i less mask.
-          within_more (λ j. states_of (kept_at s j mask)) c.loop-ply.ply c.loop-ply.most at.result c.max-most.result (λ j before. c.loop-ply.invariant.within j before mask) (at.ensures.within mask) c.max-most.ensures i less;
+          within_more (λ j. states_of (kept_at s j mask)) c.loop-ply.ply c.loop-ply.most at.result c.max-most.result
+          (λ j before. c.loop-ply.invariant.within j before mask) (at.ensures.within mask) c.max-most.ensures i less;
       least = λ n all.
           let so_far = c.loop-ply.invariant.least n all in
           let here = at.ensures.least n (all c.loop-ply.ply) in

@@ -9,7 +9,9 @@ loop-mask-preserved c =
     let masks = c.masks-mask-items.result.now in
     let k = c.loop-mask.mask-index in
     record {
-      within = within_more (λ j. states_of (kept_at s c.args.ply (get_or masks j 0))) k c.loop-mask.most c.states.result c.max-most.result c.loop-mask.invariant.within (omega (arith, c.states.ensures)) c.max-most.ensures;
+      within =
+          within_more (λ j. states_of (kept_at s c.args.ply (get_or masks j 0))) k c.loop-mask.most c.states.result c.max-most.result
+          c.loop-mask.invariant.within (omega (arith, c.states.ensures)) c.max-most.ensures;
       least = λ n all.
           let so_far = c.loop-mask.invariant.least n all in
           let here = all (get_or masks k 0) in

@@ -9,6 +9,6 @@ pub returns-clause-few : goal.returns-clause-few
 returns-clause-few c =
     let i = c.self.inside in
     let s : Solution = record { origin = i.origin; position = i.position; winner = i.winner; moves = i.moves; kept = i.kept.items; reach = i.reach.items } in
-    let masks = ap (λ (l : List ℕ). sets_at l c.as_slice-2.result.now c.args.ply c.args.mask) (c.as_slice.ensures ∙ c.self.invariant.1) in
+    let masks = ap (λ (l : List ℕ). sets_at l c.as_slice-2.result.now c.args.ply c.args.mask) (c.as_slice.ensures.value ∙ c.self.invariant.1) in
     let plies = ap (λ (l : List (List Automaton)). sets_at (masks_of i.position) l c.args.ply c.args.mask) c.as_slice-2.ensures.value in
     reached_few s c.self.invariant.0 c.args.ply c.args.mask c.set_at.result (c.set_at.ensures ∙ masks ∙ plies)

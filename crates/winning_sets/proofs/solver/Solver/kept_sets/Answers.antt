@@ -31,15 +31,24 @@ last_is : (c : After-as_slice) → c.args.last ≡ last_ply c.self.inside.winner
 last_is c = c.requires.last ∙ sym (ap (λ s. last_ply s.winner s.position.turn c.args.moves) c.self.view_is)
 
 -- the whole plan, by what is kept
-ends : (c : After-as_slice-4) → Ends (plan_of c.self.inside.winner c.self.inside.position c.args.moves) c.self.inside.work.memo.budget (map (level_of c.kept_levels.new.work.sets (masks_of c.self.inside.position)) c.in_ok-kept.kept.items)
+ends : (c : After-as_slice-4)
+    → Ends (plan_of c.self.inside.winner c.self.inside.position c.args.moves) c.self.inside.work.memo.budget
+    (map (level_of c.kept_levels.new.work.sets (masks_of c.self.inside.position)) c.in_ok-kept.kept.items)
 ends c =
     let start = (goal.at.After-as_slice-4 c).After-as_slice in
     let i = c.self.inside in
     let p = i.position in
     let last = c.args.last in
     let kept = map (level_of c.kept_levels.new.work.sets (masks_of p)) c.in_ok-kept.kept.items in
-    let said = subst (λ (levels : List Names). Ends (backward_from (rules_of p) p.turn (reverse (map (level_of i.work.sets (masks_of p)) (take (last + 1) levels)))) i.work.memo.budget kept) c.as_slice.ensures.value c.in_ok-kept.ensures.answers in
-    let here = finished_plan p i.work.memo.budget i.masks.items i.empties.items (take i.count i.work.sets) i.work.sets i.levels.items c.self.invariant.1 (grows-take i.count i.work.sets) last c.requires.some (within start) kept said in
+    let said =
+    subst
+    (λ (levels : List Names). Ends
+    (backward_from (rules_of p) p.turn (reverse (map (level_of i.work.sets (masks_of p)) (take (last + 1) levels)))) i.work.memo.budget
+    kept)
+    c.as_slice.ensures.value c.in_ok-kept.ensures.answers in
+    let here =
+    finished_plan p i.work.memo.budget i.masks.items i.empties.items (take i.count i.work.sets) i.work.sets i.levels.items c.self.invariant.1
+    (grows-take i.count i.work.sets) last c.requires.some (within start) kept said in
     subst (λ (n : ℕ). Ends (plan_to p n) i.work.memo.budget kept) (last_is start) here
 
 pub kept_levels-requires-clause-names : goal.kept_levels-requires-clause-names
@@ -56,7 +65,8 @@ pub invariant_of-self : goal.invariant_of-self
 invariant_of-self c =
     let i = c.self.inside in
     let made = c.kept_levels.ensures in
-    grown_finished i.position i.work.memo.budget c.kept_levels.new.work.memo.budget i.masks.items i.empties.items i.work.sets c.kept_levels.new.work.sets i.count i.levels.items i.levels.items c.self.invariant.0 made.grows made.budget refl c.self.invariant.1
+    grown_finished i.position i.work.memo.budget c.kept_levels.new.work.memo.budget i.masks.items i.empties.items i.work.sets
+    c.kept_levels.new.work.sets i.count i.levels.items i.levels.items c.self.invariant.0 made.grows made.budget refl c.self.invariant.1
 
 pub returns-in_err-kept-clause-error : goal.returns-in_err-kept-clause-error
 returns-in_err-kept-clause-error c =
@@ -66,8 +76,15 @@ returns-in_err-kept-clause-error c =
     let p = i.position in
     let last = c.args.last in
     let error = c.in_err-kept.field-0.0 in
-    let said = subst (λ (levels : List Names). IsPlanError (backward_from (rules_of p) p.turn (reverse (map (level_of i.work.sets (masks_of p)) (take (last + 1) levels)))) i.work.memo.budget error) c.as_slice.ensures.value c.in_err-kept.ensures.answers in
-    let here = finished_plan_error p i.work.memo.budget i.masks.items i.empties.items (take i.count i.work.sets) i.work.sets i.levels.items c.self.invariant.1 (grows-take i.count i.work.sets) last c.requires.some (within start) error said in
+    let said =
+    subst
+    (λ (levels : List Names). IsPlanError
+    (backward_from (rules_of p) p.turn (reverse (map (level_of i.work.sets (masks_of p)) (take (last + 1) levels)))) i.work.memo.budget
+    error)
+    c.as_slice.ensures.value c.in_err-kept.ensures.answers in
+    let here =
+    finished_plan_error p i.work.memo.budget i.masks.items i.empties.items (take i.count i.work.sets) i.work.sets i.levels.items
+    c.self.invariant.1 (grows-take i.count i.work.sets) last c.requires.some (within start) error said in
     let there = subst (λ (n : ℕ). IsPlanError (plan_to p n) i.work.memo.budget error) (last_is start) here in
     rw (why.1, why.2) (subst (λ (s : SolverState). IsPlanError (plan_of s.winner s.position c.args.moves) s.budget error) c.self.view_is there)
 
@@ -75,7 +92,9 @@ pub returns-in_err-kept-clause-same : goal.returns-in_err-kept-clause-same
 returns-in_err-kept-clause-same c =
     let i = c.self.inside in
     let made = c.kept_levels.ensures in
-    state-grows i.position i.winner i.empties.items i.work.memo.budget c.kept_levels.new.work.memo.budget i.work.sets c.kept_levels.new.work.sets i.count i.levels.items c.self.invariant.0 made.grows made.budget i.levels.items refl ∙ c.self.view_is
+    state-grows i.position i.winner i.empties.items i.work.memo.budget c.kept_levels.new.work.memo.budget i.work.sets c.kept_levels.new.work.sets
+    i.count i.levels.items c.self.invariant.0 made.grows made.budget i.levels.items refl
+    ∙ c.self.view_is
 
 pub copied-requires : goal.copied-requires
 copied-requires c =
@@ -91,19 +110,23 @@ pub invariant_of-self-in_err-copied : goal.invariant_of-self-in_err-copied
 invariant_of-self-in_err-copied c =
     let i = c.self.inside in
     let made = c.kept_levels.ensures in
-    grown_finished i.position i.work.memo.budget c.kept_levels.new.work.memo.budget i.masks.items i.empties.items i.work.sets c.kept_levels.new.work.sets i.count i.levels.items i.levels.items c.self.invariant.0 made.grows made.budget refl c.self.invariant.1
+    grown_finished i.position i.work.memo.budget c.kept_levels.new.work.memo.budget i.masks.items i.empties.items i.work.sets
+    c.kept_levels.new.work.sets i.count i.levels.items i.levels.items c.self.invariant.0 made.grows made.budget refl c.self.invariant.1
 
 pub returns-in_err-copied-clause-same : goal.returns-in_err-copied-clause-same
 returns-in_err-copied-clause-same c =
     let i = c.self.inside in
     let made = c.kept_levels.ensures in
-    state-grows i.position i.winner i.empties.items i.work.memo.budget c.kept_levels.new.work.memo.budget i.work.sets c.kept_levels.new.work.sets i.count i.levels.items c.self.invariant.0 made.grows made.budget i.levels.items refl ∙ c.self.view_is
+    state-grows i.position i.winner i.empties.items i.work.memo.budget c.kept_levels.new.work.memo.budget i.work.sets c.kept_levels.new.work.sets
+    i.count i.levels.items c.self.invariant.0 made.grows made.budget i.levels.items refl
+    ∙ c.self.view_is
 
 pub invariant_of-self-2 : goal.invariant_of-self-2
 invariant_of-self-2 c =
     let i = c.self.inside in
     let made = c.kept_levels.ensures in
-    grown_finished i.position i.work.memo.budget c.kept_levels.new.work.memo.budget i.masks.items i.empties.items i.work.sets c.kept_levels.new.work.sets i.count i.levels.items i.levels.items c.self.invariant.0 made.grows made.budget refl c.self.invariant.1
+    grown_finished i.position i.work.memo.budget c.kept_levels.new.work.memo.budget i.masks.items i.empties.items i.work.sets
+    c.kept_levels.new.work.sets i.count i.levels.items i.levels.items c.self.invariant.0 made.grows made.budget refl c.self.invariant.1
 
 pub returns-clause-kept : goal.returns-clause-kept
 returns-clause-kept c =
@@ -114,7 +137,9 @@ returns-clause-kept c =
     let table = c.kept_levels.new.work.sets in
     let some : 0 < last_ply i.winner p.turn c.args.moves = omega (arith, last_is start, c.requires.some) in
     let names = c.in_ok-kept.kept.items in
-    let are = kept_are p i.work.memo.budget i.masks.items i.empties.items (take i.count i.work.sets) i.levels.items c.self.invariant.1 i.winner c.args.moves table names (omega (arith, within start)) some c.in_ok-kept.ensures.names (ends end) in
+    let are =
+    kept_are p i.work.memo.budget i.masks.items i.empties.items (take i.count i.work.sets) i.levels.items c.self.invariant.1 i.winner c.args.moves
+    table names (omega (arith, within start)) some c.in_ok-kept.ensures.names (ends end) in
     let made =
     c.in_ok-copied.ensures ∙ ap (λ (others : List Automaton). map (sets_or table others) c.as_slice-4.result.now) c.as_slice-3.ensures.value
     ∙ ap (λ (levels : List Names). map (sets_or table i.empties.items) levels) c.as_slice-4.ensures.value in
@@ -132,4 +157,6 @@ pub returns-clause-same : goal.returns-clause-same
 returns-clause-same c =
     let i = c.self.inside in
     let made = c.kept_levels.ensures in
-    state-grows i.position i.winner i.empties.items i.work.memo.budget c.kept_levels.new.work.memo.budget i.work.sets c.kept_levels.new.work.sets i.count i.levels.items c.self.invariant.0 made.grows made.budget i.levels.items refl ∙ c.self.view_is
+    state-grows i.position i.winner i.empties.items i.work.memo.budget c.kept_levels.new.work.memo.budget i.work.sets c.kept_levels.new.work.sets
+    i.count i.levels.items c.self.invariant.0 made.grows made.budget i.levels.items refl
+    ∙ c.self.view_is

@@ -8,10 +8,14 @@ use Rattle.winning_sets.proofs.solver.Solver.reach.Goals.{After-as_slice-names}
 use Rattle.winning_sets.proofs.solver.Solver.reach.Goals as goal
 
 -- what is finished, with the masks as they are read
-finished : (c : After-as_slice-names) → AreFinished c.self.inside.position c.self.inside.work.memo.budget c.as_slice.result.now c.self.inside.empties.items (take c.self.inside.count c.self.inside.work.sets) c.self.inside.levels.items
+finished : (c : After-as_slice-names)
+    → AreFinished c.self.inside.position c.self.inside.work.memo.budget c.as_slice.result.now c.self.inside.empties.items
+    (take c.self.inside.count c.self.inside.work.sets) c.self.inside.levels.items
 finished c =
-    subst (λ (masks : List ℕ). AreFinished c.self.inside.position c.self.inside.work.memo.budget masks c.self.inside.empties.items (take c.self.inside.count c.self.inside.work.sets) c.self.inside.levels.items)
-    (sym c.as_slice.ensures) c.self.invariant.1
+    subst
+    (λ (masks : List ℕ). AreFinished c.self.inside.position c.self.inside.work.memo.budget masks c.self.inside.empties.items
+    (take c.self.inside.count c.self.inside.work.sets) c.self.inside.levels.items)
+    (sym c.as_slice.ensures.value) c.self.invariant.1
 
 within : (c : After-as_slice-names) → c.args.ply < length c.self.inside.levels.items
 within c = omega (arith, c.if-ply-len.false, c.len.ensures)
@@ -30,7 +34,7 @@ in_place c =
 pub returns-in_err-k-clause-none : goal.returns-in_err-k-clause-none
 returns-in_err-k-clause-none c =
     let i = c.self.inside in
-    let is = subst (λ (masks : List ℕ). AreFinished i.position i.work.memo.budget masks i.empties.items (take i.count i.work.sets) i.levels.items) (sym c.as_slice.ensures) c.self.invariant.1 in
+    let is = subst (λ (masks : List ℕ). AreFinished i.position i.work.memo.budget masks i.empties.items (take i.count i.work.sets) i.levels.items) (sym c.as_slice.ensures.value) c.self.invariant.1 in
     let none = none_of i.position i.winner i.work.memo.budget c.as_slice.result.now i.empties.items (take i.count i.work.sets) i.work.sets i.levels.items is (grows-take i.count i.work.sets)
     c.args.ply c.args.mask (omega (arith, c.if-ply-len.false, c.len.ensures)) c.in_err-k.ensures.none in
     rw c.from_residual.ensures (subst (λ (s : SolverState). IsUnreached s c.args.ply c.args.mask) c.self.view_is none)

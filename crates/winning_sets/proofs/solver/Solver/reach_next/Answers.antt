@@ -40,13 +40,15 @@ reach_level-requires-clause-level c =
     let ids = c.index.result.now in
     let less : n < length i.levels.items = omega (arith, next start) in
     let here = All-get_or (AreNames p.men (take i.count i.work.sets) (masks_of p)) i.levels.items n ids less c.self.invariant.1.names in
-    names-grow (take i.count i.work.sets) i.work.sets (grows-take i.count i.work.sets) p.men (masks_of p) ids (subst (AreNames p.men (take i.count i.work.sets) (masks_of p)) (sym c.index.ensures) here)
+    names-grow (take i.count i.work.sets) i.work.sets (grows-take i.count i.work.sets) p.men (masks_of p) ids
+    (subst (AreNames p.men (take i.count i.work.sets) (masks_of p)) (sym c.index.ensures) here)
 
 pub invariant_of-self : goal.invariant_of-self
 invariant_of-self c =
     let i = c.self.inside in
     let made = c.reach_level.ensures in
-    grown_finished i.position i.work.memo.budget c.reach_level.new.work.memo.budget i.masks.items i.empties.items i.work.sets c.reach_level.new.work.sets i.count i.levels.items i.levels.items c.self.invariant.0 made.grows made.budget refl c.self.invariant.1
+    grown_finished i.position i.work.memo.budget c.reach_level.new.work.memo.budget i.masks.items i.empties.items i.work.sets
+    c.reach_level.new.work.sets i.count i.levels.items i.levels.items c.self.invariant.0 made.grows made.budget refl c.self.invariant.1
 
 pub returns-in_err-level-clause-error : goal.returns-in_err-level-clause-error
 returns-in_err-level-clause-error c =
@@ -59,7 +61,9 @@ returns-in_err-level-clause-error c =
     let side = c.side_at-side.result in
     let error = c.in_err-level.field-0.0 in
     let said = subst (λ (k : ℕ). IsPlanError (reach_level (rules_of p) side k (level_of i.work.sets (masks_of p) ids)) i.work.memo.budget error) (ply_is start) c.in_err-level.ensures.answers in
-    let here = next_error p i.work.memo.budget i.masks.items i.empties.items (take i.count i.work.sets) i.work.sets i.levels.items c.self.invariant.1 (grows-take i.count i.work.sets) n (next start) ids c.index.ensures side (turn_is start) error said in
+    let here =
+    next_error p i.work.memo.budget i.masks.items i.empties.items (take i.count i.work.sets) i.work.sets i.levels.items c.self.invariant.1
+    (grows-take i.count i.work.sets) n (next start) ids c.index.ensures side (turn_is start) error said in
     let count = sym (next start) ∙ sym (length-map i.levels.items (sets_or (take i.count i.work.sets) i.empties.items)) in
     let there = subst (λ (k : ℕ). IsPlanError (forward (rules_of p) p.turn (mask_of p) k) i.work.memo.budget error) count here in
     rw (why.1, why.2)
@@ -78,7 +82,9 @@ pub invariant_of-self-in_err-push_level : goal.invariant_of-self-in_err-push_lev
 invariant_of-self-in_err-push_level c =
     let i = c.self.inside in
     let made = c.reach_level.ensures in
-    grown_finished i.position i.work.memo.budget c.reach_level.new.work.memo.budget i.masks.items i.empties.items i.work.sets c.reach_level.new.work.sets i.count i.levels.items c.push_level.new.levels.items c.self.invariant.0 made.grows made.budget c.in_err-push_level.ensures.err c.self.invariant.1
+    grown_finished i.position i.work.memo.budget c.reach_level.new.work.memo.budget i.masks.items i.empties.items i.work.sets
+    c.reach_level.new.work.sets i.count i.levels.items c.push_level.new.levels.items c.self.invariant.0 made.grows made.budget
+    c.in_err-push_level.ensures.err c.self.invariant.1
 
 pub returns-in_err-push_level-clause-after : goal.returns-in_err-push_level-clause-after
 returns-in_err-push_level-clause-after c =
@@ -101,10 +107,18 @@ invariant_of-self-2 c =
     let new = c.reach_level.new.work.sets in
     let more = c.in_ok-level.level in
     let made = c.reach_level.ensures in
-    let said = subst (λ (k : ℕ). Ends (reach_level (rules_of p) side k (level_of i.work.sets (masks_of p) ids)) i.work.memo.budget (level_of new (masks_of p) more)) (ply_is start) c.in_ok-level.ensures.answers in
+    let said =
+    subst
+    (λ (k : ℕ). Ends (reach_level (rules_of p) side k (level_of i.work.sets (masks_of p) ids)) i.work.memo.budget
+    (level_of new (masks_of p) more))
+    (ply_is start) c.in_ok-level.ensures.answers in
     let room : length i.levels.items ≤ 41 = omega (arith, plies start, c.requires.room) in
-    let here = next_finished p i.work.memo.budget i.masks.items i.empties.items (take i.count i.work.sets) i.work.sets i.levels.items c.self.invariant.1 (grows-take i.count i.work.sets) n (next start) ids c.index.ensures side (turn_is start) new more made.grows room c.in_ok-level.ensures.names said in
-    all_finished p i.work.memo.budget c.reach_level.new.work.memo.budget i.masks.items i.empties.items new c.count-self-inside.result (i.levels.items ++ more ∷ []) c.push_level.new.levels.items made.budget c.count-self-inside.ensures c.in_ok-push_level.ensures.ok here
+    let here =
+    next_finished p i.work.memo.budget i.masks.items i.empties.items (take i.count i.work.sets) i.work.sets i.levels.items c.self.invariant.1
+    (grows-take i.count i.work.sets) n (next start) ids c.index.ensures side (turn_is start) new more made.grows room
+    c.in_ok-level.ensures.names said in
+    all_finished p i.work.memo.budget c.reach_level.new.work.memo.budget i.masks.items i.empties.items new c.count-self-inside.result
+    (i.levels.items ++ more ∷ []) c.push_level.new.levels.items made.budget c.count-self-inside.ensures c.in_ok-push_level.ensures.ok here
 
 pub returns-clause-after : goal.returns-clause-after
 returns-clause-after c =
@@ -115,4 +129,5 @@ returns-clause-after c =
     let size = c.count-self-inside.result in
     let levels = c.push_level.new.levels.items in
     subst (λ (s : SolverState). IsSolverAfter s (state_of i.position i.winner i.empties.items other (take size new) levels)) c.self.view_is
-    (after_push i.position i.winner i.empties.items i.work.memo.budget other i.work.sets new i.count i.levels.items c.self.invariant.0 made.grows made.budget size c.in_ok-level.level levels c.self.invariant.1.names c.count-self-inside.ensures c.in_ok-push_level.ensures.ok)
+    (after_push i.position i.winner i.empties.items i.work.memo.budget other i.work.sets new i.count i.levels.items c.self.invariant.0 made.grows
+    made.budget size c.in_ok-level.level levels c.self.invariant.1.names c.count-self-inside.ensures c.in_ok-push_level.ensures.ok)

@@ -18,7 +18,8 @@ pub invariant_of-self : goal.invariant_of-self
 invariant_of-self c =
     let i = c.self.inside in
     let made = c.point_level.ensures in
-    grown_finished i.position i.work.memo.budget c.point_level.new.work.memo.budget i.masks.items i.empties.items i.work.sets c.point_level.new.work.sets i.count i.levels.items i.levels.items c.self.invariant.0 made.grows made.budget refl c.self.invariant.1
+    grown_finished i.position i.work.memo.budget c.point_level.new.work.memo.budget i.masks.items i.empties.items i.work.sets
+    c.point_level.new.work.sets i.count i.levels.items i.levels.items c.self.invariant.0 made.grows made.budget refl c.self.invariant.1
 
 pub returns-in_err-level-clause-error : goal.returns-in_err-level-clause-error
 returns-in_err-level-clause-error c =
@@ -42,7 +43,9 @@ pub invariant_of-self-in_err-push_level : goal.invariant_of-self-in_err-push_lev
 invariant_of-self-in_err-push_level c =
     let i = c.self.inside in
     let made = c.point_level.ensures in
-    grown_finished i.position i.work.memo.budget c.point_level.new.work.memo.budget i.masks.items i.empties.items i.work.sets c.point_level.new.work.sets i.count i.levels.items c.push_level.new.levels.items c.self.invariant.0 made.grows made.budget c.in_err-push_level.ensures.err c.self.invariant.1
+    grown_finished i.position i.work.memo.budget c.point_level.new.work.memo.budget i.masks.items i.empties.items i.work.sets
+    c.point_level.new.work.sets i.count i.levels.items c.push_level.new.levels.items c.self.invariant.0 made.grows made.budget
+    c.in_err-push_level.ensures.err c.self.invariant.1
 
 pub returns-in_err-push_level-clause-after : goal.returns-in_err-push_level-clause-after
 returns-in_err-push_level-clause-after c =
@@ -66,10 +69,13 @@ invariant_of-self-2 c =
     let none : i.levels.items ≡ [] = map-none (sets_or (take i.count i.work.sets) i.empties.items) i.levels.items (ap (λ s. s.reach) c.self.view_is ∙ c.requires) in
     let is = subst (λ (levels : List Names). AreFinished p i.work.memo.budget i.masks.items i.empties.items (take i.count i.work.sets) levels) none c.self.invariant.1 in
     let grows = grows-trans (take i.count i.work.sets) i.work.sets new (grows-take i.count i.work.sets) made.grows in
-    let empties_are = subst (λ (ms : List ℕ). AreEmpties p.men ms empties) (c.as_slice.ensures ∙ c.in_ok-all.ensures.list) c.in_ok-empties.ensures in
-    let first = first_finished p i.work.memo.budget i.masks.items i.empties.items (take i.count i.work.sets) new masks empties ids is grows c.in_ok-level.ensures.names c.in_ok-all.ensures.list empties_are c.in_ok-level.ensures.answers in
+    let empties_are = subst (λ (ms : List ℕ). AreEmpties p.men ms empties) (c.as_slice.ensures.value ∙ c.in_ok-all.ensures.list) c.in_ok-empties.ensures in
+    let first =
+    first_finished p i.work.memo.budget i.masks.items i.empties.items (take i.count i.work.sets) new masks empties ids is grows
+    c.in_ok-level.ensures.names c.in_ok-all.ensures.list empties_are c.in_ok-level.ensures.answers in
     let levels_are : c.push_level.new.levels.items ≡ ids ∷ [] = c.in_ok-push_level.ensures.ok ∙ ap (λ l. l ++ ids ∷ []) none in
-    all_finished p i.work.memo.budget c.point_level.new.work.memo.budget masks empties new c.count-self-inside.result (ids ∷ []) c.push_level.new.levels.items made.budget c.count-self-inside.ensures levels_are first
+    all_finished p i.work.memo.budget c.point_level.new.work.memo.budget masks empties new c.count-self-inside.result (ids ∷ [])
+    c.push_level.new.levels.items made.budget c.count-self-inside.ensures levels_are first
 
 pub returns-clause-after : goal.returns-clause-after
 returns-clause-after c =

@@ -45,5 +45,6 @@ new-requires-clause-valid c =
     c.in_ok-reach.ensures ∙ ap (λ (others : List Automaton). map (sets_or i.work.sets others) (take (last + 1) c.as_slice.result.now)) c.as_slice-2.ensures.value
     ∙ ap (λ (levels : List Names). map (sets_or i.work.sets i.empties.items) (take (last + 1) levels)) c.as_slice.ensures.value in
     let keeps = subst (λ (s : SolverState). AreKept s.winner s.position c.args.moves (sets_at (masks_of s.position) c.args.kept.items)) (sym c.self.view_is) c.requires.kept in
-    solution_is p i.work.memo.budget i.masks.items i.empties.items (take i.count i.work.sets) i.levels.items c.self.invariant.1 i.winner c.args.moves last i.work.sets c.args.kept.items c.in_ok-reach.reach.items
+    solution_is p i.work.memo.budget i.masks.items i.empties.items (take i.count i.work.sets) i.levels.items c.self.invariant.1 i.winner c.args.moves
+    last i.work.sets c.args.kept.items c.in_ok-reach.reach.items
     is_last c.requires.some (within (goal.at.new-requires-clause-valid c).After-as_slice-2) c.requires.moves (grows-take i.count i.work.sets) made keeps
