@@ -1,4 +1,4 @@
--- How far the squares lie where a check may be answered.
+-- How far the squares lie where a check may be answered. Crates above cite these lemmas.
 use Rattle.std.proofs.Common.{◌≡◌, ℕ, zero, suc, ◌<◌, ◌≤◌, ◌*◌, ℤ, pos, ◌*ℤ◌, unsigned_abs, Bool, true, false, ap, subst, sym, ◌∙◌, refl, arith, List, [], ◌∷◌, Some, length, lit≤}
 use Rattle.std.proofs.lemmas.Int.{ints, unsigned_abs-mul}
 use Rattle.std.specs.Prelude.{IsSomeAnd, slice_get}
@@ -45,7 +45,7 @@ way_within true each off direct b d one h k small unit =
 pub ray_stepwise : (k : Kind) (s : Side) (n : ℕ) (r : Ray) → ray_of k s n ≡ Some r → IsStepwise r
 ray_stepwise k s n r is = (ray_is s k n r is).direction
 
-rays_few : (k : Kind) (s : Side) → length (rays_of k s) ≤ 8
+pub rays_few : (k : Kind) (s : Side) → length (rays_of k s) ≤ 8
 rays_few King s = lit≤ tt
 rays_few Queen s = lit≤ tt
 rays_few Rook s = lit≤ tt

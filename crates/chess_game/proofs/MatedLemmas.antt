@@ -58,7 +58,8 @@ module _ (p : Position) (sound : Sound p) where
       same_stand (square_of here.1) z (Attacked p (other p.turn)) here.3.2 attacked
 
 -- man i, who stands at b, has the answers of his rays
-pub answers_at : (p : Position) (a k : Square) (i : ℕ) (m : Man) (b : Square) → man_at p i ≡ Some m → StandsOn m b → HasAnswer p a k i ↔ Any (λ r. CanGo p i (answer_square a k b r)) (rays_of m.kind m.side)
+pub answers_at : (p : Position) (a k : Square) (i : ℕ) (m : Man) (b : Square) → man_at p i ≡ Some m → StandsOn m b
+    → HasAnswer p a k i ↔ Any (λ r. CanGo p i (answer_square a k b r)) (rays_of m.kind m.side)
 answers_at p a k i m b is s =
     let Goes : Square → Ray → Type 0 = λ b r. CanGo p i (answer_square a k b r) in
     let Along : Man → Type 0 = λ m. IsLiveAnd m (λ b. Any (Goes b) (rays_of m.kind m.side)) in

@@ -22,7 +22,8 @@ signum_direction : (ox oy : ℤ) → 0 < max (unsigned_abs ox) (unsigned_abs oy)
 signum_direction ox oy some = grind arith
 
 -- the two tests with the first step toward the whole tell of a part
-pub part_from : (ox oy ex ey ux uy : ℤ) (s t : ℕ) → ux ≡ int_signum ox → uy ≡ int_signum oy → s ≡ max (unsigned_abs ox) (unsigned_abs oy) → t < s → IsTimes ux uy ox oy s → IsTimes ux uy ex ey t → IsPart ox oy ex ey
+pub part_from : (ox oy ex ey ux uy : ℤ) (s t : ℕ) → ux ≡ int_signum ox → uy ≡ int_signum oy → s ≡ max (unsigned_abs ox) (unsigned_abs oy) → t < s
+    → IsTimes ux uy ox oy s → IsTimes ux uy ex ey t → IsPart ox oy ex ey
 part_from ox oy ex ey ux uy s t is_x is_y is fewer whole part =
     record {
       dx = ux;
@@ -36,7 +37,8 @@ part_from ox oy ex ey ux uy s t is_x is_y is fewer whole part =
     }
 
 -- a part passes the two tests
-pub part_unit : (ox oy ex ey ux uy : ℤ) (s t : ℕ) → ux ≡ int_signum ox → uy ≡ int_signum oy → s ≡ max (unsigned_abs ox) (unsigned_abs oy) → t ≡ max (unsigned_abs ex) (unsigned_abs ey) → IsPart ox oy ex ey → (t < s) × IsTimes ux uy ox oy s × IsTimes ux uy ex ey t
+pub part_unit : (ox oy ex ey ux uy : ℤ) (s t : ℕ) → ux ≡ int_signum ox → uy ≡ int_signum oy → s ≡ max (unsigned_abs ox) (unsigned_abs oy)
+    → t ≡ max (unsigned_abs ex) (unsigned_abs ey) → IsPart ox oy ex ey → (t < s) × IsTimes ux uy ox oy s × IsTimes ux uy ex ey t
 part_unit ox oy ex ey ux uy s t is_x is_y is_s is_t h =
     let direction : max (unsigned_abs h.dx) (unsigned_abs h.dy) ≡ 1 = h.direction in
     let same_x : h.dx ≡ ux = sym (signum_multiple h.whole h.dx ox h.to_whole.positive (omega arith) h.to_whole.right) ∙ sym is_x in

@@ -116,7 +116,9 @@ not_gone p s i first last live (a, ka, gone) =
     ]
 
 -- where each side's first king is its only one, and live, no reason that speaks of kings alone holds
-pub clear_kings : (p : Position) (w b : ℕ) → IsKingAt p White w → IsKingAt p Black b → ((k : ℕ) → k < w → IsKingAt p White k → ⊥) → ((k : ℕ) → k < b → IsKingAt p Black k → ⊥) → ((k : ℕ) → w < k → IsKingAt p White k → ⊥) → ((k : ℕ) → b < k → IsKingAt p Black k → ⊥) → (IsGoneAt p w → ⊥) → (IsGoneAt p b → ⊥) → IsClear p 6
+pub clear_kings : (p : Position) (w b : ℕ) → IsKingAt p White w → IsKingAt p Black b → ((k : ℕ) → k < w → IsKingAt p White k → ⊥)
+    → ((k : ℕ) → k < b → IsKingAt p Black k → ⊥) → ((k : ℕ) → w < k → IsKingAt p White k → ⊥) → ((k : ℕ) → b < k → IsKingAt p Black k → ⊥)
+    → (IsGoneAt p w → ⊥) → (IsGoneAt p b → ⊥) → IsClear p 6
 clear_kings p w b kw kb fw fb lw lb gw gb (NoKing White) low h = h w kw
 clear_kings p w b kw kb fw fb lw lb gw gb (NoKing Black) low h = h b kb
 clear_kings p w b kw kb fw fb lw lb gw gb (ManyKings White) low h = not_many p White w fw lw h

@@ -48,7 +48,9 @@ falling t x y e at low high =
     )
 
 -- the two axes of a ray tell of the square
-pub axes_inside : (t : ℕ) (a : Square) (r : Ray) (f : Frame) (x y : Axis) → x.at ≡ a.x → x.step ≡ r.dx → x.low ≡ f.x_low → x.high ≡ f.x_high → y.at ≡ a.y → y.step ≡ r.dy → y.low ≡ f.y_low → y.high ≡ f.y_high → (IsWithinAfter x t × IsWithinAfter y t) ↔ ((1 ≤ t) × IsInside f (after_steps a t r.dx r.dy))
+pub axes_inside : (t : ℕ) (a : Square) (r : Ray) (f : Frame) (x y : Axis) → x.at ≡ a.x → x.step ≡ r.dx → x.low ≡ f.x_low → x.high ≡ f.x_high
+    → y.at ≡ a.y → y.step ≡ r.dy → y.low ≡ f.y_low → y.high ≡ f.y_high
+    → (IsWithinAfter x t × IsWithinAfter y t) ↔ ((1 ≤ t) × IsInside f (after_steps a t r.dx r.dy))
 axes_inside t a r f x y ax sx lx hx ay sy ly hy = (
   λ h.
       let gx = rw (ax, sx, lx, hx) at h.0 in
@@ -159,7 +161,8 @@ same_man ms k n m d e is_m is_d =
     let both : Some m ≡ Some d = sym is_m ∙ ap (slice_get ms) e ∙ is_d in cc
 
 -- a man who is no nearer changes nothing
-pub nearest_keep : (ms : List Man) (n : ℕ) (a : Square) (r : Ray) (hit : Hit) (d : Man) (t : ℕ) → IsStepwise r → slice_get ms n ≡ Some d → IsNearestMan ms n a r hit → StandsOff r a d t → hit.distance ≤ t → IsNearestMan ms (n + 1) a r hit
+pub nearest_keep : (ms : List Man) (n : ℕ) (a : Square) (r : Ray) (hit : Hit) (d : Man) (t : ℕ) → IsStepwise r → slice_get ms n ≡ Some d
+    → IsNearestMan ms n a r hit → StandsOff r a d t → hit.distance ≤ t → IsNearestMan ms (n + 1) a r hit
 nearest_keep ms n a r hit d t stepwise is h stands farther =
     let within : hit.index < n = h.within in
     record {
@@ -176,7 +179,9 @@ nearest_keep ms n a r hit d t stepwise is h stands farther =
     }
 
 -- a nearer man is the nearest
-pub nearest_take : (ms : List Man) (n : ℕ) (a : Square) (r : Ray) (best : Option Hit) (d : Man) (hit : Hit) → IsStepwise r → slice_get ms n ≡ Some d → hit.index ≡ n → IsNearest ms n a r best → StandsOff r a d hit.distance → IfSome best (λ old. hit.distance < old.distance) → IsNearestMan ms (n + 1) a r hit
+pub nearest_take : (ms : List Man) (n : ℕ) (a : Square) (r : Ray) (best : Option Hit) (d : Man) (hit : Hit) → IsStepwise r → slice_get ms n ≡ Some d
+    → hit.index ≡ n → IsNearest ms n a r best → StandsOff r a d hit.distance → IfSome best (λ old. hit.distance < old.distance)
+    → IsNearestMan ms (n + 1) a r hit
 nearest_take ms n a r None d hit stepwise is index h stands nearer =
     record {
       within = omega arith;
@@ -295,13 +300,15 @@ module _ (p : Position) (a : Square) (r : Ray) (f : Frame) where
         least = λ j low there. no_lesser_man hit nearest z.0 z.2 j low there;
       }
 
-  pub hits_some : (span : Span) → ((t : ℕ) → IsIn span t → IsReach r a f t) → (hit : Option Hit) → IsNearest p.men (length p.men) a r hit → (o : Option ℕ) → IfSome o (λ n. IsSomeAnd hit (λ h. (n ≡ h.index + 1) × IsIn span h.distance)) → IfSome o (IsHitFrom p a r f)
+  pub hits_some : (span : Span) → ((t : ℕ) → IsIn span t → IsReach r a f t) → (hit : Option Hit) → IsNearest p.men (length p.men) a r hit
+      → (o : Option ℕ) → IfSome o (λ n. IsSomeAnd hit (λ h. (n ≡ h.index + 1) × IsIn span h.distance)) → IfSome o (IsHitFrom p a r f)
   hits_some span reach hit nearest None h = tt
   hits_some span reach None nearest (Some n) h = absurd h
   hits_some span reach (Some hit) nearest (Some n) h =
       subst (IsHitFrom p a r f) (sym h.0) (hit_some hit nearest (reach hit.distance h.1))
 
-  pub hits_none : (span : Span) → ((t : ℕ) → IsReach r a f t → IsIn span t) → (hit : Option Hit) → IsNearest p.men (length p.men) a r hit → (o : Option ℕ) → IfNone o (IfSome hit (λ h. IsIn span h.distance → ⊥)) → IfNone o ((i : ℕ) → IsHitFrom p a r f i → ⊥)
+  pub hits_none : (span : Span) → ((t : ℕ) → IsReach r a f t → IsIn span t) → (hit : Option Hit) → IsNearest p.men (length p.men) a r hit
+      → (o : Option ℕ) → IfNone o (IfSome hit (λ h. IsIn span h.distance → ⊥)) → IfNone o ((i : ℕ) → IsHitFrom p a r f i → ⊥)
   hits_none span reach hit nearest (Some n) h = tt
   hits_none span reach None nearest None h = λ i there.
       let w = man_at_stands p i there.to there.hit in

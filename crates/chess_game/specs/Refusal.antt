@@ -13,5 +13,6 @@ IsRefusal p i z Captured = IsSomeAnd (man_at p i) (λ m. (m.side ≡ p.turn) × 
 IsRefusal p i z OwnMan =
     IsSomeAnd (man_at p i) (λ m. (m.side ≡ p.turn) × IsSome (square_of m) × IsHeldBy p p.turn z)
 IsRefusal p i z NotReached =
-    IsSomeAnd (man_at p i) (λ m. (m.side ≡ p.turn) × IsSome (square_of m) × (IsHeldBy p p.turn z → ⊥) × (Goes p m z → ⊥))
+    IsSomeAnd (man_at p i)
+    (λ m. (m.side ≡ p.turn) × IsSome (square_of m) × (IsHeldBy p p.turn z → ⊥) × (Goes p m z → ⊥))
 IsRefusal p i z KingLeft = (q : Position) × Step p i z q × InCheck q p.turn

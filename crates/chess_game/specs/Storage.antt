@@ -37,7 +37,8 @@ board_again a h =
     ∙ ap (λ men. record { men = men; count = a.count; turn = a.turn }) whole
 
 -- men written over the front of eight places of nobody
-pub IsTidy-written : (men : List Man) (turn : Side) → 2 ≤ length men → length men ≤ 8 → IsTidy (record { men = men ++ drop (length men) (replicate 8 nobody); count = length men; turn = turn })
+pub IsTidy-written : (men : List Man) (turn : Side) → 2 ≤ length men → length men ≤ 8
+    → IsTidy (record { men = men ++ drop (length men) (replicate 8 nobody); count = length men; turn = turn })
 IsTidy-written men turn low high =
     record {
       low = low;
@@ -47,7 +48,8 @@ IsTidy-written men turn low high =
     }
 
 -- other men written over the front
-pub IsTidy-changed : (a : Inside) (men : List Man) (turn : Side) → IsTidy a → length men ≡ a.count → IsTidy (record { men = men ++ drop a.count a.men; count = a.count; turn = turn })
+pub IsTidy-changed : (a : Inside) (men : List Man) (turn : Side) → IsTidy a → length men ≡ a.count
+    → IsTidy (record { men = men ++ drop a.count a.men; count = a.count; turn = turn })
 IsTidy-changed a men turn h same =
     record {
       low = h.low;

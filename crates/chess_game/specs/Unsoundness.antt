@@ -44,7 +44,8 @@ rank (KingGone Black) = 5
 rank (SameSquare i j) = 6
 rank OtherInCheck = 7
 
--- of two pairs of men, the one with the lesser first man is told, or with the lesser second man where the first are the same
+-- of two pairs of men, the one with the lesser first man is told, or with the lesser second man where the first are the
+-- same
 abbrev pub IsLesserPair : Unsound → Unsound → Type 0
 IsLesserPair (SameSquare i j) (SameSquare k l) = (i < k) ⊎ ((i ≡ k) × (j < l))
 IsLesserPair _ _ = ⊥

@@ -30,7 +30,8 @@ pub record IsFreeFrom (p : Position) (a : Square) (r : Ray) (f : Frame) (t : ℕ
 abbrev pub IsFree : Position → ℕ → Ray → Frame → ℕ → Type 0
 IsFree p i r f t = IsSomeAnd (man_at p i) (λ m. IsLiveAnd m (λ a. IsFreeFrom p a r f t))
 
--- man h is the first live man on the ray, and his square is in the frame; where several men stand on that square, he has the least number
+-- man h is the first live man on the ray, and his square is in the frame; where several men stand on that square, he
+-- has the least number
 pub record IsHitFrom (p : Position) (a : Square) (r : Ray) (f : Frame) (h : ℕ) : Type 0 where
   pub to : Square
   pub distance : ℕ

@@ -157,7 +157,8 @@ fn answers_along_nth(
 ) -> bool
     requires check { IsCloseCheck check }
     requires from { IsClose standing.square }
-    ensures { IsTrue result ↔ IsSomeAnd (ray_of man.now.kind man.now.side index) (AnswersAlong board.now check standing) }
+    ensures { IsTrue result
+        ↔ IsSomeAnd (ray_of man.now.kind man.now.side index) (AnswersAlong board.now check standing) }
 {
     match ray(man.kind(), man.side(), index) {
         None => false,

@@ -175,11 +175,13 @@ accepted_is_spelled (line ∷ l ∷ lines) p h =
     let rest = after_header (l ∷ lines) p (subst (λ s. Completes s (l ∷ lines) p) first.next_is h.2) in
     (ap (λ x. x ∷ l ∷ lines) first.spelled ∙ ap (λ x. header ∷ x) rest.spelled, rest.writable)
 
-completes_more : (s next : Stage) (line : List ℕ) (men : List Man) (q : Position) → Feeds s line (more next) → Completes next (map man_text men ++ end_line ∷ []) q → Completes s (line ∷ (map man_text men ++ end_line ∷ [])) q
+completes_more : (s next : Stage) (line : List ℕ) (men : List Man) (q : Position) → Feeds s line (more next)
+    → Completes next (map man_text men ++ end_line ∷ []) q → Completes s (line ∷ (map man_text men ++ end_line ∷ [])) q
 completes_more s next line [] q f c = (next, f, c)
 completes_more s next line (m ∷ men) q f c = (next, f, c)
 
-completes_men : (rest : List Man) (p q : Position) → q.men ≡ p.men ++ rest → q.turn ≡ p.turn → 2 ≤ length q.men → length q.men ≤ 5 → All (λ m. FitsPlace m.place) rest → Completes (stage.Men p) (map man_text rest ++ end_line ∷ []) q
+completes_men : (rest : List Man) (p q : Position) → q.men ≡ p.men ++ rest → q.turn ≡ p.turn → 2 ≤ length q.men → length q.men ≤ 5
+    → All (λ m. FitsPlace m.place) rest → Completes (stage.Men p) (map man_text rest ++ end_line ∷ []) q
 completes_men [] p q men turn low high fit =
     let same : q.men ≡ p.men = men ∙ append-nil p.men in
     let is : q ≡ p = λ i. record { men = same i; turn = turn i } in

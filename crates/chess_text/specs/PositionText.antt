@@ -82,7 +82,8 @@ FeedsMen p line turnout =
 
 -- what a line makes of a text at a stage
 abbrev pub Feeds : Stage → List ℕ → Turnout → Type 0
-Feeds stage.Header line turnout = ((line ≡ header) × (turnout ≡ more stage.Turn)) ⊎ ((line ≢ header) × (turnout ≡ wrong why.Header))
+Feeds stage.Header line turnout =
+    ((line ≡ header) × (turnout ≡ more stage.Turn)) ⊎ ((line ≢ header) × (turnout ≡ wrong why.Header))
 Feeds stage.Turn line turnout =
     ((s : Side) × (line ≡ turn_text s) × (turnout ≡ more (stage.Men (record { men = []; turn = s }))))
     ⊎ (((s : Side) → line ≢ turn_text s) × (turnout ≡ wrong why.Turn))

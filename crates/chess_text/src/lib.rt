@@ -10,6 +10,6 @@ mod replies;
 mod writer;
 
 pub use man_line::{TextWhy, read_man_line, read_turn_line};
-pub use reader::{Fed, MOST_MEN, PositionReader, TextError};
+pub use reader::{Fed, PositionReader, TextError};
 pub use replies::{MoveText, MoveWhy, Typed, read_move};
 pub use writer::position_bytes;

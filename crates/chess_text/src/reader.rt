@@ -6,10 +6,8 @@ ghost use Rattle.chess_text.specs.Progress.{ReadsLine, fed_of, line_due, positio
 
 use crate::man_line::{TextWhy, read_man_line, read_turn_line};
 use chess_game::{Kind, Man, Place, Position, Side};
+use limits::MOST_MEN;
 use std::marker::Model;
-
-/// The greatest number of men in a text.
-pub const MOST_MEN: usize = 5;
 
 /// A line that may not stand where it stands, counted from 1, and why.
 #[derive(Clone, Copy, Debug, PartialEq, Eq)]

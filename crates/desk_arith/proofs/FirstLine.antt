@@ -111,7 +111,8 @@ module _ (budget : ℕ) (files : Files) where
         refused took.bytes rest Long took.taken (known_rest after) took.keeps (subst P (sym (took.reads rest)) refl) wrote
 
     -- the source has failed within the line
-    pub fault_ends : Takes (Err fails.Read) [] line pending left after → HasRisen reads reads_later → Writes [] (codes "read fault\n") written later (HasRisen writes writes_later) → ArithEnds budget files is.ReadFault pending old new
+    pub fault_ends : Takes (Err fails.Read) [] line pending left after → HasRisen reads reads_later
+        → Writes [] (codes "read fault\n") written later (HasRisen writes writes_later) → ArithEnds budget files is.ReadFault pending old new
     fault_ends took failed wrote =
         let part = part_ends took.bytes in
         let P : Lines → Type 0 = λ l. Says l (refused_as files part.0) in

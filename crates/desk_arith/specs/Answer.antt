@@ -9,11 +9,13 @@ use Rattle.desk_arith.specs.Arith.{witness_line}
 abbrev pub SaysTrue : List ℕ → Type 0
 SaysTrue line = (line ≡ codes "true\n") ⊎ (line ≡ codes "true witness wide\n") ⊎ ((w : ℤ) × (line ≡ witness_line w))
 
--- The formula says that there is a number. Of those with which it holds this is the nearest to 0, and the positive one of two that are as near.
+-- The formula says that there is a number. Of those with which it holds this is the nearest to 0, and the positive one
+-- of two that are as near.
 abbrev pub IsAskedFor : Tree → ℤ → Type 0
 IsAskedFor f w = (x : Var) × (g : Tree) × Asks f x g × IsNearest (HoldsWith x g) w
 
--- The line says that the formula holds exactly where it does over all integers, and `false` exactly where it does not. It has a number up to
+-- The line says that the formula holds exactly where it does over all integers, and `false` exactly where it does not.
+-- It has a number up to
 -- 2^64 or down to -2^64 exactly where that is the one asked for.
 pub record Answers (f : Tree) (line : List ℕ) : Type 0 where
   pub holds : SaysTrue line ↔ IsTrueFormula f

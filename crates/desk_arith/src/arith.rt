@@ -6,7 +6,6 @@ ghost use Rattle.lin_formula.specs.TreeOf.{tree_of};
 ghost use Rattle.desk_base.specs.Faults.{HasRisen};
 ghost use Rattle.desk_base.specs.Files.{Files};
 ghost use Rattle.arith_desk.specs.Question.{IsQuestion};
-ghost use Rattle.desk_words.specs.Order.{IsBudget};
 ghost use Rattle.desk_report.specs.Outcome.{Ends, NeverMisses, Writes, of_sink, of_streams};
 ghost use Rattle.desk_text.specs.Text as texts;
 ghost use Rattle.desk_arith.specs.Arith.{ArithEnds, FormulaReports, LineReports};
@@ -19,12 +18,17 @@ use desk_report::{Status, print, refusal_line, refuse};
 use desk_text::LineWhy;
 use formula_auto::CompileError;
 use itoa::Buffer;
+use limits::{Budget, MOST_LINE_BYTES};
 use lin_formula::Formula;
 use std::alloc::Global;
 
 /// Writes whether the formula that the first line is holds over all integers.
-pub fn arith<S: Source, K: Sink>(alloc: Global, budget: u32, source: &mut S, sink: &mut K) -> Status
-    requires { IsBudget budget }
+pub fn arith<S: Source, K: Sink>(
+    alloc: Global,
+    budget: Budget,
+    source: &mut S,
+    sink: &mut K,
+) -> Status
     ensures ends { (files : Files) → (pending : List ℕ) ×
         ArithEnds budget files result pending
         (of_streams files (S.left source.old) (K.written sink.old) (S.faults source.old) (K.faults sink.old))
@@ -55,12 +59,12 @@ fn refuse_line<K: Sink>(sink: &mut K, why: LineWhy) -> Status
 }
 
 /// Writes whether the formula that the line is holds.
-fn answer_line<K: Sink>(alloc: Global, line: &[u8], budget: u32, sink: &mut K) -> Status
-    requires short { length line.now ≤ 200 }
-    requires budget { IsBudget budget }
+fn answer_line<K: Sink>(alloc: Global, line: &[u8], budget: Budget, sink: &mut K) -> Status
+    requires short { length line.now ≤ MOST_LINE_BYTES }
     ensures ends { (files : Files) →
         Ends result (LineReports budget line.now files) (Unit {0}) NeverMisses
-        (of_sink files (K.written sink.old) (K.faults sink.old)) (of_sink files (K.written sink.new) (K.faults sink.new)) }
+        (of_sink files (K.written sink.old) (K.faults sink.old))
+        (of_sink files (K.written sink.new) (K.faults sink.new)) }
 {
     match read_formula(alloc, line) {
         Ok(f) => answer(alloc, &f, budget, sink),
@@ -77,12 +81,12 @@ fn answer_line<K: Sink>(alloc: Global, line: &[u8], budget: u32, sink: &mut K) -
 }
 
 /// Writes whether the formula holds.
-fn answer<K: Sink>(alloc: Global, f: &Formula, budget: u32, sink: &mut K) -> Status
+fn answer<K: Sink>(alloc: Global, f: &Formula, budget: Budget, sink: &mut K) -> Status
     requires question { IsQuestion (tree_of f.now) }
-    requires budget { IsBudget budget }
     ensures ends { (files : Files) →
         Ends result (FormulaReports budget (tree_of f.now) files) (Unit {0}) NeverMisses
-        (of_sink files (K.written sink.old) (K.faults sink.old)) (of_sink files (K.written sink.new) (K.faults sink.new)) }
+        (of_sink files (K.written sink.old) (K.faults sink.old))
+        (of_sink files (K.written sink.new) (K.faults sink.new)) }
 {
     match decide_closed(alloc, f, budget) {
         Ok(truth) => {

@@ -21,4 +21,5 @@ one_more calls = record { made = min (calls.made + 1) (2 ^ 32 - 1); fail = calls
 
 -- after one more call, which failed
 abbrev pub one_more_failed : Calls → Calls
-one_more_failed calls = record { made = min (calls.made + 1) (2 ^ 32 - 1); fail = calls.fail; faults = min (calls.faults + 1) (2 ^ 64 - 1) }
+one_more_failed calls =
+    record { made = min (calls.made + 1) (2 ^ 32 - 1); fail = calls.fail; faults = min (calls.faults + 1) (2 ^ 64 - 1) }

@@ -26,6 +26,8 @@ pub record Store : Type 0 where
 -- a store is coded as the tuple of what it holds
 abbrev pub store_code : Coded Store
 store_code =
-    code_by (Files × (ℕ × (List ℕ × ℕ))) (coded× (finite.code (coded_list coded_ℕ) (coded_list coded_ℕ)) (coded× coded_ℕ (coded× (coded_list coded_ℕ) coded_ℕ)))
+    code_by (Files × (ℕ × (List ℕ × ℕ)))
+    (coded× (finite.code (coded_list coded_ℕ) (coded_list coded_ℕ))
+    (coded× coded_ℕ (coded× (coded_list coded_ℕ) coded_ℕ)))
     (λ s. (s.files, (s.calls.made, (s.calls.fail, s.calls.faults))))
     (λ p. record { files = p.0; calls = record { made = p.1.0; fail = p.1.1.0; faults = p.1.1.1 } }) (λ _. refl)

@@ -3,8 +3,8 @@ ghost use Rattle.std.specs.Io.KnownBytes.{IsAtEnd, Keeps};
 ghost use Rattle.desk_base.specs.Faults.{HasRisen};
 ghost use Rattle.desk_base.specs.Moves.{Grows};
 
-use crate::line::LINE_LIMIT;
 use crate::source::{Failed, Source};
+use limits::MOST_LINE_BYTES;
 use std::marker::Model;
 
 /// How many bytes a buffer can hold.
@@ -91,18 +91,19 @@ fn move_to_front(items: &mut [u8], start: usize, end: usize) -> usize
 /// The bytes of a line.
 #[derive(Drop)]
 pub struct LineBytes {
-    items: [u8; LINE_LIMIT],
+    items: [u8; MOST_LINE_BYTES],
     len: usize,
 }
 
 impl Model for LineBytes {
+    ghost use Rattle.limits.specs.declared.numbers.TheConstants.{MOST_LINE_BYTES};
     ghost use Rattle.std.specs.Prelude.{ℕ, List, ◌≤◌, take};
 
     ghost Value = { List ℕ };
 
     ghost view = { λ b. take b.len b.items };
 
-    ghost invariant = { λ b. b.len ≤ 200 };
+    ghost invariant = { λ b. b.len ≤ MOST_LINE_BYTES };
 }
 
 impl LineBytes {
@@ -110,7 +111,7 @@ impl LineBytes {
         ensures { result ≡ [] }
     {
         LineBytes {
-            items: [0; LINE_LIMIT],
+            items: [0; MOST_LINE_BYTES],
             len: 0,
         }
     }
@@ -123,7 +124,7 @@ impl LineBytes {
 
     /// Puts these bytes in the place of those that were there.
     pub fn set(&mut self, bytes: &[u8])
-        requires { length bytes.now ≤ 200 }
+        requires { length bytes.now ≤ MOST_LINE_BYTES }
         ensures { self.new ≡ bytes.now }
     {
         self.items[..bytes.len()].copy_from_slice(bytes);

@@ -34,7 +34,8 @@ impl MemSink {
     /// are to fail; calls after the one of number 2^32 - 1 have no number.
     pub fn new(alloc: Global, fail: Vec<u32>, most: usize, room: usize) -> Result<Self, AllocError>
         requires { 0 < most }
-        ensures { IfOk result (λ sink. sink ≡ record { written = []; most = most; room = room; calls = no_calls fail.items }) }
+        ensures { IfOk result
+            (λ sink. sink ≡ record { written = []; most = most; room = room; calls = no_calls fail.items }) }
     {
         Ok(MemSink {
             bytes: Vec::with_capacity(alloc, room)?,
@@ -67,9 +68,19 @@ impl Sink for MemSink {
         ensures never_falls { self.old.calls.faults ≤ self.new.calls.faults }
 
         // It fails exactly at the calls that are to fail, and where its room is full and the piece is not empty.
-        ensures fails { IsErr result ↔ (IsListed self.old.calls ⊎ ((length self.old.written ≡ self.old.room) × (0 < length piece.now))) }
-        ensures count { IfOk result (λ k. k ≡ min (min (length piece.now) self.old.most) (self.old.room - length self.old.written)) }
-        ensures ok { IfOk result (λ k. self.new ≡ record { written = self.old.written ++ take k piece.now; most = self.old.most; room = self.old.room; calls = one_more self.old.calls }) }
+        ensures fails { IsErr result
+            ↔ (IsListed self.old.calls ⊎ ((length self.old.written ≡ self.old.room) × (0 < length piece.now))) }
+        ensures count { IfOk result
+            (λ k. k ≡ min (min (length piece.now) self.old.most) (self.old.room - length self.old.written)) }
+        ensures ok { IfOk result
+            (λ k.
+            self.new
+            ≡ record {
+              written = self.old.written ++ take k piece.now;
+              most = self.old.most;
+              room = self.old.room;
+              calls = one_more self.old.calls;
+            }) }
         ensures err { OnErr result (self.new ≡ record self.old { calls = one_more_failed self.old.calls }) }
         ensures within { length self.new.written ≤ self.new.room }
     {

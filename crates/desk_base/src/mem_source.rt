@@ -58,7 +58,10 @@ impl Source for MemSource {
         // It fails exactly at the calls that are to fail, and counts no other fault.
         ensures listed { IsErr result ↔ IsListed self.old.calls }
         ensures count { IfOk result (λ k. k ≡ min (min (length self.old.left) (length buffer.old)) self.old.most) }
-        ensures ok { IfOk result (λ k. self.new ≡ record { left = drop k self.old.left; most = self.old.most; calls = one_more self.old.calls }) }
+        ensures ok { IfOk result
+            (λ k.
+            self.new
+            ≡ record { left = drop k self.old.left; most = self.old.most; calls = one_more self.old.calls }) }
         ensures err { OnErr result (self.new ≡ record self.old { calls = one_more_failed self.old.calls }) }
     {
         if self.calls.fails() {

@@ -49,13 +49,16 @@ impl LineReader {
     /// Reads the next line. After any other answer than a whole line it gives that answer for good, and takes nothing more. It may take up
     /// to 256 bytes past the line, which it keeps for the next call.
     pub fn next_line<S: Source>(&mut self, source: &mut S) -> Result<Line, LineError>
-        ensures stopped { IfSome self.old.stopped (λ answer. (result ≡ answer) × (self.new ≡ self.old) × (source.new ≡ source.old)) }
+        ensures stopped { IfSome self.old.stopped
+            (λ answer. (result ≡ answer) × (self.new ≡ self.old) × (source.new ≡ source.old)) }
         ensures line { self.old.stopped ≡ None → KeepsLine result self.old.line self.new.line }
         ensures stops { self.old.stopped ≡ None → self.new.stopped ≡ stop_after result }
         // The lines are those of the bytes that are taken, which are those of the source where it tells them.
-        ensures lines { self.old.stopped ≡ None → Takes result self.old.pending self.new.line self.new.pending (S.left source.old) (S.left source.new) }
+        ensures lines { self.old.stopped ≡ None
+            → Takes result self.old.pending self.new.line self.new.pending (S.left source.old) (S.left source.new) }
         ensures within { length self.new.pending ≤ 256 }
-        ensures failed { self.old.stopped ≡ None → IsErrOf result LineError.Read → HasRisen (S.faults source.old) (S.faults source.new) }
+        ensures failed { self.old.stopped ≡ None → IsErrOf result LineError.Read
+            → HasRisen (S.faults source.old) (S.faults source.new) }
         ensures never_falls { S.faults source.old ≤ S.faults source.new }
     {
         if let Some(answer) = self.stopped {

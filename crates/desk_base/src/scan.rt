@@ -2,7 +2,7 @@ ghost use Rattle.std.specs.Prelude.{◌≤◌, length, take};
 ghost use Rattle.desk_base.specs.Found.{Finds};
 ghost use Rattle.desk_base.specs.Lines.{HasNoLf};
 
-use crate::line::LINE_LIMIT;
+use limits::MOST_LINE_BYTES;
 
 /// The byte that ends a line.
 const LF: u8 = b'\n';
@@ -21,7 +21,7 @@ pub enum Found {
 /// Finds the line in front of the bytes, of which the first `scanned` have no LF.
 pub fn find_line(bytes: &[u8], scanned: usize) -> Found
     requires within { scanned ≤ length bytes.now }
-    requires short { scanned ≤ 200 }
+    requires short { scanned ≤ MOST_LINE_BYTES }
     requires free { HasNoLf (take scanned bytes.now) }
     ensures { Finds bytes.now result }
 {
@@ -29,7 +29,7 @@ pub fn find_line(bytes: &[u8], scanned: usize) -> Found
         if bytes[i] == LF {
             return Found::Whole(i);
         }
-        if i == LINE_LIMIT {
+        if i == MOST_LINE_BYTES {
             return Found::Long;
         }
     }

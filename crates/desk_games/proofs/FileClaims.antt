@@ -105,8 +105,11 @@ module _ (reports : Claim → Report → Type 0) (budget : ℕ) (name : List ℕ
       (_, of_outcome _ (Err (layout.Extra at)) r refl, record { reported = refl; written = wrote; files = go_same files (λ before after. after ≡ files) old.files new.files same kept refl })
   refused_ends (NotKept rule) may_lack old new (charts, r, finds) lack kept same failed wrote =
       (_, of_outcome _ (Ok charts) r (inl (rule, finds, refl)), record { reported = refl; written = wrote; files = go_same files (λ before after. after ≡ files) old.files new.files same kept refl })
-  refused_ends (Over step) may_lack old new (charts, r, over) lack kept same failed wrote =
-      (_, of_outcome _ (Ok charts) r (inr (inl (step, over, refl))), record { reported = refl; written = wrote; files = go_same files (λ before after. after ≡ files) old.files new.files same kept refl })
+  refused_ends (Over step) may_lack old new (charts, r, over) lack kept same failed wrote = (
+    _,
+    of_outcome _ (Ok charts) r (inr (inl (step, over, refl))),
+    record { reported = refl; written = wrote; files = go_same files (λ before after. after ≡ files) old.files new.files same kept refl },
+  )
 
 -- what is fetched, read and checked in turn
 module _ (budget : ℕ) (name : List ℕ) (files : Files) where
@@ -153,7 +156,11 @@ module _ (budget : ℕ) (name : List ℕ) (files : Files) where
       not_checked (Byte at why) h = absurd h
       not_checked (Extra at) h = absurd h
       not_checked (NotKept rule) h = (charts_of c, read_as (Ok (charts_of c)) file, (alike.ends budget (Some rule)).0 h)
-      not_checked (Over step) h = (charts_of c, read_as (Ok (charts_of c)) file, (h.0, (alike.stops budget (record { part = record { ply = step.ply; mask = step.mask; part = step.part }; at = step.at })).0 h.1))
+      not_checked (Over step) h = (
+        charts_of c,
+        read_as (Ok (charts_of c)) file,
+        (h.0, (alike.stops budget (record { part = record { ply = step.ply; mask = step.mask; part = step.part }; at = step.at })).0 h.1),
+      )
 
       pub checked : (s : Solution) → TellsChecked c budget (Ok s) → HasFileClaim budget name files s
       checked s (is_checked, keeps) = record {

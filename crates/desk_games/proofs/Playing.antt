@@ -36,7 +36,8 @@ use Rattle.desk_text.proofs.TextSteps.{known_rest}
 use Rattle.desk_report.proofs.Writing.{at_sink, ends_as}
 
 -- a text, and a fault line behind it
-then_line : (text line : List ℕ) (before between after : Option (List ℕ)) (failed also : Type 0) → Appends before between text → (failed → also) → Writes [] line between after failed → Writes text line before after also
+then_line : (text line : List ℕ) (before between after : Option (List ℕ)) (failed also : Type 0) → Appends before between text → (failed → also)
+    → Writes [] line between after failed → Writes text line before after also
 then_line text line before between after failed also wrote more writes = record {
   count = writes.count;
   front = Appends-trans before between after text (take writes.count line) wrote writes.front;
@@ -73,14 +74,17 @@ seen_claimed s f g by is = ap seen is ∙ (λ i. record {
 })
 
 -- so it is the game that was played
-pub same_played : (number : ℕ) (answer : Result Ending GameError) (g first after : Match) (old new : Ports) → g ≡ first → IsPlayed answer number g after old new → IsPlayed answer number first after old new
+pub same_played : (number : ℕ) (answer : Result Ending GameError) (g first after : Match) (old new : Ports) → g ≡ first
+    → IsPlayed answer number g after old new → IsPlayed answer number first after old new
 same_played number answer g first after old new is played = let P : Match → Type 0 = λ m. IsPlayed answer number m after old new in subst P is played
 
 -- what is reported of lines, and where memory may be wanting and the shelf may fail after some bytes
 module _ (reports : Lines → Report → Type 0) (may_lack : List ℕ → Type 0) (may_miss : List ℕ → Option (List ℕ) → Type 0) (files : Files) where
   -- a command that has the sink alone takes nothing more
   module _ (held : List ℕ) (few : length held ≤ 256) (left before after : Option (List ℕ)) (reads writes later : ℕ) where
-    pub still : (status : Status) (says : Report → Type 0) (lacks : Type 0) → ((report : Report) (lines : Lines) → says report → reports lines report) → (lacks → may_lack []) → Ends status says lacks NeverMisses (of_sink files before writes) (of_sink files after later) → EndsByLines reports may_lack may_miss status held held (of_streams files left before reads writes) (of_streams files left after reads later)
+    pub still : (status : Status) (says : Report → Type 0) (lacks : Type 0) → ((report : Report) (lines : Lines) → says report → reports lines report)
+        → (lacks → may_lack []) → Ends status says lacks NeverMisses (of_sink files before writes) (of_sink files after later)
+        → EndsByLines reports may_lack may_miss status held held (of_streams files left before reads writes) (of_streams files left after reads later)
     still status says lacks more lack ends =
         let old = of_streams files left before reads writes in
         let new = of_streams files left after reads later in
@@ -108,7 +112,8 @@ module _ (reports : Lines → Report → Type 0) (may_lack : List ℕ → Type 0
       few = t.few;
     }
 
-    done_as : (ending : Ending) (due : Report → Type 0) (lacks : Type 0) (misses : Option (List ℕ) → Type 0) (report : Report) (old new : Seen) → due report → DoesReport (status_of ending) report old new → Ends (status_of ending) due lacks misses old new
+    done_as : (ending : Ending) (due : Report → Type 0) (lacks : Type 0) (misses : Option (List ℕ) → Type 0) (report : Report) (old new : Seen)
+        → due report → DoesReport (status_of ending) report old new → Ends (status_of ending) due lacks misses old new
     done_as Mated due lacks misses report old new right does = (report, right, does)
     done_as Wide due lacks misses report old new right does = (report, right, does)
     done_as Quit due lacks misses report old new right does = (report, right, does)
@@ -141,11 +146,14 @@ module _ (reports : Lines → Report → Type 0) (may_lack : List ℕ → Type 0
           IsPlayed answer number g after (record { pending = held; left = left_old; written = before }) (record { pending = pending; left = left_new; written = between })
 
       -- what is written after the game comes behind its text
-      writes_both : (report : game.Report) (line : List ℕ) → Appends before between report.text → writes ≤ later_writes → Writes [] line between done (HasRisen later_writes last_writes) → Writes report.text line before done (HasRisen writes last_writes)
+      writes_both : (report : game.Report) (line : List ℕ) → Appends before between report.text → writes ≤ later_writes
+          → Writes [] line between done (HasRisen later_writes last_writes) → Writes report.text line before done (HasRisen writes last_writes)
       writes_both report line wrote never_falls wrote_line =
           then_line report.text line before between done (HasRisen later_writes last_writes) (HasRisen writes last_writes) wrote (later_risen writes later_writes last_writes never_falls) wrote_line
 
-      pub game_ends : (answer : Result Ending GameError) (status : Status) → Played answer → (IsErrOf answer Read → HasRisen reads later_reads) → (IsErrOf answer Write → HasRisen writes later_writes) → writes ≤ later_writes → later_writes ≤ last_writes → Finishes answer status between done (HasRisen later_writes last_writes) → EndsSo status
+      pub game_ends : (answer : Result Ending GameError) (status : Status) → Played answer → (IsErrOf answer Read → HasRisen reads later_reads)
+          → (IsErrOf answer Write → HasRisen writes later_writes) → writes ≤ later_writes → later_writes ≤ last_writes
+          → Finishes answer status between done (HasRisen later_writes last_writes) → EndsSo status
       game_ends (Ok ending) status played read_failed write_failed never_falls no_more (is', wrote) =
           let report = played.ends.0 in
           let goes = played.ends.1 in
@@ -209,5 +217,7 @@ module _ (reports : Lines → Report → Type 0) (may_lack : List ℕ → Type 0
           })
 
 -- the game that `play` reports
-pub reports_game : (n budget : ℕ) (problem : Problem) (files : Files) → FitsBudget problem budget n → Value problem.winner n problem.position → (lines : Lines) (played : game.Report) → IsReport problem.lines lines (first_match n problem) played → PlayReports n budget problem lines files (as_played files played)
+pub reports_game : (n budget : ℕ) (problem : Problem) (files : Files) → FitsBudget problem budget n → Value problem.winner n problem.position
+    → (lines : Lines) (played : game.Report) → IsReport problem.lines lines (first_match n problem) played
+    → PlayReports n budget problem lines files (as_played files played)
 reports_game n budget problem files fits value lines played right = inr (fits, inr (value, (played, right, refl)))

@@ -1,4 +1,4 @@
--- What a shelf has told of a file, and files that it may have where it tells nothing.
+-- What a shelf has told of a file, and files that it may have where it tells nothing. Crates above cite these lemmas.
 use Rattle.std.proofs.Common.{◌≡◌, ℕ, zero, suc, ◌+◌, ◌<◌, cond, List, [], ◌∷◌, length, Option, Some, None, IfSome, refl, sym, ◌∙◌, ap, subst, arith}
 use Rattle.std.specs.FinMap as finite
 use Rattle.std.specs.Prelude.{IsSomeAnd, unwrap_or}
@@ -50,7 +50,8 @@ unfolding zeros
 length-zeros zero = refl
 length-zeros (suc n) = ap suc (length-zeros n)
 
-long_in : (limit : ℕ) (files : Files) (name : List ℕ) (found : Option (List ℕ)) → finite.get files name ≡ found → IsSomeAnd found (λ bytes. limit < length bytes) → (bytes : List ℕ) × (finite.get files name ≡ Some bytes) × (limit < length bytes)
+long_in : (limit : ℕ) (files : Files) (name : List ℕ) (found : Option (List ℕ)) → finite.get files name ≡ found
+    → IsSomeAnd found (λ bytes. limit < length bytes) → (bytes : List ℕ) × (finite.get files name ≡ Some bytes) × (limit < length bytes)
 long_in limit files name (Some bytes) is' long = (bytes, is', long)
 long_in limit files name None is' long = absurd long
 
@@ -74,7 +75,8 @@ same_kept None = tt
 same_kept (Some x) = refl
 
 -- the bytes were put under the name
-pub put_leaves : (old new : Option Files) (files : Files) (name bytes : List ℕ) → IfSome old (λ known. known ≡ files) → Go old new (λ before after. after ≡ finite.insert before name bytes) → Go old new (λ before after. after ≡ finite.insert files name bytes)
+pub put_leaves : (old new : Option Files) (files : Files) (name bytes : List ℕ) → IfSome old (λ known. known ≡ files)
+    → Go old new (λ before after. after ≡ finite.insert before name bytes) → Go old new (λ before after. after ≡ finite.insert files name bytes)
 put_leaves None new files name bytes h put = tt
 put_leaves (Some x) None files name bytes h put = absurd put
 put_leaves (Some x) (Some y) files name bytes h put = put ∙ ap (λ f. finite.insert f name bytes) h
@@ -88,7 +90,9 @@ does_leave status due old new left (report, is', does) =
     record { reported = d.reported; written = d.written; files = left }
 
 -- what is printed after the files were changed
-pub printed_leaving : (status : Status) (reports : Report → Type 0) (may_lack : Type 0) (may_miss : Option (List ℕ) → Type 0) (due : Report) (old new : Seen) → reports due → Go old.files new.files (λ before after. after ≡ due.files)
+pub printed_leaving : (status : Status) (reports : Report → Type 0) (may_lack : Type 0) (may_miss : Option (List ℕ) → Type 0) (due : Report)
+    (old new : Seen)
+    → reports due → Go old.files new.files (λ before after. after ≡ due.files)
     → Ends status (λ report. report ≡ due) ⊥ NeverMisses (of_sink due.files old.written old.write_faults) (of_sink due.files new.written new.write_faults)
     → Ends status reports may_lack may_miss old new
 printed_leaving is.Done reports may_lack may_miss due old new right left ends = (due, right, does_leave is.Done due old new left ends)
@@ -122,6 +126,7 @@ module _ (problem : Problem) (n : ℕ) (s : Solution) (of : IsOf problem.positio
   pub kept_reports : (name : List ℕ) (files : Files) (report : Report) → FileReports s.winner s.position s.moves name files report → FileReports problem.winner problem.position n name files report
   kept_reports name files report = along (λ w p k. FileReports w p k name files report)
 
-  pub kept_file : (budget : ℕ) → FitsBudget problem budget n → Value problem.winner n problem.position → (bytes : List ℕ) → IsFileToKeep s.winner s.position s.moves bytes → HasFileToKeep n budget problem
+  pub kept_file : (budget : ℕ) → FitsBudget problem budget n → Value problem.winner n problem.position → (bytes : List ℕ)
+      → IsFileToKeep s.winner s.position s.moves bytes → HasFileToKeep n budget problem
   kept_file budget fits value bytes file =
       record { fits = fits; value = value; bytes = bytes; file = along (λ w p k. IsFileToKeep w p k bytes) file }

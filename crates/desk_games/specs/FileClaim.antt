@@ -32,12 +32,15 @@ use Rattle.desk_report.specs.declared.status.Status.TheVariants as is
 abbrev pub file_refused : Files → List ℕ → Report
 file_refused files line = refusal_as files is.File line false
 
--- what is reported of a claim: the first rule that it does not keep, or the first step of the plan that checks it that exceeds the budget, or
+-- what is reported of a claim: the first rule that it does not keep, or the first step of the plan that checks it that
+-- exceeds the budget, or
 -- else what `reports` says
 abbrev pub OfClaim : (Claim → Report → Type 0) → (budget : ℕ) → Files → Claim → Report → Type 0
 OfClaim reports budget files c report =
-    ((failed : RuleAt) × plan.Ends (check_plan c) budget (Some failed) × (report ≡ file_refused files (not_kept_line failed)))
-    ⊎ ((step : StepName) × IsSolveError (check_plan c) c.moves budget (solve_error.Over step) × (report ≡ over_budget files step))
+    ((failed : RuleAt) × plan.Ends (check_plan c) budget (Some failed)
+    × (report ≡ file_refused files (not_kept_line failed)))
+    ⊎ ((step : StepName) × IsSolveError (check_plan c) c.moves budget (solve_error.Over step)
+    × (report ≡ over_budget files step))
     ⊎ (plan.Ends (check_plan c) budget None × reports c report)
 
 -- of what bytes are the file of: the reason why they are none, or what is reported of the claim
@@ -49,7 +52,8 @@ OfOutcome reports budget files (Ok charts) report = OfClaim reports budget files
 abbrev pub OfBytes : (Claim → Report → Type 0) → (budget : ℕ) → Files → List ℕ → Report → Type 0
 OfBytes reports budget files bytes report =
     ((most_bytes < length bytes) × (report ≡ file_refused files (codes "file too long\n")))
-    ⊎ ((length bytes ≤ most_bytes) × ((outcome : Result Charts Refusal) × File bytes outcome × OfOutcome reports budget files outcome report))
+    ⊎ ((length bytes ≤ most_bytes)
+    × ((outcome : Result Charts Refusal) × File bytes outcome × OfOutcome reports budget files outcome report))
 
 -- of a file: there is none, or else what is reported of its bytes
 abbrev pub OfFound : (Claim → Report → Type 0) → (budget : ℕ) → Files → Option (List ℕ) → Report → Type 0
@@ -67,7 +71,8 @@ pub record IsReadAs (name : List ℕ) (files : Files) (outcome : Result Charts R
   pub short : length bytes ≤ most_bytes
   pub file : File bytes outcome
 
--- the solution has the sets of the claim of the file, which keeps all rules, and no step that checks it exceeds the budget
+-- the solution has the sets of the claim of the file, which keeps all rules, and no step that checks it exceeds the
+-- budget
 pub record HasFileClaim (budget : ℕ) (name : List ℕ) (files : Files) (s : Solution) : Type 0 where
   pub charts : Charts
   pub read : IsReadAs name files (Ok charts)
@@ -81,12 +86,14 @@ abbrev pub LacksClaim : (budget : ℕ) → (name : List ℕ) → Files → NoCla
 LacksClaim budget name files Fault = Unit {0}
 LacksClaim budget name files Memory = Unit {0}
 LacksClaim budget name files Missing = map.get files name ≡ None
-LacksClaim budget name files TooLong = (bytes : List ℕ) × (map.get files name ≡ Some bytes) × (most_bytes < length bytes)
+LacksClaim budget name files TooLong =
+    (bytes : List ℕ) × (map.get files name ≡ Some bytes) × (most_bytes < length bytes)
 LacksClaim budget name files (Cut at) = IsReadAs name files (Err (layout.Cut at))
 LacksClaim budget name files (Byte at why) = IsReadAs name files (Err (layout.Byte at why))
 LacksClaim budget name files (Extra at) = IsReadAs name files (Err (layout.Extra at))
 LacksClaim budget name files (NotKept failed) =
-    (charts : Charts) × IsReadAs name files (Ok charts) × plan.Ends (check_plan (claim_with charts)) budget (Some failed)
+    (charts : Charts) × IsReadAs name files (Ok charts)
+    × plan.Ends (check_plan (claim_with charts)) budget (Some failed)
 LacksClaim budget name files (Over step) =
     (charts : Charts) × IsReadAs name files (Ok charts)
     × IsSolveError (check_plan (claim_with charts)) charts.moves budget (solve_error.Over step)

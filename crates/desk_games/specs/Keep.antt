@@ -21,7 +21,8 @@ pub record IsFileToKeep (winner : Side) (p : Position) (n : ℕ) (bytes : List �
 -- the file of what is kept has the name, or it would be too large
 abbrev pub FileReports : Side → Position → (n : ℕ) → (name : List ℕ) → Files → Report → Type 0
 FileReports winner p n name files report =
-    ((bytes : List ℕ) × IsFileToKeep winner p n bytes × (report ≡ done_with (map.insert files name bytes) (mate_line n)))
+    ((bytes : List ℕ) × IsFileToKeep winner p n bytes
+    × (report ≡ done_with (map.insert files name bytes) (mate_line n)))
     ⊎ ((size : ℕ) × IsKeptTooLarge winner p n size × (report ≡ refusal_as files is.File (too_large_line size) false))
 
 -- this where the winner mates within n moves of his own, and else that he does not, with no file kept
@@ -36,7 +37,8 @@ KeepReports n budget problem name files report =
     ((step : StepName) × ExceedsAt problem budget n step × (report ≡ over_budget files step))
     ⊎ (FitsBudget problem budget n × KeptReports n problem name files report)
 
--- There is a file to keep: the plan is within the budget, the winner mates within n moves of his own, and the file is not too large.
+-- There is a file to keep: the plan is within the budget, the winner mates within n moves of his own, and the file is
+-- not too large.
 pub record HasFileToKeep (n budget : ℕ) (problem : Problem) : Type 0 where
   pub fits : FitsBudget problem budget n
   pub value : Value problem.winner n problem.position

@@ -21,7 +21,14 @@ use Rattle.desk_report.specs.declared.status.Status.TheVariants as is
 -- the game of a problem in which nothing was moved yet
 abbrev pub first_match : ℕ → Problem → Match
 first_match n problem =
-    record { winner = problem.winner; start = problem.position; moves = n; strategy = ByKept; position = problem.position; ply = 0 }
+    record {
+      winner = problem.winner;
+      start = problem.position;
+      moves = n;
+      strategy = ByKept;
+      position = problem.position;
+      ply = 0;
+    }
 
 -- the status of a run whose game ends so
 abbrev pub status_of : Ending → Status
@@ -36,14 +43,22 @@ status_of (LongAt number) = is.Text
 -- a run that reports a game, and leaves these files
 abbrev pub as_played : Files → game.Report → Report
 as_played files played =
-    record { status = status_of played.ending; text = played.text; fault = ending_line played.ending; short = is_short played.ending; files = files }
+    record {
+      status = status_of played.ending;
+      text = played.text;
+      fault = ending_line played.ending;
+      short = is_short played.ending;
+      files = files;
+    }
 
--- where the winner mates within n moves of his own, the game with these lines behind the text, and else that he does not
+-- where the winner mates within n moves of his own, the game with these lines behind the text, and else that he does
+-- not
 abbrev pub PlayedReports : ℕ → Problem → Lines → Files → Report → Type 0
 PlayedReports n problem lines files report =
     ((Value problem.winner n problem.position → ⊥) × (report ≡ done_with files (no_mate_line n)))
     ⊎ (Value problem.winner n problem.position
-    × ((played : game.Report) × IsReport problem.lines lines (first_match n problem) played × (report ≡ as_played files played)))
+    × ((played : game.Report) × IsReport problem.lines lines (first_match n problem) played
+    × (report ≡ as_played files played)))
 
 -- the same, or the first step that exceeds the budget
 abbrev pub PlayReports : ℕ → ℕ → Problem → Lines → Files → Report → Type 0
@@ -59,7 +74,8 @@ pub record LacksAtFirst (n : ℕ) (problem : Problem) (bytes : List ℕ) : Type 
 -- how `play` ends
 abbrev pub PlayEnds : (n budget : ℕ) → Problem → Files → Status → (held pending : List ℕ) → Seen → Seen → Type 0
 PlayEnds n budget problem files status held pending old new =
-    EndsByLines (λ lines. PlayReports n budget problem lines files) (LacksAtFirst n problem) (λ bytes. NeverMisses) status held pending old new
+    EndsByLines (λ lines. PlayReports n budget problem lines files) (LacksAtFirst n problem) (λ bytes. NeverMisses)
+    status held pending old new
 
 -- what is written after a game was played, and the status then
 abbrev pub Finishes : Result Ending GameError → Status → (old new : Option (List ℕ)) → (failed : Type 0) → Type 0

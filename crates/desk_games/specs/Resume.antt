@@ -13,11 +13,20 @@ use Rattle.desk_report.specs.declared.status.Status.{Status}
 
 -- the game of a claim in which nothing was moved yet
 abbrev pub claimed_match : Claim → Match
-claimed_match c = record { winner = c.winner; start = c.position; moves = c.moves; strategy = ByClaim c; position = c.position; ply = 0 }
+claimed_match c =
+    record {
+      winner = c.winner;
+      start = c.position;
+      moves = c.moves;
+      strategy = ByClaim c;
+      position = c.position;
+      ply = 0;
+    }
 
 -- the game with these lines that is played by a claim
 abbrev pub GameReports : Lines → Files → Claim → Report → Type 0
-GameReports lines files c report = (played : game.Report) × IsReport 0 lines (claimed_match c) played × (report ≡ as_played files played)
+GameReports lines files c report =
+    (played : game.Report) × IsReport 0 lines (claimed_match c) played × (report ≡ as_played files played)
 
 -- the game by the claim of the file of the name, or the first reason why there is none
 abbrev pub ResumeReports : (budget : ℕ) → Lines → (name : List ℕ) → Files → Report → Type 0

@@ -3,7 +3,6 @@
 ghost use Rattle.std.specs.Prelude.{[]};
 ghost use Rattle.desk_games.specs.Check.{CheckReports};
 ghost use Rattle.desk_games.specs.FileClaim.{MissesFetch, OnFiles};
-ghost use Rattle.desk_words.specs.Order.{IsBudget};
 ghost use Rattle.desk_report.specs.Outcome.{Ends, of_shelf};
 
 use crate::file_claim::{fetch_claim, refuse_file};
@@ -20,7 +19,6 @@ pub fn check<K: Sink, H: Shelf>(
     sink: &mut K,
     shelf: &mut H,
 ) -> Status
-    requires { IsBudget file.now.budget }
     ensures ends { OnFiles (H.files shelf.old) (λ files.
         Ends result (CheckReports file.now.budget file.now.name.now files) (Unit {0}) (MissesFetch [])
         (of_shelf (K.written sink.old) (H.files shelf.old) (K.faults sink.old) (H.faults shelf.old))

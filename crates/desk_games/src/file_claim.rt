@@ -6,7 +6,6 @@ ghost use Rattle.desk_base.specs.Files.{Go};
 ghost use Rattle.strategy_file.specs.Claims.{claim_of};
 ghost use Rattle.strategy_file.specs.Fitting.{HasFile};
 ghost use Rattle.desk_games.specs.FileClaim.{Fetches, IsFetched, OnFiles, TellsChecked, TellsRead, no_claim_line, no_claim_status};
-ghost use Rattle.desk_words.specs.Order.{IsBudget};
 ghost use Rattle.desk_report.specs.Outcome.{Writes};
 
 use chess_text::line_buffer::LineBuffer;
@@ -14,12 +13,10 @@ use claim_check::{CheckError, check};
 use claim_plan::RuleAt;
 use desk_base::{FetchError, Shelf, Sink};
 use desk_report::{Status, budget_line, byte_line, cut_line, extra_line, not_kept_line, refuse};
+use limits::{Budget, MOST_FILE_BYTES};
 use std::alloc::Global;
 use strategy_file::{ByteWhy, Claim, FileError, read_file};
 use winning_sets::{Solved, StepName};
-
-/// The most bytes that a file may have.
-const MOST_BYTES: usize = 268_435_456;
 
 /// Why the file of a name gives no claim.
 #[derive(Clone, Copy, Debug, PartialEq, Eq)]
@@ -93,7 +90,8 @@ fn text_line(text: &[u8]) -> LineBuffer
 /// Writes why there is no claim, as far as the sink takes it.
 pub fn refuse_file<K: Sink>(sink: &mut K, why: NoClaim) -> Status
     ensures status { result ≡ no_claim_status why }
-    ensures written { Writes [] (no_claim_line why) (K.written sink.old) (K.written sink.new) (HasRisen (K.faults sink.old) (K.faults sink.new)) }
+    ensures written { Writes [] (no_claim_line why) (K.written sink.old) (K.written sink.new)
+        (HasRisen (K.faults sink.old) (K.faults sink.new)) }
     ensures never_falls { K.faults sink.old ≤ K.faults sink.new }
 {
     let line = why.line();
@@ -105,10 +103,9 @@ pub fn refuse_file<K: Sink>(sink: &mut K, why: NoClaim) -> Status
 pub fn fetch_claim<H: Shelf>(
     alloc: Global,
     name: &str,
-    budget: u32,
+    budget: Budget,
     shelf: &mut H,
 ) -> Result<Solved, NoClaim>
-    requires { IsBudget budget }
     ensures fetches { OnFiles (H.files shelf.old) (λ files. Fetches budget name.now files result) }
     ensures same { Go (H.files shelf.old) (H.files shelf.new) (λ before after. after ≡ before) }
     ensures failed { IsErrOf result NoClaim.Fault → HasRisen (H.faults shelf.old) (H.faults shelf.new) }
@@ -124,7 +121,7 @@ fn fetch<H: Shelf>(alloc: Global, name: &str, shelf: &mut H) -> Result<Vec<u8>, 
     ensures same { Go (H.files shelf.old) (H.files shelf.new) (λ before after. after ≡ before) }
     ensures failed { IsErrOf result NoClaim.Fault → HasRisen (H.faults shelf.old) (H.faults shelf.new) }
 {
-    match shelf.fetch(alloc, name, MOST_BYTES) {
+    match shelf.fetch(alloc, name, MOST_FILE_BYTES) {
         Ok(Some(bytes)) => Ok(bytes),
         Ok(None) => Err(NoClaim::Missing),
         Err(FetchError::Failed) => Err(NoClaim::Fault),
@@ -147,9 +144,8 @@ fn read_claim(alloc: Global, bytes: Vec<u8>) -> Result<Claim, NoClaim>
 }
 
 /// The claim with its sets, once it is known to keep all rules.
-fn check_claim(alloc: Global, claim: Claim, budget: u32) -> Result<Solved, NoClaim>
+fn check_claim(alloc: Global, claim: Claim, budget: Budget) -> Result<Solved, NoClaim>
     requires claim { HasFile (claim_of claim) }
-    requires budget { IsBudget budget }
     ensures checks { TellsChecked (claim_of claim) budget result }
 {
     match check(alloc, claim, budget) {

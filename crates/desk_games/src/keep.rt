@@ -31,7 +31,8 @@ pub fn keep<K: Sink, H: Shelf>(
     requires white { task.now.problem.winner ≡ White }
     ensures ends { (files : Files) → IfSome (H.files shelf.old) (λ told. told ≡ files) →
         Ends result (KeepReports task.now.moves task.now.budget task.now.problem name.now files)
-        (¬ HasNothingToPlay task.now.moves task.now.problem) (MissesKeep name.now (HasFileToKeep task.now.moves task.now.budget task.now.problem))
+        (¬ HasNothingToPlay task.now.moves task.now.problem)
+        (MissesKeep name.now (HasFileToKeep task.now.moves task.now.budget task.now.problem))
         (of_shelf (K.written sink.old) (H.files shelf.old) (K.faults sink.old) (H.faults shelf.old))
         (of_shelf (K.written sink.new) (H.files shelf.new) (K.faults sink.new) (H.faults shelf.new)) }
 {
@@ -65,7 +66,8 @@ fn keep_file<K: Sink, H: Shelf>(
     requires few { length solved.now.position.men ≤ 5 }
     ensures ends { (files : Files) → IfSome (H.files shelf.old) (λ told. told ≡ files) →
         Ends result (FileReports solved.now.winner solved.now.position solved.now.moves name.now files) (Unit {0})
-        (MissesKeep name.now ((bytes : List ℕ) × IsFileToKeep solved.now.winner solved.now.position solved.now.moves bytes))
+        (MissesKeep name.now
+        ((bytes : List ℕ) × IsFileToKeep solved.now.winner solved.now.position solved.now.moves bytes))
         (of_shelf (K.written sink.old) (H.files shelf.old) (K.faults sink.old) (H.faults shelf.old))
         (of_shelf (K.written sink.new) (H.files shelf.new) (K.faults sink.new) (H.faults shelf.new)) }
 {

@@ -64,7 +64,8 @@ pub fn play<S: Source, K: Sink>(
 
 /// Writes what is still to be written of a game that was played.
 pub fn finish<K: Sink>(played: Result<Ending, GameError>, sink: &mut K) -> Status
-    ensures ends { Finishes played result (K.written sink.old) (K.written sink.new) (HasRisen (K.faults sink.old) (K.faults sink.new)) }
+    ensures ends { Finishes played result (K.written sink.old) (K.written sink.new)
+        (HasRisen (K.faults sink.old) (K.faults sink.new)) }
     ensures never_falls { K.faults sink.old ≤ K.faults sink.new }
 {
     match played {
@@ -80,7 +81,8 @@ pub fn finish<K: Sink>(played: Result<Ending, GameError>, sink: &mut K) -> Statu
 /// Writes the line that tells of an ending other than mate, as far as the sink takes it.
 fn close<K: Sink>(ending: Ending, sink: &mut K) -> Status
     ensures status { result ≡ status_of ending }
-    ensures written { Writes [] (ending_line ending) (K.written sink.old) (K.written sink.new) (HasRisen (K.faults sink.old) (K.faults sink.new)) }
+    ensures written { Writes [] (ending_line ending) (K.written sink.old) (K.written sink.new)
+        (HasRisen (K.faults sink.old) (K.faults sink.new)) }
     ensures never_falls { K.faults sink.old ≤ K.faults sink.new }
 {
     match ending {

@@ -10,7 +10,8 @@ use Rattle.desk_report.specs.declared.status.Status.{Status}
 use Rattle.desk_report.specs.declared.status.Status.TheVariants as is
 
 -- after the fault line was handed to the sink
-pub fault_line : {A E : Type 0} (r : Result A E) (line : List ℕ) (old new : Option (List ℕ)) (failed : Type 0) → OnOk r (Appends old new line) → OnErr r (AppendsFront old new line) → OnErr r failed → Writes [] line old new failed
+pub fault_line : {A E : Type 0} (r : Result A E) (line : List ℕ) (old new : Option (List ℕ)) (failed : Type 0) → OnOk r (Appends old new line)
+    → OnErr r (AppendsFront old new line) → OnErr r failed → Writes [] line old new failed
 fault_line (Ok a) line old new failed all err fails = record {
   count = length line;
   front = subst (Appends old new) (sym (take_all (length line) line (omega arith))) all;
@@ -60,7 +61,8 @@ unchanged before after is' = let P : Option Files → Type 0 = λ told. Go befor
     still_there (Some x) = refl
 
 -- so they are what they were
-pub go_same : (files : Files) (way : Files → Files → Type 0) (before after : Option Files) → Go before after (λ x y. y ≡ x) → IfSome before (λ told. told ≡ files) → way files files → Go before after way
+pub go_same : (files : Files) (way : Files → Files → Type 0) (before after : Option Files) → Go before after (λ x y. y ≡ x)
+    → IfSome before (λ told. told ≡ files) → way files files → Go before after way
 go_same files way None after is' told holds = tt
 go_same files way (Some x) (Some y) is' told holds =
     let P : Files → Type 0 = λ x. way x y in
@@ -108,15 +110,20 @@ module _ (files : Files) (old new : Seen) (kept : IfSome old.files (λ told. tol
         (ends.0, record { written = ends.1.written; files = go_same files (λ before after. after ≡ before) old.files new.files same kept refl })
 
   -- and as one that has the sink alone, whose source does not fail
-  pub at_sink : (status : Status) (reports : Report → Type 0) (may_lack : Type 0) → Ends status reports may_lack NeverMisses (of_sink files old.written old.write_faults) (of_sink files new.written new.write_faults)
+  pub at_sink : (status : Status) (reports : Report → Type 0) (may_lack : Type 0)
+      → Ends status reports may_lack NeverMisses (of_sink files old.written old.write_faults) (of_sink files new.written new.write_faults)
       → Ends status reports may_lack NeverMisses old new
   at_sink status reports may_lack ends = at_files None None 0 0 (λ risen. absurd (omega (arith, risen))) status reports may_lack ends
 
-shelf_does : (status : Status) (report : Report) (old new : Seen) → DoesReport status report (of_shelf old.written old.files old.write_faults old.shelf_faults) (of_shelf new.written new.files new.write_faults new.shelf_faults) → DoesReport status report old new
+shelf_does : (status : Status) (report : Report) (old new : Seen)
+    → DoesReport status report (of_shelf old.written old.files old.write_faults old.shelf_faults)
+    (of_shelf new.written new.files new.write_faults new.shelf_faults)
+    → DoesReport status report old new
 shelf_does status report old new d = record { reported = d.reported; written = d.written; files = d.files }
 
 -- a command that has no source does not fail to read
-pub no_read_fault : (status : Status) (reports : Report → Type 0) (may_lack : Type 0) (may_miss : Option (List ℕ) → Type 0) (old new : Seen) → old.read_faults ≡ 0 → new.read_faults ≡ 0 → Ends status reports may_lack may_miss old new → status ≢ is.ReadFault
+pub no_read_fault : (status : Status) (reports : Report → Type 0) (may_lack : Type 0) (may_miss : Option (List ℕ) → Type 0) (old new : Seen)
+    → old.read_faults ≡ 0 → new.read_faults ≡ 0 → Ends status reports may_lack may_miss old new → status ≢ is.ReadFault
 no_read_fault status reports may_lack may_miss old new before after ends same =
     let P : Status → Type 0 = λ s. Ends s reports may_lack may_miss old new in
     let failed = (subst P same ends).2.failed in

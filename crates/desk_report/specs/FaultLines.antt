@@ -45,7 +45,8 @@ part_word part.Stale = codes "stale"
 -- the fault line of a step that exceeds the budget
 abbrev pub budget_line : StepName → List ℕ
 budget_line step =
-    codes "over budget at moves " ++ decimal step.moves ++ codes " ply " ++ decimal step.ply ++ codes " men " ++ decimal step.mask
+    codes "over budget at moves " ++ decimal step.moves ++ codes " ply " ++ decimal step.ply ++ codes " men "
+    ++ decimal step.mask
     ++ codes " part " ++ part_word step.part ++ codes " at " ++ decimal step.at ++ codes "\n"
 
 -- the word for why a field of a file is wrong
@@ -83,7 +84,8 @@ rule_word rule.Stale = codes "stale"
 -- the fault line of a rule that the claim of a file does not keep
 abbrev pub not_kept_line : RuleAt → List ℕ
 not_kept_line failed =
-    codes "file not kept at ply " ++ decimal failed.ply ++ codes " men " ++ decimal failed.mask ++ codes " rule " ++ rule_word failed.rule
+    codes "file not kept at ply " ++ decimal failed.ply ++ codes " men " ++ decimal failed.mask ++ codes " rule "
+    ++ rule_word failed.rule
     ++ codes "\n"
 
 -- the fault line of a file that would have so many bytes, which are too many

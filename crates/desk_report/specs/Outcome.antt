@@ -34,14 +34,16 @@ done_with files text = record { status = is.Done; text = text; fault = []; short
 abbrev pub over_budget : Files → StepName → Report
 over_budget files step = refusal_as files is.Budget (budget_line step) false
 
--- This text was written to a sink that goes from `old` to `new`, and then this fault line, of which a suffix may be missing where the
+-- This text was written to a sink that goes from `old` to `new`, and then this fault line, of which a suffix may be
+-- missing where the
 -- sink has failed.
 pub record Writes (text fault : List ℕ) (old new : Option (List ℕ)) (failed : Type 0) : Type 0 where
   pub count : ℕ
   pub front : Appends old new (text ++ take count fault)
   pub whole : (length fault ≤ count) ⊎ failed
 
--- What the ports of a run tell at a moment: the bytes still to come, those written and the files, each where its port tells it, and how
+-- What the ports of a run tell at a moment: the bytes still to come, those written and the files, each where its port
+-- tells it, and how
 -- often the source, the sink and the shelf have failed.
 pub record Seen : Type 0 where
   pub left : Option (List ℕ)
@@ -54,7 +56,14 @@ pub record Seen : Type 0 where
 -- what is seen where the ports tell this, and have failed so often
 abbrev pub seen_of : (left written : Option (List ℕ)) → Option Files → (reads writes shelf : ℕ) → Seen
 seen_of left written files reads writes shelf =
-    record { left = left; written = written; files = files; read_faults = reads; write_faults = writes; shelf_faults = shelf }
+    record {
+      left = left;
+      written = written;
+      files = files;
+      read_faults = reads;
+      write_faults = writes;
+      shelf_faults = shelf;
+    }
 
 -- what a command sees that has a source and a sink, and no shelf: the files stay what they are
 abbrev pub of_streams : Files → (left written : Option (List ℕ)) → (reads writes : ℕ) → Seen
@@ -108,7 +117,8 @@ pub record LacksMemory (old new : Seen) : Type 0 where
 abbrev pub KeepsOthers : (keeping : Option (List ℕ)) → Seen → Seen → Type 0
 KeepsOthers None old new = KeepsFiles old new
 KeepsOthers (Some name) old new =
-    Go old.files new.files (λ before after. (other : List ℕ) → other ≢ name → map.get after other ≡ map.get before other)
+    Go old.files new.files
+    (λ before after. (other : List ℕ) → other ≢ name → map.get after other ≡ map.get before other)
 
 -- the shelf failed, and nothing else was written
 pub record MissesShelf (keeping : Option (List ℕ)) (old new : Seen) : Type 0 where
@@ -125,11 +135,14 @@ reported_on status taken rest = taken ++ rest
 abbrev pub NeverMisses : (keeping : Option (List ℕ)) → Type 0
 NeverMisses keeping = ⊥
 
--- How a run, or the command in it, ends with this status, where `reports` says what is reported, `may_lack` that memory may be wanting, and
+-- How a run, or the command in it, ends with this status, where `reports` says what is reported, `may_lack` that memory
+-- may be wanting, and
 -- `may_miss` that the shelf may fail while the file of this name, or none, is being kept.
-abbrev pub Ends : Status → (Report → Type 0) → (may_lack : Type 0) → (may_miss : Option (List ℕ) → Type 0) → Seen → Seen → Type 0
+abbrev pub Ends : Status → (Report → Type 0) → (may_lack : Type 0) → (may_miss : Option (List ℕ) → Type 0) → Seen → Seen
+    → Type 0
 Ends is.ReadFault reports may_lack may_miss old new = (report : Report) × reports report × ReadsSome report old new
 Ends is.WriteFault reports may_lack may_miss old new = (report : Report) × reports report × WritesSome report old new
-Ends is.ShelfFault reports may_lack may_miss old new = (keeping : Option (List ℕ)) × may_miss keeping × MissesShelf keeping old new
+Ends is.ShelfFault reports may_lack may_miss old new =
+    (keeping : Option (List ℕ)) × may_miss keeping × MissesShelf keeping old new
 Ends is.Memory reports may_lack may_miss old new = may_lack × LacksMemory old new
 Ends status reports may_lack may_miss old new = (report : Report) × reports report × DoesReport status report old new

@@ -230,7 +230,8 @@ fn rule_word(rule: Rule) -> &'static [u8]
 
 /// Writes a fault line, as far as the sink takes it.
 pub fn refuse<K: Sink>(sink: &mut K, line: &[u8])
-    ensures written { Writes [] line.now (K.written sink.old) (K.written sink.new) (HasRisen (K.faults sink.old) (K.faults sink.new)) }
+    ensures written { Writes [] line.now (K.written sink.old) (K.written sink.new)
+        (HasRisen (K.faults sink.old) (K.faults sink.new)) }
     ensures never_falls { K.faults sink.old ≤ K.faults sink.new }
 {
     let _ = put_all(sink, line);

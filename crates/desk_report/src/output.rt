@@ -14,7 +14,8 @@ use winning_sets::SolveError;
 pub fn print<K: Sink>(sink: &mut K, text: &[u8]) -> Status
     ensures ends { (files : Files) →
         Ends result (λ report. report ≡ done_with files text.now) ⊥ NeverMisses
-        (of_sink files (K.written sink.old) (K.faults sink.old)) (of_sink files (K.written sink.new) (K.faults sink.new)) }
+        (of_sink files (K.written sink.old) (K.faults sink.old))
+        (of_sink files (K.written sink.new) (K.faults sink.new)) }
 {
     match put_all(sink, text) {
         Ok(()) => Status::Done,
@@ -25,8 +26,10 @@ pub fn print<K: Sink>(sink: &mut K, text: &[u8]) -> Status
 /// Writes why a plan was not gone through to its end.
 pub fn print_error<K: Sink>(sink: &mut K, error: SolveError) -> Status
     ensures ends { (files : Files) →
-        Ends result (λ report. (step : StepName) × (error ≡ SolveError.Over step) × (report ≡ over_budget files step)) (error ≡ SolveError.Memory) NeverMisses
-        (of_sink files (K.written sink.old) (K.faults sink.old)) (of_sink files (K.written sink.new) (K.faults sink.new)) }
+        Ends result (λ report. (step : StepName) × (error ≡ SolveError.Over step) × (report ≡ over_budget files step))
+        (error ≡ SolveError.Memory) NeverMisses
+        (of_sink files (K.written sink.old) (K.faults sink.old))
+        (of_sink files (K.written sink.new) (K.faults sink.new)) }
 {
     match error {
         SolveError::Over(step) => {

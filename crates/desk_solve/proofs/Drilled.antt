@@ -4,13 +4,13 @@ use Rattle.std.specs.Prelude.{count_by, slice_get}
 use Rattle.std.proofs.lemmas.List.{length-append}
 use Rattle.std.proofs.lemmas.List.Sums.{sum_by_push}
 use Rattle.std.proofs.lemmas.Option.{same_Some}
+use Rattle.desk_words.specs.declared.order.TheConstants.{DEFAULT_STATES}
 use Rattle.desk_base.specs.Files.{Files}
 use Rattle.game_rules.specs.Game.{Value}
 use Rattle.game_rules.specs.declared.men.Side.TheVariants.{White}
 use Rattle.chess_game.proofs.UnsoundnessLemmas.{number_cases}
 use Rattle.winning_sets.specs.declared.names.StepName.{StepName}
 use Rattle.desk_solve.specs.Drill.{AreVerdicts, DrillFinds, DrillReports, DrillStops, drill_line, drilled}
-use Rattle.desk_words.specs.Order.{default_budget}
 use Rattle.desk_report.specs.Outcome.{Report, done_with, over_budget}
 use Rattle.desk_solve.specs.Verdict.{ExceedsAt, FitsBudget}
 use Rattle.desk_solve.proofs.OneStep.{exceeds_once, fits_exceeds}
@@ -20,14 +20,16 @@ abbrev won_of : List Bool → ℕ
 won_of verdicts = count_by (λ won. won) verdicts
 
 -- the last of a list, or one before it
-pushed : (verdicts : List Bool) (won w : Bool) (k : ℕ) → slice_get (verdicts ++ won ∷ []) k ≡ Some w → (P : ℕ → Bool → Type 0) → ((j : ℕ) (v : Bool) → slice_get verdicts j ≡ Some v → P j v) → P (length verdicts) won → P k w
+pushed : (verdicts : List Bool) (won w : Bool) (k : ℕ) → slice_get (verdicts ++ won ∷ []) k ≡ Some w → (P : ℕ → Bool → Type 0)
+    → ((j : ℕ) (v : Bool) → slice_get verdicts j ≡ Some v → P j v) → P (length verdicts) won → P k w
 pushed [] won w zero is P before last = subst (P 0) (same_Some won w is) last
 pushed [] won w (suc k) is P before last = absurd (cc)
 pushed (v ∷ verdicts) won w zero is P before last = before 0 w is
 pushed (v ∷ verdicts) won w (suc k) is P before last = pushed verdicts won w k is (λ j. P (suc j)) (λ j u at. before (suc j) u at) last
 
 -- one position more
-module _ (seed count mates : ℕ) (won : Bool) (finds : DrillFinds seed count mates) (fits : FitsBudget (drilled seed count) default_budget 1) (is : IsTrue won ↔ Value White 1 (drilled seed count).position) where
+module _ (seed count mates : ℕ) (won : Bool) (finds : DrillFinds seed count mates) (fits : FitsBudget (drilled seed count) DEFAULT_STATES 1)
+    (is : IsTrue won ↔ Value White 1 (drilled seed count).position) where
   more_verdicts : AreVerdicts seed (count + 1) (finds.verdicts ++ won ∷ [])
   more_verdicts =
       let Right : ℕ → Bool → Type 0 = λ k w. IsTrue w ↔ Value White 1 (drilled seed k).position in
@@ -39,7 +41,7 @@ module _ (seed count mates : ℕ) (won : Bool) (finds : DrillFinds seed count ma
 
   pub finds_more : DrillFinds seed (count + 1) (mates + cond won 1 0)
   finds_more =
-      let Fits : ℕ → Type 0 = λ k. FitsBudget (drilled seed k) default_budget 1 in
+      let Fits : ℕ → Type 0 = λ k. FitsBudget (drilled seed k) DEFAULT_STATES 1 in
       record {
         fits = below_more Fits count finds.fits fits;
         verdicts = finds.verdicts ++ won ∷ [];
@@ -73,13 +75,13 @@ once_found seed count one other a b =
 
 -- the positions are gone through to one end
 found_stops : (seed count mates : ℕ) (step : StepName) → DrillFinds seed count mates → DrillStops seed count step → ⊥
-found_stops seed count mates step finds (n, within, before, over) = fits_exceeds (drilled seed n) default_budget 1 step (finds.fits n within) over
+found_stops seed count mates step finds (n, within, before, over) = fits_exceeds (drilled seed n) DEFAULT_STATES 1 step (finds.fits n within) over
 
 once_stop : (seed count : ℕ) (one other : StepName) → DrillStops seed count one → DrillStops seed count other → one ≡ other
 once_stop seed count one other a b = elim (number_cases a.0 b.0) [
-  | inl less ↦ absurd (fits_exceeds (drilled seed a.0) default_budget 1 one (b.2 a.0 less) a.3)
-  | inr (inl same) ↦ exceeds_once (drilled seed b.0) default_budget 1 one other (subst (λ n. ExceedsAt (drilled seed n) default_budget 1 one) same a.3) b.3
-  | inr (inr more) ↦ absurd (fits_exceeds (drilled seed b.0) default_budget 1 other (a.2 b.0 more) b.3)
+  | inl less ↦ absurd (fits_exceeds (drilled seed a.0) DEFAULT_STATES 1 one (b.2 a.0 less) a.3)
+  | inr (inl same) ↦ exceeds_once (drilled seed b.0) DEFAULT_STATES 1 one other (subst (λ n. ExceedsAt (drilled seed n) DEFAULT_STATES 1 one) same a.3) b.3
+  | inr (inr more) ↦ absurd (fits_exceeds (drilled seed b.0) DEFAULT_STATES 1 other (a.2 b.0 more) b.3)
 ]
 
 pub once_drill : (files : Files) (one other : Report) (seed count : ℕ) → DrillReports seed count files one → DrillReports seed count files other → one ≡ other

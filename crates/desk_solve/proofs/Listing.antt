@@ -99,7 +99,8 @@ module _ (n : ℕ) (problem : Problem) (some : ¬ HasNoFirstMove n problem) wher
   first_moves_left s of = subst (λ k. 1 ≤ k) (sym of.moves_are) some_moves
 
 -- the lines of a solved position are those of the problem that it solves
-pub lines_of_problem : (n : ℕ) (problem : Problem) (s : Solution) (told : List ℕ) → IsOf problem.position problem.winner n s → AreLines s.winner s.moves s.position told → AreLines problem.winner n problem.position told
+pub lines_of_problem : (n : ℕ) (problem : Problem) (s : Solution) (told : List ℕ) → IsOf problem.position problem.winner n s
+    → AreLines s.winner s.moves s.position told → AreLines problem.winner n problem.position told
 lines_of_problem n problem s told of are =
     subst (λ (p : Position). AreLines problem.winner n p told) of.position
     (subst (λ k. AreLines problem.winner k s.position told) of.moves_are (subst (λ w. AreLines w s.moves s.position told) of.winner_is are))

@@ -155,7 +155,9 @@ differ_from_one n is same = absurd (not_from_Decides (n == 1) (Decides-eqb n 1) 
 off : (a : Square) → differs (pos 0 -ℤ a.x) (pos 0) → differs (pos 0 -ℤ a.y) (pos 0) → IsOff a
 off a column row = record { column = differ (pos 0 -ℤ a.x) (pos 0) column; row = differ (pos 0 -ℤ a.y) (pos 0) row }
 
-tested : (king first second : Square) → (max (unsigned_abs (pos 0 -ℤ king.x)) (unsigned_abs (pos 0 -ℤ king.y)) == 1) ≡ false → differs king.y (pos 0) → IsOff first → IsOff second → differs king.y first.y → differs king.y second.y → differs first.y second.y → Sound (rooks_position (place_on king) (place_on first) (place_on second))
+tested : (king first second : Square) → (max (unsigned_abs (pos 0 -ℤ king.x)) (unsigned_abs (pos 0 -ℤ king.y)) == 1) ≡ false → differs king.y (pos 0)
+    → IsOff first → IsOff second → differs king.y first.y → differs king.y second.y → differs first.y second.y
+    → Sound (rooks_position (place_on king) (place_on first) (place_on second))
 tested king first second far king_row first_off second_off king_first king_second first_second = clear_sound king first second (record {
   far = differ_from_one (max (unsigned_abs (pos 0 -ℤ king.x)) (unsigned_abs (pos 0 -ℤ king.y))) far;
   king_row = differ king.y (pos 0) king_row;

@@ -64,7 +64,9 @@ value_of problem n s of =
     let Of : Side → Type 0 = λ w. Value s.winner s.moves s.position ↔ Value w s.moves s.position in
     subst At of.position (subst Moves of.moves_are (subst Of of.winner_is (λ v. v, λ v. v)))
 
-pub won_as : (problem : Problem) (q : Position) (winner : Side) (n : ℕ) (s : Solution) (test due : Bool) → q ≡ problem.position → winner ≡ problem.winner → IsOf q winner n s → IsTrue test ↔ Value s.winner s.moves s.position → test ≡ due → IsTrue due ↔ Value problem.winner n problem.position
+pub won_as : (problem : Problem) (q : Position) (winner : Side) (n : ℕ) (s : Solution) (test due : Bool) → q ≡ problem.position
+    → winner ≡ problem.winner → IsOf q winner n s → IsTrue test ↔ Value s.winner s.moves s.position → test ≡ due
+    → IsTrue due ↔ Value problem.winner n problem.position
 won_as problem q winner n s test due position same of is is_due =
     let P : Bool → Type 0 = λ t. IsTrue t ↔ Value problem.winner n problem.position in
     let value = value_of problem n s (of_problem problem q winner 0 n position same s of) in subst P is_due (λ t. value.0 (is.0 t), λ v. is.1 (value.1 v))
@@ -78,13 +80,15 @@ abbrev pub ArePassed : Problem → ℕ → ℕ → Type 0
 ArePassed problem budget count = (n : ℕ) → n < count → FitsBudget problem budget n × (Value problem.winner n problem.position → ⊥)
 
 -- one number more
-pub passed_more : (problem : Problem) (budget n : ℕ) (won : Bool) → ArePassed problem budget n → FitsBudget problem budget n → IsTrue won ↔ Value problem.winner n problem.position → won ≡ false → ArePassed problem budget (n + 1)
+pub passed_more : (problem : Problem) (budget n : ℕ) (won : Bool) → ArePassed problem budget n → FitsBudget problem budget n
+    → IsTrue won ↔ Value problem.winner n problem.position → won ≡ false → ArePassed problem budget (n + 1)
 passed_more problem budget n won passed fits is not_won =
     let P : ℕ → Type 0 = λ k. FitsBudget problem budget k × (Value problem.winner k problem.position → ⊥) in
     below_more P n passed (fits, λ value. let t = is.1 value in cc)
 
 -- this number is the least, or none up to the limit is
-pub found_at : (problem : Problem) (budget limit n : ℕ) (won : Bool) → n ≤ limit → ArePassed problem budget n → FitsBudget problem budget n → IsTrue won ↔ Value problem.winner n problem.position → won ≡ true → LeastFinds limit budget problem (Some n)
+pub found_at : (problem : Problem) (budget limit n : ℕ) (won : Bool) → n ≤ limit → ArePassed problem budget n → FitsBudget problem budget n
+    → IsTrue won ↔ Value problem.winner n problem.position → won ≡ true → LeastFinds limit budget problem (Some n)
 found_at problem budget limit n won within passed fits is has =
     let Fits : ℕ → Type 0 = λ k. FitsBudget problem budget k in
     ((within, is.0 has, λ k below. (passed k below).1), λ k le. below_more Fits n (λ j below. (passed j below).0) fits k (omega (arith, le)))
@@ -93,7 +97,8 @@ pub none_found : (problem : Problem) (budget limit count : ℕ) → limit < coun
 none_found problem budget limit count more passed = (λ k le value. (passed k (omega (arith, le, more))).1 value, λ k le. (passed k (omega (arith, le, more))).0)
 
 -- the line of a verdict is right
-pub verdict_is : (n : ℕ) (problem : Problem) (won : Bool) (line : List ℕ) → (IsTrue won → line ≡ mate_line n) → ((IsTrue won → ⊥) → line ≡ no_mate_line n) → IsTrue won ↔ Value problem.winner n problem.position → IsVerdict n problem line
+pub verdict_is : (n : ℕ) (problem : Problem) (won : Bool) (line : List ℕ) → (IsTrue won → line ≡ mate_line n)
+    → ((IsTrue won → ⊥) → line ≡ no_mate_line n) → IsTrue won ↔ Value problem.winner n problem.position → IsVerdict n problem line
 verdict_is n problem true line mate none is = inl (mate refl, is.0 refl)
 verdict_is n problem false line mate none is = inr (none (λ t. cc), λ value. let t = is.1 value in cc)
 

@@ -1,6 +1,7 @@
 -- The positions of `drill`, and what is reported of them.
 use Rattle.std.specs.Prelude.{◌≡◌, ◌↔◌, ◌⊎◌, ℕ, zero, suc, ◌+◌, ◌*◌, ◌/◌, ◌%◌, ◌^◌, ◌<◌, ◌==◌, if◌then◌else◌, ℤ, pos, negsuc, ◌-ℤ◌, Bool, List, [], ◌∷◌, ◌++◌, length, Some, IsTrue, codes, count_by, slice_get}
 use Rattle.std.specs.Fmt.{decimal}
+use Rattle.desk_words.specs.declared.order.TheConstants.{DEFAULT_STATES}
 use Rattle.desk_base.specs.Files.{Files}
 use Rattle.game_rules.specs.Game.{Position, Value}
 use Rattle.game_rules.specs.declared.men.Kind.TheVariants.{King, Rook}
@@ -9,7 +10,6 @@ use Rattle.game_rules.specs.declared.men.Place.TheVariants.{At}
 use Rattle.game_rules.specs.declared.men.Side.TheVariants.{White, Black}
 use Rattle.game_laws.specs.Symmetry.{mapped, shift}
 use Rattle.winning_sets.specs.declared.names.StepName.{StepName}
-use Rattle.desk_words.specs.Order.{default_budget}
 use Rattle.desk_report.specs.Outcome.{Report, done_with, over_budget}
 use Rattle.desk_solve.specs.Verdict.{ExceedsAt, FitsBudget}
 use Rattle.desk_text.specs.declared.problem.Problem.{Problem}
@@ -81,17 +81,18 @@ IsDrilled seed count problem = (number : ℕ) × (number < count) × (problem �
 
 -- the plans for one move from the problems before this number are within the budget
 abbrev pub DrillFits : (seed number : ℕ) → Type 0
-DrillFits seed number = (k : ℕ) → k < number → FitsBudget (drilled seed k) default_budget 1
+DrillFits seed number = (k : ℕ) → k < number → FitsBudget (drilled seed k) DEFAULT_STATES 1
 
 -- the step is the first that exceeds the budget, in the first position of which a step does
 abbrev pub DrillStops : (seed count : ℕ) → StepName → Type 0
 DrillStops seed count step =
-    (number : ℕ) × (number < count) × DrillFits seed number × ExceedsAt (drilled seed number) default_budget 1 step
+    (number : ℕ) × (number < count) × DrillFits seed number × ExceedsAt (drilled seed number) DEFAULT_STATES 1 step
 
 -- for each problem, in order, whether White mates in one move
 pub record AreVerdicts (seed count : ℕ) (verdicts : List Bool) : Type 0 where
   pub one_each : length verdicts ≡ count
-  pub right : (number : ℕ) (won : Bool) → slice_get verdicts number ≡ Some won → IsTrue won ↔ Value White 1 (drilled seed number).position
+  pub right : (number : ℕ) (won : Bool) → slice_get verdicts number ≡ Some won
+      → IsTrue won ↔ Value White 1 (drilled seed number).position
 
 -- White mates in one move from so many of the positions, and the plans for all of them are within the budget
 pub record DrillFinds (seed count mates : ℕ) : Type 0 where

@@ -64,7 +64,8 @@ AreLines winner n p told = (text : List ℕ) × MenText winner n p text × (told
 abbrev pub LinesReport : ℕ → ℕ → Problem → Files → Report → Type 0
 LinesReport n budget problem files report =
     ((step : StepName) × ExceedsAt problem budget n step × (report ≡ over_budget files step))
-    ⊎ ((told : List ℕ) × FitsBudget problem budget n × AreLines problem.winner n problem.position told × (report ≡ done_with files told))
+    ⊎ ((told : List ℕ) × FitsBudget problem budget n × AreLines problem.winner n problem.position told
+    × (report ≡ done_with files told))
 
 -- the last line alone where the winner has no first move, and else what is reported of his first moves
 abbrev pub FirstReports : ℕ → ℕ → Problem → Files → Report → Type 0
@@ -76,7 +77,8 @@ FirstReports n budget problem files report =
 abbrev pub Adds : (List ℕ → Type 0) → (old new : List ℕ) → Type 0
 Adds Of old new = (added : List ℕ) × Of added × (new ≡ old ++ added)
 
--- the sets of a solved position come of a plan, its winner is to move and has a move left, and a search for so many states serves all its sets
+-- the sets of a solved position come of a plan, its winner is to move and has a move left, and a search for so many
+-- states serves all its sets
 pub record IsServed (states : ℕ) (s : Solution) : Type 0 where
   pub plan : s.origin ≡ Plan
   pub turn : s.position.turn ≡ s.winner

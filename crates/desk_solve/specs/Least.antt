@@ -13,17 +13,21 @@ abbrev pub least_line : ℕ → Option ℕ → List ℕ
 least_line limit (Some n) = codes "least " ++ decimal n ++ codes "\n"
 least_line limit None = codes "none up to " ++ decimal limit ++ codes "\n"
 
--- The numbers of moves are gone through from 0 on. The winner mates within none of those before one of them, the plans for them are within
+-- The numbers of moves are gone through from 0 on. The winner mates within none of those before one of them, the plans
+-- for them are within
 -- the budget, and the step is the first of the plan for that one that exceeds it.
 abbrev pub LeastStops : ℕ → ℕ → Problem → StepName → Type 0
 LeastStops limit budget problem step =
-    (n : ℕ) × (n ≤ limit) × ((k : ℕ) → k < n → FitsBudget problem budget k × (game.Value problem.winner k problem.position → ⊥))
+    (n : ℕ) × (n ≤ limit)
+    × ((k : ℕ) → k < n → FitsBudget problem budget k × (game.Value problem.winner k problem.position → ⊥))
     × ExceedsAt problem budget n step
 
--- this is the least number of moves up to the limit within which the winner mates, or there is none, and the plans up to it are within the budget
+-- this is the least number of moves up to the limit within which the winner mates, or there is none, and the plans up
+-- to it are within the budget
 abbrev pub LeastFinds : ℕ → ℕ → Problem → Option ℕ → Type 0
 LeastFinds limit budget problem found =
-    game.Least problem.winner problem.position limit found × ((n : ℕ) → n ≤ unwrap_or found limit → FitsBudget problem budget n)
+    game.Least problem.winner problem.position limit found
+    × ((n : ℕ) → n ≤ unwrap_or found limit → FitsBudget problem budget n)
 
 -- within how few moves the winner mates, or the first step that exceeds the budget
 abbrev pub LeastReports : ℕ → ℕ → Problem → Files → Report → Type 0

@@ -1,12 +1,13 @@
--- Whether the winner of a problem mates within a number of moves, and whether the plan that decides it is within the budget.
+-- Whether the winner of a problem mates within a number of moves, and whether the plan that decides it is within the
+-- budget.
 use Rattle.std.specs.Prelude.{◌≡◌, ◌⊎◌, ℕ, ◌≤◌, List, ◌++◌, length, codes}
 use Rattle.std.specs.Fmt.{decimal}
+use Rattle.limits.specs.declared.numbers.TheConstants.{MOST_MEN, MOST_MOVES}
 use Rattle.game_rules.specs.Game.{Sound, Value}
 use Rattle.mate_plan.specs.PlanOf.{plan_of}
 use Rattle.winning_sets.specs.Solve.{IsWithin, IsSolveError}
 use Rattle.winning_sets.specs.declared.names.SolveError.TheVariants as solve_error
 use Rattle.winning_sets.specs.declared.names.StepName.{StepName}
-use Rattle.desk_words.specs.Order.{IsBudget, most_moves}
 use Rattle.desk_text.specs.declared.problem.Problem.{Problem}
 use Rattle.desk_text.specs.declared.problem.Task.{Task}
 
@@ -29,7 +30,8 @@ FitsBudget problem budget n = IsWithin (plan_of problem.winner problem.position 
 
 -- the step is the first of that plan that exceeds the budget
 abbrev pub ExceedsAt : Problem → ℕ → ℕ → StepName → Type 0
-ExceedsAt problem budget n step = IsSolveError (plan_of problem.winner problem.position n) n budget (solve_error.Over step)
+ExceedsAt problem budget n step =
+    IsSolveError (plan_of problem.winner problem.position n) n budget (solve_error.Over step)
 
 -- the winner is to move, and has no move of his own left to make
 pub record HasNothingToPlay (moves : ℕ) (problem : Problem) : Type 0 where
@@ -39,6 +41,5 @@ pub record HasNothingToPlay (moves : ℕ) (problem : Problem) : Type 0 where
 -- the position is sound and has no more men than a text, and the numbers are within their limits
 pub record IsTask (task : Task) : Type 0 where
   pub sound : Sound task.problem.position
-  pub few : length task.problem.position.men ≤ 5
-  pub moves : task.moves ≤ most_moves
-  pub budget : IsBudget task.budget
+  pub few : length task.problem.position.men ≤ MOST_MEN
+  pub moves : task.moves ≤ MOST_MOVES

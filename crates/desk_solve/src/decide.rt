@@ -21,7 +21,8 @@ pub fn decide<K: Sink>(alloc: Global, task: &Task, sink: &mut K) -> Status
     ensures ends { (files : Files) →
         Ends result (DecideReports task.now.moves task.now.budget task.now.problem files)
         (¬ HasNothingToPlay task.now.moves task.now.problem) NeverMisses
-        (of_sink files (K.written sink.old) (K.faults sink.old)) (of_sink files (K.written sink.new) (K.faults sink.new)) }
+        (of_sink files (K.written sink.old) (K.faults sink.old))
+        (of_sink files (K.written sink.new) (K.faults sink.new)) }
 {
     let Task {
         problem,

@@ -6,7 +6,6 @@ ghost use Rattle.game_rules.specs.Game.{Sound, Value};
 ghost use Rattle.winning_sets.specs.declared.names.StepName.{StepName};
 ghost use Rattle.desk_solve.specs.Drill.{DrillFinds, DrillReports, DrillStops};
 ghost use Rattle.desk_solve.specs.Drill as specs;
-ghost use Rattle.desk_words.specs.Order.{default_budget};
 ghost use Rattle.desk_report.specs.Outcome.{Ends, NeverMisses, of_sink};
 ghost use Rattle.desk_solve.specs.Verdict.{ExceedsAt, FitsBudget};
 
@@ -16,7 +15,8 @@ use chess_text::line_buffer::LineBuffer;
 use desk_base::Sink;
 use desk_report::{Status, print, print_error};
 use desk_text::Problem;
-use desk_words::DEFAULT_BUDGET;
+use desk_words::DEFAULT_STATES;
+use limits::Budget;
 use std::alloc::Global;
 use winning_sets::{SolveError, Solver};
 
@@ -24,7 +24,8 @@ use winning_sets::{SolveError, Solver};
 pub fn drill<K: Sink>(alloc: Global, seed: u64, count: u8, sink: &mut K) -> Status
     ensures ends { (files : Files) →
         Ends result (DrillReports seed count files) (0 < count) NeverMisses
-        (of_sink files (K.written sink.old) (K.faults sink.old)) (of_sink files (K.written sink.new) (K.faults sink.new)) }
+        (of_sink files (K.written sink.old) (K.faults sink.old))
+        (of_sink files (K.written sink.new) (K.faults sink.new)) }
 {
     match count_mates(alloc, seed, count) {
         Ok(mates) => {
@@ -38,7 +39,8 @@ pub fn drill<K: Sink>(alloc: Global, seed: u64, count: u8, sink: &mut K) -> Stat
 /// From how many of so many positions White mates in one move.
 fn count_mates(alloc: Global, seed: u64, count: u8) -> Result<u8, SolveError>
     ensures found { IfOk result (DrillFinds seed count) }
-    ensures step { IfErr result (λ error. (step : StepName) → error ≡ SolveError.Over step → DrillStops seed count step) }
+    ensures step { IfErr result
+        (λ error. (step : StepName) → error ≡ SolveError.Over step → DrillStops seed count step) }
     ensures memory { result ≡ Err SolveError.Memory → 0 < count }
 {
     let mut generator = Generator { state: seed };
@@ -56,10 +58,16 @@ fn is_mate_in_one(alloc: Global, problem: &Problem) -> Result<bool, SolveError>
     requires sound { Sound problem.now.position }
     requires few { length problem.now.position.men ≤ 8 }
     ensures won { IfOk result (λ won. IsTrue won ↔ Value problem.now.winner 1 problem.now.position) }
-    ensures fits { OnOk result (FitsBudget problem.now default_budget 1) }
-    ensures step { IfErr result (λ error. (step : StepName) → error ≡ SolveError.Over step → ExceedsAt problem.now default_budget 1 step) }
+    ensures fits { OnOk result (FitsBudget problem.now DEFAULT_STATES 1) }
+    ensures step { IfErr result
+        (λ error. (step : StepName) → error ≡ SolveError.Over step → ExceedsAt problem.now DEFAULT_STATES 1 step) }
 {
-    let mut solver = Solver::new(alloc, &problem.position, problem.winner, DEFAULT_BUDGET);
+    let mut solver = Solver::new(
+        alloc,
+        &problem.position,
+        problem.winner,
+        Budget::new(DEFAULT_STATES),
+    );
     Ok(won(&mut solver, problem, 1)?.is_some())
 }
 

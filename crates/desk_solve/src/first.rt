@@ -30,7 +30,8 @@ pub fn first<K: Sink>(alloc: Global, task: &Task, sink: &mut K) -> Status
     ensures ends { (files : Files) →
         Ends result (FirstReports task.now.moves task.now.budget task.now.problem files)
         (¬ HasNoFirstMove task.now.moves task.now.problem) NeverMisses
-        (of_sink files (K.written sink.old) (K.faults sink.old)) (of_sink files (K.written sink.new) (K.faults sink.new)) }
+        (of_sink files (K.written sink.old) (K.faults sink.old))
+        (of_sink files (K.written sink.new) (K.faults sink.new)) }
 {
     if has_no_first_move(task) {
         return print(sink, b"end\n");
@@ -78,7 +79,8 @@ fn first_lines(alloc: Global, solved: &Solved) -> Result<Vec<u8>, AllocError>
 /// Adds the lines of all men.
 fn push_men(text: &mut Vec<u8>, solved: &Solved, search: &mut Search) -> Result<(), AllocError>
     requires { IsServed search.old solved.now }
-    ensures { OnOk result (Adds (MenText solved.now.winner solved.now.moves solved.now.position) text.old.items text.new.items) }
+    ensures { OnOk result
+        (Adds (MenText solved.now.winner solved.now.moves solved.now.position) text.old.items text.new.items) }
 {
     let position = solved.position();
     for index in 0..position.count() {
@@ -97,7 +99,8 @@ fn push_man(
     requires served { IsServed search.old solved.now }
     requires first { 1 ≤ man }
     requires last { man ≤ length solved.now.position.men }
-    ensures adds { OnOk result (Adds (ManText solved.now.winner solved.now.moves solved.now.position man) text.old.items text.new.items) }
+    ensures adds { OnOk result
+        (Adds (ManText solved.now.winner solved.now.moves solved.now.position man) text.old.items text.new.items) }
     ensures kept { search.new ≡ search.old }
 {
     for ray in 0..RAYS {
@@ -117,7 +120,8 @@ fn push_ray(
     requires served { IsServed search.old solved.now }
     requires first { 1 ≤ man }
     requires last { man ≤ length solved.now.position.men }
-    ensures adds { OnOk result (Adds (RayText solved.now.winner solved.now.moves solved.now.position man ray) text.old.items text.new.items) }
+    ensures adds { OnOk result
+        (Adds (RayText solved.now.winner solved.now.moves solved.now.position man ray) text.old.items text.new.items) }
     ensures kept { search.new ≡ search.old }
 {
     let position = solved.position();

@@ -22,7 +22,8 @@ pub fn least<K: Sink>(alloc: Global, task: &Task, sink: &mut K) -> Status
     ensures ends { (files : Files) →
         Ends result (LeastReports task.now.moves task.now.budget task.now.problem files)
         (¬ HasNothingToPlay task.now.moves task.now.problem) NeverMisses
-        (of_sink files (K.written sink.old) (K.faults sink.old)) (of_sink files (K.written sink.new) (K.faults sink.new)) }
+        (of_sink files (K.written sink.old) (K.faults sink.old))
+        (of_sink files (K.written sink.new) (K.faults sink.new)) }
 {
     match least_moves(alloc, task) {
         Ok(found) => {
@@ -37,7 +38,9 @@ pub fn least<K: Sink>(alloc: Global, task: &Task, sink: &mut K) -> Status
 fn least_moves(alloc: Global, task: &Task) -> Result<Option<u8>, SolveError>
     requires { IsTask task.now }
     ensures found { IfOk result (LeastFinds task.now.moves task.now.budget task.now.problem) }
-    ensures step { IfErr result (λ error. (step : StepName) → error ≡ SolveError.Over step → LeastStops task.now.moves task.now.budget task.now.problem step) }
+    ensures step { IfErr result
+        (λ error. (step : StepName) → error ≡ SolveError.Over step
+        → LeastStops task.now.moves task.now.budget task.now.problem step) }
     ensures memory { result ≡ Err SolveError.Memory → ¬ HasNothingToPlay task.now.moves task.now.problem }
 {
     let Task {

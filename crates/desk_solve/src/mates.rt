@@ -5,22 +5,24 @@ ghost use Rattle.std.specs.Fmt.{decimal};
 ghost use Rattle.game_rules.specs.Game.{Value};
 ghost use Rattle.winning_sets.specs.Solve.{IsOf};
 ghost use Rattle.winning_sets.specs.declared.names.StepName.{StepName};
-ghost use Rattle.desk_words.specs.Order.{most_moves};
 ghost use Rattle.desk_solve.specs.Verdict.{ExceedsAt, FitsBudget, HasNothingToPlay};
 
 use chess_text::line_buffer::LineBuffer;
 use desk_text::Problem;
+use limits::MOST_MOVES;
 use winning_sets::{SolveError, Solved, Solver};
 
 /// The solved position, where the winner mates within so many moves from there. Where he is to move and has none, nothing has to be computed.
 pub fn won(solver: &mut Solver, problem: &Problem, moves: u8) -> Result<Option<Solved>, SolveError>
     requires position { solver.old.position ≡ problem.now.position }
     requires winner { solver.old.winner ≡ problem.now.winner }
-    requires moves { moves ≤ most_moves }
+    requires moves { moves ≤ MOST_MOVES }
     ensures won { IfOk result (λ found. IsTrue (is_some found) ↔ Value problem.now.winner moves problem.now.position) }
     ensures found { IfOk result (λ found. IfSome found (IsOf problem.now.position problem.now.winner moves)) }
     ensures fits { OnOk result (FitsBudget problem.now solver.old.budget moves) }
-    ensures step { IfErr result (λ error. (step : StepName) → error ≡ SolveError.Over step → ExceedsAt problem.now solver.old.budget moves step) }
+    ensures step { IfErr result
+        (λ error. (step : StepName) → error ≡ SolveError.Over step
+        → ExceedsAt problem.now solver.old.budget moves step) }
     ensures memory { result ≡ Err SolveError.Memory → ¬ HasNothingToPlay moves problem.now }
     ensures position { solver.new.position ≡ problem.now.position }
     ensures winner { solver.new.winner ≡ problem.now.winner }

@@ -7,7 +7,8 @@ use Rattle.chess_text.specs.declared.reader.Stage.{Stage}
 use Rattle.chess_text.proofs.PositionLemmas.{feeds_once}
 use Rattle.desk_text.specs.Text.{Text, AfterLine, ReadsLines}
 
-once_after : (turnout : Turnout) (number : ℕ) (rest : Lines) (one other : Text) (F G : Stage → Type 0) → ((next : Stage) → F next → G next → one ≡ other) → AfterLine turnout number rest one F → AfterLine turnout number rest other G → one ≡ other
+once_after : (turnout : Turnout) (number : ℕ) (rest : Lines) (one other : Text) (F G : Stage → Type 0)
+    → ((next : Stage) → F next → G next → one ≡ other) → AfterLine turnout number rest one F → AfterLine turnout number rest other G → one ≡ other
 once_after (turnouts.more next) number rest one other F G once a b = once next a b
 once_after (turnouts.complete p) number rest one other F G once a b = a ∙ sym b
 once_after (turnouts.wrong why) number rest one other F G once a b = a ∙ sym b

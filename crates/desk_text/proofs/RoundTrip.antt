@@ -97,13 +97,16 @@ turn_line s = record { free = free_append (codes "turn ") (side_letter s ∷ [])
 
 -- lines that are read as a position are read from their bytes, where so many lines stood before them, and there are as many with them
 module _ (p : Position) (rest : List ℕ) (all : ℕ) where
-  read_last : (stage : Stage) (number : ℕ) (line more : List ℕ) → IsLine line → more ≡ rest → number ≡ all → turnouts.Feeds stage line (turnouts.complete p) → ReadsLines stage number (lines_of (line ++ 10 ∷ more)) (whole (white_mates p all) (lines_of rest))
+  read_last : (stage : Stage) (number : ℕ) (line more : List ℕ) → IsLine line → more ≡ rest → number ≡ all
+      → turnouts.Feeds stage line (turnouts.complete p)
+      → ReadsLines stage number (lines_of (line ++ 10 ∷ more)) (whole (white_mates p all) (lines_of rest))
   read_last stage number line more is same last feeds =
       let P : Lines → Type 0 = λ l. ReadsLines stage number l (whole (white_mates p all) (lines_of rest)) in
       subst P (sym (line_first line more is.free is.short))
       (turnouts.complete p, feeds, ap (λ b. whole (white_mates p all) (lines_of b)) (sym same) ∙ ap (λ k. whole (white_mates p k) (lines_of more)) (sym last))
 
-  pub read_lines : (stage : Stage) (number : ℕ) (lines : List (List ℕ)) → All IsLine lines → number + length lines ≡ all + 1 → Completes stage lines p → ReadsLines stage number (lines_of (text_of_lines lines ++ rest)) (whole (white_mates p all) (lines_of rest))
+  pub read_lines : (stage : Stage) (number : ℕ) (lines : List (List ℕ)) → All IsLine lines → number + length lines ≡ all + 1 → Completes stage lines p
+      → ReadsLines stage number (lines_of (text_of_lines lines ++ rest)) (whole (white_mates p all) (lines_of rest))
   read_lines stage number [] are count completes = absurd completes
   read_lines stage number (line ∷ []) are count completes =
       let P : List ℕ → Type 0 = λ b. ReadsLines stage number (lines_of b) (whole (white_mates p all) (lines_of rest)) in

@@ -1,4 +1,4 @@
--- What each line makes of a text that is read.
+-- What each line makes of a text that is read. Crates above cite these lemmas.
 use Rattle.std.proofs.Common.{◌≡◌, ℕ, ◌+◌, ◌-◌, ◌<◌, ◌≤◌, List, [], ◌∷◌, ◌++◌, length, take, Option, Ok, Err, Some, None, IfSome, IsTrue, inl, inr, refl, sym, ◌∙◌, ap, subst, arith, append_assoc, length-append}
 use Rattle.std.specs.Prelude.{unwrap_or}
 use Rattle.std.specs.Io.KnownBytes.{Consumes, IsAtEnd}
@@ -78,14 +78,16 @@ fed_whole (stages.Men q) p line few (inr (inr (inr (a, e, inl (m, is, i))))) = a
 fed_whole (stages.Men q) p line few (inr (inr (inr (a, e, inr (reason, r, i))))) = absurd (cc)
 
 -- what the reader of a text has answered
-pub answer_whole : (stage : Stage) (line : List ℕ) (fed : Fed) (p : Position) (reader : Progress) → position_of fed ≡ Some p → ReadsLine stage line (Ok fed) reader → Feeds stage line (turnouts.complete p)
+pub answer_whole : (stage : Stage) (line : List ℕ) (fed : Fed) (p : Position) (reader : Progress) → position_of fed ≡ Some p
+    → ReadsLine stage line (Ok fed) reader → Feeds stage line (turnouts.complete p)
 answer_whole stage line More p reader is reads = absurd (cc)
 answer_whole stage line (Whole q) p reader is reads =
     let same : q ≡ p = cc in
     let P : Position → Type 0 = λ r. Feeds stage line (turnouts.complete r) in
     subst P same reads.0
 
-pub answer_more : (stage : Stage) (line : List ℕ) (fed : Fed) (reader : Progress) → position_of fed ≡ None → ReadsLine stage line (Ok fed) reader → Feeds stage line (turnouts.more reader.stage) × (reader.answer ≡ None)
+pub answer_more : (stage : Stage) (line : List ℕ) (fed : Fed) (reader : Progress) → position_of fed ≡ None → ReadsLine stage line (Ok fed) reader
+    → Feeds stage line (turnouts.more reader.stage) × (reader.answer ≡ None)
 answer_more stage line More reader is reads = reads
 answer_more stage line (Whole q) reader is reads = absurd (cc)
 
@@ -99,7 +101,7 @@ no_rest None end = tt
 no_rest (Some bytes) end = end
 
 -- the bytes of one line more
-with_line : (lines : List (List ℕ)) (line : List ℕ) → text_of_lines (lines ++ line ∷ []) ≡ text_of_lines lines ++ (line ++ 10 ∷ [])
+pub with_line : (lines : List (List ℕ)) (line : List ℕ) → text_of_lines (lines ++ line ∷ []) ≡ text_of_lines lines ++ (line ++ 10 ∷ [])
 with_line [] line = append-nil (line ++ 10 ∷ [])
 with_line (l ∷ lines) line = ap (λ bytes. (l ++ 10 ∷ []) ++ bytes) (with_line lines line) ∙ sym (append_assoc (l ++ 10 ∷ []) (text_of_lines lines) (line ++ 10 ∷ []))
 
@@ -135,7 +137,9 @@ module _ (stage : Stage) (number : ℕ) (pending : List ℕ) (before mid after :
 
   -- what is taken in the next call comes behind the pending bytes
   all_taken : (bytes : List ℕ) → Consumes mid after bytes → Consumes before after (text_of_lines so_far.lines ++ (pending ++ bytes))
-  all_taken bytes took = subst (Consumes before after) (append_assoc (text_of_lines so_far.lines) pending bytes) (Consumes-trans before mid after (text_of_lines so_far.lines ++ pending) bytes so_far.taken took)
+  all_taken bytes took =
+      subst (Consumes before after) (append_assoc (text_of_lines so_far.lines) pending bytes)
+      (Consumes-trans before mid after (text_of_lines so_far.lines ++ pending) bytes so_far.taken took)
 
   module _ (len : ℕ) (took : Takes (Ok (Full len)) pending line rest mid after) (is_line : IsLine line) where
     abbrev now : List (List ℕ)
@@ -170,7 +174,8 @@ module _ (stage : Stage) (number : ℕ) (pending : List ℕ) (before mid after :
     takes_now : (few : length rest ≤ 256) → TakesLines IsMissing (text_of_lines now ++ rest) rest
     takes_now few = record { lines = now; are_lines = all_lines lines line so_far.are_lines is_line; due = due_now; bytes = refl; few = few }
 
-    text_full : (more : List ℕ) (t : Text) (turnout : Turnout) → Feeds stage line turnout → AfterLine turnout number (lines_of more) t (λ next. ReadsLines next (number + 1) (lines_of more) t) → TextAt (text_of_lines now ++ more) t
+    text_full : (more : List ℕ) (t : Text) (turnout : Turnout) → Feeds stage line turnout
+        → AfterLine turnout number (lines_of more) t (λ next. ReadsLines next (number + 1) (lines_of more) t) → TextAt (text_of_lines now ++ more) t
     text_full more t turnout feeds after_it =
         let P : Lines → Type 0 = λ l. ReadsLines stage number l t in
         let read = so_far.text (line ++ 10 ∷ more) t (subst P (sym (line_first line more is_line.free is_line.short)) (turnout, feeds, after_it)) in
@@ -182,7 +187,9 @@ module _ (stage : Stage) (number : ℕ) (pending : List ℕ) (before mid after :
         subst Q same read
 
     -- the same of the bytes taken, and others behind them
-    text_taken : (more : List ℕ) (t : Text) (turnout : Turnout) → Feeds stage line turnout → AfterLine turnout number (lines_of (rest ++ more)) t (λ next. ReadsLines next (number + 1) (lines_of (rest ++ more)) t) → TextAt ((text_of_lines now ++ rest) ++ more) t
+    text_taken : (more : List ℕ) (t : Text) (turnout : Turnout) → Feeds stage line turnout
+        → AfterLine turnout number (lines_of (rest ++ more)) t (λ next. ReadsLines next (number + 1) (lines_of (rest ++ more)) t)
+        → TextAt ((text_of_lines now ++ rest) ++ more) t
     text_taken more t turnout feeds after_it =
         let Q : List ℕ → Type 0 = λ b. TextAt b t in
         subst Q (sym (append_assoc (text_of_lines now) rest more)) (text_full (rest ++ more) t turnout feeds after_it)
@@ -229,7 +236,8 @@ module _ (stage : Stage) (number : ℕ) (pending : List ℕ) (before mid after :
     takes_still : length rest ≤ 256 → TakesLines IsMissing (text_of_lines lines ++ rest) rest
     takes_still few = record { lines = lines; are_lines = so_far.are_lines; due = so_far.due; bytes = refl; few = few }
 
-    refused_still : (behind : List ℕ) (why : LineWhy) → IfSome after (λ told. told ≡ behind) → length rest ≤ 256 → ReadsLines stage number (lines_of (rest ++ behind)) (refused number why) → TextRead (Err (Refused number why)) rest before after
+    refused_still : (behind : List ℕ) (why : LineWhy) → IfSome after (λ told. told ≡ behind) → length rest ≤ 256
+        → ReadsLines stage number (lines_of (rest ++ behind)) (refused number why) → TextRead (Err (Refused number why)) rest before after
     unfolding takes_still
     refused_still behind why left few r =
         let Q : List ℕ → Type 0 = λ b. TextAt b (refused number why) in

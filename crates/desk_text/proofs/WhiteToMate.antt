@@ -11,7 +11,8 @@ use Rattle.desk_text.specs.Text.{AfterLine, ReadsLines, white_mates, whole}
 use Rattle.desk_text.specs.declared.problem.Problem.{Problem}
 
 module _ (problem : Problem) (behind : Lines) where
-  white_after : (turnout : Turnout) (number : ℕ) (rest : Lines) (F : Stage → Type 0) → ((next : Stage) → F next → problem.winner ≡ White) → AfterLine turnout number rest (whole problem behind) F → problem.winner ≡ White
+  white_after : (turnout : Turnout) (number : ℕ) (rest : Lines) (F : Stage → Type 0) → ((next : Stage) → F next → problem.winner ≡ White)
+      → AfterLine turnout number rest (whole problem behind) F → problem.winner ≡ White
   white_after (turnouts.more next) number rest F goes a = goes next a
   white_after (turnouts.complete p) number rest F goes a = let same : problem ≡ white_mates p number = cc in ap (λ r. r.winner) same
   white_after (turnouts.wrong why) number rest F goes a = absurd (cc)

@@ -13,7 +13,8 @@ use Rattle.desk_text.specs.declared.problem.Problem.{Problem}
 use Rattle.desk_text.specs.declared.text.LineWhy.{LineWhy}
 use Rattle.desk_text.specs.declared.text.LineWhy.TheVariants.{Grammar, Long, Cut, Missing}
 
--- What an input begins with: the text of a problem, and the lines that come after it, or the first line that is refused.
+-- What an input begins with: the text of a problem, and the lines that come after it, or the first line that is
+-- refused.
 pub data Text : Type 0 where
   whole : Problem → Lines → Text
   refused : ℕ → LineWhy → Text
@@ -31,7 +32,8 @@ AfterLine (turnouts.wrong why) number rest text go_on = text ≡ refused number 
 -- the text that the lines are from this stage on, of which the first has this number
 abbrev pub ReadsLines : Stage → ℕ → Lines → Text → Type 0
 ReadsLines stage number (full line rest) text =
-    (turnout : Turnout) × Feeds stage line turnout × AfterLine turnout number rest text (λ next. ReadsLines next (number + 1) rest text)
+    (turnout : Turnout) × Feeds stage line turnout
+    × AfterLine turnout number rest text (λ next. ReadsLines next (number + 1) rest text)
 ReadsLines stage number ended text = text ≡ refused number Missing
 ReadsLines stage number (cut front) text = text ≡ refused number Cut
 ReadsLines stage number long text = text ≡ refused number Long

@@ -15,4 +15,5 @@ TextIsRead =
 
 -- each text that is read has White to mate
 abbrev pub WhiteIsToMate : Type 0
-WhiteIsToMate = (bytes : List ℕ) (problem : Problem) (rest : Lines) → TextAt bytes (whole problem rest) → problem.winner ≡ White
+WhiteIsToMate =
+    (bytes : List ℕ) (problem : Problem) (rest : Lines) → TextAt bytes (whole problem rest) → problem.winner ≡ White

@@ -3,6 +3,7 @@
 ghost use Rattle.std.specs.Prelude.{◌≡◌};
 
 use chess_game::{Position, Side};
+use limits::Budget;
 
 /// What a text says that was read whole: a position, and the side that is to mate. The text has so many lines.
 #[derive(Clone, Copy)]
@@ -14,7 +15,7 @@ pub struct Problem {
 
 impl Problem {
     /// That its winner is to mate within so many moves, or up to so many, with this budget for each plan.
-    pub fn task(self, moves: u8, budget: u32) -> Task
+    pub fn task(self, moves: u8, budget: Budget) -> Task
         ensures { result ≡ record { problem = self; moves = moves; budget = budget } }
     {
         Task {
@@ -30,12 +31,12 @@ impl Problem {
 pub struct Task {
     pub problem: Problem,
     pub moves: u8,
-    pub budget: u32,
+    pub budget: Budget,
 }
 
 /// The file of a name, and the budget of the plan that checks its claim.
 #[derive(Clone, Copy)]
 pub struct FileTask<'a> {
     pub name: &'a str,
-    pub budget: u32,
+    pub budget: Budget,
 }

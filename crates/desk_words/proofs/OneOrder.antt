@@ -1,6 +1,8 @@
 -- Words are one order, or none for one reason.
 use Rattle.std.proofs.Common.{◌≡◌, ℕ, List, [], ◌∷◌, Option, Some, None, Result, Ok, Err, inl, inr, refl, sym, ap, subst, ◌∙◌, arith}
-use Rattle.desk_words.specs.Order.{ReadsNumber, FromNumber, WithName, WithNumber, ArithOrdered, DrillOrdered, FileOrdered, KeepOrdered, MovesOrdered, ReadsFile, ReadsMoves, ShowOrdered, Ordered, OrderedBehind, file_order_for, order_for, most_moves, most_budget, most_positions, most_seed, default_budget}
+use Rattle.limits.specs.declared.numbers.TheConstants.{MOST_MOVES, MOST_STATES}
+use Rattle.desk_words.specs.declared.order.TheConstants.{DEFAULT_STATES}
+use Rattle.desk_words.specs.Order.{ReadsNumber, FromNumber, WithName, WithNumber, ArithOrdered, DrillOrdered, FileOrdered, KeepOrdered, MovesOrdered, ReadsFile, ReadsMoves, ShowOrdered, Ordered, OrderedBehind, file_order_for, order_for, most_positions, most_seed}
 use Rattle.desk_words.specs.declared.order.Command.{Command}
 use Rattle.desk_words.specs.declared.order.Command.TheVariants as commands
 use Rattle.desk_words.specs.declared.order.Order.{Order}
@@ -57,20 +59,20 @@ with_name one other word F G once (inr (named, a)) (inr (also, b)) = once a b
 module _ (one other : Result ℕ UsageWhy) where
   once_file_budget : (words : List (List ℕ)) → ReadsFile words one → ReadsFile words other → one ≡ other
   once_file_budget [] a b = a ∙ sym b
-  once_file_budget (name ∷ []) a b = with_name one other name (one ≡ Ok default_budget) (other ≡ Ok default_budget) (λ x y. x ∙ sym y) a b
+  once_file_budget (name ∷ []) a b = with_name one other name (one ≡ Ok DEFAULT_STATES) (other ≡ Ok DEFAULT_STATES) (λ x y. x ∙ sym y) a b
   once_file_budget (name ∷ budget ∷ []) a b =
-      with_name one other name (WithNumber budget 1 most_budget one (λ k. one ≡ Ok k)) (WithNumber budget 1 most_budget other (λ k. other ≡ Ok k))
-      (λ x y. with_number one other budget 1 most_budget (λ k. one ≡ Ok k) (λ k. other ≡ Ok k) (λ k u v. u ∙ sym v) x y) a b
+      with_name one other name (WithNumber budget 1 MOST_STATES one (λ k. one ≡ Ok k)) (WithNumber budget 1 MOST_STATES other (λ k. other ≡ Ok k))
+      (λ x y. with_number one other budget 1 MOST_STATES (λ k. one ≡ Ok k) (λ k. other ≡ Ok k) (λ k u v. u ∙ sym v) x y) a b
   once_file_budget (name ∷ budget ∷ word ∷ words) a b = a ∙ sym b
 
 module _ (one other : Result (ℕ × ℕ) UsageWhy) where
   once_moves : (words : List (List ℕ)) → ReadsMoves words one → ReadsMoves words other → one ≡ other
   once_moves [] a b = a ∙ sym b
   once_moves (moves ∷ []) a b =
-      with_number one other moves 0 most_moves (λ n. one ≡ Ok (n, default_budget)) (λ n. other ≡ Ok (n, default_budget)) (λ n x y. x ∙ sym y) a b
+      with_number one other moves 0 MOST_MOVES (λ n. one ≡ Ok (n, DEFAULT_STATES)) (λ n. other ≡ Ok (n, DEFAULT_STATES)) (λ n x y. x ∙ sym y) a b
   once_moves (moves ∷ budget ∷ []) a b =
-      with_number one other moves 0 most_moves (λ n. WithNumber budget 1 most_budget one (λ k. one ≡ Ok (n, k))) (λ n. WithNumber budget 1 most_budget other (λ k. other ≡ Ok (n, k)))
-      (λ n x y. with_number one other budget 1 most_budget (λ k. one ≡ Ok (n, k)) (λ k. other ≡ Ok (n, k)) (λ k u v. u ∙ sym v) x y)
+      with_number one other moves 0 MOST_MOVES (λ n. WithNumber budget 1 MOST_STATES one (λ k. one ≡ Ok (n, k))) (λ n. WithNumber budget 1 MOST_STATES other (λ k. other ≡ Ok (n, k)))
+      (λ n x y. with_number one other budget 1 MOST_STATES (λ k. one ≡ Ok (n, k)) (λ k. other ≡ Ok (n, k)) (λ k u v. u ∙ sym v) x y)
       a b
   once_moves (moves ∷ budget ∷ word ∷ words) a b = a ∙ sym b
 
@@ -82,14 +84,14 @@ module _ (one other : Result Order UsageWhy) where
   once_keeping [] a b = a ∙ sym b
   once_keeping (moves ∷ []) a b = a ∙ sym b
   once_keeping (moves ∷ name ∷ []) a b =
-      with_number one other moves 0 most_moves (λ n. WithName name one (one ≡ Ok (Keep n default_budget))) (λ n. WithName name other (other ≡ Ok (Keep n default_budget)))
-      (λ n x y. with_name one other name (one ≡ Ok (Keep n default_budget)) (other ≡ Ok (Keep n default_budget)) (λ u v. u ∙ sym v) x y) a b
+      with_number one other moves 0 MOST_MOVES (λ n. WithName name one (one ≡ Ok (Keep n DEFAULT_STATES))) (λ n. WithName name other (other ≡ Ok (Keep n DEFAULT_STATES)))
+      (λ n x y. with_name one other name (one ≡ Ok (Keep n DEFAULT_STATES)) (other ≡ Ok (Keep n DEFAULT_STATES)) (λ u v. u ∙ sym v) x y) a b
   once_keeping (moves ∷ name ∷ budget ∷ []) a b =
-      with_number one other moves 0 most_moves
-      (λ n. WithName name one (WithNumber budget 1 most_budget one (λ k. one ≡ Ok (Keep n k))))
-      (λ n. WithName name other (WithNumber budget 1 most_budget other (λ k. other ≡ Ok (Keep n k))))
-      (λ n x y. with_name one other name (WithNumber budget 1 most_budget one (λ k. one ≡ Ok (Keep n k))) (WithNumber budget 1 most_budget other (λ k. other ≡ Ok (Keep n k)))
-      (λ u v. with_number one other budget 1 most_budget (λ k. one ≡ Ok (Keep n k)) (λ k. other ≡ Ok (Keep n k)) (λ k p q. p ∙ sym q) u v) x y) a b
+      with_number one other moves 0 MOST_MOVES
+      (λ n. WithName name one (WithNumber budget 1 MOST_STATES one (λ k. one ≡ Ok (Keep n k))))
+      (λ n. WithName name other (WithNumber budget 1 MOST_STATES other (λ k. other ≡ Ok (Keep n k))))
+      (λ n x y. with_name one other name (WithNumber budget 1 MOST_STATES one (λ k. one ≡ Ok (Keep n k))) (WithNumber budget 1 MOST_STATES other (λ k. other ≡ Ok (Keep n k)))
+      (λ u v. with_number one other budget 1 MOST_STATES (λ k. one ≡ Ok (Keep n k)) (λ k. other ≡ Ok (Keep n k)) (λ k p q. p ∙ sym q) u v) x y) a b
   once_keeping (moves ∷ name ∷ budget ∷ word ∷ words) a b = a ∙ sym b
 
   once_of_file : (order : ℕ → Order) (words : List (List ℕ)) → FileOrdered order words one → FileOrdered order words other → one ≡ other
@@ -111,7 +113,7 @@ module _ (one other : Result Order UsageWhy) where
   once_asked : (words : List (List ℕ)) → ArithOrdered words one → ArithOrdered words other → one ≡ other
   once_asked [] a b = a ∙ sym b
   once_asked (budget ∷ []) a b =
-      with_number one other budget 1 most_budget (λ k. one ≡ Ok (Arith k)) (λ k. other ≡ Ok (Arith k)) (λ k u v. u ∙ sym v) a b
+      with_number one other budget 1 MOST_STATES (λ k. one ≡ Ok (Arith k)) (λ k. other ≡ Ok (Arith k)) (λ k u v. u ∙ sym v) a b
   once_asked (budget ∷ word ∷ words) a b = a ∙ sym b
 
   once_behind : (command : Option Command) (words : List (List ℕ)) → OrderedBehind command words one → OrderedBehind command words other → one ≡ other

@@ -3,6 +3,8 @@ use Rattle.std.specs.Prelude.{◌≡◌, ◌≢◌, ◌⊎◌, ℕ, ◌-◌, ◌
 use Rattle.std.specs.Char.{IsAsciiDigit}
 use Rattle.std.specs.List.{All}
 use Rattle.std.specs.Str.Parse.{digits_value}
+use Rattle.limits.specs.declared.numbers.TheConstants.{MOST_MOVES, MOST_STATES}
+use Rattle.desk_words.specs.declared.order.TheConstants.{DEFAULT_STATES}
 use Rattle.desk_words.specs.declared.order.Command.{Command}
 use Rattle.desk_words.specs.declared.order.Command.TheVariants as commands
 use Rattle.desk_words.specs.declared.order.Order.{Order}
@@ -11,17 +13,6 @@ use Rattle.desk_words.specs.declared.order.TextOrder.{TextOrder}
 use Rattle.desk_words.specs.declared.order.TextOrder.TheVariants as text_orders
 use Rattle.desk_words.specs.declared.order.UsageWhy.{UsageWhy}
 use Rattle.desk_words.specs.declared.order.UsageWhy.TheVariants.{NoCommand, Unknown, Count, Number, Limit, Name}
-
--- the greatest number of moves that can be asked for
-abbrev pub most_moves : ℕ
-most_moves = 20
-
--- the greatest budget, and the one that holds where no word names one
-abbrev pub most_budget : ℕ
-most_budget = 200000
-
-abbrev pub default_budget : ℕ
-default_budget = 50000
 
 -- the greatest seed
 abbrev pub most_seed : ℕ
@@ -54,13 +45,15 @@ FromNumber (Ok n) answer go_on = go_on n
 FromNumber (Err why) answer go_on = answer ≡ Err why
 
 abbrev pub WithNumber : {A : Type 0} → List ℕ → ℕ → ℕ → Result A UsageWhy → (ℕ → Type 0) → Type 0
-WithNumber word low high answer go_on = (number : Result ℕ UsageWhy) × ReadsNumber word low high number × FromNumber number answer go_on
+WithNumber word low high answer go_on =
+    (number : Result ℕ UsageWhy) × ReadsNumber word low high number × FromNumber number answer go_on
 
 -- the number of moves that the first word is, and the budget that the second is, if there is one
 abbrev pub ReadsMoves : List (List ℕ) → Result (ℕ × ℕ) UsageWhy → Type 0
 ReadsMoves [] asked = asked ≡ Err Count
-ReadsMoves (moves ∷ []) asked = WithNumber moves 0 most_moves asked (λ n. asked ≡ Ok (n, default_budget))
-ReadsMoves (moves ∷ budget ∷ []) asked = WithNumber moves 0 most_moves asked (λ n. WithNumber budget 1 most_budget asked (λ b. asked ≡ Ok (n, b)))
+ReadsMoves (moves ∷ []) asked = WithNumber moves 0 MOST_MOVES asked (λ n. asked ≡ Ok (n, DEFAULT_STATES))
+ReadsMoves (moves ∷ budget ∷ []) asked =
+    WithNumber moves 0 MOST_MOVES asked (λ n. WithNumber budget 1 MOST_STATES asked (λ b. asked ≡ Ok (n, b)))
 ReadsMoves (moves ∷ budget ∷ word ∷ words) asked = asked ≡ Err Count
 
 -- the order for a number of moves and a budget, or the reason why there is none
@@ -70,7 +63,8 @@ order_for order (Err why) = Err why
 
 -- what the words behind a command order that takes a number of moves and a budget
 abbrev pub MovesOrdered : (ℕ → ℕ → Order) → List (List ℕ) → Result Order UsageWhy → Type 0
-MovesOrdered order words answer = (asked : Result (ℕ × ℕ) UsageWhy) × ReadsMoves words asked × (answer ≡ order_for order asked)
+MovesOrdered order words answer =
+    (asked : Result (ℕ × ℕ) UsageWhy) × ReadsMoves words asked × (answer ≡ order_for order asked)
 
 -- a small letter, a digit, or _
 abbrev pub IsNameByte : ℕ → Type 0
@@ -96,17 +90,17 @@ abbrev pub KeepOrdered : List (List ℕ) → Result Order UsageWhy → Type 0
 KeepOrdered [] answer = answer ≡ Err Count
 KeepOrdered (moves ∷ []) answer = answer ≡ Err Count
 KeepOrdered (moves ∷ name ∷ []) answer =
-    WithNumber moves 0 most_moves answer (λ n. WithName name answer (answer ≡ Ok (Keep n default_budget)))
+    WithNumber moves 0 MOST_MOVES answer (λ n. WithName name answer (answer ≡ Ok (Keep n DEFAULT_STATES)))
 KeepOrdered (moves ∷ name ∷ budget ∷ []) answer =
-    WithNumber moves 0 most_moves answer
-    (λ n. WithName name answer (WithNumber budget 1 most_budget answer (λ b. answer ≡ Ok (Keep n b))))
+    WithNumber moves 0 MOST_MOVES answer
+    (λ n. WithName name answer (WithNumber budget 1 MOST_STATES answer (λ b. answer ≡ Ok (Keep n b))))
 KeepOrdered (moves ∷ name ∷ budget ∷ word ∷ words) answer = answer ≡ Err Count
 
 -- the budget behind the name that the first word is: the second word, if there is one
 abbrev pub ReadsFile : List (List ℕ) → Result ℕ UsageWhy → Type 0
 ReadsFile [] asked = asked ≡ Err Count
-ReadsFile (name ∷ []) asked = WithName name asked (asked ≡ Ok default_budget)
-ReadsFile (name ∷ budget ∷ []) asked = WithName name asked (WithNumber budget 1 most_budget asked (λ b. asked ≡ Ok b))
+ReadsFile (name ∷ []) asked = WithName name asked (asked ≡ Ok DEFAULT_STATES)
+ReadsFile (name ∷ budget ∷ []) asked = WithName name asked (WithNumber budget 1 MOST_STATES asked (λ b. asked ≡ Ok b))
 ReadsFile (name ∷ budget ∷ word ∷ words) asked = asked ≡ Err Count
 
 -- the order for a budget, or the reason why there is none
@@ -116,7 +110,8 @@ file_order_for order (Err why) = Err why
 
 -- what the words behind a command order that takes a name and a budget
 abbrev pub FileOrdered : (ℕ → Order) → List (List ℕ) → Result Order UsageWhy → Type 0
-FileOrdered order words answer = (asked : Result ℕ UsageWhy) × ReadsFile words asked × (answer ≡ file_order_for order asked)
+FileOrdered order words answer =
+    (asked : Result ℕ UsageWhy) × ReadsFile words asked × (answer ≡ file_order_for order asked)
 
 -- what the words behind `show` order
 abbrev pub ShowOrdered : List (List ℕ) → Result Order UsageWhy → Type 0
@@ -133,8 +128,8 @@ DrillOrdered (seed ∷ count ∷ word ∷ words) answer = answer ≡ Err Count
 
 -- what the words behind `arith` order: a budget, if there is one
 abbrev pub ArithOrdered : List (List ℕ) → Result Order UsageWhy → Type 0
-ArithOrdered [] answer = answer ≡ Ok (Arith default_budget)
-ArithOrdered (budget ∷ []) answer = WithNumber budget 1 most_budget answer (λ b. answer ≡ Ok (Arith b))
+ArithOrdered [] answer = answer ≡ Ok (Arith DEFAULT_STATES)
+ArithOrdered (budget ∷ []) answer = WithNumber budget 1 MOST_STATES answer (λ b. answer ≡ Ok (Arith b))
 ArithOrdered (budget ∷ word ∷ words) answer = answer ≡ Err Count
 
 -- the name of a command
@@ -213,22 +208,18 @@ pub record IsOrderOf (o : TextOrder) (words : List (List ℕ)) : Type 0 where
   pub ordered : Ordered words (Ok (as_order o))
   pub named : HasName o words
 
--- the number is a budget
-abbrev pub IsBudget : ℕ → Type 0
-IsBudget budget = (1 ≤ budget) × (budget ≤ most_budget)
-
 -- the numbers of an order are within their limits
 abbrev pub IsWithinLimits : Order → Type 0
-IsWithinLimits (Decide moves budget) = (moves ≤ most_moves) × IsBudget budget
-IsWithinLimits (Least limit budget) = (limit ≤ most_moves) × IsBudget budget
-IsWithinLimits (First moves budget) = (moves ≤ most_moves) × IsBudget budget
-IsWithinLimits (Play moves budget) = (moves ≤ most_moves) × IsBudget budget
-IsWithinLimits (Keep moves budget) = (moves ≤ most_moves) × IsBudget budget
-IsWithinLimits (Check budget) = IsBudget budget
-IsWithinLimits (Resume budget) = IsBudget budget
+IsWithinLimits (Decide moves budget) = moves ≤ MOST_MOVES
+IsWithinLimits (Least limit budget) = limit ≤ MOST_MOVES
+IsWithinLimits (First moves budget) = moves ≤ MOST_MOVES
+IsWithinLimits (Play moves budget) = moves ≤ MOST_MOVES
+IsWithinLimits (Keep moves budget) = moves ≤ MOST_MOVES
+IsWithinLimits (Check budget) = Unit {0}
+IsWithinLimits (Resume budget) = Unit {0}
 IsWithinLimits Show = Unit {0}
 IsWithinLimits (Drill seed count) = (seed ≤ most_seed) × (count ≤ most_positions)
-IsWithinLimits (Arith budget) = IsBudget budget
+IsWithinLimits (Arith budget) = Unit {0}
 
 -- the fault line of words that are no order
 abbrev pub usage_line : UsageWhy → List ℕ

@@ -4,5 +4,5 @@
 mod order;
 
 pub use order::{
-    DEFAULT_BUDGET, FILE_NAME, KEEP_NAME, Order, TextOrder, UsageWhy, order_of, word_at,
+    DEFAULT_STATES, FILE_NAME, KEEP_NAME, Order, TextOrder, UsageWhy, order_of, word_at,
 };

@@ -3,16 +3,12 @@
 ghost use Rattle.std.specs.Prelude.{◌≡◌, ◌↔◌, ◌<◌, ◌≤◌, map, slice_get, string_bytes, length, Some, IsTrue, IfOk};
 ghost use Rattle.std.specs.Char.{IsAsciiDigit};
 ghost use Rattle.std.specs.List.{All};
-ghost use Rattle.desk_words.specs.Order.{ArithOrdered, DrillOrdered, FileOrdered, IsBudget, IsCommand, IsName, IsNameByte, IsNaturalText, IsWithinLimits, KeepOrdered, MovesOrdered, Ordered, OrderedBy, ReadsFile, ReadsMoves, ReadsName, ReadsNumber, ShowOrdered, most_moves, most_seed, usage_line};
+ghost use Rattle.desk_words.specs.Order.{ArithOrdered, DrillOrdered, FileOrdered, IsCommand, IsName, IsNameByte, IsNaturalText, IsWithinLimits, KeepOrdered, MovesOrdered, Ordered, OrderedBy, ReadsFile, ReadsMoves, ReadsName, ReadsNumber, ShowOrdered, most_seed, usage_line};
 
-/// The greatest number of moves that can be asked for.
-const MOST_MOVES: u64 = 20;
+use limits::{Budget, MOST_MOVES, MOST_STATES};
 
-/// The greatest budget.
-const MOST_BUDGET: u64 = 200_000;
-
-/// The budget where no word names one.
-pub const DEFAULT_BUDGET: u32 = 50_000;
+/// How many states a step may need where no word names a budget.
+pub const DEFAULT_STATES: u32 = 50_000;
 
 /// The greatest number of positions that can be asked for.
 const MOST_POSITIONS: u64 = 100;
@@ -30,25 +26,25 @@ pub const FILE_NAME: usize = 1;
 #[derive(Clone, Copy, Debug, PartialEq, Eq)]
 pub enum Order {
     /// Say whether White mates within so many moves of his own. The budget bounds the states of the automata that decide it.
-    Decide { moves: u8, budget: u32 },
+    Decide { moves: u8, budget: Budget },
     /// Say within how few moves of his own White mates, if he does within so many. The budget is that of each number of moves.
-    Least { limit: u8, budget: u32 },
+    Least { limit: u8, budget: Budget },
     /// Name, ray by ray, the first moves by which White mates within so many moves of his own. The budget is that of `Decide`.
-    First { moves: u8, budget: u32 },
+    First { moves: u8, budget: Budget },
     /// Play a game in which White mates within so many moves of his own, whatever is replied. The budget is that of `Decide`.
-    Play { moves: u8, budget: u32 },
+    Play { moves: u8, budget: Budget },
     /// Keep a file of the sets by which White mates within so many moves of his own, if he does. The budget is that of `Decide`.
-    Keep { moves: u8, budget: u32 },
+    Keep { moves: u8, budget: Budget },
     /// Check the file of a name, and say within how many moves it mates. The budget is that of the plan that checks its claim.
-    Check { budget: u32 },
+    Check { budget: Budget },
     /// Check the file of a name, and play the game by its sets. The budget is that of `Check`.
-    Resume { budget: u32 },
+    Resume { budget: Budget },
     /// Write the position, whether its side to move is in check, and how many men are live.
     Show,
     /// Say from how many of so many positions, which follow from the seed, White mates in one move.
     Drill { seed: u64, count: u8 },
     /// Say whether the formula that the first line is holds over all integers. The budget bounds the states of each step.
-    Arith { budget: u32 },
+    Arith { budget: Budget },
 }
 
 /// An order of a position text, with the name that its words have.
@@ -56,23 +52,23 @@ pub enum Order {
 pub enum TextOrder<'a> {
     Decide {
         moves: u8,
-        budget: u32,
+        budget: Budget,
     },
     Least {
         limit: u8,
-        budget: u32,
+        budget: Budget,
     },
     First {
         moves: u8,
-        budget: u32,
+        budget: Budget,
     },
     Play {
         moves: u8,
-        budget: u32,
+        budget: Budget,
     },
     Keep {
         moves: u8,
-        budget: u32,
+        budget: Budget,
         name: &'a str,
     },
     Show,
@@ -243,7 +239,7 @@ fn keep_order(words: &[String]) -> Result<Order, UsageWhy>
             read_name(name.as_str())?;
             Ok(Order::Keep {
                 moves,
-                budget: DEFAULT_BUDGET,
+                budget: default_budget(),
             })
         }
         [moves, name, budget] => {
@@ -275,14 +271,13 @@ fn resume_order(words: &[String]) -> Result<Order, UsageWhy>
 }
 
 /// The budget behind the name that the first word is, if there is one.
-fn read_file_budget(words: &[String]) -> Result<u32, UsageWhy>
-    ensures reads { ReadsFile (map string_bytes words.now) result }
-    ensures within { IfOk result IsBudget }
+fn read_file_budget(words: &[String]) -> Result<Budget, UsageWhy>
+    ensures { ReadsFile (map string_bytes words.now) result }
 {
     match words {
         [name] => {
             read_name(name.as_str())?;
-            Ok(DEFAULT_BUDGET)
+            Ok(default_budget())
         }
         [name, budget] => {
             read_name(name.as_str())?;
@@ -293,12 +288,12 @@ fn read_file_budget(words: &[String]) -> Result<u32, UsageWhy>
 }
 
 /// The number of moves that the first word is, and the budget that the second is, if there is one.
-fn read_moves_and_budget(words: &[String]) -> Result<(u8, u32), UsageWhy>
+fn read_moves_and_budget(words: &[String]) -> Result<(u8, Budget), UsageWhy>
     ensures reads { ReadsMoves (map string_bytes words.now) result }
-    ensures within { IfOk result (λ asked. (asked.0 ≤ most_moves) × IsBudget asked.1) }
+    ensures within { IfOk result (λ asked. asked.0 ≤ MOST_MOVES) }
 {
     match words {
-        [moves] => Ok((read_moves(moves.as_str())?, DEFAULT_BUDGET)),
+        [moves] => Ok((read_moves(moves.as_str())?, default_budget())),
         [moves, budget] => Ok((read_moves(moves.as_str())?, read_budget(budget.as_str())?)),
         _ => Err(UsageWhy::Count),
     }
@@ -337,7 +332,7 @@ fn arith_order(words: &[String]) -> Result<Order, UsageWhy>
 {
     match words {
         [] => Ok(Order::Arith {
-            budget: DEFAULT_BUDGET,
+            budget: default_budget(),
         }),
         [budget] => Ok(Order::Arith {
             budget: read_budget(budget.as_str())?,
@@ -348,16 +343,24 @@ fn arith_order(words: &[String]) -> Result<Order, UsageWhy>
 
 /// The number of moves that the word is.
 fn read_moves(word: &str) -> Result<u8, UsageWhy>
-    ensures { ReadsNumber word.now 0 20 result }
+    ensures { ReadsNumber word.now 0 MOST_MOVES result }
 {
-    Ok(read_number(word, 0, MOST_MOVES)? as u8)
+    Ok(read_number(word, 0, MOST_MOVES as u64)? as u8)
+}
+
+/// The budget where no word names one.
+fn default_budget() -> Budget
+    ensures { result ≡ DEFAULT_STATES }
+{
+    Budget::new(DEFAULT_STATES)
 }
 
 /// The budget that the word is.
-fn read_budget(word: &str) -> Result<u32, UsageWhy>
-    ensures { ReadsNumber word.now 1 200000 result }
+fn read_budget(word: &str) -> Result<Budget, UsageWhy>
+    ensures { ReadsNumber word.now 1 MOST_STATES result }
 {
-    Ok(read_number(word, 1, MOST_BUDGET)? as u32)
+    let states = read_number(word, 1, MOST_STATES as u64)?;
+    Ok(Budget::new(states as u32))
 }
 
 /// Whether the word is a name.

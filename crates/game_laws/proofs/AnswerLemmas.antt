@@ -40,7 +40,9 @@ three_ways (suc a) (suc b) =
     ]
 
 -- a man of the side in check, other than the king, who goes along a far ray to a square between checker and king
-module _ (p : Position) (c : IsChecked p) (i : ℕ) (z : Square) (q : Position) (sound : Sound p) (l : Legal p i z q) (other_man : i ≢ c.king_number) (b : Square) (there : StandsOn l.step.man b) (u v : ℤ) (d : IsDirection u v) (t : ℕ) (goes : z ≡ after_steps b t u v) (clear : IsOpen p b z) (slider : IsSlider c.checker.kind) (line : IsBetween c.square c.king_square z) where
+module _ (p : Position) (c : IsChecked p) (i : ℕ) (z : Square) (q : Position) (sound : Sound p) (l : Legal p i z q) (other_man : i ≢ c.king_number)
+    (b : Square) (there : StandsOn l.step.man b) (u v : ℤ) (d : IsDirection u v) (t : ℕ) (goes : z ≡ after_steps b t u v) (clear : IsOpen p b z)
+    (slider : IsSlider c.checker.kind) (line : IsBetween c.square c.king_square z) where
   abbrev a : Square
   a = c.square
 
@@ -114,7 +116,8 @@ both_ways : (z b a m n : ℤ) → z ≡ b +ℤ m → z ≡ a +ℤ n → (b -ℤ 
 both_ways z b a m n h k = omega (arith, ints, h, k)
 
 -- where the ray leads to the line, its steps are as many as fit into the distance off it
-off_is : (a k b z : Square) (u v : ℤ) (t j : ℕ) → IsDirection u v → IsDirection (toward_x a k) (toward_y a k) → z ≡ after_steps b t u v → z ≡ toward a k j → off_line (b.x -ℤ a.x) (b.y -ℤ a.y) a k ≡ t * off_line u v a k
+off_is : (a k b z : Square) (u v : ℤ) (t j : ℕ) → IsDirection u v → IsDirection (toward_x a k) (toward_y a k) → z ≡ after_steps b t u v
+    → z ≡ toward a k j → off_line (b.x -ℤ a.x) (b.y -ℤ a.y) a k ≡ t * off_line u v a k
 off_is a k b z u v t j d e goes on =
     cross_off (b.x -ℤ a.x) (b.y -ℤ a.y) (pos t *ℤ u) (pos t *ℤ v) (toward_x a k) (toward_y a k) j e
     (both_ways z.x b.x a.x (pos t *ℤ u) (pos j *ℤ toward_x a k) (ap (λ s. s.x) goes) (ap (λ s. s.x) on))
@@ -133,7 +136,8 @@ apart_far a k apart zero is =
 apart_far a k apart (suc n) is = omega arith
 
 -- a legal move in check, by a man at b
-module _ (p : Position) (c : IsChecked p) (i : ℕ) (z : Square) (q : Position) (sound : Sound p) (l : Legal p i z q) (b : Square) (there : StandsOn l.step.man b) (one : IsOnOneRay p l.step.man b z) where
+module _ (p : Position) (c : IsChecked p) (i : ℕ) (z : Square) (q : Position) (sound : Sound p) (l : Legal p i z q) (b : Square)
+    (there : StandsOn l.step.man b) (one : IsOnOneRay p l.step.man b z) where
   abbrev r : Ray
   r = one.on.ray
 

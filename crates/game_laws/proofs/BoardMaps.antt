@@ -88,7 +88,8 @@ reach_like s t Pawn u v x y ex ey ahead h = (ex ∙ h.0, ahead h.1)
 abbrev by_axes : (ℤ → ℤ) → (ℤ → ℤ) → (Side → Side) → BoardMap
 by_axes across along side = record { square = λ z. record { x = across z.x; y = along z.y }; side = side }
 
-module _ (fx ux fy uy : ℤ → ℤ) (side : Side → Side) (across : IsAxisMap fx ux) (along : IsAxisMap fy uy) (opponent : (s : Side) → side (other s) ≡ other (side s)) (ahead : (s : Side) → uy (forward s) ≡ forward (side s)) where
+module _ (fx ux fy uy : ℤ → ℤ) (side : Side → Side) (across : IsAxisMap fx ux) (along : IsAxisMap fy uy)
+    (opponent : (s : Side) → side (other s) ≡ other (side s)) (ahead : (s : Side) → uy (forward s) ≡ forward (side s)) where
   axes_reach : (s : Side) (k : Kind) (a z : Square) → HasReach s k (z.x -ℤ a.x) (z.y -ℤ a.y) → HasReach (side s) k (fx z.x -ℤ fx a.x) (fy z.y -ℤ fy a.y)
   axes_reach s k a z h =
       reach_like s (side s) k (z.x -ℤ a.x) (z.y -ℤ a.y) (fx z.x -ℤ fx a.x) (fy z.y -ℤ fy a.y)

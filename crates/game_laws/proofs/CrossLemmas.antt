@@ -50,9 +50,12 @@ cross_off x y u v ex ey j d h k =
     let hy = direction_small_y ex ey d in
     let is : cross x y ex ey ≡ pos 0 -ℤ cross u v ex ey =
     each_unit (λ ex. x +ℤ u ≡ pos j *ℤ ex → y +ℤ v ≡ pos j *ℤ ey → cross x y ex ey ≡ pos 0 -ℤ cross u v ex ey)
-    (each_unit (λ ey. x +ℤ u ≡ pos j *ℤ negsuc 0 → y +ℤ v ≡ pos j *ℤ ey → cross x y (negsuc 0) ey ≡ pos 0 -ℤ cross u v (negsuc 0) ey) (λ h k. omega (arith, ints, h, k)) (λ h k. omega (arith, ints, h, k)) (λ h k. omega (arith, ints, h, k)) ey hy)
-    (each_unit (λ ey. x +ℤ u ≡ pos j *ℤ pos 0 → y +ℤ v ≡ pos j *ℤ ey → cross x y (pos 0) ey ≡ pos 0 -ℤ cross u v (pos 0) ey) (λ h k. omega (arith, ints, h, k)) (λ h k. omega (arith, ints, h, k)) (λ h k. omega (arith, ints, h, k)) ey hy)
-    (each_unit (λ ey. x +ℤ u ≡ pos j *ℤ pos 1 → y +ℤ v ≡ pos j *ℤ ey → cross x y (pos 1) ey ≡ pos 0 -ℤ cross u v (pos 1) ey) (λ h k. omega (arith, ints, h, k)) (λ h k. omega (arith, ints, h, k)) (λ h k. omega (arith, ints, h, k)) ey hy)
+    (each_unit (λ ey. x +ℤ u ≡ pos j *ℤ negsuc 0 → y +ℤ v ≡ pos j *ℤ ey → cross x y (negsuc 0) ey ≡ pos 0 -ℤ cross u v (negsuc 0) ey)
+    (λ h k. omega (arith, ints, h, k)) (λ h k. omega (arith, ints, h, k)) (λ h k. omega (arith, ints, h, k)) ey hy)
+    (each_unit (λ ey. x +ℤ u ≡ pos j *ℤ pos 0 → y +ℤ v ≡ pos j *ℤ ey → cross x y (pos 0) ey ≡ pos 0 -ℤ cross u v (pos 0) ey)
+    (λ h k. omega (arith, ints, h, k)) (λ h k. omega (arith, ints, h, k)) (λ h k. omega (arith, ints, h, k)) ey hy)
+    (each_unit (λ ey. x +ℤ u ≡ pos j *ℤ pos 1 → y +ℤ v ≡ pos j *ℤ ey → cross x y (pos 1) ey ≡ pos 0 -ℤ cross u v (pos 1) ey)
+    (λ h k. omega (arith, ints, h, k)) (λ h k. omega (arith, ints, h, k)) (λ h k. omega (arith, ints, h, k)) ey hy)
     ex hx h k in
     abs_other (cross x y ex ey) (cross u v ex ey) is
   where

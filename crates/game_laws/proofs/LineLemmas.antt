@@ -46,9 +46,12 @@ direction_small_y dx dy h = omega (arith, h)
 pub far_steps : (dx dy : ℤ) → IsDirection dx dy → (t : ℕ) → max (unsigned_abs (pos t *ℤ dx)) (unsigned_abs (pos t *ℤ dy)) ≡ t
 far_steps dx dy h t =
     each_unit (λ dx. max (unsigned_abs dx) (unsigned_abs dy) ≡ 1 → max (unsigned_abs (pos t *ℤ dx)) (unsigned_abs (pos t *ℤ dy)) ≡ t)
-    (each_unit (λ dy. max (unsigned_abs (negsuc 0)) (unsigned_abs dy) ≡ 1 → max (unsigned_abs (pos t *ℤ negsuc 0)) (unsigned_abs (pos t *ℤ dy)) ≡ t) (λ h. grind (arith, ints)) (λ h. grind (arith, ints)) (λ h. grind (arith, ints)) dy (direction_small_y dx dy h))
-    (each_unit (λ dy. max (unsigned_abs (pos 0)) (unsigned_abs dy) ≡ 1 → max (unsigned_abs (pos t *ℤ pos 0)) (unsigned_abs (pos t *ℤ dy)) ≡ t) (λ h. grind (arith, ints)) (λ h. absurd (omega (arith, h))) (λ h. grind (arith, ints)) dy (direction_small_y dx dy h))
-    (each_unit (λ dy. max (unsigned_abs (pos 1)) (unsigned_abs dy) ≡ 1 → max (unsigned_abs (pos t *ℤ pos 1)) (unsigned_abs (pos t *ℤ dy)) ≡ t) (λ h. grind (arith, ints)) (λ h. grind (arith, ints)) (λ h. grind (arith, ints)) dy (direction_small_y dx dy h))
+    (each_unit (λ dy. max (unsigned_abs (negsuc 0)) (unsigned_abs dy) ≡ 1 → max (unsigned_abs (pos t *ℤ negsuc 0)) (unsigned_abs (pos t *ℤ dy)) ≡ t)
+    (λ h. grind (arith, ints)) (λ h. grind (arith, ints)) (λ h. grind (arith, ints)) dy (direction_small_y dx dy h))
+    (each_unit (λ dy. max (unsigned_abs (pos 0)) (unsigned_abs dy) ≡ 1 → max (unsigned_abs (pos t *ℤ pos 0)) (unsigned_abs (pos t *ℤ dy)) ≡ t)
+    (λ h. grind (arith, ints)) (λ h. absurd (omega (arith, h))) (λ h. grind (arith, ints)) dy (direction_small_y dx dy h))
+    (each_unit (λ dy. max (unsigned_abs (pos 1)) (unsigned_abs dy) ≡ 1 → max (unsigned_abs (pos t *ℤ pos 1)) (unsigned_abs (pos t *ℤ dy)) ≡ t)
+    (λ h. grind (arith, ints)) (λ h. grind (arith, ints)) (λ h. grind (arith, ints)) dy (direction_small_y dx dy h))
     dx (direction_small_x dx dy h) h
 
 pub offset_of : (a b m : ℤ) → b ≡ a +ℤ m → b -ℤ a ≡ m
@@ -151,9 +154,34 @@ three a b h = grind (arith, ints)
 pub around_has : (a z : Square) (P : Square → Type 0) → unsigned_abs (z.x -ℤ a.x) ≤ 1 → unsigned_abs (z.y -ℤ a.y) ≤ 1 → P z → Any P (around a)
 around_has a z P across along h =
     elim (three a.y z.y along) [
-      | inl ey ↦ elim (three a.x z.x across) [ inl ex ↦ (0, shifted a (negsuc 0) (negsuc 0), lit< tt, refl, subst P (square_is z (a.x +ℤ negsuc 0) (a.y +ℤ negsuc 0) ex ey) h) | inr e ↦ elim e [ inl ex ↦ (1, shifted a (pos 0) (negsuc 0), lit< tt, refl, subst P (square_is z (a.x +ℤ pos 0) (a.y +ℤ negsuc 0) ex ey) h) | inr ex ↦ (2, shifted a (pos 1) (negsuc 0), lit< tt, refl, subst P (square_is z (a.x +ℤ pos 1) (a.y +ℤ negsuc 0) ex ey) h) ] ]
+      | inl ey ↦
+          elim (three a.x z.x across) [
+            | inl ex ↦ (0, shifted a (negsuc 0) (negsuc 0), lit< tt, refl, subst P (square_is z (a.x +ℤ negsuc 0) (a.y +ℤ negsuc 0) ex ey) h)
+            | inr e ↦
+                elim e [
+                  | inl ex ↦ (1, shifted a (pos 0) (negsuc 0), lit< tt, refl, subst P (square_is z (a.x +ℤ pos 0) (a.y +ℤ negsuc 0) ex ey) h)
+                  | inr ex ↦
+                      (2, shifted a (pos 1) (negsuc 0), lit< tt, refl, subst P (square_is z (a.x +ℤ pos 1) (a.y +ℤ negsuc 0) ex ey) h)
+                ]
+          ]
       | inr e ↦ elim e [
-        | inl ey ↦ elim (three a.x z.x across) [ inl ex ↦ (3, shifted a (negsuc 0) (pos 0), lit< tt, refl, subst P (square_is z (a.x +ℤ negsuc 0) (a.y +ℤ pos 0) ex ey) h) | inr e ↦ elim e [ inl ex ↦ (4, shifted a (pos 0) (pos 0), lit< tt, refl, subst P (square_is z (a.x +ℤ pos 0) (a.y +ℤ pos 0) ex ey) h) | inr ex ↦ (5, shifted a (pos 1) (pos 0), lit< tt, refl, subst P (square_is z (a.x +ℤ pos 1) (a.y +ℤ pos 0) ex ey) h) ] ]
-        | inr ey ↦ elim (three a.x z.x across) [ inl ex ↦ (6, shifted a (negsuc 0) (pos 1), lit< tt, refl, subst P (square_is z (a.x +ℤ negsuc 0) (a.y +ℤ pos 1) ex ey) h) | inr e ↦ elim e [ inl ex ↦ (7, shifted a (pos 0) (pos 1), lit< tt, refl, subst P (square_is z (a.x +ℤ pos 0) (a.y +ℤ pos 1) ex ey) h) | inr ex ↦ (8, shifted a (pos 1) (pos 1), lit< tt, refl, subst P (square_is z (a.x +ℤ pos 1) (a.y +ℤ pos 1) ex ey) h) ] ]
+        | inl ey ↦
+            elim (three a.x z.x across) [
+              | inl ex ↦ (3, shifted a (negsuc 0) (pos 0), lit< tt, refl, subst P (square_is z (a.x +ℤ negsuc 0) (a.y +ℤ pos 0) ex ey) h)
+              | inr e ↦
+                  elim e [
+                    | inl ex ↦ (4, shifted a (pos 0) (pos 0), lit< tt, refl, subst P (square_is z (a.x +ℤ pos 0) (a.y +ℤ pos 0) ex ey) h)
+                    | inr ex ↦ (5, shifted a (pos 1) (pos 0), lit< tt, refl, subst P (square_is z (a.x +ℤ pos 1) (a.y +ℤ pos 0) ex ey) h)
+                  ]
+            ]
+        | inr ey ↦
+            elim (three a.x z.x across) [
+              | inl ex ↦ (6, shifted a (negsuc 0) (pos 1), lit< tt, refl, subst P (square_is z (a.x +ℤ negsuc 0) (a.y +ℤ pos 1) ex ey) h)
+              | inr e ↦
+                  elim e [
+                    | inl ex ↦ (7, shifted a (pos 0) (pos 1), lit< tt, refl, subst P (square_is z (a.x +ℤ pos 0) (a.y +ℤ pos 1) ex ey) h)
+                    | inr ex ↦ (8, shifted a (pos 1) (pos 1), lit< tt, refl, subst P (square_is z (a.x +ℤ pos 1) (a.y +ℤ pos 1) ex ey) h)
+                  ]
+            ]
       ]
     ]

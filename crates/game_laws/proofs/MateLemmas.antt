@@ -68,7 +68,8 @@ king_steps p c z q l =
     subst (λ k. HasReach c.king.side k (z.x -ℤ c.king_square.x) (z.y -ℤ c.king_square.y)) c.king_kind (live_reach p c.king z c.king_square c.king_there goes') in
     around_has c.king_square z (CanGo p c.king_number) (omega (arith, reach)) (omega (arith, reach)) (q, l)
 
-with_searches : (p : Position) (c : IsChecked p) → Sound p → InCheck p p.turn → Decided (Any (CanGo p c.king_number) (around c.king_square)) → Decided ((i : ℕ) × (i < suc (length p.men)) × CanAnswer p c i) → Mate p ⊎ HasMove p
+with_searches : (p : Position) (c : IsChecked p) → Sound p → InCheck p p.turn → Decided (Any (CanGo p c.king_number) (around c.king_square))
+    → Decided ((i : ℕ) × (i < suc (length p.men)) × CanAnswer p c i) → Mate p ⊎ HasMove p
 with_searches p c sound check (inl h) d = inr (c.king_number, h.1, h.4.0, h.4.1)
 with_searches p c sound check (inr no_step) (inl h) = inr (move_of p c h.0 h.2)
 with_searches p c sound check (inr no_step) (inr no_answer) =

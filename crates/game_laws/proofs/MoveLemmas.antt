@@ -21,7 +21,12 @@ pub square_or_not : (o : Option Square) (z : Square) → (o ≡ Some z) ⊎ (o �
 square_or_not None z = inr (λ e. cc)
 square_or_not (Some a) z =
     elim (same_or_not a.x z.x) [
-      | inl x ↦ elim (same_or_not a.y z.y) [ inl y ↦ inl (ap (λ b. Some (record { x = b; y = a.y })) x ∙ ap (λ b. Some (record { x = z.x; y = b })) y) | inr ne ↦ inr (λ e. let same : a ≡ z = cc in ne (ap (λ s. s.y) same)) ]
+      | inl x ↦
+          elim (same_or_not a.y z.y) [
+            | inl y ↦ inl (ap (λ b. Some (record { x = b; y = a.y })) x ∙ ap (λ b. Some (record { x = z.x; y = b })) y)
+            | inr ne ↦
+                inr (λ e. let same : a ≡ z = cc in ne (ap (λ s. s.y) same))
+          ]
       | inr ne ↦ inr (λ e. let same : a ≡ z = cc in ne (ap (λ s. s.x) same))
     ]
 
@@ -42,7 +47,10 @@ module _ (p : Position) (i : ℕ) (z : Square) (q : Position) (after : IsAfter p
       after.others (suc k) (get_or p.men k d) (get_or q.men k d) ne (slice_get-get_or p.men k d within) (slice_get-get_or q.men k d there)
 
 -- a property of each man after a move, by the three cases
-pub after_each : (p : Position) (i : ℕ) (z : Square) (q : Position) → IsAfter p i z q → (k : ℕ) (d : Man) → k < length p.men → (P : Man → Type 0) → (suc k ≡ i → P (record (get_or p.men k d) { place = At z.x z.y })) → (suc k ≢ i → StandsOn (get_or p.men k d) z → P (record (get_or p.men k d) { place = Gone })) → (suc k ≢ i → (StandsOn (get_or p.men k d) z → ⊥) → P (get_or p.men k d)) → P (get_or q.men k d)
+pub after_each : (p : Position) (i : ℕ) (z : Square) (q : Position) → IsAfter p i z q → (k : ℕ) (d : Man) → k < length p.men → (P : Man → Type 0)
+    → (suc k ≡ i → P (record (get_or p.men k d) { place = At z.x z.y }))
+    → (suc k ≢ i → StandsOn (get_or p.men k d) z → P (record (get_or p.men k d) { place = Gone }))
+    → (suc k ≢ i → (StandsOn (get_or p.men k d) z → ⊥) → P (get_or p.men k d)) → P (get_or q.men k d)
 after_each p i z q after k d within P mover taken kept =
     elim (eqb_tells (suc k) i) [
       | inl e ↦ subst P (sym (after_mover p i z q after k d within e.1)) (mover e.1)

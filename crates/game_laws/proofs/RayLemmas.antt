@@ -127,7 +127,8 @@ held_empty p s z (k, m, within, is, h) none = none k m within (subst (λ n. Stan
 
 -- a man goes along one ray, which serves what he does
 module _ (p : Position) (m : Man) (a z : Square) where
-  on_one : (n k : ℕ) (on : IsOnRay m a z n k) → (IsTrue on.ray.far → IsOpen p a z) → (IsEmptySquare p z → IsTrue (serves_moves m.kind n)) → (IsHeldBy p (other m.side) z → IsTrue (serves_captures m.kind n)) → IsOnOneRay p m a z
+  on_one : (n k : ℕ) (on : IsOnRay m a z n k) → (IsTrue on.ray.far → IsOpen p a z) → (IsEmptySquare p z → IsTrue (serves_moves m.kind n))
+      → (IsHeldBy p (other m.side) z → IsTrue (serves_captures m.kind n)) → IsOnOneRay p m a z
   on_one n k on clear move capture =
       record { number = n; distance = k; on = on; only = λ i j also. one_ray m a z n k i j on also; clear = clear; move = move; capture = capture }
 

@@ -97,7 +97,8 @@ king_not_taken p i z q sound step k m is king s =
 pub stands_moved : (m : Man) (z w : Square) → StandsOn (record m { place = At z.x z.y }) w → z ≡ w
 stands_moved m z w s = cc
 
-apart_after : (p : Position) (i : ℕ) (z : Square) → Sound p → (a b : ℕ) (ma mb m n : Man) (w : Square) → man_at p a ≡ Some ma → man_at p b ≡ Some mb → Fate i z a ma m → Fate i z b mb n → StandsOn m w → StandsOn n w → a ≡ b
+apart_after : (p : Position) (i : ℕ) (z : Square) → Sound p → (a b : ℕ) (ma mb m n : Man) (w : Square) → man_at p a ≡ Some ma → man_at p b ≡ Some mb
+    → Fate i z a ma m → Fate i z b mb n → StandsOn m w → StandsOn n w → a ≡ b
 apart_after p i z sound a b ma mb m n w is_a is_b fa fb s t =
     elim fa [
       | moved e is ↦ elim fb [

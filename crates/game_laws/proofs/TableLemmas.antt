@@ -113,7 +113,13 @@ rays_are s Knight =
           is 2 (negsuc 0) (pos 2) (inl (refl, refl)),
           (
             is 3 (negsuc 1) (pos 1) (inr (refl, refl)),
-            (is 4 (negsuc 1) (negsuc 0) (inr (refl, refl)), (is 5 (negsuc 0) (negsuc 1) (inl (refl, refl)), (is 6 (pos 1) (negsuc 1) (inl (refl, refl)), (is 7 (pos 2) (negsuc 0) (inr (refl, refl)), tt)))),
+            (
+              is 4 (negsuc 1) (negsuc 0) (inr (refl, refl)),
+              (
+                is 5 (negsuc 0) (negsuc 1) (inl (refl, refl)),
+                (is 6 (pos 1) (negsuc 1) (inl (refl, refl)), (is 7 (pos 2) (negsuc 0) (inr (refl, refl)), tt)),
+              ),
+            ),
           ),
         ),
       ),
@@ -147,7 +153,8 @@ pub record IsReached (s : Side) (k : Kind) (dx dy : ℤ) : Type 0 where
   pub right : dx ≡ pos times *ℤ ray.dx
   pub up : dy ≡ pos times *ℤ ray.dy
 
-slide_to : (s : Side) (k : Kind) (n : ℕ) (ux uy : ℤ) (m : ℕ) (dx dy : ℤ) → ray_of k s n ≡ Some (slide ux uy) → IsTrue (serves_captures k n) → dx ≡ pos (suc m) *ℤ ux → dy ≡ pos (suc m) *ℤ uy → IsReached s k dx dy
+slide_to : (s : Side) (k : Kind) (n : ℕ) (ux uy : ℤ) (m : ℕ) (dx dy : ℤ) → ray_of k s n ≡ Some (slide ux uy) → IsTrue (serves_captures k n)
+    → dx ≡ pos (suc m) *ℤ ux → dy ≡ pos (suc m) *ℤ uy → IsReached s k dx dy
 slide_to s k n ux uy m dx dy is serves right up =
     record { number = n; ray = slide ux uy; is_ray = is; serves = serves; times = suc m; begun = omega arith; one = λ e. absurd (cc); right = right; up = up }
 
@@ -223,10 +230,25 @@ abs_cases (negsuc m) n h = inr (omega (arith, ints, h))
 king_to : (s : Side) (dx dy : ℤ) → max (unsigned_abs dx) (unsigned_abs dy) ≡ 1 → IsReached s King dx dy
 king_to s dx dy h =
     elim (unit_cases dx (omega (arith, h))) [
-      | inl x ↦ elim (unit_cases dy (omega (arith, h))) [ inl y ↦ leap_to s King 5 _ _ _ _ refl refl x y | inr v ↦ elim v [ inl y ↦ leap_to s King 4 _ _ _ _ refl refl x y | inr y ↦ leap_to s King 3 _ _ _ _ refl refl x y ] ]
+      | inl x ↦
+          elim (unit_cases dy (omega (arith, h))) [
+            | inl y ↦ leap_to s King 5 _ _ _ _ refl refl x y
+            | inr v ↦
+                elim v [ inl y ↦ leap_to s King 4 _ _ _ _ refl refl x y | inr y ↦ leap_to s King 3 _ _ _ _ refl refl x y ]
+          ]
       | inr u ↦ elim u [
-        | inl x ↦ elim (unit_cases dy (omega (arith, h))) [ inl y ↦ leap_to s King 6 _ _ _ _ refl refl x y | inr v ↦ elim v [ inl y ↦ absurd (none_far dx dy h x y) | inr y ↦ leap_to s King 2 _ _ _ _ refl refl x y ] ]
-        | inr x ↦ elim (unit_cases dy (omega (arith, h))) [ inl y ↦ leap_to s King 7 _ _ _ _ refl refl x y | inr v ↦ elim v [ inl y ↦ leap_to s King 0 _ _ _ _ refl refl x y | inr y ↦ leap_to s King 1 _ _ _ _ refl refl x y ] ]
+        | inl x ↦
+            elim (unit_cases dy (omega (arith, h))) [
+              | inl y ↦ leap_to s King 6 _ _ _ _ refl refl x y
+              | inr v ↦
+                  elim v [ inl y ↦ absurd (none_far dx dy h x y) | inr y ↦ leap_to s King 2 _ _ _ _ refl refl x y ]
+            ]
+        | inr x ↦
+            elim (unit_cases dy (omega (arith, h))) [
+              | inl y ↦ leap_to s King 7 _ _ _ _ refl refl x y
+              | inr v ↦
+                  elim v [ inl y ↦ leap_to s King 0 _ _ _ _ refl refl x y | inr y ↦ leap_to s King 1 _ _ _ _ refl refl x y ]
+            ]
       ]
     ]
   where

@@ -48,7 +48,8 @@ CanGo p i z = (q : Position) × Legal p i z q
 -- man i has a legal move to such a square
 abbrev pub HasAnswer : Position → Square → Square → ℕ → Type 0
 HasAnswer p a k i =
-    IsSomeAnd (man_at p i) (λ m. IsLiveAnd m (λ b. Any (λ r. CanGo p i (answer_square a k b r)) (rays_of m.kind m.side)))
+    IsSomeAnd (man_at p i)
+    (λ m. IsLiveAnd m (λ b. Any (λ r. CanGo p i (answer_square a k b r)) (rays_of m.kind m.side)))
 
 -- a man at a gives check to the king at k
 pub record IsCheckFrom (p : Position) (a k : Square) : Type 0 where

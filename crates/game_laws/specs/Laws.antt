@@ -37,7 +37,8 @@ LosesMonotonically = (winner : Side) (k n : ℕ) (p : Position) → k ≤ n → 
 -- a step of a man lies on one ray of the table, at one distance
 abbrev pub StepsOnOneRay : Type 0
 StepsOnOneRay =
-    (p : Position) (i : ℕ) (z : Square) (q : Position) (s : Step p i z q) → IsLiveAnd s.man (λ a. IsOnOneRay p s.man a z)
+    (p : Position) (i : ℕ) (z : Square) (q : Position) (s : Step p i z q)
+    → IsLiveAnd s.man (λ a. IsOnOneRay p s.man a z)
 
 -- a man bears on a square exactly where he is borne there along a ray
 abbrev pub BearsAlongRays : Type 0

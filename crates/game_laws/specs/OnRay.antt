@@ -12,7 +12,8 @@ pub record IsOnRay (m : Man) (a z : Square) (n k : ℕ) : Type 0 where
   pub is_ray : ray_of m.kind m.side n ≡ Some ray
   pub leads : IsAt ray k a z
 
--- one ray of the man leads from a to z, at one distance, over no man, and it serves a move or a capture as z is empty or held
+-- one ray of the man leads from a to z, at one distance, over no man, and it serves a move or a capture as z is empty
+-- or held
 pub record IsOnOneRay (p : Position) (m : Man) (a z : Square) : Type 0 where
   pub number : ℕ
   pub distance : ℕ

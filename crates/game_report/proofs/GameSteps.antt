@@ -10,13 +10,14 @@ use Rattle.chess_game.proofs.UnsoundnessLemmas.{number_cases}
 use Rattle.desk_base.specs.Faults.{HasRisen}
 use Rattle.desk_base.specs.Lines.{IsLine, Lines, full, ended, cut, long, lines_of, part_of}
 use Rattle.desk_base.specs.Moves.{AppendsFront}
-use Rattle.desk_base.specs.Reading.{KeepsLine, Takes}
+use Rattle.desk_base.specs.Reading.{Takes}
 use Rattle.desk_base.specs.declared.line.Line.TheVariants.{Full, End}
 use Rattle.desk_base.specs.declared.line.LineError.TheVariants as fails
 use Rattle.desk_base.specs.declared.source.Failed.{Failed}
 use Rattle.desk_base.proofs.LinesOf.{line_first}
 use Rattle.game_rules.specs.Game.{Mate}
 use Rattle.chess_text.specs.PositionText.{text_of_lines}
+use Rattle.desk_text.proofs.TextSteps.{with_line}
 use Rattle.game_report.specs.Laws.{last_game}
 use Rattle.game_report.specs.Played.{IsDue, IsPlayed, IsSettled, Ports, StopsAt, is_short}
 use Rattle.game_report.specs.Report.{AtLine, AtLines, IsReport, Match, Report, Unless, ends, most_lines}
@@ -26,12 +27,6 @@ use Rattle.game_report.specs.declared.play.Ending.TheVariants.{CutAt, LongAt, Ma
 use Rattle.game_report.specs.declared.play.GameError.TheVariants as error
 use Rattle.game_report.proofs.Once.{one_report}
 use Rattle.game_report.proofs.TurnSteps.{IsLonger, front_behind, front_more, joined, leaving, line_ends, line_longer, line_on, start_ends, start_longer, start_on}
-
--- the bytes of one line more
-pub with_line : (lines : List (List ℕ)) (line : List ℕ) → text_of_lines (lines ++ line ∷ []) ≡ text_of_lines lines ++ (line ++ 10 ∷ [])
-with_line [] line = append-nil (line ++ 10 ∷ [])
-with_line (l ∷ lines) line =
-    ap (λ bytes. (l ++ 10 ∷ []) ++ bytes) (with_line lines line) ∙ sym (append_assoc (l ++ 10 ∷ []) (text_of_lines lines) (line ++ 10 ∷ []))
 
 -- an input with these lines, and others behind them
 abbrev pub with_lines : List (List ℕ) → Lines → Lines
@@ -53,10 +48,6 @@ lines_with (l ∷ lines) more are =
 -- the lines of a text alone
 lines_alone : (lines : List (List ℕ)) → All IsLine lines → lines_of (text_of_lines lines) ≡ with_lines lines ended
 lines_alone lines are = sym (ap lines_of (append-nil (text_of_lines lines))) ∙ lines_with lines [] are
-
--- a whole line that a reader gives is one
-pub line_read : (len : ℕ) (old new : List ℕ) → KeepsLine (Ok (Full len)) old new → IsLine new
-line_read len old new keeps = record { free = keeps.2; short = omega (arith, keeps.0, keeps.1) }
 
 -- the bytes behind those that were taken, or none where they are not told
 known_rest : (left : Option (List ℕ)) → IfSome left (λ told. told ≡ unwrap_or left [])
@@ -472,7 +463,9 @@ module _ (before : ℕ) (g after : Match) (pending : List ℕ) (left written las
 
   pub opening_failed : length pending ≤ 256 → (why : Failed) → (IsLosersTurn after → (Mate after.position → ⊥) → (more : Lines) → (later : Report) × AtLines before 0 more after later)
       → Comes (Err why) AtOpening g after written last → IsPlayed (Err error.Write) before g after (ports pending left written) (ports pending left last)
-  opening_failed few why go comes = came_failed AtOpening (AtFirst before g) before 0 g g after (ports pending left written) pending left written last begun (start_extends before g after) few why go comes
+  opening_failed few why go comes =
+      came_failed AtOpening (AtFirst before g) before 0 g g after (ports pending left written) pending left written last begun
+      (start_extends before g after) few why go comes
 
 -- a count of faults has risen since before
 pub risen_from : (first before now : ℕ) → first ≤ before → HasRisen before now → HasRisen first now

@@ -1,10 +1,9 @@
 -- There is a first move into a set, or there is none, where it is decided which positions after a move are in the set. It belongs in game_session.
-use Rattle.std.proofs.Common.{◌≡◌, ◌⊎◌, inl, inr, ℕ, zero, suc, ◌+◌, ◌<◌, ◌≤◌, ◌≤ℤ◌, max, ℤ, pos, ◌+ℤ◌, ◌-ℤ◌, ◌*ℤ◌, unsigned_abs, Bool, true, false, List, [], ◌∷◌, length, Option, Some, None, refl, sym, ap, subst, ◌∙◌, arith, lit≤}
+use Rattle.std.proofs.Common.{◌≡◌, ◌⊎◌, inl, inr, ℕ, zero, suc, ◌+◌, ◌<◌, ◌≤◌, ◌≤ℤ◌, max, ℤ, pos, ◌+ℤ◌, ◌-ℤ◌, ◌*ℤ◌, unsigned_abs, Bool, true, false, List, [], ◌∷◌, length, Option, Some, None, refl, sym, ap, subst, ◌∙◌, arith}
 use Rattle.std.specs.Prelude.{slice_get}
 use Rattle.std.proofs.lemmas.Int.{by_lt_z, ints}
 use Rattle.std.proofs.lemmas.Option.{same_Some}
 use Rattle.game_rules.specs.declared.men.Kind.{Kind}
-use Rattle.game_rules.specs.declared.men.Kind.TheVariants.{King, Queen, Rook, Bishop, Knight, Pawn}
 use Rattle.game_rules.specs.declared.men.Man.{Man}
 use Rattle.game_rules.specs.declared.men.Ray.{Ray}
 use Rattle.game_rules.specs.declared.men.Side.{Side}
@@ -19,7 +18,7 @@ use Rattle.game_laws.proofs.MoveLemmas.{same_after}
 use Rattle.game_laws.proofs.RayLemmas.{step_one, true_or_not}
 use Rattle.chess_game.specs.Way.{IsInside}
 use Rattle.chess_game.specs.declared.way.Frame.{Frame}
-use Rattle.chess_game.proofs.AnswerBounds.{ray_stepwise}
+use Rattle.chess_game.proofs.AnswerBounds.{ray_stepwise, rays_few}
 use Rattle.game_session.specs.Choice.{IsBefore, Leads, Pick, target}
 use Rattle.game_session.specs.declared.choice.Choice.{Choice}
 use Rattle.game_session.proofs.Firsts.{man_high}
@@ -55,17 +54,10 @@ stays_near f a r t z stepwise at framed = elim (true_or_not r.far) [
       let steps = far_steps r.dx r.dy (stepwise far) t in
       let x = between f.x_low a.x f.x_high (pos t *ℤ r.dx) (subst (λ (w : Square). f.x_low ≤ℤ w.x) at.leads framed.left) (subst (λ (w : Square). w.x ≤ℤ f.x_high) at.leads framed.right) in
       let y = between f.y_low a.y f.y_high (pos t *ℤ r.dy) (subst (λ (w : Square). f.y_low ≤ℤ w.y) at.leads framed.below) (subst (λ (w : Square). w.y ≤ℤ f.y_high) at.leads framed.above) in
-      sum_of (unsigned_abs (pos t *ℤ r.dx)) (unsigned_abs (pos t *ℤ r.dy)) t (unsigned_abs (f.x_low -ℤ a.x)) (unsigned_abs (f.x_high -ℤ a.x)) (unsigned_abs (f.y_low -ℤ a.y)) (unsigned_abs (f.y_high -ℤ a.y)) steps x y
+      sum_of (unsigned_abs (pos t *ℤ r.dx)) (unsigned_abs (pos t *ℤ r.dy)) t (unsigned_abs (f.x_low -ℤ a.x)) (unsigned_abs (f.x_high -ℤ a.x))
+      (unsigned_abs (f.y_low -ℤ a.y)) (unsigned_abs (f.y_high -ℤ a.y)) steps x y
   | inr near ↦ let one = at.one near in omega (arith, one)
 ]
-
-few_rays : (k : Kind) (s : Side) → length (rays_of k s) ≤ 8
-few_rays King s = lit≤ tt
-few_rays Queen s = lit≤ tt
-few_rays Rook s = lit≤ tt
-few_rays Bishop s = lit≤ tt
-few_rays Knight s = lit≤ tt
-few_rays Pawn s = lit≤ tt
 
 get_low : (rs : List Ray) (n : ℕ) (r : Ray) → slice_get rs n ≡ Some r → n < length rs
 get_low [] n r is = absurd (cc)
@@ -73,7 +65,7 @@ get_low (x ∷ rs) zero r is = omega arith
 get_low (x ∷ rs) (suc n) r is = let low = get_low rs n r is in omega (arith, low)
 
 ray_low : (k : Kind) (s : Side) (n : ℕ) (r : Ray) → ray_of k s n ≡ Some r → n < 8
-ray_low k s n r is = let low = get_low (rays_of k s) n r is in let few = few_rays k s in omega (arith, low, few)
+ray_low k s n r is = let low = get_low (rays_of k s) n r is in let few = rays_few k s in omega (arith, low, few)
 
 module _ (Set : Position → Type 0) (f : Frame) (p : Position) (decided : (i : ℕ) (z : Square) (q : Position) → Legal p i z q → Decided (Set q)) where
   -- a move of this man along this ray, so far, leads into the set

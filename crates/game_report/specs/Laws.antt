@@ -36,13 +36,17 @@ first_seen s = seen (start_of s all_squares)
 
 -- a game has one report at most of the same lines
 abbrev pub OneReport : Type 0
-OneReport = (before : ℕ) (lines : Lines) (g : Match) (one two : Report) → IsReport before lines g one → IsReport before lines g two → one ≡ two
+OneReport =
+    (before : ℕ) (lines : Lines) (g : Match) (one two : Report) → IsReport before lines g one
+    → IsReport before lines g two → one ≡ two
 
 -- and each game of a session has one, whatever the lines
 abbrev pub SomeReport : Type 0
-SomeReport = (before : ℕ) (lines : Lines) (g : Game) → IsGame g → (report : Report) × IsReport before lines (seen g) report
+SomeReport =
+    (before : ℕ) (lines : Lines) (g : Game) → IsGame g → (report : Report) × IsReport before lines (seen g) report
 
--- so it is in the middle of a game, where the loser is to move and it isn't known whether he is mated, and where it is known that he is not
+-- so it is in the middle of a game, where the loser is to move and it isn't known whether he is mated, and where it is
+-- known that he is not
 abbrev pub SomeLater : Type 0
 SomeLater =
     (before read : ℕ) (lines : Lines) (g : Game) → IsGame g → g.position.turn ≡ other g.solution.winner
@@ -53,7 +57,8 @@ SomeLater =
 abbrev pub ReportIsPlayed : Type 0
 ReportIsPlayed =
     (before : ℕ) (lines : Lines) (s : Solution) (report : Report) → IsReport before lines (first_seen s) report
-    → (typed : List Move) × (games : List Game) × Plays (start_of s all_squares) typed games × (report.games ≡ map seen games)
+    → (typed : List Move) × (games : List Game) × Plays (start_of s all_squares) typed games
+    × (report.games ≡ map seen games)
 
 -- the last game of a list, and this one where the list is empty
 abbrev pub last_game : Match → List Match → Match
@@ -71,7 +76,8 @@ abbrev pub ReportIsLost : Type 0
 ReportIsLost =
     (before : ℕ) (lines : Lines) (s : Solution) (report : Report) → IsValid s → Value s.winner s.moves s.position
     → IsReport before lines (first_seen s) report
-    → (k : ℕ) (after : Match) → slice_get report.games k ≡ Some after → (suc k ≤ s.moves) × Lost s.winner (s.moves - suc k) after.position
+    → (k : ℕ) (after : Match) → slice_get report.games k ≡ Some after
+    → (suc k ≤ s.moves) × Lost s.winner (s.moves - suc k) after.position
 
 -- a report that ends otherwise than by mate has fewer of the winner's moves than were promised
 abbrev pub MatedInTime : Type 0

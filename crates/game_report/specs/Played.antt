@@ -15,7 +15,8 @@ use Rattle.game_report.specs.declared.play.Ending.TheVariants.{Mated, Wide, Quit
 use Rattle.game_report.specs.declared.play.GameError.{GameError}
 use Rattle.game_report.specs.declared.play.GameError.TheVariants.{Read, Write}
 
--- what the ports of a game tell at a moment: the bytes that its reader has taken and not read as lines, those still to come, and those written
+-- what the ports of a game tell at a moment: the bytes that its reader has taken and not read as lines, those still to
+-- come, and those written
 pub record Ports : Type 0 where
   pub pending : List ℕ
   pub left : Option (List ℕ)
@@ -33,36 +34,44 @@ is_short (LongAt number) = false
 
 -- a line is due behind these, before which so many lines stood: the report on them ends because they do
 abbrev pub IsDue : ℕ → Match → List (List ℕ) → Type 0
-IsDue before g lines = (report : Report) × IsReport before (lines_of (text_of_lines lines)) g report × (report.ending ≡ NoLine)
+IsDue before g lines =
+    (report : Report) × IsReport before (lines_of (text_of_lines lines)) g report × (report.ending ≡ NoLine)
 
 -- the game ends at the last that is reported, or, where the winner has no move, at what a reply has made of that
 abbrev pub StopsAt : Match → Ending → Match → Type 0
 StopsAt last ending after =
     (after ≡ last)
-    ⊎ ((ending ≡ Wide) × (last.position.turn ≡ other last.winner) × (mv : Move) × Legal last.position mv.man (target mv) after.position
+    ⊎ ((ending ≡ Wide) × (last.position.turn ≡ other last.winner) × (mv : Move)
+    × Legal last.position mv.man (target mv) after.position
     × (after ≡ moved last after.position))
 
 -- The game was played as is reported of these bytes, of which those behind the last line that was read are `behind`.
-pub record GoesAs (report : Report) (before : ℕ) (bytes behind : List ℕ) (g after : Match) (old new : Option (List ℕ)) : Type 0 where
+pub record GoesAs (report : Report) (before : ℕ) (bytes behind : List ℕ) (g after : Match)
+    (old new : Option (List ℕ)) : Type 0 where
   pub reports : IsReport before (lines_of bytes) g report
   pub written : Appends old new report.text
   pub left : report.left ≡ lines_of behind
   pub stops : StopsAt (last_game g report.games) report.ending after
 
 -- How a game ends, of whose input these bytes were `taken`, and `rest` come behind them.
-abbrev pub GameEnds : Result Ending GameError → ℕ → (taken rest : List ℕ) → (g after : Match) → (old new : Ports) → Type 0
+abbrev pub GameEnds : Result Ending GameError → ℕ → (taken rest : List ℕ) → (g after : Match) → (old new : Ports)
+    → Type 0
 -- as is reported of the whole input
 GameEnds (Ok ending) before taken rest g after old new =
-    (report : Report) × GoesAs report before (old.pending ++ (taken ++ rest)) (new.pending ++ rest) g after old.written new.written
+    (report : Report)
+    × GoesAs report before (old.pending ++ (taken ++ rest)) (new.pending ++ rest) g after old.written new.written
     × (report.ending ≡ ending)
 -- the source has failed: as is reported of the bytes that were taken, where they end
 GameEnds (Err Read) before taken rest g after old new =
-    (report : Report) × GoesAs report before (old.pending ++ taken) new.pending g after old.written new.written × IsTrue (is_short report.ending)
+    (report : Report) × GoesAs report before (old.pending ++ taken) new.pending g after old.written new.written
+    × IsTrue (is_short report.ending)
 -- the sink has failed within the text that is reported of the whole input
 GameEnds (Err Write) before taken rest g after old new =
-    (report : Report) × IsReport before (lines_of (old.pending ++ (taken ++ rest))) g report × AppendsFront old.written new.written report.text
+    (report : Report) × IsReport before (lines_of (old.pending ++ (taken ++ rest))) g report
+    × AppendsFront old.written new.written report.text
 
--- How a game is played from `g` on, before which so many lines of the input stood. The bytes behind those that it takes are what the source
+-- How a game is played from `g` on, before which so many lines of the input stood. The bytes behind those that it takes
+-- are what the source
 -- tells, where it tells.
 pub record IsPlayed (answer : Result Ending GameError) (before : ℕ) (g after : Match) (old new : Ports) : Type 0 where
   pub bytes : List ℕ

@@ -23,7 +23,8 @@ pub data Strategy : Type 0 where
   ByKept : Strategy
   ByClaim : Claim → Strategy
 
--- a game: which side is to mate, from which position and within how many moves of its own, by what it plays, and the position after so many
+-- a game: which side is to mate, from which position and within how many moves of its own, by what it plays, and the
+-- position after so many
 -- moves of both sides
 pub record Match : Type 0 where
   pub winner : Side
@@ -33,7 +34,8 @@ pub record Match : Type 0 where
   pub position : Position
   pub ply : ℕ
 
--- what is reported of a game: the text that is written, the game after each of the winner's moves, how it ends, and what the input has
+-- what is reported of a game: the text that is written, the game after each of the winner's moves, how it ends, and
+-- what the input has
 -- behind the last line that was read whole
 pub record Report : Type 0 where
   pub text : List ℕ
@@ -47,7 +49,13 @@ most_lines = 10000
 
 -- all squares whose coordinates are numbers of 64 bits
 abbrev pub all_squares : Frame
-all_squares = record { x_low = negsuc (2 ^ 63 - 1); x_high = pos (2 ^ 63 - 1); y_low = negsuc (2 ^ 63 - 1); y_high = pos (2 ^ 63 - 1) }
+all_squares =
+    record {
+      x_low = negsuc (2 ^ 63 - 1);
+      x_high = pos (2 ^ 63 - 1);
+      y_low = negsuc (2 ^ 63 - 1);
+      y_high = pos (2 ^ 63 - 1);
+    }
 
 -- the line that tells of an ending other than mate, apart from the text
 abbrev pub ending_line : Ending → List ℕ
@@ -78,11 +86,17 @@ writes text later = record { text = text ++ later.text; games = later.games; end
 -- the report has this move of the winner first, which leads to the game
 abbrev pub plays : Move → Match → Report → Report
 plays mv after later =
-    record { text = move_line after.winner mv ++ later.text; games = after ∷ later.games; ending = later.ending; left = later.left }
+    record {
+      text = move_line after.winner mv ++ later.text;
+      games = after ∷ later.games;
+      ending = later.ending;
+      left = later.left;
+    }
 
 -- the game after a move to this position
 abbrev pub moved : Match → Position → Match
-moved g q = record { winner = g.winner; start = g.start; moves = g.moves; strategy = g.strategy; position = q; ply = suc g.ply }
+moved g q =
+    record { winner = g.winner; start = g.start; moves = g.moves; strategy = g.strategy; position = q; ply = suc g.ply }
 
 -- the position is one of those that the winner's moves are to lead into at the ply: it is kept, or it is claimed
 abbrev pub IsHeldBy : Strategy → Match → ℕ → Position → Type 0
@@ -130,17 +144,21 @@ abbrev pub Unless : Bool → Lines → Report → Type 0 → Type 0
 Unless true left report Else = report ≡ ends Many [] left
 Unless false left report Else = Else
 
--- the report of a game with the loser to move, who is not mated, where so many lines of the input stood before those of the game, and so many of
+-- the report of a game with the loser to move, who is not mated, where so many lines of the input stood before those of
+-- the game, and so many of
 -- the game were read
 abbrev pub AtLines : ℕ → ℕ → Lines → Match → Report → Type 0
 AtLines before read (full line rest) g report =
-    Unless (read == most_lines) (full line rest) report (AtLine (λ next later. AtLines before (read + 1) rest next later) line rest g report)
+    Unless (read == most_lines) (full line rest) report
+    (AtLine (λ next later. AtLines before (read + 1) rest next later) line rest g report)
 AtLines before read ended g report = Unless (read == most_lines) ended report (report ≡ ends NoLine [] ended)
 AtLines before read (cut front) g report =
     Unless (read == most_lines) (cut front) report (report ≡ ends (CutAt (before + read + 1)) [] (cut front))
-AtLines before read long g report = Unless (read == most_lines) long report (report ≡ ends (LongAt (before + read + 1)) [] long)
+AtLines before read long g report =
+    Unless (read == most_lines) long report (report ≡ ends (LongAt (before + read + 1)) [] long)
 
--- the report of a game with the loser to move, where so many lines stood before those of the game, and so many of the game were read
+-- the report of a game with the loser to move, where so many lines stood before those of the game, and so many of the
+-- game were read
 abbrev pub AtTurn : ℕ → ℕ → Lines → Match → Report → Type 0
 AtTurn before read lines g report = AtLoser (AtLines before read lines) lines g report
 

@@ -21,7 +21,8 @@ IsOpen g = IsLosersTurn g × (Mate g.position → ⊥)
 
 -- the report at the start of a game, with either side to move
 abbrev pub AtStart : (Match → Report → Type 0) → Lines → Match → Report → Type 0
-AtStart On left g report = ((g.position.turn ≡ g.winner) × AtWinner On left g report) ⊎ (IsLosersTurn g × AtLoser On left g report)
+AtStart On left g report =
+    ((g.position.turn ≡ g.winner) × AtWinner On left g report) ⊎ (IsLosersTurn g × AtLoser On left g report)
 
 -- the game goes on to this one, where the input ends
 abbrev pub EndsAt : Match → Match → Report → Type 0
@@ -31,16 +32,20 @@ EndsAt after g report = (g ≡ after) × (report ≡ ends NoLine [] ended)
 abbrev pub Never : Match → Report → Type 0
 Never g report = ⊥
 
--- What comes of a game `g`, which is then `after`: `Says` is its report where no lines come behind, by what is said where the game goes on.
+-- What comes of a game `g`, which is then `after`: `Says` is its report where no lines come behind, by what is said
+-- where the game goes on.
 abbrev pub Comes :
-    Result (Option Ending) Failed → ((Match → Report → Type 0) → Report → Type 0) → (g after : Match) → (old new : Option (List ℕ)) → Type 0
+    Result (Option Ending) Failed → ((Match → Report → Type 0) → Report → Type 0) → (g after : Match)
+    → (old new : Option (List ℕ)) → Type 0
 -- it goes on
 Comes (Ok None) Says g after old new =
-    (report : Report) × Says (EndsAt after) report × (report.ending ≡ NoLine) × Appends old new report.text × (after ≡ last_game g report.games)
+    (report : Report) × Says (EndsAt after) report × (report.ending ≡ NoLine) × Appends old new report.text
+    × (after ≡ last_game g report.games)
     × IsOpen after
 -- it ends so
 Comes (Ok (Some ending)) Says g after old new =
     (report : Report) × Says Never report × (report.ending ≡ ending) × Appends old new report.text
     × StopsAt (last_game g report.games) report.ending after
 -- the sink has failed
-Comes (Err why) Says g after old new = (report : Report) × Says (EndsAt after) report × AppendsFront old new report.text × IsLosersTurn after
+Comes (Err why) Says g after old new =
+    (report : Report) × Says (EndsAt after) report × AppendsFront old new report.text × IsLosersTurn after

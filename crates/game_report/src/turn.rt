@@ -62,7 +62,8 @@ fn tell_mate<K: Sink>(sink: &mut K, mated: bool) -> Result<Option<Ending>, Faile
 fn win<K: Sink>(session: &mut Session, sink: &mut K) -> Result<Option<Ending>, Failed>
     requires whole { session.old.frame ≡ all_squares }
     requires turn { session.old.position.turn ≡ session.old.solution.winner }
-    ensures comes { Comes result (λ On report. AtWinner On ended (seen session.old) report) (seen session.old) (seen session.new) (K.written sink.old) (K.written sink.new) }
+    ensures comes { Comes result (λ On report. AtWinner On ended (seen session.old) report) (seen session.old)
+        (seen session.new) (K.written sink.old) (K.written sink.new) }
     ensures same { (session.new.solution ≡ session.old.solution) × (session.new.frame ≡ session.old.frame) }
     ensures game { IsGame session.new }
     ensures failed { OnErr result (HasRisen (K.faults sink.old) (K.faults sink.new)) }
@@ -81,7 +82,8 @@ fn win<K: Sink>(session: &mut Session, sink: &mut K) -> Result<Option<Ending>, F
 /// What comes of the start of a game, with either side to move.
 pub(crate) fn open<K: Sink>(session: &mut Session, sink: &mut K) -> Result<Option<Ending>, Failed>
     requires whole { session.old.frame ≡ all_squares }
-    ensures comes { Comes result (λ On report. AtStart On ended (seen session.old) report) (seen session.old) (seen session.new) (K.written sink.old) (K.written sink.new) }
+    ensures comes { Comes result (λ On report. AtStart On ended (seen session.old) report) (seen session.old)
+        (seen session.new) (K.written sink.old) (K.written sink.new) }
     ensures same { (session.new.solution ≡ session.old.solution) × (session.new.frame ≡ session.old.frame) }
     ensures game { IsGame session.new }
     ensures failed { OnErr result (HasRisen (K.faults sink.old) (K.faults sink.new)) }
@@ -98,7 +100,8 @@ pub(crate) fn open<K: Sink>(session: &mut Session, sink: &mut K) -> Result<Optio
 fn make<K: Sink>(session: &mut Session, mv: Move, sink: &mut K) -> Result<Option<Ending>, Failed>
     requires whole { session.old.frame ≡ all_squares }
     requires due { IsOpen (seen session.old) }
-    ensures comes { Comes result (λ On report. AtTyped On ended (seen session.old) report (Some (Typed.Move mv))) (seen session.old) (seen session.new) (K.written sink.old) (K.written sink.new) }
+    ensures comes { Comes result (λ On report. AtTyped On ended (seen session.old) report (Some (Typed.Move mv)))
+        (seen session.old) (seen session.new) (K.written sink.old) (K.written sink.new) }
     ensures same { (session.new.solution ≡ session.old.solution) × (session.new.frame ≡ session.old.frame) }
     ensures game { IsGame session.new }
     ensures failed { OnErr result (HasRisen (K.faults sink.old) (K.faults sink.new)) }
@@ -122,7 +125,8 @@ pub(crate) fn reply<K: Sink>(
 ) -> Result<Option<Ending>, Failed>
     requires whole { session.old.frame ≡ all_squares }
     requires due { IsOpen (seen session.old) }
-    ensures comes { Comes result (λ On report. AtLine On line.now ended (seen session.old) report) (seen session.old) (seen session.new) (K.written sink.old) (K.written sink.new) }
+    ensures comes { Comes result (λ On report. AtLine On line.now ended (seen session.old) report) (seen session.old)
+        (seen session.new) (K.written sink.old) (K.written sink.new) }
     ensures same { (session.new.solution ≡ session.old.solution) × (session.new.frame ≡ session.old.frame) }
     ensures game { IsGame session.new }
     ensures failed { OnErr result (HasRisen (K.faults sink.old) (K.faults sink.new)) }

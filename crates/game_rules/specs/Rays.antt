@@ -21,8 +21,10 @@ rays_of King s =
 rays_of Queen s =
     slide (pos 1) (pos 0) ∷ slide (pos 1) (pos 1) ∷ slide (pos 0) (pos 1) ∷ slide (negsuc 0) (pos 1)
     ∷ slide (negsuc 0) (pos 0) ∷ slide (negsuc 0) (negsuc 0) ∷ slide (pos 0) (negsuc 0) ∷ slide (pos 1) (negsuc 0) ∷ []
-rays_of Rook s = slide (pos 1) (pos 0) ∷ slide (pos 0) (pos 1) ∷ slide (negsuc 0) (pos 0) ∷ slide (pos 0) (negsuc 0) ∷ []
-rays_of Bishop s = slide (pos 1) (pos 1) ∷ slide (negsuc 0) (pos 1) ∷ slide (negsuc 0) (negsuc 0) ∷ slide (pos 1) (negsuc 0) ∷ []
+rays_of Rook s =
+    slide (pos 1) (pos 0) ∷ slide (pos 0) (pos 1) ∷ slide (negsuc 0) (pos 0) ∷ slide (pos 0) (negsuc 0) ∷ []
+rays_of Bishop s =
+    slide (pos 1) (pos 1) ∷ slide (negsuc 0) (pos 1) ∷ slide (negsuc 0) (negsuc 0) ∷ slide (pos 1) (negsuc 0) ∷ []
 rays_of Knight s =
     leap (pos 2) (pos 1) ∷ leap (pos 1) (pos 2) ∷ leap (negsuc 0) (pos 2) ∷ leap (negsuc 1) (pos 1)
     ∷ leap (negsuc 1) (negsuc 0) ∷ leap (negsuc 0) (negsuc 1) ∷ leap (pos 1) (negsuc 1) ∷ leap (pos 2) (negsuc 0) ∷ []

@@ -167,11 +167,15 @@ module _ (p : Position) (table : Table) where
   unserved_of zero n r mover never = absurd (cc)
   unserved_of (suc j) n r mover never = λ t w. quiet_unserved p j n r mover (IsIn table) never t w
 
-  pub counted_of : AreNext p table → (a : Automaton) → set_at table (mask_of p) ≡ Some a → (i n : ℕ) (r : Ray) (mover : IsMover p i n r) → IsTrue (serves_moves mover.man.kind n) → (few : Few) (last : ℕ) → ((t : ℕ) → ((1 ≤ t) × (t ≤ last)) ↔ IsClear p i r t) → HasFew few (λ t. (1 ≤ t) × (t ≤ last) × IsHitAlong a p i r t) → HasFew few (QuietOf i n)
+  pub counted_of : AreNext p table → (a : Automaton) → set_at table (mask_of p) ≡ Some a → (i n : ℕ) (r : Ray) (mover : IsMover p i n r)
+      → IsTrue (serves_moves mover.man.kind n) → (few : Few) (last : ℕ) → ((t : ℕ) → ((1 ≤ t) × (t ≤ last)) ↔ IsClear p i r t)
+      → HasFew few (λ t. (1 ≤ t) × (t ≤ last) × IsHitAlong a p i r t) → HasFew few (QuietOf i n)
   counted_of next a is zero n r mover serves few last clear has = absurd (cc)
   counted_of next a is (suc j) n r mover serves few last clear has = quiet_counted p table j n r mover next a is serves few last clear has
 
-  pub all_counted_of : AreNext p table → (a : Automaton) → set_at table (mask_of p) ≡ Some a → (i n : ℕ) (r : Ray) (mover : IsMover p i n r) → IsTrue (serves_moves mover.man.kind n) → (few : Few) → ((t : ℕ) → (1 ≤ t) ↔ IsClear p i r t) → HasFew few (λ t. (1 ≤ t) × IsHitAlong a p i r t) → HasFew few (QuietOf i n)
+  pub all_counted_of : AreNext p table → (a : Automaton) → set_at table (mask_of p) ≡ Some a → (i n : ℕ) (r : Ray) (mover : IsMover p i n r)
+      → IsTrue (serves_moves mover.man.kind n) → (few : Few) → ((t : ℕ) → (1 ≤ t) ↔ IsClear p i r t)
+      → HasFew few (λ t. (1 ≤ t) × IsHitAlong a p i r t) → HasFew few (QuietOf i n)
   all_counted_of next a is zero n r mover serves few clear has = absurd (cc)
   all_counted_of next a is (suc j) n r mover serves few clear has = quiet_counted_all p table j n r mover next a is serves few clear has
 
@@ -179,10 +183,12 @@ module _ (p : Position) (table : Table) where
   none_captured_of zero n r mover f holds none = absurd (cc)
   none_captured_of (suc j) n r mover f holds none = none_captured p table j n r mover f holds none
 
-  pub one_captured_of : (i n : ℕ) (r : Ray) → IsMover p i n r → (f : Frame) → HoldsMen f p → AreNext p table → (c : Choice) → FirstOf (IsCapture p i n) (IsIn table) f p (Some c) → HasFew One (CaptureOf i n)
+  pub one_captured_of : (i n : ℕ) (r : Ray) → IsMover p i n r → (f : Frame) → HoldsMen f p → AreNext p table → (c : Choice)
+      → FirstOf (IsCapture p i n) (IsIn table) f p (Some c) → HasFew One (CaptureOf i n)
   one_captured_of zero n r mover f holds next c h = absurd (cc)
   one_captured_of (suc j) n r mover f holds next c h = one_captured p table j n r mover f holds next c h
 
-  pub counted_together : (i n : ℕ) (r : Ray) → IsMover p i n r → (quiet taking : Few) → HasFew quiet (QuietOf i n) → HasFew taking (CaptureOf i n) → HasFew (plus_of quiet taking) (LeadsAnywhere (IsIn table) p i n)
+  pub counted_together : (i n : ℕ) (r : Ray) → IsMover p i n r → (quiet taking : Few) → HasFew quiet (QuietOf i n) → HasFew taking (CaptureOf i n)
+      → HasFew (plus_of quiet taking) (LeadsAnywhere (IsIn table) p i n)
   counted_together zero n r mover quiet taking some others = absurd (cc)
   counted_together (suc j) n r mover quiet taking some others = all_counted p table j n r mover quiet taking some others

@@ -3,6 +3,7 @@ use Rattle.std.proofs.Common.{◌≡◌, ◌≢◌, ◌⊎◌, ◌↔◌, inl, i
 use Rattle.std.specs.Prelude.{IsTrue, IsSomeAnd, slice_set}
 use Rattle.std.specs.Int.{w8}
 use Rattle.std.proofs.lemmas.Option.{same_Some, slice_get_within}
+use Rattle.std.proofs.lemmas.Bool.{cases_order}
 use Rattle.auto_core.specs.Automaton.{Automaton}
 use Rattle.auto_core.specs.Integers.{IsAccepted}
 use Rattle.auto_search.specs.Fews.{HasFew}
@@ -73,7 +74,9 @@ module _ (p : Position) (table : Table) (next : AreNext p table) (f : Frame) (j 
     pub none_hit : ((t : ℕ) → near ≤ t → t ≤ far → IsHitAlong a p (suc j) r t → ⊥) → Quiet None
     none_hit none d q has h = let w = found d q has h in none d.distance w.0 w.1 w.2
 
-    pub first_hit : (t : ℕ) (c : Choice) → IsLeast (IsHitAlong a p (suc j) r) near far t → c.mv.man ≡ suc j → c.ray ≡ n → c.distance ≡ t → IsSomeAnd (man_at p (suc j)) (λ m. IsLiveAnd m (λ b. target c.mv ≡ after_steps b t r.dx r.dy)) → IsTrue (serves_moves mover.man.kind n) → Quiet (Some c)
+    pub first_hit : (t : ℕ) (c : Choice) → IsLeast (IsHitAlong a p (suc j) r) near far t → c.mv.man ≡ suc j → c.ray ≡ n → c.distance ≡ t
+        → IsSomeAnd (man_at p (suc j)) (λ m. IsLiveAnd m (λ b. target c.mv ≡ after_steps b t r.dx r.dy)) → IsTrue (serves_moves mover.man.kind n)
+        → Quiet (Some c)
     first_hit t c least man ray far_is leads serves =
         let at_t : IsFreeFrom p mover.square r f t = of_square p (suc j) n r mover (λ b. IsFreeFrom p b r f t) ((free t).0 (least.from, least.to)) in
         let w : IsFreeFrom p mover.square r f c.distance = subst (IsFreeFrom p mover.square r f) (sym far_is) at_t in
@@ -119,17 +122,17 @@ module _ (p : Position) (table : Table) (next : AreNext p table) (f : Frame) (j 
         let g = going p table next f j n r mover d q e ray h in
         let at : IsAt r d.distance mover.square (target d.mv) = leads_at p table next f j n r mover d q g in
         let at_there : IsAt g.0.ray there.distance mover.square there.to = subst (λ k. IsAt k there.distance mover.square there.to) (sym g.1) there.leads in
-        let not_before : there.distance < d.distance → ⊥ = λ less. there_held (nobody_before p (suc j) (target d.mv) q g.2 mover.man mover.is_man mover.square mover.stands n d.distance g.0 there.distance there.to less at_there) in
+        let not_before : there.distance < d.distance → ⊥ =
+        λ less. there_held
+        (nobody_before p (suc j) (target d.mv) q g.2 mover.man mover.is_man mover.square mover.stands n d.distance g.0 there.distance there.to
+        less at_there) in
         let w = any_is p _ held in
         let not_after : d.distance < there.distance → ⊥ = λ less. (all_men p (λ m. StandsOn m (target d.mv) → ⊥)).0 (there.first d.distance (target d.mv) less at) w.0 w.1 w.2 w.3.1 in
         let same : d.distance ≡ there.distance = same_number d.distance there.distance not_after not_before in
         (same, at.leads ∙ (ap (λ k. after_steps mover.square k r.dx r.dy) same ∙ (sym there.leads.leads ∙ there_to)))
       where
         same_number : (a b : ℕ) → (a < b → ⊥) → (b < a → ⊥) → a ≡ b
-        same_number a b h k = elim (order a b) [ inl less ↦ absurd (h less) | inr (inl e) ↦ e | inr (inr more) ↦ absurd (k more) ]
-          where
-            order : (a b : ℕ) → (a < b) ⊎ ((a ≡ b) ⊎ (b < a))
-            order a b = grind arith
+        same_number a b h k = elim (cases_order a b) [ inl e ↦ e | inr (inl less) ↦ absurd (h less) | inr (inr more) ↦ absurd (k more) ]
 
     -- so it is this move, and leads to what it leads to
     its_legal : (d : Choice) (q : Position) → IsCapture p (suc j) n d → Leads (IsIn table) f p d q → Legal p mv.man (target mv) q
@@ -144,7 +147,9 @@ module _ (p : Position) (table : Table) (next : AreNext p table) (f : Frame) (j 
         let same : q' ≡ q = same_after p mv.man (target mv) q' q (its_legal d q' has h).step.after legal.step.after in
         out (subst (IsIn table) same h.is_in)
 
-    pub some_in : (q : Position) → Legal p mv.man (target mv) q → IsIn table q → (t : ℕ) → IsSomeAnd (man_at p (suc j)) (λ m. IsLiveAnd m (λ b. (r.far ≡ true → t ≡ distance b (target mv)) × (r.far ≡ false → t ≡ 1))) → Capture (Some (record { mv = mv; ray = n; distance = t }))
+    pub some_in : (q : Position) → Legal p mv.man (target mv) q → IsIn table q → (t : ℕ)
+        → IsSomeAnd (man_at p (suc j)) (λ m. IsLiveAnd m (λ b. (r.far ≡ true → t ≡ distance b (target mv)) × (r.far ≡ false → t ≡ 1)))
+        → Capture (Some (record { mv = mv; ray = n; distance = t }))
     some_in q legal is_in t steps =
         let right : t ≡ there.distance = steps_right p (suc j) n r mover f (target mv) met t steps in
         let at : IsAt r t mover.square (target mv) = subst (λ k. IsAt r k mover.square (target mv)) (sym right) (subst (IsAt r there.distance mover.square) there_to there.leads) in
@@ -228,11 +233,15 @@ module _ (p : Position) (table : Table) (next : AreNext p table) (f : Frame) whe
   quiet_none_served zero n r mover never = absurd (cc)
   quiet_none_served (suc j) n r mover never = none_served p table next f j n r mover never
 
-  pub quiet_none_hit : (i n : ℕ) (r : Ray) → IsMover p i n r → (a : Automaton) → set_at table (mask_of p) ≡ Some a → (near far : ℕ) → ((t : ℕ) → ((near ≤ t) × (t ≤ far)) ↔ IsFree p i r f t) → ((t : ℕ) → near ≤ t → t ≤ far → IsHitAlong a p i r t → ⊥) → QuietOf i n None
+  pub quiet_none_hit : (i n : ℕ) (r : Ray) → IsMover p i n r → (a : Automaton) → set_at table (mask_of p) ≡ Some a → (near far : ℕ)
+      → ((t : ℕ) → ((near ≤ t) × (t ≤ far)) ↔ IsFree p i r f t) → ((t : ℕ) → near ≤ t → t ≤ far → IsHitAlong a p i r t → ⊥) → QuietOf i n None
   quiet_none_hit zero n r mover a is near far free none = absurd (cc)
   quiet_none_hit (suc j) n r mover a is near far free none = none_hit p table next f j n r mover a is near far free none
 
-  pub quiet_first_hit : (i n : ℕ) (r : Ray) (mover : IsMover p i n r) (a : Automaton) → set_at table (mask_of p) ≡ Some a → (near far : ℕ) → ((t : ℕ) → ((near ≤ t) × (t ≤ far)) ↔ IsFree p i r f t) → (t : ℕ) (c : Choice) → IsLeast (IsHitAlong a p i r) near far t → c.mv.man ≡ i → c.ray ≡ n → c.distance ≡ t → IsSomeAnd (man_at p i) (λ m. IsLiveAnd m (λ b. target c.mv ≡ after_steps b t r.dx r.dy)) → IsTrue (serves_moves mover.man.kind n) → QuietOf i n (Some c)
+  pub quiet_first_hit : (i n : ℕ) (r : Ray) (mover : IsMover p i n r) (a : Automaton) → set_at table (mask_of p) ≡ Some a → (near far : ℕ)
+      → ((t : ℕ) → ((near ≤ t) × (t ≤ far)) ↔ IsFree p i r f t) → (t : ℕ) (c : Choice) → IsLeast (IsHitAlong a p i r) near far t → c.mv.man ≡ i
+      → c.ray ≡ n → c.distance ≡ t → IsSomeAnd (man_at p i) (λ m. IsLiveAnd m (λ b. target c.mv ≡ after_steps b t r.dx r.dy))
+      → IsTrue (serves_moves mover.man.kind n) → QuietOf i n (Some c)
   quiet_first_hit zero n r mover a is near far free t c least man ray far_is leads serves = absurd (cc)
   quiet_first_hit (suc j) n r mover a is near far free t c least man ray far_is leads serves =
       first_hit p table next f j n r mover a is near far free t c least man ray far_is leads serves
@@ -241,15 +250,20 @@ module _ (p : Position) (table : Table) (next : AreNext p table) (f : Frame) whe
   capture_none_met zero n r mover sound none = absurd (cc)
   capture_none_met (suc j) n r mover sound none = none_met p table next f j n r mover sound none
 
-  pub capture_none_legal : (i n : ℕ) (r : Ray) → IsMover p i n r → Sound p → (mv : Move) → mv.man ≡ i → IsMet p i r f (target mv) → ((q : Position) → Legal p mv.man (target mv) q → ⊥) → CaptureOf i n None
+  pub capture_none_legal : (i n : ℕ) (r : Ray) → IsMover p i n r → Sound p → (mv : Move) → mv.man ≡ i → IsMet p i r f (target mv)
+      → ((q : Position) → Legal p mv.man (target mv) q → ⊥) → CaptureOf i n None
   capture_none_legal zero n r mover sound mv man met none = absurd (cc)
   capture_none_legal (suc j) n r mover sound mv man met none = none_legal p table next f j n r mover sound mv man met none
 
-  pub capture_none_in : (i n : ℕ) (r : Ray) → IsMover p i n r → Sound p → (mv : Move) → mv.man ≡ i → IsMet p i r f (target mv) → (q : Position) → Legal p mv.man (target mv) q → (IsIn table q → ⊥) → CaptureOf i n None
+  pub capture_none_in : (i n : ℕ) (r : Ray) → IsMover p i n r → Sound p → (mv : Move) → mv.man ≡ i → IsMet p i r f (target mv) → (q : Position)
+      → Legal p mv.man (target mv) q → (IsIn table q → ⊥) → CaptureOf i n None
   capture_none_in zero n r mover sound mv man met q legal out = absurd (cc)
   capture_none_in (suc j) n r mover sound mv man met q legal out = none_in p table next f j n r mover sound mv man met q legal out
 
-  pub capture_some_in : (i n : ℕ) (r : Ray) → IsMover p i n r → Sound p → (mv : Move) → mv.man ≡ i → IsMet p i r f (target mv) → (q : Position) → Legal p mv.man (target mv) q → IsIn table q → (t : ℕ) → IsSomeAnd (man_at p i) (λ m. IsLiveAnd m (λ b. (r.far ≡ true → t ≡ distance b (target mv)) × (r.far ≡ false → t ≡ 1))) → CaptureOf i n (Some (record { mv = mv; ray = n; distance = t }))
+  pub capture_some_in : (i n : ℕ) (r : Ray) → IsMover p i n r → Sound p → (mv : Move) → mv.man ≡ i → IsMet p i r f (target mv) → (q : Position)
+      → Legal p mv.man (target mv) q → IsIn table q → (t : ℕ)
+      → IsSomeAnd (man_at p i) (λ m. IsLiveAnd m (λ b. (r.far ≡ true → t ≡ distance b (target mv)) × (r.far ≡ false → t ≡ 1)))
+      → CaptureOf i n (Some (record { mv = mv; ray = n; distance = t }))
   capture_some_in zero n r mover sound mv man met q legal is_in t steps = absurd (cc)
   capture_some_in (suc j) n r mover sound mv man met q legal is_in t steps =
       some_in p table next f j n r mover sound mv man met q legal is_in t steps
@@ -280,7 +294,9 @@ step_stock stock p q i z has after = record {
 }
 
 -- the way of a man along a ray
-pub along_is : (p : Position) (i n : ℕ) (r : Ray) (fixed : Bor (List ℤ)) (place : ℕ) → IsMover p i n r → fixed.now ≡ tuple_of p → place ≡ coordinates_before p i → IsAlong p i r (record { fixed = fixed; x_track = place; y_track = place + 1; dx = to_z w8 (of_z w8 r.dx); dy = to_z w8 (of_z w8 r.dy) })
+pub along_is : (p : Position) (i n : ℕ) (r : Ray) (fixed : Bor (List ℤ)) (place : ℕ) → IsMover p i n r → fixed.now ≡ tuple_of p
+    → place ≡ coordinates_before p i
+    → IsAlong p i r (record { fixed = fixed; x_track = place; y_track = place + 1; dx = to_z w8 (of_z w8 r.dx); dy = to_z w8 (of_z w8 r.dy) })
 along_is p i n r fixed place mover same at =
     let short = ray_slopes mover.man.kind mover.man.side n r mover.is_ray in
     record { fixed = same; x_track = at; y_track = ap (λ k. k + 1) at; dx = slope_same r.dx short.x; dy = slope_same r.dy short.y }
@@ -314,7 +330,8 @@ tuples_along p i r way along t =
     ∙ (ap (λ d. Stepped t (tuple_of p) x (x + 1) d way.dy) along.dx ∙ ap (λ d. Stepped t (tuple_of p) x (x + 1) r.dx d) along.dy)))
 
 -- and what the search finds is what is found along the ray
-pub least_along : (a : Automaton) (p : Position) (i : ℕ) (r : Ray) (way : Way) (near far : ℕ) (found : Option ℕ) → IsAlong p i r way → IsWayFound a way near far found → IsLeastFound (IsHitAlong a p i r) near far found
+pub least_along : (a : Automaton) (p : Position) (i : ℕ) (r : Ray) (way : Way) (near far : ℕ) (found : Option ℕ) → IsAlong p i r way
+    → IsWayFound a way near far found → IsLeastFound (IsHitAlong a p i r) near far found
 least_along a p i r way near far None along none =
     λ t low high hit. none t low high (subst (IsAccepted a) (sym (tuples_along p i r way along t)) hit)
 least_along a p i r way near far (Some t) along is = record {

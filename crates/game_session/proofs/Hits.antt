@@ -76,7 +76,8 @@ module _ (p : Position) (j n : ℕ) (r : Ray) (mover : IsMover p (suc j) n r) wh
         )
 
     -- a quiet move into the sets goes over empty squares, and the search hits it
-    pub quiet_hit : (T : Square → Type 0) (t : ℕ) (w : LeadsAlong T (IsIn table) p (suc j) n t) → IsEmptySquare p w.to → IsAt r t mover.square w.to × ((k : ℕ) (z : Square) → k ≤ t → IsAt r k mover.square z → IsEmptySquare p z) × IsHitAlong a p (suc j) r t
+    pub quiet_hit : (T : Square → Type 0) (t : ℕ) (w : LeadsAlong T (IsIn table) p (suc j) n t) → IsEmptySquare p w.to
+        → IsAt r t mover.square w.to × ((k : ℕ) (z : Square) → k ≤ t → IsAt r k mover.square z → IsEmptySquare p z) × IsHitAlong a p (suc j) r t
     quiet_hit T t w none =
         let g = along_goes (IsIn table) T t w in
         let at = going_at w.to t w.after g in
@@ -87,7 +88,9 @@ module _ (p : Position) (j n : ℕ) (r : Ray) (mover : IsMover p (suc j) n r) wh
         )
 
     -- a hit over empty squares is a move into the sets
-    pub hit_moves : (t : ℕ) (z : Square) → IsTrue (serves_moves mover.man.kind n) → IsAt r t mover.square z → ((k : ℕ) (b : Square) → k ≤ t → IsAt r k mover.square b → IsEmptySquare p b) → IsHitAlong a p (suc j) r t → (q : Position) × Legal p (suc j) z q × IsIn table q
+    pub hit_moves : (t : ℕ) (z : Square) → IsTrue (serves_moves mover.man.kind n) → IsAt r t mover.square z
+        → ((k : ℕ) (b : Square) → k ≤ t → IsAt r k mover.square b → IsEmptySquare p b) → IsHitAlong a p (suc j) r t
+        → (q : Position) × Legal p (suc j) z q × IsIn table q
     hit_moves t z serves at empty hit =
         let q : Position = position_after p j z in
         let step : Step p (suc j) z q = free_step p mover.man n r mover.is_ray mover.square mover.stands t z at empty j mover.is_man mover.turn serves in
@@ -107,13 +110,16 @@ module _ (p : Position) (table : Table) (next : AreNext p table) (f : Frame) whe
     leads_at d q g = going_at p j n r mover (target d.mv) d.distance q g
 
     -- a quiet choice is at a free distance, and the search hits it
-    pub choice_hit : (a : Automaton) (d : Choice) (q : Position) → set_at table (mask_of p) ≡ Some a → IsQuiet p (suc j) n d → Into d q → IsFreeFrom p mover.square r f d.distance × IsHitAlong a p (suc j) r d.distance
+    pub choice_hit : (a : Automaton) (d : Choice) (q : Position) → set_at table (mask_of p) ≡ Some a → IsQuiet p (suc j) n d → Into d q
+        → IsFreeFrom p mover.square r f d.distance × IsHitAlong a p (suc j) r d.distance
     choice_hit a d q set_is (e, ray, none) h =
         let quiet = quiet_hit p j n r mover table next a set_is (IsEmptySquare p) d.distance (along_of (IsIn table) p (suc j) n f (IsEmptySquare p) d q e ray none h) none in
         (record { to = target d.mv; leads = quiet.0; inside = h.inside; empty = quiet.1 }, quiet.2)
 
     -- a hit at a free distance is a quiet choice into the sets
-    pub hit_leads : (a : Automaton) (c : Choice) → set_at table (mask_of p) ≡ Some a → c.mv.man ≡ suc j → c.ray ≡ n → IsTrue (serves_moves mover.man.kind n) → (w : IsFreeFrom p mover.square r f c.distance) → target c.mv ≡ w.to → IsHitAlong a p (suc j) r c.distance → IsQuiet p (suc j) n c × ((q : Position) × Into c q)
+    pub hit_leads : (a : Automaton) (c : Choice) → set_at table (mask_of p) ≡ Some a → c.mv.man ≡ suc j → c.ray ≡ n
+        → IsTrue (serves_moves mover.man.kind n) → (w : IsFreeFrom p mover.square r f c.distance) → target c.mv ≡ w.to
+        → IsHitAlong a p (suc j) r c.distance → IsQuiet p (suc j) n c × ((q : Position) × Into c q)
     hit_leads a c set_is e ray serves w to hit =
         let at : IsAt r c.distance mover.square (target c.mv) = subst (IsAt r c.distance mover.square) (sym to) w.leads in
         let moves = hit_moves p j n r mover table next a set_is c.distance (target c.mv) serves at w.empty hit in (

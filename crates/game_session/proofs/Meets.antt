@@ -70,7 +70,11 @@ module _ (p : Position) (i n : ℕ) (r : Ray) (mover : IsMover p i n r) where
     steps_right t steps =
         let by = of_square p i n r mover (λ b. (r.far ≡ true → t ≡ distance b z) × (r.far ≡ false → t ≡ 1)) steps in
         elim (true_or_not r.far) [
-          | inl is ↦ by.0 is ∙ (ap (distance mover.square) (sym hit_to) ∙ steps_distance mover.square hit.to r.dx r.dy ((ray_is mover.man.side mover.man.kind n r mover.is_ray).direction is) hit.distance hit.leads.leads)
+          | inl is ↦
+              by.0 is
+              ∙ (ap (distance mover.square) (sym hit_to)
+              ∙ steps_distance mover.square hit.to r.dx r.dy ((ray_is mover.man.side mover.man.kind n r mover.is_ray).direction is)
+              hit.distance hit.leads.leads)
           | inr is ↦ by.1 is ∙ sym (hit.leads.one is)
         ]
 
@@ -95,7 +99,8 @@ module _ (p : Position) (i n : ℕ) (r : Ray) (mover : IsMover p i n r) where
     )
 
     -- so one step less than to him is the farthest
-    pub before_hit : (t : ℕ) → IsSomeAnd (man_at p i) (λ m. IsLiveAnd m (λ b. (r.far ≡ true → t ≡ distance b z) × (r.far ≡ false → t ≡ 1))) → (1 ≤ t) × ((u : ℕ) → ((1 ≤ u) × (u ≤ t - 1)) ↔ IsClear p i r u)
+    pub before_hit : (t : ℕ) → IsSomeAnd (man_at p i) (λ m. IsLiveAnd m (λ b. (r.far ≡ true → t ≡ distance b z) × (r.far ≡ false → t ≡ 1)))
+        → (1 ≤ t) × ((u : ℕ) → ((1 ≤ u) × (u ≤ t - 1)) ↔ IsClear p i r u)
     before_hit t steps =
         let right = steps_right t steps in
         let begun = hit.leads.begun in

@@ -45,7 +45,8 @@ eight Knight s = refl
 eight Pawn s = refl
 
 -- a live man's mover
-pub mover_at : (p : Position) (i n : ℕ) (m : Man) (r : Ray) → man_at p i ≡ Some m → IsSomeAnd (man_at p i) (λ h. (h.side ≡ p.turn) × (h.place ≢ Gone)) → ray_of m.kind m.side n ≡ Some r → IsMover p i n r
+pub mover_at : (p : Position) (i n : ℕ) (m : Man) (r : Ray) → man_at p i ≡ Some m → IsSomeAnd (man_at p i) (λ h. (h.side ≡ p.turn) × (h.place ≢ Gone))
+    → ray_of m.kind m.side n ≡ Some r → IsMover p i n r
 mover_at p i n m r is live ray = on m.place refl
   where
     his : (m.side ≡ p.turn) × (m.place ≢ Gone)

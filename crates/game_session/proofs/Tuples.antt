@@ -62,7 +62,9 @@ module _ (p : Position) (j : ℕ) (a : Square) (m : Man) (is : man_at p (suc j) 
   his_two = let two = ap length his_place ∙ length-append (tuple_to p j) (a.x ∷ a.y ∷ []) in omega (arith, two)
 
   -- what comes after him changes nothing before
-  his_room : (n : ℕ) → suc j ≤ n → n ≤ length p.men → (length (tuple_to p j) + 1 < length (tuple_to p n)) × ((i : ℕ) → i ≤ length (tuple_to p j) + 1 → get_or (tuple_to p n) i (pos 0) ≡ get_or (tuple_to p (suc j)) i (pos 0))
+  his_room : (n : ℕ) → suc j ≤ n → n ≤ length p.men
+      → (length (tuple_to p j) + 1 < length (tuple_to p n))
+      × ((i : ℕ) → i ≤ length (tuple_to p j) + 1 → get_or (tuple_to p n) i (pos 0) ≡ get_or (tuple_to p (suc j)) i (pos 0))
   his_room zero low within = absurd (omega (arith, low))
   his_room (suc n) low within =
       elim (cases_lt j n) [
@@ -78,7 +80,10 @@ module _ (p : Position) (j : ℕ) (a : Square) (m : Man) (is : man_at p (suc j) 
             )
         | inr here ↦
             let e : n ≡ j = omega (arith, here, low) in
-            subst (λ k. (length (tuple_to p j) + 1 < length (tuple_to p (suc k))) × ((i : ℕ) → i ≤ length (tuple_to p j) + 1 → get_or (tuple_to p (suc k)) i (pos 0) ≡ get_or (tuple_to p (suc j)) i (pos 0))) (sym e) (his_two, λ i low. refl)
+            subst
+            (λ k. (length (tuple_to p j) + 1 < length (tuple_to p (suc k)))
+            × ((i : ℕ) → i ≤ length (tuple_to p j) + 1 → get_or (tuple_to p (suc k)) i (pos 0) ≡ get_or (tuple_to p (suc j)) i (pos 0)))
+            (sym e) (his_two, λ i low. refl)
       ]
 
   in_all : (length (tuple_to p j) + 1 < length (tuple_of p)) × ((i : ℕ) → i ≤ length (tuple_to p j) + 1 → get_or (tuple_of p) i (pos 0) ≡ get_or (tuple_to p (suc j)) i (pos 0))
@@ -187,7 +192,8 @@ module _ (p q : Position) (j : ℕ) (z a : Square) (m : Man) (is : man_at p (suc
   mask_moved = sym (mask_one q (mask_of p) (record { live = live_same; no_more = subst (λ n. mask_of p < 2 ^ n) (sym after.same_count) (mask_tells p).no_more }))
 
 -- the coordinates after a move along a ray to an empty square
-pub tuple_hit : (p q : Position) (j : ℕ) (z a : Square) (m : Man) (r : Ray) (t : ℕ) → man_at p (suc j) ≡ Some m → StandsOn m a → IsAfter p (suc j) z q → IsEmptySquare p z → z ≡ after_steps a t r.dx r.dy → tuple_of q ≡ tuple_along p (suc j) r t
+pub tuple_hit : (p q : Position) (j : ℕ) (z a : Square) (m : Man) (r : Ray) (t : ℕ) → man_at p (suc j) ≡ Some m → StandsOn m a → IsAfter p (suc j) z q
+    → IsEmptySquare p z → z ≡ after_steps a t r.dx r.dy → tuple_of q ≡ tuple_along p (suc j) r t
 tuple_hit p q j z a m r t is stands after none leads =
     let x : value_after (tuple_of p) (coordinates_before p (suc j)) r.dx t ≡ z.x = ap (λ b. b +ℤ (pos t *ℤ r.dx)) (his_x p j a m is stands) ∙ sym (ap (λ s. s.x) leads) in
     let y : value_after (tuple_of p) (coordinates_before p (suc j) + 1) r.dy t ≡ z.y = ap (λ b. b +ℤ (pos t *ℤ r.dy)) (his_y p j a m is stands) ∙ sym (ap (λ s. s.y) leads) in

@@ -66,7 +66,8 @@ module _ (m : Man) (n : ℕ) (r : Ray) (is_ray : ray_of m.kind m.side n ≡ Some
       (all_men p (λ d. IsLiveAnd d (IsBetween a z) → ⊥)).0 clear i c is (live_at c b (IsBetween a z) s (at_between k b less at)))
 
 -- where a ray is free, a man whom it serves may go
-module _ (p : Position) (m : Man) (n : ℕ) (r : Ray) (is_ray : ray_of m.kind m.side n ≡ Some r) (a : Square) (stands : StandsOn m a) (t : ℕ) (z : Square) (leads : IsAt r t a z) (empty : (k : ℕ) (b : Square) → k ≤ t → IsAt r k a b → IsEmptySquare p b) where
+module _ (p : Position) (m : Man) (n : ℕ) (r : Ray) (is_ray : ray_of m.kind m.side n ≡ Some r) (a : Square) (stands : StandsOn m a) (t : ℕ)
+    (z : Square) (leads : IsAt r t a z) (empty : (k : ℕ) (b : Square) → k ≤ t → IsAt r k a b → IsEmptySquare p b) where
   empty_target : IsEmptySquare p z
   empty_target = empty t z (omega arith) leads
 
@@ -118,7 +119,9 @@ module _ (p : Position) (m : Man) (n : ℕ) (r : Ray) (is_ray : ray_of m.kind m.
   }
 
 -- a man before whom nobody stands on the ray is the first whom one meets there
-pub first_met : (p : Position) (a : Square) (r : Ray) (f : Frame) (t : ℕ) (z : Square) → IsAt r t a z → IsInside f z → ((k : ℕ) (b : Square) → k < t → IsAt r k a b → IsEmptySquare p b) → IsApart p → (h : ℕ) (c : Man) → man_at p h ≡ Some c → StandsOn c z → IsHitFrom p a r f h
+pub first_met : (p : Position) (a : Square) (r : Ray) (f : Frame) (t : ℕ) (z : Square) → IsAt r t a z → IsInside f z
+    → ((k : ℕ) (b : Square) → k < t → IsAt r k a b → IsEmptySquare p b) → IsApart p → (h : ℕ) (c : Man) → man_at p h ≡ Some c → StandsOn c z
+    → IsHitFrom p a r f h
 first_met p a r f t z leads inside before apart h c is_c on_c = record {
   to = z;
   distance = t;

@@ -18,7 +18,8 @@ use Rattle.mask_sets.specs.Sets.{IsAskable, IsIn, Table}
 use Rattle.rule_formula.specs.Fits.{HasStock}
 use Rattle.rule_formula.specs.Placed.{tuple_of}
 
--- any position of the men of p can be asked for, and the sets hold no position to which a step from p leads that leaves the mover's king attacked
+-- any position of the men of p can be asked for, and the sets hold no position to which a step from p leads that leaves
+-- the mover's king attacked
 pub record AreNext (p : Position) (sets : Table) : Type 0 where
   pub askable : (q : Position) → HasStock p.men q → IsAskable sets q
   pub legal : (i : ℕ) (z : Square) (q : Position) → Step p i z q → IsIn sets q → InCheck q p.turn → ⊥

@@ -10,7 +10,8 @@ use Rattle.chess_game.specs.Way.{IsInside}
 use Rattle.chess_game.specs.declared.way.Frame.{Frame}
 
 -- so far along the ray of this number the man has a legal move, to a square with the property, that leads into the set
-pub record LeadsAlong (Target : Square → Type 0) (Set : Position → Type 0) (p : Position) (man ray distance : ℕ) : Type 0 where
+pub record LeadsAlong (Target : Square → Type 0) (Set : Position → Type 0) (p : Position) (man ray distance : ℕ) : Type
+    0 where
   pub him : Man
   pub from : Square
   pub to : Square

@@ -14,7 +14,8 @@ use Rattle.mask_sets.specs.Sets.{IsIn, Table}
 abbrev pub target : Move → Square
 target mv = record { x = mv.x; y = mv.y }
 
--- the move goes so far along that ray of its man, to a square of the frame; it is legal, and leads to q, a position of the set
+-- the move goes so far along that ray of its man, to a square of the frame; it is legal, and leads to q, a position of
+-- the set
 pub record Leads (Set : Position → Type 0) (f : Frame) (p : Position) (c : Choice) (q : Position) : Type 0 where
   pub man : Man
   pub from : Square
@@ -27,10 +28,12 @@ pub record Leads (Set : Position → Type 0) (f : Frame) (p : Position) (c : Cho
 
 -- moves are ordered by man, then by ray, then by distance
 abbrev pub IsBefore : Choice → Choice → Type 0
-IsBefore d c = (d.mv.man < c.mv.man) ⊎ ((d.mv.man ≡ c.mv.man) × ((d.ray < c.ray) ⊎ ((d.ray ≡ c.ray) × (d.distance < c.distance))))
+IsBefore d c =
+    (d.mv.man < c.mv.man) ⊎ ((d.mv.man ≡ c.mv.man) × ((d.ray < c.ray) ⊎ ((d.ray ≡ c.ray) × (d.distance < c.distance))))
 
 -- of the moves with a property this is the first that leads into the set
-pub record IsFirst (Has : Choice → Type 0) (Set : Position → Type 0) (f : Frame) (p : Position) (c : Choice) : Type 0 where
+pub record IsFirst (Has : Choice → Type 0) (Set : Position → Type 0) (f : Frame) (p : Position) (c : Choice) : Type
+    0 where
   pub has : Has c
   pub position : Position
   pub leads : Leads Set f p c position

@@ -38,9 +38,10 @@ pub(crate) fn choice_along(p: &Position, frame: Frame, his: ManRay, distance: u1
     ensures man { result.mv.man ≡ his.man }
     ensures ray { result.ray ≡ his.number }
     ensures distance { result.distance ≡ distance }
-    ensures leads { IsSomeAnd (man_at p.now his.man) (λ m. IsLiveAnd m (λ a. target result.mv ≡ after_steps a distance his.ray.dx his.ray.dy)) }
+    ensures leads { IsSomeAnd (man_at p.now his.man)
+        (λ m. IsLiveAnd m (λ a. target result.mv ≡ after_steps a distance his.ray.dx his.ray.dy)) }
 {
-    let _ = frame;
+    let _ = frame; // for its invariant
     match p.man(his.man).place {
         Place::At { x, y } => Choice {
             mv: Move {
@@ -79,7 +80,9 @@ fn steps_between(ray: Ray, x: i64, y: i64, to_x: i64, to_y: i64) -> u128
 /// How many steps of the ray the move goes, which leads along it.
 pub(crate) fn steps_of(p: &Position, his: ManRay, mv: Move) -> u128
     requires mover { IsMover p.now his.man his.number his.ray }
-    ensures steps { IsSomeAnd (man_at p.now his.man) (λ m. IsLiveAnd m (λ a. (his.ray.far ≡ true → result ≡ squares_apart a (target mv)) × (his.ray.far ≡ false → result ≡ 1))) }
+    ensures steps { IsSomeAnd (man_at p.now his.man)
+        (λ m. IsLiveAnd m
+        (λ a. (his.ray.far ≡ true → result ≡ squares_apart a (target mv)) × (his.ray.far ≡ false → result ≡ 1))) }
     ensures few { result ≤ 2 ^ 64 }
 {
     match p.man(his.man).place {

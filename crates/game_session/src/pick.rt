@@ -18,7 +18,8 @@ use mask_sets::MaskSets;
 fn of_man(search: &mut Search, aim: &Aim, man: u8) -> Option<Choice>
     requires aim { IsAim aim.now }
     requires few { HaveAtMost search.old aim.now.sets.now }
-    requires mover { IsSomeAnd (man_at aim.now.position.now man) (λ m. (m.side ≡ aim.now.position.now.turn) × (m.place ≢ Gone)) }
+    requires mover { IsSomeAnd (man_at aim.now.position.now man)
+        (λ m. (m.side ≡ aim.now.position.now.turn) × (m.place ≢ Gone)) }
     ensures first { FirstOf (IsOf man) (IsIn aim.now.sets.now) aim.now.frame aim.now.position.now result }
     ensures kept { search.new ≡ search.old }
 {

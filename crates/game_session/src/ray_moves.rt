@@ -102,7 +102,8 @@ fn last_clear(aim: &Aim, his: ManRay, hits: Option<u8>) -> Option<u128>
     requires holds { HoldsMen aim.now.frame aim.now.position.now }
     requires hit { IfSome hits (IsHit aim.now.position.now his.man his.ray aim.now.frame) }
     requires no_hit { IfNone hits ((i : ℕ) → IsHit aim.now.position.now his.man his.ray aim.now.frame i → ⊥) }
-    ensures last { IfSome result (λ last. (t : ℕ) → ((1 ≤ t) × (t ≤ last)) ↔ IsClear aim.now.position.now his.man his.ray t) }
+    ensures last { IfSome result
+        (λ last. (t : ℕ) → ((1 ≤ t) × (t ≤ last)) ↔ IsClear aim.now.position.now his.man his.ray t) }
     ensures few { IfSome result (λ last. last ≤ 2 ^ 64) }
     ensures all { IfNone result ((t : ℕ) → (1 ≤ t) ↔ IsClear aim.now.position.now his.man his.ray t) }
 {
@@ -118,7 +119,8 @@ fn count_served(search: &mut Search, aim: &Aim, his: ManRay, last: Option<u128>)
     requires serves { IsSomeAnd (man_at aim.now.position.now his.man) (λ m. IsTrue (serving m.kind his.number)) }
     requires aim { IsAim aim.now }
     requires few { HaveAtMost search.old aim.now.sets.now }
-    requires last { IfSome last (λ last. (t : ℕ) → ((1 ≤ t) × (t ≤ last)) ↔ IsClear aim.now.position.now his.man his.ray t) }
+    requires last { IfSome last
+        (λ last. (t : ℕ) → ((1 ≤ t) × (t ≤ last)) ↔ IsClear aim.now.position.now his.man his.ray t) }
     requires bound { IfSome last (λ last. last ≤ 2 ^ 64) }
     requires all { IfNone last ((t : ℕ) → (1 ≤ t) ↔ IsClear aim.now.position.now his.man his.ray t) }
     ensures few { HasFew result (QuietAlong (IsIn aim.now.sets.now) aim.now.position.now his.man his.number) }
@@ -190,7 +192,8 @@ fn least_along(search: &mut Search, aim: &Aim, his: ManRay) -> Option<u128>
     requires mover { IsMover aim.now.position.now his.man his.number his.ray }
     requires aim { IsAim aim.now }
     requires few { HaveAtMost search.old aim.now.sets.now }
-    ensures least { IsLeastOrNone (LeadsInside aim.now.frame (IsIn aim.now.sets.now) aim.now.position.now his.man his.number) result }
+    ensures least { IsLeastOrNone
+        (LeadsInside aim.now.frame (IsIn aim.now.sets.now) aim.now.position.now his.man his.number) result }
     ensures kept { search.new ≡ search.old }
 {
     match along_ray(search, aim, his) {
@@ -206,7 +209,8 @@ pub fn moves_along(search: &mut Search, aim: &Aim, his: ManRay) -> RayMoves
     requires aim { IsAim aim.now }
     requires few { HaveAtMost search.old aim.now.sets.now }
     ensures few { HasFew result.few (LeadsAnywhere (IsIn aim.now.sets.now) aim.now.position.now his.man his.number) }
-    ensures least { IsLeastOrNone (LeadsInside aim.now.frame (IsIn aim.now.sets.now) aim.now.position.now his.man his.number) result.least }
+    ensures least { IsLeastOrNone
+        (LeadsInside aim.now.frame (IsIn aim.now.sets.now) aim.now.position.now his.man his.number) result.least }
     ensures kept { search.new ≡ search.old }
 {
     RayMoves {

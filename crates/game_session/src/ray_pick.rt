@@ -44,9 +44,11 @@ fn quiet(search: &mut Search, aim: &Aim, his: ManRay, way: Way) -> Option<Choice
     requires serves { IsSomeAnd (man_at aim.now.position.now his.man) (λ m. IsTrue (serving m.kind his.number)) }
     requires aim { IsAim aim.now }
     requires few { HaveAtMost search.old aim.now.sets.now }
-    requires free { (t : ℕ) → ((way.near ≤ t) × (t ≤ way.far)) ↔ IsFree aim.now.position.now his.man his.ray aim.now.frame t }
+    requires free { (t : ℕ)
+        → ((way.near ≤ t) × (t ≤ way.far)) ↔ IsFree aim.now.position.now his.man his.ray aim.now.frame t }
     requires far { way.far ≤ 2 ^ 64 }
-    ensures first { FirstOf (IsQuiet aim.now.position.now his.man his.number) (IsIn aim.now.sets.now) aim.now.frame aim.now.position.now result }
+    ensures first { FirstOf (IsQuiet aim.now.position.now his.man his.number) (IsIn aim.now.sets.now) aim.now.frame
+        aim.now.position.now result }
     ensures kept { search.new ≡ search.old }
 {
     let Some(set) = aim.sets.get(aim.position.mask()) else {
@@ -73,9 +75,11 @@ fn quiet_if_served(search: &mut Search, aim: &Aim, his: ManRay, way: Way) -> Opt
     requires mover { IsMover aim.now.position.now his.man his.number his.ray }
     requires aim { IsAim aim.now }
     requires few { HaveAtMost search.old aim.now.sets.now }
-    requires free { (t : ℕ) → ((way.near ≤ t) × (t ≤ way.far)) ↔ IsFree aim.now.position.now his.man his.ray aim.now.frame t }
+    requires free { (t : ℕ)
+        → ((way.near ≤ t) × (t ≤ way.far)) ↔ IsFree aim.now.position.now his.man his.ray aim.now.frame t }
     requires far { way.far ≤ 2 ^ 64 }
-    ensures first { FirstOf (IsQuiet aim.now.position.now his.man his.number) (IsIn aim.now.sets.now) aim.now.frame aim.now.position.now result }
+    ensures first { FirstOf (IsQuiet aim.now.position.now his.man his.number) (IsIn aim.now.sets.now) aim.now.frame
+        aim.now.position.now result }
     ensures kept { search.new ≡ search.old }
 {
     let kind = aim.position.man(his.man).kind;
@@ -91,7 +95,8 @@ fn take(aim: &Aim, his: ManRay, mv: Move) -> Option<Choice>
     requires aim { IsAim aim.now }
     requires man { mv.man ≡ his.man }
     requires met { IsMet aim.now.position.now his.man his.ray aim.now.frame (target mv) }
-    ensures first { FirstOf (IsCapture aim.now.position.now his.man his.number) (IsIn aim.now.sets.now) aim.now.frame aim.now.position.now result }
+    ensures first { FirstOf (IsCapture aim.now.position.now his.man his.number) (IsIn aim.now.sets.now) aim.now.frame
+        aim.now.position.now result }
 {
     let Ok(after) = try_move(aim.position, mv) else {
         return None;
@@ -112,7 +117,8 @@ pub(crate) fn capture(aim: &Aim, his: ManRay, hits: Option<u8>) -> Option<Choice
     requires aim { IsAim aim.now }
     requires hit { IfSome hits (IsHit aim.now.position.now his.man his.ray aim.now.frame) }
     requires no_hit { IfNone hits ((i : ℕ) → IsHit aim.now.position.now his.man his.ray aim.now.frame i → ⊥) }
-    ensures first { FirstOf (IsCapture aim.now.position.now his.man his.number) (IsIn aim.now.sets.now) aim.now.frame aim.now.position.now result }
+    ensures first { FirstOf (IsCapture aim.now.position.now his.man his.number) (IsIn aim.now.sets.now) aim.now.frame
+        aim.now.position.now result }
 {
     let Some(hit) = hits else {
         return None;
@@ -128,7 +134,8 @@ pub(crate) fn along_ray(search: &mut Search, aim: &Aim, his: ManRay) -> Option<C
     requires mover { IsMover aim.now.position.now his.man his.number his.ray }
     requires aim { IsAim aim.now }
     requires few { HaveAtMost search.old aim.now.sets.now }
-    ensures first { FirstOf (IsAlongRay his.man his.number) (IsIn aim.now.sets.now) aim.now.frame aim.now.position.now result }
+    ensures first { FirstOf (IsAlongRay his.man his.number) (IsIn aim.now.sets.now) aim.now.frame aim.now.position.now
+        result }
     ensures kept { search.new ≡ search.old }
 {
     let way = free_way(aim.position, his.man, his.ray, aim.frame);

@@ -29,13 +29,15 @@ pub of_sound : (says : Report → Type 0) (files : Files) (problem : Problem) (r
 of_sound says files problem report sound (inl (why, fault, is)) = absurd (unsound_refuted why problem.position fault sound)
 of_sound says files problem report sound (inr (also, right)) = right
 
-pub of_text : (says : Problem → Lines → Report → Type 0) (files : Files) (bytes : List ℕ) (problem : Problem) (rest : Lines) (report : Report) → TextAt bytes (whole problem rest) → Sound problem.position → OfText says files bytes report → says problem rest report
+pub of_text : (says : Problem → Lines → Report → Type 0) (files : Files) (bytes : List ℕ) (problem : Problem) (rest : Lines) (report : Report)
+    → TextAt bytes (whole problem rest) → Sound problem.position → OfText says files bytes report → says problem rest report
 of_text says files bytes problem rest report at sound read =
     let Q : Text → Type 0 = λ t. OfRead says files t report in
     of_sound (says problem rest) files problem report sound (subst Q (once_text Header 1 (lines_of bytes) read.0 (whole problem rest) read.1 at) read.2)
 
 -- what is reported of words is what is reported of the order that they are
-pub of_words : (words : List (List ℕ)) (bytes : List ℕ) (files : Files) (order : Order) (report : Report) → Ordered words (Ok order) → Reports words bytes files report → ReportsOrder order words bytes files report
+pub of_words : (words : List (List ℕ)) (bytes : List ℕ) (files : Files) (order : Order) (report : Report) → Ordered words (Ok order)
+    → Reports words bytes files report → ReportsOrder order words bytes files report
 of_words words bytes files order report ordered reports =
     let P : Result Order UsageWhy → Type 0 = λ r. ReportsWords r words bytes files report in
     subst P (once_words reports.0 (Ok order) words reports.1 ordered) reports.2

@@ -110,31 +110,41 @@ record IsAfter (Held : ℕ → Position → Type 0) (w : Side) (start : Position
   reached : Reach start after.ply after.position
   left : moves_left (last_ply w start.turn n) after.ply ≡ n - (number + 1)
 
-module _ (w : Side) (start : Position) (n : ℕ) (by : Strategy) (Held : ℕ → Position → Type 0) (picks : (p : Position) (ply : ℕ) (c : Choice) → HeldPick (at w start n by p ply) (Some c) → Pick (Held (suc ply)) all_squares p (Some c)) where
+module _ (w : Side) (start : Position) (n : ℕ) (by : Strategy) (Held : ℕ → Position → Type 0)
+    (picks : (p : Position) (ply : ℕ) (c : Choice) → HeldPick (at w start n by p ply) (Some c) → Pick (Held (suc ply)) all_squares p (Some c)) where
   is_after : (first m : ℕ) (after : Match) → moves_left (last_ply w start.turn n) (first + 2 * m) ≡ n - (m + 1) → IsHeldAfter Held start first m after → IsAfter Held w start n m after
   is_after first m after left h = record { held = h.held; reached = h.reached; left = ap (moves_left (last_ply w start.turn n)) h.ply ∙ left }
 
-  report_after : (before : ℕ) (lines : Lines) (r : Report) → IsReport before lines (at w start n by start 0) r → (k : ℕ) (after : Match) → slice_get r.games k ≡ Some after → IsAfter Held w start n k after
+  report_after : (before : ℕ) (lines : Lines) (r : Report) → IsReport before lines (at w start n by start 0) r → (k : ℕ) (after : Match)
+      → slice_get r.games k ≡ Some after → IsAfter Held w start n k after
   report_after before lines r (inl (turn, goes)) k after is =
-      let h = winner_follow w start n by Held picks 1 (AtLines before 0 lines) (λ q ply j x y c z. lines_follow w start n by Held picks 1 before 0 lines q ply j x y c z) lines start 0 0 r refl (omega arith) goes k k after is (omega arith) in
+      let h =
+      winner_follow w start n by Held picks 1 (AtLines before 0 lines)
+      (λ q ply j x y c z. lines_follow w start n by Held picks 1 before 0 lines q ply j x y c z) lines start 0 0 r refl (omega arith) goes k k
+      after is (omega arith) in
       let left : moves_left (last_ply w start.turn n) (1 + 2 * k) ≡ n - (k + 1) =
       ap (λ s. moves_left (last_ply w s n) (1 + 2 * k)) turn ∙ (moves_counted w n (1 + 2 * k)).0 ∙ ap (λ x. n - x) (half_first k) in
       is_after 1 k after left h
   report_after before lines r (inr (turn, goes)) k after is =
-      let h = loser_follow w start n by Held picks 2 (AtLines before 0 lines) (λ q ply j x y c z. lines_follow w start n by Held picks 2 before 0 lines q ply j x y c z) lines start 0 0 r refl (omega arith) goes k k after is (omega arith) in
+      let h =
+      loser_follow w start n by Held picks 2 (AtLines before 0 lines)
+      (λ q ply j x y c z. lines_follow w start n by Held picks 2 before 0 lines q ply j x y c z) lines start 0 0 r refl (omega arith) goes k k
+      after is (omega arith) in
       let left : moves_left (last_ply w start.turn n) (2 + 2 * k) ≡ n - (k + 1) =
       ap (λ s. moves_left (last_ply w s n) (2 + 2 * k)) turn ∙ (moves_counted w n (2 + 2 * k)).1 ∙ ap (λ x. n - x) (half_second k) in
       is_after 2 k after left h
 
 -- what is kept after the winner's move is won within the moves that he has left
-report_keeps : (n : ℕ) (problem : Problem) (before : ℕ) (lines : Lines) (r : Report) → IsReport before lines (first_match n problem) r → (k : ℕ) (after : Match) → slice_get r.games k ≡ Some after → IsKeptGame n problem k after
+report_keeps : (n : ℕ) (problem : Problem) (before : ℕ) (lines : Lines) (r : Report) → IsReport before lines (first_match n problem) r
+    → (k : ℕ) (after : Match) → slice_get r.games k ≡ Some after → IsKeptGame n problem k after
 report_keeps n problem before lines r report k after is =
     let a = report_after problem.winner problem.position n ByKept (Kept problem.winner problem.position n) (λ p ply c pick. pick) before lines r report k after is in
     let P : ℕ → Type 0 = λ moves. Value problem.winner moves after.position in
     record { reached = a.reached; value = subst P a.left a.held.value }
 
 -- and after what is claimed then the loser is mated within them
-pub claim_keeps : (c : Claim) → IsClaim c → Won c → (before : ℕ) (lines : Lines) (r : Report) → IsReport before lines (claimed_match c) r → (k : ℕ) (after : Match) → slice_get r.games k ≡ Some after → IsLostGame c k after
+pub claim_keeps : (c : Claim) → IsClaim c → Won c → (before : ℕ) (lines : Lines) (r : Report) → IsReport before lines (claimed_match c) r
+    → (k : ℕ) (after : Match) → slice_get r.games k ≡ Some after → IsLostGame c k after
 claim_keeps c is_claim won before lines r report k after is =
     let a = report_after c.winner c.position c.moves (ByClaim c) (IsClaimed c) (λ p ply d pick. pick) before lines r report k after is in
     let P : ℕ → Type 0 = λ moves. Lost c.winner moves after.position in

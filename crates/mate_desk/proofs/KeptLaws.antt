@@ -37,7 +37,9 @@ use Rattle.mate_desk.proofs.ReadClaims.{read_is_claim}
 use Rattle.desk_games.proofs.Shelves.{has_put}
 
 -- what is said of the claim of a file may be more
-module _ (one more : Claim → Report → Type 0) (budget : ℕ) (files : Files) (report : Report) (says : (bytes : List ℕ) (charts : Charts) → File bytes (Ok charts) → plan.Ends (check_plan (claim_with charts)) budget None → one (claim_with charts) report → more (claim_with charts) report) where
+module _ (one more : Claim → Report → Type 0) (budget : ℕ) (files : Files) (report : Report)
+    (says : (bytes : List ℕ) (charts : Charts) → File bytes (Ok charts) → plan.Ends (check_plan (claim_with charts)) budget None
+    → one (claim_with charts) report → more (claim_with charts) report) where
   outcome_more : (bytes : List ℕ) (outcome : Result Charts Refusal) → File bytes outcome → OfOutcome one budget files outcome report → OfOutcome more budget files outcome report
   outcome_more bytes (Err refusal) file right = right
   outcome_more bytes (Ok charts) file (inl failed) = inl failed
@@ -59,7 +61,8 @@ resume_keeps words bytes files budget name report ordered named reports =
     let right : ResumeReports budget lines name files report = subst Named named (of_words words bytes files (Resume budget) report ordered reports) in
     file_more (GameReports lines files) (ResumesGame lines files) budget files report (game lines) name right
   where
-    game : (lines : Lines) (read : List ℕ) (charts : Charts) → File read (Ok charts) → plan.Ends (check_plan (claim_with charts)) budget None → GameReports lines files (claim_with charts) report → ResumesGame lines files (claim_with charts) report
+    game : (lines : Lines) (read : List ℕ) (charts : Charts) → File read (Ok charts) → plan.Ends (check_plan (claim_with charts)) budget None
+        → GameReports lines files (claim_with charts) report → ResumesGame lines files (claim_with charts) report
     game lines read charts file keeps (played, right, is') =
         let c = claim_with charts in
         let claim = read_is_claim read charts file in
@@ -75,7 +78,8 @@ record Leaves (n : ℕ) (name : List ℕ) (files given : Files) : Type 0 where
   file : IsFileToKeep problem.winner problem.position n bytes
   left : files ≡ map.insert given name bytes
 
-module _ (n budget : ℕ) (name : List ℕ) (files given : Files) (report : Report) (done : report.status ≡ is.Done) (wrote : report.fault ≡ [] → report.text ≡ mate_line n) (left : files ≡ report.files) where
+module _ (n budget : ℕ) (name : List ℕ) (files given : Files) (report : Report) (done : report.status ≡ is.Done)
+    (wrote : report.fault ≡ [] → report.text ≡ mate_line n) (left : files ≡ report.files) where
   keep_leaves : (problem : Problem) → Sound problem.position → KeepReports n budget problem name given report → Leaves n name files given
   keep_leaves problem sound (inl (step, over, is')) = let e : is.Done ≡ is.Budget = sym done ∙ ap (λ r. r.status) is' in absurd (cc)
   keep_leaves problem sound (inr (fits, inl (none, is'))) =

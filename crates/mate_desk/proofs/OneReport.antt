@@ -246,7 +246,8 @@ module _ (files : Files) (one other : Report) where
       (λ c x y. x.2 ∙ ap (as_played files) (one_game 0 lines (claimed_match c) x.0 y.0 x.1 y.1) ∙ sym y.2) name a b
 
   -- of a name, where it is so of each
-  once_name : (name : Option (List ℕ)) (says : List ℕ → Report → Type 0) → ((n : List ℕ) → says n one → says n other → one ≡ other) → IsSomeAnd name (λ n. says n one) → IsSomeAnd name (λ n. says n other) → one ≡ other
+  once_name : (name : Option (List ℕ)) (says : List ℕ → Report → Type 0) → ((n : List ℕ) → says n one → says n other → one ≡ other)
+      → IsSomeAnd name (λ n. says n one) → IsSomeAnd name (λ n. says n other) → one ≡ other
   once_name (Some n) says once a b = once n a b
   once_name None says once a b = absurd a
 

@@ -51,7 +51,9 @@ in_front is.File front taken rest = sym (append_assoc front taken rest)
 in_front is.Ended front taken rest = sym (append_assoc front taken rest)
 in_front is.TooMany front taken rest = sym (append_assoc front taken rest)
 
-module _ (words : List (List ℕ)) (old new : Seen) (same : new.files ≡ old.files) (n budget : ℕ) (ordered : Ordered words (Ok (Play n budget))) (held pending : List ℕ) (mid : Option (List ℕ)) (reads : ℕ) (later : old.read_faults ≤ reads) (problem : Problem) (t : TextRead (Ok problem) held old.left mid) (sound : Sound problem.position) where
+module _ (words : List (List ℕ)) (old new : Seen) (same : new.files ≡ old.files) (n budget : ℕ) (ordered : Ordered words (Ok (Play n budget)))
+    (held pending : List ℕ) (mid : Option (List ℕ)) (reads : ℕ) (later : old.read_faults ≤ reads) (problem : Problem)
+    (t : TextRead (Ok problem) held old.left mid) (sound : Sound problem.position) where
   abbrev files : Files
   files = files_of old.files
 
@@ -155,7 +157,8 @@ module _ (words : List (List ℕ)) (old new : Seen) (same : new.files ≡ old.fi
               (not_usage status reports (LacksAtFirst n problem p.bytes) NeverMisses before after (λ report right. play_status n budget problem (lines_of on) files report right) p.ends)
               takes_all;
           ends =
-              ends_as status reports (λ report. Reports words (reported_on status taken p.rest) files report) (LacksAtFirst n problem p.bytes) (MayLackMemory words taken) NeverMisses (MayMissShelf words taken) old new
+              ends_as status reports (λ report. Reports words (reported_on status taken p.rest) files report) (LacksAtFirst n problem p.bytes)
+              (MayLackMemory words taken) NeverMisses (MayMissShelf words taken) old new
               says may_lack (λ keeping never. absurd never)
               (at_files files old new (known_files old.files) (unchanged old.files new.files same) mid new.left reads new.read_faults rises status reports (LacksAtFirst n problem p.bytes) p.ends);
         }

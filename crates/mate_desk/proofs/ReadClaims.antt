@@ -1,17 +1,15 @@
 -- What is read of a file is a claim.
-use Rattle.std.proofs.Common.{◌≡◌, ◌≢◌, ◌==◌, ℕ, zero, suc, ◌≤◌, Bool, true, false, List, [], ◌∷◌, length, map, Option, Some, None, Result, Ok, Err, inl, inr, refl, sym, ◌∙◌, ap, subst, arith}
+use Rattle.std.proofs.Common.{◌≡◌, ℕ, zero, suc, ◌≤◌, Bool, true, false, List, [], ◌∷◌, length, map, Option, Some, None, Result, Ok, Err, inl, inr, refl, sym, ◌∙◌, ap, subst, arith}
 use Rattle.std.specs.Prelude.{◌&&◌, Contains, MatchOption, if◌then◌else◌, nat_le}
 use Rattle.std.specs.List.{All}
-use Rattle.std.proofs.lemmas.Bool.{and_from, and_parts, eq-eqb, leb-true}
+use Rattle.std.proofs.lemmas.Bool.{and_parts, leb-true}
 use Rattle.std.proofs.lemmas.List.Elements.{All-contains, All-nil, All-cons}
 use Rattle.auto_core.specs.Automaton.{Automaton}
 use Rattle.game_rules.specs.Game.{Position, Sound}
 use Rattle.game_rules.specs.declared.men.Side.TheVariants.{White}
-use Rattle.mate_plan.specs.Claim.{Claim, ClaimedSet, IsClaim, IsLosersPly, claimed_in}
-use Rattle.rule_formula.specs.Fits.{IsGameMask}
+use Rattle.mate_plan.specs.Claim.{Claim, ClaimedSet, IsClaim}
 use Rattle.rule_formula.specs.Mean.{mask_tracks}
-use Rattle.set_plan.proofs.Takings.{contains_cases, contains_none}
-use Rattle.strategy_file.proofs.FileClaims.{IsFound, found_in, place_in, place_of}
+use Rattle.strategy_file.proofs.FileClaims.{found_in, place_of, at_place, is_some_in}
 use Rattle.strategy_file.proofs.LosersPlies.{places_of-are}
 use Rattle.strategy_file.specs.Claims.{claim_with, set_with}
 use Rattle.strategy_file.specs.Layout.{Ends, Give, Layout, Read, Reads, Refusal, bind, each, repeated}
@@ -142,35 +140,9 @@ file_read bytes charts file =
         let P : Charts → Type 0 = λ c. IsRead c in
         subst P (sym (ends_as_given r.value charts r.at r.bytes r.goes_on)) (charts_read start r.value sound few r.given)
 
--- there is a set at each place of one
-some_by : (b : Bool) (a : Automaton) (rest : Option Automaton) → rest ≢ None → (if b then Some a else rest) ≢ None
-some_by true a rest h = λ e. cc
-some_by false a rest h = h
-
-some_at : (b : Bool) (a : Automaton) (rest : Option Automaton) → b ≡ true → (if b then Some a else rest) ≢ None
-some_at true a rest h = λ e. cc
-some_at false a rest h = absurd cc
-
-is_some_in : (sets : List ClaimedSet) (ply mask : ℕ) → Contains {X = ℕ × ℕ} (map place_of sets) (ply, mask) → claimed_in sets ply mask ≢ None
-is_some_in [] ply mask h = absurd (contains_none (ply, mask) h)
-is_some_in (s ∷ sets) ply mask h =
-    let test = (s.ply == ply) && (s.mask == mask) in
-    elim (contains_cases (place_of s) (map place_of sets) (ply, mask) h) [
-      | inl same ↦
-          some_at test s.set (claimed_in sets ply mask)
-          (and_from (s.ply == ply) (s.mask == mask) (eq-eqb s.ply ply (ap (λ p. p.0) same)) (eq-eqb s.mask mask (ap (λ p. p.1) same)))
-      | inr later ↦ some_by test s.set (claimed_in sets ply mask) (is_some_in sets ply mask later)
-    ]
-
 module _ (charts : Charts) (h : IsRead charts) where
   abbrev c : Claim
   c = claim_with charts
-
-  at_place : (ply mask : ℕ) (a : Automaton) → IsFound c.sets ply mask a → IsLosersPly c.winner c.position c.moves ply × IsGameMask c.position mask
-  at_place ply mask a f =
-      let there = subst (λ ps. Contains ps (place_of f.claimed)) h.places_are (place_in c.sets f.claimed f.has) in
-      let both = (places_of-are c.winner c.position c.moves f.claimed.ply f.claimed.mask).0 there in
-      (subst (IsLosersPly c.winner c.position c.moves) f.ply_is both.0, subst (IsGameMask c.position) f.mask_is both.1)
 
   charts_claim : IsClaim c
   charts_claim = record {
@@ -178,7 +150,7 @@ module _ (charts : Charts) (h : IsRead charts) where
     few = let most = h.few in omega (arith, most);
     found = λ ply mask losers game.
         is_some_in c.sets ply mask (subst (λ (ps : List (ℕ × ℕ)). Contains {X = ℕ × ℕ} ps (ply, mask)) (sym h.places_are) ((places_of-are c.winner c.position c.moves ply mask).1 (losers, game)));
-    only = λ ply mask a is. at_place ply mask a (found_in c.sets ply mask a is);
+    only = λ ply mask a is. at_place c h.places_are ply mask a (found_in c.sets ply mask a is);
     tracks = λ ply mask a is.
         let f = found_in c.sets ply mask a is in
         let own = All-contains (IsOver c.position) c.sets f.claimed h.over f.has in

@@ -41,7 +41,7 @@ use Rattle.desk_text.specs.declared.text.LineWhy.TheVariants.{Missing}
 use Rattle.desk_text.specs.declared.text.TextEnd.{TextEnd}
 use Rattle.desk_text.specs.declared.text.TextEnd.TheVariants.{Fault, Refused}
 use Rattle.mate_desk.proofs.Statuses.{IsOfText, arith_status, keep_status, not_usage, order_status, resume_status}
-use Rattle.desk_games.proofs.Shelves.{files_of, known_files}
+use Rattle.desk_games.proofs.Shelves.{files_of, known_files, same_kept}
 use Rattle.desk_text.proofs.TextSteps.{known_rest}
 use Rattle.desk_report.proofs.Writing.{at_files, at_sink, ends_as, no_read_fault, on_all, unchanged, with_source}
 
@@ -49,12 +49,9 @@ left_files : (told : Option Files) → Go told told (λ before after. after ≡ 
 left_files None = tt
 left_files (Some files) = refl
 
-same_files : (told : Option Files) → Go told told (λ before after. after ≡ before)
-same_files None = tt
-same_files (Some files) = refl
-
 -- where the text is refused, each order of a text has that refusal
-refused_order : (order : Order) → IsOfText order → (words : List (List ℕ)) (bytes : List ℕ) (files : Files) (number : ℕ) (why : LineWhy) → TextAt bytes (refused number why) → ReportsOrder order words bytes files (refusal_as files is.Text (refusal_line number why) (is_end why))
+refused_order : (order : Order) → IsOfText order → (words : List (List ℕ)) (bytes : List ℕ) (files : Files) (number : ℕ) (why : LineWhy)
+    → TextAt bytes (refused number why) → ReportsOrder order words bytes files (refusal_as files is.Text (refusal_line number why) (is_end why))
 refused_order (Decide n budget) of words bytes files number why at = (refused number why, at, refl)
 refused_order (Least limit budget) of words bytes files number why at = (refused number why, at, refl)
 refused_order (First n budget) of words bytes files number why at = (refused number why, at, refl)
@@ -86,7 +83,8 @@ takes_nothing words files is.Ended = ([], no_lines (IsLineDue words files))
 takes_nothing words files is.TooMany = ([], no_lines (IsLineDue words files))
 
 -- words that are an order take the lines that are due
-pub takes_lines : (words : List (List ℕ)) (files : Files) (status : Status) (taken pending : List ℕ) → status ≢ is.Usage → TakesLines (IsLineDue words files) taken pending → Takes words files status taken
+pub takes_lines : (words : List (List ℕ)) (files : Files) (status : Status) (taken pending : List ℕ) → status ≢ is.Usage
+    → TakesLines (IsLineDue words files) taken pending → Takes words files status taken
 takes_lines words files is.Usage taken pending not t = absurd (not refl)
 takes_lines words files is.Done taken pending not t = (pending, t)
 takes_lines words files is.Text taken pending not t = (pending, t)
@@ -102,7 +100,8 @@ takes_lines words files is.Ended taken pending not t = (pending, t)
 takes_lines words files is.TooMany taken pending not t = (pending, t)
 
 -- so a run of an order ends whose source has not failed
-pub run_ends : (words : List (List ℕ)) (status : Status) (old new : Seen) (given : Given old new) (pending : List ℕ) → TakesLines (IsLineDue words given.files) given.taken pending → status ≢ is.Usage → status ≢ is.ReadFault
+pub run_ends : (words : List (List ℕ)) (status : Status) (old new : Seen) (given : Given old new) (pending : List ℕ)
+    → TakesLines (IsLineDue words given.files) given.taken pending → status ≢ is.Usage → status ≢ is.ReadFault
     → Ends status (λ report. Reports words (given.taken ++ given.rest) given.files report) (MayLackMemory words given.taken) (MayMissShelf words given.taken) old new → RunEnds words status old new
 run_ends words status old new given pending takes no_usage no_fault ends =
     let P : List ℕ → Type 0 = λ b. Ends status (λ report. Reports words b given.files report) (MayLackMemory words given.taken) (MayMissShelf words given.taken) old new in
@@ -117,7 +116,7 @@ module _ (words : List (List ℕ)) (old new : Seen) (same : new.files ≡ old.fi
   leaves = let P : Option Files → Type 0 = λ f. Go old.files f (λ before after. after ≡ files_of old.files) in subst P (sym same) (left_files old.files)
 
   keeps : KeepsFiles old new
-  keeps = let P : Option Files → Type 0 = λ f. Go old.files f (λ before after. after ≡ before) in subst P (sym same) (same_files old.files)
+  keeps = let P : Option Files → Type 0 = λ f. Go old.files f (λ before after. after ≡ before) in subst P (sym same) (same_kept old.files)
 
   -- nothing was taken
   abbrev given_nothing : new.left ≡ old.left → Given old new
@@ -179,7 +178,8 @@ module _ (words : List (List ℕ)) (old new : Seen) (same : new.files ≡ old.fi
       few = t.few;
     }
 
-    pub refused_ends : (number : ℕ) (why : LineWhy) → TextRead (Err (Refused number why)) pending old.left new.left → Writes [] (refusal_line number why) old.written new.written (WriteFailed old new) → RunEnds words is.Text old new
+    pub refused_ends : (number : ℕ) (why : LineWhy) → TextRead (Err (Refused number why)) pending old.left new.left
+        → Writes [] (refusal_line number why) old.written new.written (WriteFailed old new) → RunEnds words is.Text old new
     refused_ends number why t wrote =
         let P : List ℕ → Type 0 = λ b. TextAt (b ++ t.rest) (refused number why) in
         record {
@@ -193,7 +193,8 @@ module _ (words : List (List ℕ)) (old new : Seen) (same : new.files ≡ old.fi
         }
 
     -- the source has failed within the text
-    pub fault_ends : TextRead (Err Fault) pending old.left new.left → HasRisen old.read_faults new.read_faults → Writes [] (codes "read fault\n") old.written new.written (WriteFailed old new) → RunEnds words is.ReadFault old new
+    pub fault_ends : TextRead (Err Fault) pending old.left new.left → HasRisen old.read_faults new.read_faults
+        → Writes [] (codes "read fault\n") old.written new.written (WriteFailed old new) → RunEnds words is.ReadFault old new
     fault_ends t failed wrote =
         let short : IsShort t.bytes = subst IsShort (sym t.takes.bytes) t.reads in
         record {
@@ -215,7 +216,8 @@ module _ (words : List (List ℕ)) (old new : Seen) (same : new.files ≡ old.fi
           sym (append_assoc (text_of_lines t.takes.lines) pending t.rest) ∙ ap (λ b. b ++ t.rest) (sym t.takes.bytes) in
           subst P same (t.reads (pending ++ t.rest))
 
-      pub of_problem : (says : Problem → Lines → Report → Type 0) → Sound problem.position → (report : Report) → says problem (lines_of (pending ++ t.rest)) report → OfText says files (t.bytes ++ t.rest) report
+      pub of_problem : (says : Problem → Lines → Report → Type 0) → Sound problem.position → (report : Report)
+          → says problem (lines_of (pending ++ t.rest)) report → OfText says files (t.bytes ++ t.rest) report
       of_problem says sound report right = (whole problem (lines_of (pending ++ t.rest)), is_whole, inr (sound, right))
 
       pub behind_text : (Holds : Problem → Type 0) → Sound problem.position → Holds problem → IsBehindText Holds t.bytes
@@ -232,7 +234,8 @@ module _ (words : List (List ℕ)) (old new : Seen) (same : new.files ≡ old.fi
             few = t.takes.few;
           }
 
-      unsound_order : (x : Order) → IsOfText x → (why : Unsound) → IsFirstUnsoundness problem.position why → ReportsOrder x words (t.bytes ++ t.rest) files (refusal_as files is.Unsound (unsound_line why) false)
+      unsound_order : (x : Order) → IsOfText x → (why : Unsound) → IsFirstUnsoundness problem.position why
+          → ReportsOrder x words (t.bytes ++ t.rest) files (refusal_as files is.Unsound (unsound_line why) false)
       unsound_order (Decide n budget) of_text why fault = (whole problem (lines_of (pending ++ t.rest)), is_whole, inl (why, fault, refl))
       unsound_order (Least limit budget) of_text why fault = (whole problem (lines_of (pending ++ t.rest)), is_whole, inl (why, fault, refl))
       unsound_order (First n budget) of_text why fault = (whole problem (lines_of (pending ++ t.rest)), is_whole, inl (why, fault, refl))
@@ -256,7 +259,8 @@ module _ (words : List (List ℕ)) (old new : Seen) (same : new.files ≡ old.fi
       }
 
       -- the run ends as its command does, which has the sink alone
-      pub command_ends : (status : Status) (reports : Report → Type 0) (may_lack : Type 0) → ((report : Report) → reports report → ReportsOrder order words (t.bytes ++ t.rest) files report) → (may_lack → OrderMayLack order t.bytes)
+      pub command_ends : (status : Status) (reports : Report → Type 0) (may_lack : Type 0)
+          → ((report : Report) → reports report → ReportsOrder order words (t.bytes ++ t.rest) files report) → (may_lack → OrderMayLack order t.bytes)
           → Ends status reports may_lack NeverMisses (of_sink files old.written old.write_faults) (of_sink files new.written new.write_faults) → RunEnds words status old new
       command_ends status reports may_lack says lacks ends =
           run_ends words status old new (given_text (Ok problem) t) pending (lines_due t.bytes t.takes)
@@ -268,7 +272,8 @@ module _ (words : List (List ℕ)) (old new : Seen) (same : new.files ≡ old.fi
           (at_sink files old new (known_files old.files) (unchanged old.files new.files same) status reports may_lack ends))
 
 -- so it is with each command
-module _ (words : List (List ℕ)) (old new : Seen) (same : new.files ≡ old.files) (pending : List ℕ) (problem : Problem) (t : TextRead (Ok problem) pending old.left new.left) (sound : Sound problem.position) (status : Status) where
+module _ (words : List (List ℕ)) (old new : Seen) (same : new.files ≡ old.files) (pending : List ℕ) (problem : Problem)
+    (t : TextRead (Ok problem) pending old.left new.left) (sound : Sound problem.position) (status : Status) where
   abbrev EndsWithSink : (Files → Report → Type 0) → Type 0 → Type 0
   EndsWithSink reports may_lack = (files : Files) → Ends status (reports files) may_lack NeverMisses (of_sink files old.written old.write_faults) (of_sink files new.written new.write_faults)
 
@@ -393,10 +398,12 @@ module _ (words : List (List ℕ)) (old new : Seen) (status : Status) where
         given = record { taken = p.bytes; rest = p.rest; files = files; consumed = p.taken; left = p.left; kept = kept };
         takes =
             takes_lines words files status p.bytes pending
-            (not_usage status (ResumeReports budget (lines_of all) name files) (p.bytes ≡ []) (MissesFetch p.bytes) old new (λ report right. resume_status budget (lines_of all) name files report right) p.ends)
+            (not_usage status (ResumeReports budget (lines_of all) name files) (p.bytes ≡ []) (MissesFetch p.bytes) old new
+            (λ report right. resume_status budget (lines_of all) name files report right) p.ends)
             lines;
         ends =
-            ends_as status (ResumeReports budget (lines_of all) name files) (λ report. Reports words all files report) (p.bytes ≡ []) (MayLackMemory words p.bytes) (MissesFetch p.bytes) (MayMissShelf words p.bytes) old new
+            ends_as status (ResumeReports budget (lines_of all) name files) (λ report. Reports words all files report) (p.bytes ≡ [])
+            (MayLackMemory words p.bytes) (MissesFetch p.bytes) (MayMissShelf words p.bytes) old new
             (λ report right. says all report right) (λ none. (order, ordered, none)) (λ keeping miss. (order, ordered, miss)) p.ends;
       }
 
@@ -441,5 +448,6 @@ module _ (words : List (List ℕ)) (old new : Seen) (status : Status) (budget : 
         ends =
             ends_as status reports (λ report. Reports words all files report) (IsBehindLine p.bytes) (MayLackMemory words p.bytes) NeverMisses (MayMissShelf words p.bytes) old new
             (λ report right. (Ok order, ordered, right)) (λ lack. (order, ordered, lack)) (λ keeping never. absurd never)
-            (at_files files old new (known_files old.files) (unchanged old.files new.files same) old.left new.left old.read_faults new.read_faults (λ risen. risen) status reports (IsBehindLine p.bytes) p.ends);
+            (at_files files old new (known_files old.files) (unchanged old.files new.files same) old.left new.left old.read_faults new.read_faults
+            (λ risen. risen) status reports (IsBehindLine p.bytes) p.ends);
       }

@@ -110,7 +110,8 @@ resume_status budget lines name files report =
     file_status (GameReports lines files) budget files report (λ c game. other_status report _ game.2 (ending_status game.0.ending)) name
 
 -- what is said of a name has none where it has none of each name
-name_status : (name : Option (List ℕ)) (says : List ℕ → Report → Type 0) (report : Report) → ((n : List ℕ) → says n report → IsNotUsage report) → IsSomeAnd name (λ n. says n report) → IsNotUsage report
+name_status : (name : Option (List ℕ)) (says : List ℕ → Report → Type 0) (report : Report) → ((n : List ℕ) → says n report → IsNotUsage report)
+    → IsSomeAnd name (λ n. says n report) → IsNotUsage report
 name_status (Some n) says report not right = not n right
 name_status None says report not none = absurd none
 
@@ -174,7 +175,8 @@ order_status Show words bytes files report =
 order_status (Drill seed count) words bytes files report = drill_status seed count files report
 order_status (Arith budget) words bytes files report = arith_status budget (lines_of bytes) files report
 
-pub words_status : (words : List (List ℕ)) (files : Files) (answer : Result Order UsageWhy) (bytes : List ℕ) (report : Report) → Ordered words answer → ReportsWords answer words bytes files report → report.status ≡ is.Usage → (why : UsageWhy) × Ordered words (Err why)
+pub words_status : (words : List (List ℕ)) (files : Files) (answer : Result Order UsageWhy) (bytes : List ℕ) (report : Report) → Ordered words answer
+    → ReportsWords answer words bytes files report → report.status ≡ is.Usage → (why : UsageWhy) × Ordered words (Err why)
 words_status words files (Err why) bytes report ordered reports same = (why, ordered)
 words_status words files (Ok order) bytes report ordered reports same = absurd (order_status order words bytes files report reports same)
 
@@ -212,7 +214,8 @@ no_shelfless words order ordered uses answer also none =
     uses (subst P (once_words answer (Ok order) words also ordered) none)
 
 -- of words that are no order one thing is reported
-usage_reported : (words : List (List ℕ)) (files : Files) (bytes : List ℕ) (report : Report) (why : UsageWhy) → Ordered words (Err why) → Reports words bytes files report → report ≡ refusal_as files is.Usage (usage_line why) false
+usage_reported : (words : List (List ℕ)) (files : Files) (bytes : List ℕ) (report : Report) (why : UsageWhy) → Ordered words (Err why)
+    → Reports words bytes files report → report ≡ refusal_as files is.Usage (usage_line why) false
 usage_reported words files bytes report why none reports =
     let P : Result Order UsageWhy → Type 0 = λ r. ReportsWords r words bytes files report in
     subst P (once_words reports.0 (Err why) words reports.1 none) reports.2

@@ -35,20 +35,23 @@ use Rattle.desk_text.specs.declared.problem.Problem.{Problem}
 use Rattle.desk_report.specs.declared.status.Status.{Status}
 use Rattle.desk_report.specs.declared.status.Status.TheVariants as is
 
--- What `decide` wrote behind the bytes `old`: one of the two lines, the one exactly where White mates within n moves of his own, and the
+-- What `decide` wrote behind the bytes `old`: one of the two lines, the one exactly where White mates within n moves of
+-- his own, and the
 -- other exactly where he does not.
 pub record WritesVerdict (n : ℕ) (p : Position) (old new : List ℕ) : Type 0 where
   pub one : (new ≡ old ++ mate_line n) ⊎ (new ≡ old ++ no_mate_line n)
   pub mate : (new ≡ old ++ mate_line n) ↔ Value White n p
   pub no_mate : (new ≡ old ++ no_mate_line n) ↔ (¬ Value White n p)
 
--- What `least` wrote behind the bytes `old`: the least number of moves up to the limit within which White mates, or that there is none.
+-- What `least` wrote behind the bytes `old`: the least number of moves up to the limit within which White mates, or
+-- that there is none.
 pub record WritesLeast (limit : ℕ) (p : Position) (old new : List ℕ) : Type 0 where
   pub found : Option ℕ
   pub least : Least White p limit found
   pub written : new ≡ old ++ least_line limit found
 
--- A run that is done has the text of the sound position at the front of its source, and a sink that tells what was written.
+-- A run that is done has the text of the sound position at the front of its source, and a sink that tells what was
+-- written.
 pub record HasRun (words : List (List ℕ)) (order : Order) (p : Position) (old new : Seen) (out : List ℕ) : Type 0 where
   pub behind : List ℕ
   pub ordered : Ordered words (Ok order)
@@ -114,9 +117,11 @@ NoShelfFault =
 
 -- the statuses of a fault come only where its count has risen
 pub record FaultsAreCounted : Type 0 where
-  pub read : (words : List (List ℕ)) (old new : Seen) → RunEnds words is.ReadFault old new → HasRisen old.read_faults new.read_faults
+  pub read : (words : List (List ℕ)) (old new : Seen) → RunEnds words is.ReadFault old new
+      → HasRisen old.read_faults new.read_faults
   pub write : (words : List (List ℕ)) (old new : Seen) → RunEnds words is.WriteFault old new → WriteFailed old new
-  pub shelf : (words : List (List ℕ)) (old new : Seen) → RunEnds words is.ShelfFault old new → HasRisen old.shelf_faults new.shelf_faults
+  pub shelf : (words : List (List ℕ)) (old new : Seen) → RunEnds words is.ShelfFault old new
+      → HasRisen old.shelf_faults new.shelf_faults
 
 -- two reports of one input are equal
 abbrev pub OneReport : Type 0
@@ -129,46 +134,53 @@ OneReport =
 -- each report of `decide` on the text of a sound position is exact
 abbrev pub DecidesExactly : Type 0
 DecidesExactly =
-    (words : List (List ℕ)) (bytes : List ℕ) (files : Files) (n budget : ℕ) (problem : Problem) (rest : Lines) (report : Report)
+    (words : List (List ℕ)) (bytes : List ℕ) (files : Files) (n budget : ℕ) (problem : Problem) (rest : Lines)
+    (report : Report)
     → Ordered words (Ok (orders.Decide n budget))
     → TextAt bytes (whole problem rest)
     → Sound problem.position
     → Reports words bytes files report
     → IsExact n budget problem report
 
--- After the winner's move of this number, counted from 0, of a game that began with the problem: legal moves have led to the position, and the
+-- After the winner's move of this number, counted from 0, of a game that began with the problem: legal moves have led
+-- to the position, and the
 -- winner still mates within the moves that he has left.
 pub record IsKeptGame (n : ℕ) (problem : Problem) (number : ℕ) (after : Match) : Type 0 where
   pub reached : Reach problem.position after.ply after.position
   pub value : Value problem.winner (n - (number + 1)) after.position
 
--- What `play` reports of a sound position: the first step that exceeds the budget, or that the winner does not mate within n moves of his own,
+-- What `play` reports of a sound position: the first step that exceeds the budget, or that the winner does not mate
+-- within n moves of his own,
 -- or, where he does, the game with the lines behind the text, in which each of his moves is legal and keeps the count.
 abbrev pub PlaysGame : ℕ → ℕ → Problem → Lines → Files → Report → Type 0
 PlaysGame n budget problem lines files report =
     ((step : StepName) × ExceedsAt problem budget n step × (report ≡ over_budget files step))
     ⊎ (((Value problem.winner n problem.position → ⊥) × (report ≡ done_with files (no_mate_line n)))
     ⊎ (Value problem.winner n problem.position
-    × ((played : game.Report) × IsReport problem.lines lines (first_match n problem) played × (report ≡ as_played files played)
+    × ((played : game.Report) × IsReport problem.lines lines (first_match n problem) played
+    × (report ≡ as_played files played)
     × ((number : ℕ) (after : Match) → slice_get played.games number ≡ Some after → IsKeptGame n problem number after))))
 
 -- each report of `play` on the text of a sound position
 abbrev pub PlayKeeps : Type 0
 PlayKeeps =
-    (words : List (List ℕ)) (bytes : List ℕ) (files : Files) (n budget : ℕ) (problem : Problem) (rest : Lines) (report : Report)
+    (words : List (List ℕ)) (bytes : List ℕ) (files : Files) (n budget : ℕ) (problem : Problem) (rest : Lines)
+    (report : Report)
     → Ordered words (Ok (orders.Play n budget))
     → TextAt bytes (whole problem rest)
     → Sound problem.position
     → Reports words bytes files report
     → PlaysGame n budget problem rest files report
 
--- After the winner's move of this number, counted from 0, of a game that began with the claim: legal moves have led to the position, and the loser
+-- After the winner's move of this number, counted from 0, of a game that began with the claim: legal moves have led to
+-- the position, and the loser
 -- is mated within the moves that the winner has left.
 pub record IsLostGame (c : Claim) (number : ℕ) (after : Match) : Type 0 where
   pub reached : Reach c.position after.ply after.position
   pub lost : Lost c.winner (c.moves - (number + 1)) after.position
 
--- What `resume` reports of the claim of a file that keeps all rules: its winner mates within its moves, and in the game with the lines each of his
+-- What `resume` reports of the claim of a file that keeps all rules: its winner mates within its moves, and in the game
+-- with the lines each of his
 -- moves is legal and keeps the count.
 abbrev pub ResumesGame : Lines → Files → Claim → Report → Type 0
 ResumesGame lines files c report =
@@ -185,8 +197,10 @@ ResumeKeeps =
     → Reports words bytes files report
     → OfFile (ResumesGame (lines_of bytes) files) budget name files report
 
--- A run of `keep` is done and wrote that White mates within n moves of his own. Its sink and its shelf tell; the files are these then.
-pub record HasKept (words : List (List ℕ)) (n budget : ℕ) (name : List ℕ) (files : Files) (old new : Seen) : Type 0 where
+-- A run of `keep` is done and wrote that White mates within n moves of his own. Its sink and its shelf tell; the files
+-- are these then.
+pub record HasKept (words : List (List ℕ)) (n budget : ℕ) (name : List ℕ) (files : Files) (old new : Seen) : Type
+    0 where
   pub ordered : Ordered words (Ok (orders.Keep n budget))
   pub named : name_in (orders.Keep n budget) words ≡ Some name
   pub ends : RunEnds words is.Done old new
@@ -197,10 +211,12 @@ pub record HasKept (words : List (List ℕ)) (n budget : ℕ) (name : List ℕ) 
   pub files_before : old.files ≡ Some before
   pub files_after : new.files ≡ Some files
 
--- After that each report of `check` of the name is that the claim mates within n moves, or names the first step that exceeds its budget.
+-- After that each report of `check` of the name is that the claim mates within n moves, or names the first step that
+-- exceeds its budget.
 abbrev pub CheckedAfterKeep : Type 0
 CheckedAfterKeep =
-    (words later : List (List ℕ)) (n budget other : ℕ) (name : List ℕ) (files : Files) (old new : Seen) (bytes : List ℕ) (report : Report)
+    (words later : List (List ℕ)) (n budget other : ℕ) (name : List ℕ) (files : Files) (old new : Seen) (bytes : List ℕ)
+    (report : Report)
     → HasKept words n budget name files old new
     → Ordered later (Ok (orders.Check other))
     → name_in (orders.Check other) later ≡ Some name
@@ -216,7 +232,8 @@ ReportsAnswer budget f files report =
 -- each report of `arith` on a line that is a formula, whatever comes behind it
 abbrev pub AnswersExactly : Type 0
 AnswersExactly =
-    (words : List (List ℕ)) (bytes : List ℕ) (files : Files) (budget : ℕ) (line : List ℕ) (rest : Lines) (f : Tree) (report : Report)
+    (words : List (List ℕ)) (bytes : List ℕ) (files : Files) (budget : ℕ) (line : List ℕ) (rest : Lines) (f : Tree)
+    (report : Report)
     → Ordered words (Ok (orders.Arith budget))
     → lines_of bytes ≡ full line rest
     → IsFormulaLine line f

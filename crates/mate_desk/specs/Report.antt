@@ -33,9 +33,11 @@ OfSound reports files p report =
     ((why : Unsound) × IsFirstUnsoundness p why × (report ≡ refusal_as files is.Unsound (unsound_line why) false))
     ⊎ (Sound p × reports report)
 
--- the report on a text is that it is refused, or else what `reports` says of the problem, where it is sound, and of the lines behind it
+-- the report on a text is that it is refused, or else what `reports` says of the problem, where it is sound, and of the
+-- lines behind it
 abbrev pub OfRead : (Problem → Lines → Report → Type 0) → Files → Text → Report → Type 0
-OfRead reports files (refused number why) report = report ≡ refusal_as files is.Text (refusal_line number why) (is_end why)
+OfRead reports files (refused number why) report =
+    report ≡ refusal_as files is.Text (refusal_line number why) (is_end why)
 OfRead reports files (whole problem rest) report = OfSound (reports problem rest) files problem.position report
 
 -- the report on the text at the front of these bytes
@@ -46,15 +48,22 @@ OfText reports files bytes report = (text : Text) × TextAt bytes text × OfRead
 abbrev pub OfName : Order → (words : List (List ℕ)) → ((name : List ℕ) → Report → Type 0) → Report → Type 0
 OfName order words reports report = IsSomeAnd (name_in order words) (λ name. reports name report)
 
--- What is reported of an order: the words that it is, the bytes of the input, and the files. Each order has a line of its own.
+-- What is reported of an order: the words that it is, the bytes of the input, and the files. Each order has a line of
+-- its own.
 abbrev pub ReportsOrder : Order → (words : List (List ℕ)) → List ℕ → Files → Report → Type 0
-ReportsOrder (orders.Decide n budget) words bytes files = OfText (λ problem rest. DecideReports n budget problem files) files bytes
-ReportsOrder (orders.Least limit budget) words bytes files = OfText (λ problem rest. LeastReports limit budget problem files) files bytes
-ReportsOrder (orders.First n budget) words bytes files = OfText (λ problem rest. FirstReports n budget problem files) files bytes
-ReportsOrder (orders.Play n budget) words bytes files = OfText (λ problem rest. PlayReports n budget problem rest files) files bytes
+ReportsOrder (orders.Decide n budget) words bytes files =
+    OfText (λ problem rest. DecideReports n budget problem files) files bytes
+ReportsOrder (orders.Least limit budget) words bytes files =
+    OfText (λ problem rest. LeastReports limit budget problem files) files bytes
+ReportsOrder (orders.First n budget) words bytes files =
+    OfText (λ problem rest. FirstReports n budget problem files) files bytes
+ReportsOrder (orders.Play n budget) words bytes files =
+    OfText (λ problem rest. PlayReports n budget problem rest files) files bytes
 ReportsOrder (orders.Keep n budget) words bytes files =
-    OfText (λ problem rest. OfName (orders.Keep n budget) words (λ name. KeepReports n budget problem name files)) files bytes
-ReportsOrder (orders.Check budget) words bytes files = OfName (orders.Check budget) words (λ name. CheckReports budget name files)
+    OfText (λ problem rest. OfName (orders.Keep n budget) words (λ name. KeepReports n budget problem name files)) files
+    bytes
+ReportsOrder (orders.Check budget) words bytes files =
+    OfName (orders.Check budget) words (λ name. CheckReports budget name files)
 ReportsOrder (orders.Resume budget) words bytes files =
     OfName (orders.Resume budget) words (λ name. ResumeReports budget (lines_of bytes) name files)
 ReportsOrder orders.Show words bytes files = OfText (λ problem rest. ShowReports problem.position files) files bytes
@@ -67,7 +76,8 @@ ReportsWords (Ok order) words bytes files report = ReportsOrder order words byte
 
 -- What is reported of words, the bytes of an input, and files.
 abbrev pub Reports : List (List ℕ) → List ℕ → Files → Report → Type 0
-Reports words bytes files report = (answer : Result Order UsageWhy) × Ordered words answer × ReportsWords answer words bytes files report
+Reports words bytes files report =
+    (answer : Result Order UsageWhy) × Ordered words answer × ReportsWords answer words bytes files report
 
 -- what the order asks for takes memory, of the problem of a text or of one that follows from a seed
 abbrev pub TakesMemory : Order → Problem → Type 0
@@ -110,12 +120,15 @@ OrderMayLack (orders.Arith budget) taken = IsBehindLine taken
 abbrev pub MayLackMemory : List (List ℕ) → (taken : List ℕ) → Type 0
 MayLackMemory words taken = (order : Order) × Ordered words (Ok order) × OrderMayLack order taken
 
--- where the shelf may fail while it keeps a file: the words name it, and there is a file to keep of the text that was taken
-pub record MayMissKeep (n budget : ℕ) (words : List (List ℕ)) (taken : List ℕ) (keeping : Option (List ℕ)) : Type 0 where
+-- where the shelf may fail while it keeps a file: the words name it, and there is a file to keep of the text that was
+-- taken
+pub record MayMissKeep (n budget : ℕ) (words : List (List ℕ)) (taken : List ℕ) (keeping : Option (List ℕ)) : Type
+    0 where
   pub named : keeping ≡ name_in (orders.Keep n budget) words
   pub text : IsBehindText (HasFileToKeep n budget) taken
 
--- where the shelf may fail while the file of this name, or none, is being kept, by the order, its words and the bytes that were taken
+-- where the shelf may fail while the file of this name, or none, is being kept, by the order, its words and the bytes
+-- that were taken
 abbrev pub OrderMayMiss : Order → (words : List (List ℕ)) → (taken : List ℕ) → (keeping : Option (List ℕ)) → Type 0
 OrderMayMiss (orders.Decide n budget) words taken = NeverMisses
 OrderMayMiss (orders.Least limit budget) words taken = NeverMisses

@@ -9,7 +9,8 @@ use Rattle.mate_desk.specs.Report.{Reports, MayLackMemory, MayMissShelf}
 use Rattle.desk_report.specs.declared.status.Status.{Status}
 use Rattle.desk_report.specs.declared.status.Status.TheVariants as is
 
--- What a run was given: the bytes that it took of its source, those behind them, and the files. They are what the ports tell, where they
+-- What a run was given: the bytes that it took of its source, those behind them, and the files. They are what the ports
+-- tell, where they
 -- tell.
 pub record Given (old new : Seen) : Type 0 where
   pub taken : List ℕ
@@ -21,7 +22,8 @@ pub record Given (old new : Seen) : Type 0 where
 
 -- a line is due behind these: the report on them ends because they end
 abbrev pub IsLineDue : List (List ℕ) → Files → (before : List (List ℕ)) → Type 0
-IsLineDue words files before = (report : Report) × Reports words (text_of_lines before) files report × IsTrue report.short
+IsLineDue words files before =
+    (report : Report) × Reports words (text_of_lines before) files report × IsTrue report.short
 
 -- what a run with this status takes: nothing where the words are no order, and else the lines that it reads
 abbrev pub Takes : List (List ℕ) → Files → Status → List ℕ → Type 0

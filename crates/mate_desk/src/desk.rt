@@ -36,14 +36,18 @@ pub fn run<S: Source, K: Sink, H: Shelf>(
     shelf: &mut H,
 ) -> Status
     ensures ends { RunEnds (map string_bytes words.now.items) result
-        (seen_of (S.left source.old) (K.written sink.old) (H.files shelf.old) (S.faults source.old) (K.faults sink.old) (H.faults shelf.old))
-        (seen_of (S.left source.new) (K.written sink.new) (H.files shelf.new) (S.faults source.new) (K.faults sink.new) (H.faults shelf.new)) }
+        (seen_of (S.left source.old) (K.written sink.old) (H.files shelf.old) (S.faults source.old) (K.faults sink.old)
+        (H.faults shelf.old))
+        (seen_of (S.left source.new) (K.written sink.new) (H.files shelf.new) (S.faults source.new) (K.faults sink.new)
+        (H.faults shelf.new)) }
     // Where the words are no order, nothing is read.
     ensures nothing_read { result ≡ Status.Usage → source.new ≡ source.old }
     // Nor where they are an order of no text and of no lines.
-    ensures no_text_read { (order : Order) → Ordered (map string_bytes words.now.items) (Ok order) → ReadsNoText order → source.new ≡ source.old }
+    ensures no_text_read { (order : Order) → Ordered (map string_bytes words.now.items) (Ok order) → ReadsNoText order
+        → source.new ≡ source.old }
     // Where they are none, or one that uses no file, the shelf is not called.
-    ensures shelf_untouched { (answer : Result Order UsageWhy) → Ordered (map string_bytes words.now.items) answer → IfOk answer UsesNoShelf → shelf.new ≡ shelf.old }
+    ensures shelf_untouched { (answer : Result Order UsageWhy) → Ordered (map string_bytes words.now.items) answer
+        → IfOk answer UsesNoShelf → shelf.new ≡ shelf.old }
 {
     let order = match order_of(words) {
         Ok(order) => order,
@@ -102,8 +106,10 @@ fn answer<S: Source, K: Sink, H: Shelf>(
 ) -> Status
     requires { IsWithinLimits (as_order order) }
     ensures ends { (words : List (List ℕ)) → IsOrderOf order.entry words → RunEnds words result
-        (seen_of (S.left source.old) (K.written sink.old) (H.files shelf.old) (S.faults source.old) (K.faults sink.old) (H.faults shelf.old))
-        (seen_of (S.left source.new) (K.written sink.new) (H.files shelf.new) (S.faults source.new) (K.faults sink.new) (H.faults shelf.new)) }
+        (seen_of (S.left source.old) (K.written sink.old) (H.files shelf.old) (S.faults source.old) (K.faults sink.old)
+        (H.faults shelf.old))
+        (seen_of (S.left source.new) (K.written sink.new) (H.files shelf.new) (S.faults source.new) (K.faults sink.new)
+        (H.faults shelf.new)) }
     ensures no_usage { result ≢ Status.Usage }
     ensures shelf_untouched { UsesNoShelf (as_order order.entry) → shelf.new ≡ shelf.old }
 {

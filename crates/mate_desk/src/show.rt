@@ -20,7 +20,8 @@ pub fn show<K: Sink>(alloc: Global, p: &Position, sink: &mut K) -> Status
     requires few { length p.now.men ≤ 5 }
     ensures ends { (files : Files) →
         Ends result (ShowReports p.now files) (Unit {0}) NeverMisses
-        (of_sink files (K.written sink.old) (K.faults sink.old)) (of_sink files (K.written sink.new) (K.faults sink.new)) }
+        (of_sink files (K.written sink.old) (K.faults sink.old))
+        (of_sink files (K.written sink.new) (K.faults sink.new)) }
 {
     match shown(alloc, p) {
         Ok(text) => print(sink, text.as_slice()),

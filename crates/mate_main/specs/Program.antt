@@ -8,7 +8,8 @@ use Rattle.desk_report.specs.declared.status.Status.TheVariants as is
 use Rattle.mate_main.specs.declared.program.WordsError.{WordsError}
 use Rattle.mate_main.specs.declared.program.WordsError.TheVariants.{Memory, Untold}
 
--- Where there is no memory for the words nothing is written. Where they are no text, they are refused as an unknown command is.
+-- Where there is no memory for the words nothing is written. Where they are no text, they are refused as an unknown
+-- command is.
 abbrev pub RefusesWords : WordsError → Status → (old new : Option (List ℕ)) → (failed : Type 0) → Type 0
 RefusesWords Memory status old new failed = (status ≡ is.Memory) × (new ≡ old)
 RefusesWords Untold status old new failed = (status ≡ is.Usage) × Writes [] (usage_line usage.Unknown) old new failed

@@ -31,9 +31,14 @@ pub fn perform<S: Source, K: Sink, H: Shelf>(
     shelf: &mut H,
     alloc: Global,
 ) -> Status
-    ensures { let old = seen_of (S.left source.old) (K.written sink.old) (H.files shelf.old) (S.faults source.old) (K.faults sink.old) (H.faults shelf.old) in
-        let new = seen_of (S.left source.new) (K.written sink.new) (H.files shelf.new) (S.faults source.new) (K.faults sink.new) (H.faults shelf.new) in
-        MatchResult words (λ given. RunEnds (map string_bytes given.items) result old new) (λ why. EndsWithoutWords why result old new) }
+    ensures { let old =
+        seen_of (S.left source.old) (K.written sink.old) (H.files shelf.old) (S.faults source.old) (K.faults sink.old)
+        (H.faults shelf.old) in
+        let new =
+        seen_of (S.left source.new) (K.written sink.new) (H.files shelf.new) (S.faults source.new)
+        (K.faults sink.new) (H.faults shelf.new) in
+        MatchResult words (λ given. RunEnds (map string_bytes given.items) result old new)
+        (λ why. EndsWithoutWords why result old new) }
 {
     match words {
         Ok(words) => run(alloc, &words, source, sink, shelf),
@@ -43,7 +48,8 @@ pub fn perform<S: Source, K: Sink, H: Shelf>(
 
 /// Writes that there are no words, where memory is not what is wanting.
 fn refuse_words<K: Sink>(why: WordsError, sink: &mut K) -> Status
-    ensures { RefusesWords why result (K.written sink.old) (K.written sink.new) (HasRisen (K.faults sink.old) (K.faults sink.new)) }
+    ensures { RefusesWords why result (K.written sink.old) (K.written sink.new)
+        (HasRisen (K.faults sink.old) (K.faults sink.new)) }
 {
     match why {
         WordsError::Memory => Status::Memory,
@@ -77,8 +83,11 @@ pub fn perform_in_memory<'a>(
     alloc: Global,
 ) -> Ran<'a>
     ensures { let old = seen_of (Some input.now) (Some output.items) (Some shelf.files) 0 0 shelf.calls.faults in
-        let new = seen_of (Some result.rest.now) (Some result.output.items) (Some result.shelf.files) result.read_faults result.write_faults result.shelf.calls.faults in
-        MatchResult words (λ given. RunEnds (map string_bytes given.items) result.status old new) (λ why. EndsWithoutWords why result.status old new) }
+        let new =
+        seen_of (Some result.rest.now) (Some result.output.items) (Some result.shelf.files) result.read_faults
+        result.write_faults result.shelf.calls.faults in
+        MatchResult words (λ given. RunEnds (map string_bytes given.items) result.status old new)
+        (λ why. EndsWithoutWords why result.status old new) }
 {
     let mut source = StdSource::new(input);
     let mut sink = StdSink::new(output);

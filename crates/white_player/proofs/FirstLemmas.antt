@@ -161,7 +161,8 @@ least_once P (Some m) (Some n) h k =
     ap (λ t. Some t) same
 
 -- a line tells of some distance
-pub line_first : (frame : Frame) (winner : Side) (n : ℕ) (p : Position) (man ray : ℕ) (line : FirstLine) → IsFirstLine frame winner n p man ray line → (distance : ℕ) × Firsts winner n p man ray distance
+pub line_first : (frame : Frame) (winner : Side) (n : ℕ) (p : Position) (man ray : ℕ) (line : FirstLine) → IsFirstLine frame winner n p man ray line
+    → (distance : ℕ) × Firsts winner n p man ray distance
 line_first frame winner n p man ray line h = by line.few h.some h.few
   where
     by : (few : Few) → few ≢ Zero → HasFew few (Firsts winner n p man ray) → (distance : ℕ) × Firsts winner n p man ray distance

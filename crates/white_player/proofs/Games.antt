@@ -42,7 +42,8 @@ table_of s ply = record { masks = masks_of s.position; sets = get_or s.kept ply 
 pub kept_set : (s : Solution) (ply mask : ℕ) → set_at (table_of s ply) mask ≡ kept_at s ply mask
 kept_set s ply mask = sets_at-ply (masks_of s.position) s.kept ply mask
 
-pub table_is : (s : Solution) (ply next : ℕ) (masks : List ℕ) (sets : List Automaton) (t : Table) → next ≡ suc ply → masks ≡ masks_of s.position → sets ≡ get_or s.kept next [] → t ≡ record { masks = masks; sets = sets } → t ≡ table_of s (suc ply)
+pub table_is : (s : Solution) (ply next : ℕ) (masks : List ℕ) (sets : List Automaton) (t : Table) → next ≡ suc ply → masks ≡ masks_of s.position
+    → sets ≡ get_or s.kept next [] → t ≡ record { masks = masks; sets = sets } → t ≡ table_of s (suc ply)
 table_is s ply next masks sets t is_next masks_are sets_are is =
     let Of : List ℕ → List Automaton → Table = λ ms xs. record { masks = ms; sets = xs } in
     is ∙ (ap (λ ms. Of ms sets) masks_are ∙ (ap (Of (masks_of s.position)) sets_are ∙ ap (λ k. Of (masks_of s.position) (get_or s.kept k [])) is_next))
@@ -291,7 +292,8 @@ module _ (g : Game) (game : IsGame g) where
           let later = winner_ply turn in
           pick_held g.solution game.valid g.ply g.position game.reached turn (omega (arith, later)) g.frame o (subst (λ u. Pick (IsIn u) g.frame g.position o) is pick)
 
-pub picked_game : (g after : Game) (c : Choice) → IsGame g → g.position.turn ≡ g.solution.winner → IsPicked g c after → IsGame after × (after.solution ≡ g.solution) × (after.position.turn ≡ other g.solution.winner) × (made_in after ≡ made_in g + 1)
+pub picked_game : (g after : Game) (c : Choice) → IsGame g → g.position.turn ≡ g.solution.winner → IsPicked g c after
+    → IsGame after × (after.solution ≡ g.solution) × (after.position.turn ≡ other g.solution.winner) × (made_in after ≡ made_in g + 1)
 picked_game g after c game turn picked =
     let kept = held_pick g game turn c after.position picked.pick picked.legal in
     let one : one_if_same g.solution.winner (turn_at g.solution.position.turn g.ply) ≡ 1 =
@@ -369,7 +371,8 @@ first_game s f valid value =
     stands has (inl (turn, (q, moves, is_in))) = inr (turn, (q, moves, has.held 1 q is_in))
     stands has (inr (turn, is_in)) = inl (turn, has.held 0 s.position is_in)
 
-pub lost_picked : (g after : Game) (c : Choice) → IsGame g → g.position.turn ≡ g.solution.winner → WinPick g (Some c) → Legal g.position c.mv.man (target c.mv) after.position → after ≡ moved_to g after.position → LostIn after
+pub lost_picked : (g after : Game) (c : Choice) → IsGame g → g.position.turn ≡ g.solution.winner → WinPick g (Some c)
+    → Legal g.position c.mv.man (target c.mv) after.position → after ≡ moved_to g after.position → LostIn after
 lost_picked g after c game turn pick legal is =
     let to = picked_game g after c game turn (record { pick = pick; legal = legal; is_after = is }) in
     lost_in after to.0 (to.2 ∙ ap (λ s. other s.winner) (sym to.1))

@@ -30,13 +30,15 @@ start_of s f = record { solution = s; frame = f; position = s.position; ply = 0 
 abbrev pub moved_to : Game → Position → Game
 moved_to g q = record { solution = g.solution; frame = g.frame; position = q; ply = suc g.ply }
 
--- with the loser to move, the position is held; with the winner to move, a legal move of his leads into what is held at the next ply
+-- with the loser to move, the position is held; with the winner to move, a legal move of his leads into what is held at
+-- the next ply
 abbrev pub Stands : Game → Type 0
 Stands g =
     ((g.position.turn ≡ other g.solution.winner) × IsHeld g.solution g.ply g.position)
     ⊎ ((g.position.turn ≡ g.solution.winner) × LeadsInto (IsHeld g.solution (suc g.ply)) g.position)
 
--- what a session keeps true: legal moves have led to the position of its ply, which is not the last one, and from there the winner still mates
+-- what a session keeps true: legal moves have led to the position of its ply, which is not the last one, and from there
+-- the winner still mates
 -- in time by what is held
 pub record IsGame (g : Game) : Type 0 where
   pub valid : IsValid g.solution
@@ -90,15 +92,18 @@ pub record IsLostAfter (g : Game) (more : ℕ) (after : Game) : Type 0 where
 abbrev pub WinnerGoes : (Game → List Game → Type 0) → Game → List Game → Type 0
 WinnerGoes On g games =
     (WinPick g None × (games ≡ []))
-    ⊎ ((choice : Choice) × (after : Game) × (later : List Game) × IsPicked g choice after × (games ≡ after ∷ later) × On after later)
+    ⊎ ((choice : Choice) × (after : Game) × (later : List Game) × IsPicked g choice after × (games ≡ after ∷ later)
+    × On after later)
 
--- with the loser to move, these are the games after each of the winner's moves where these replies are typed, in order: one that is not legal
+-- with the loser to move, these are the games after each of the winner's moves where these replies are typed, in order:
+-- one that is not legal
 -- changes nothing, and once the loser is mated none is legal
 abbrev pub Goes : Game → List Move → List Game → Type 0
 Goes g [] games = games ≡ []
 Goes g (mv ∷ typed) games =
     (((q : Position) → Legal g.position mv.man (target mv) q → ⊥) × Goes g typed games)
-    ⊎ ((q : Position) × Legal g.position mv.man (target mv) q × WinnerGoes (λ after later. Goes after typed later) (moved_to g q) games)
+    ⊎ ((q : Position) × Legal g.position mv.man (target mv) q
+    × WinnerGoes (λ after later. Goes after typed later) (moved_to g q) games)
 
 -- the same with either side to move
 abbrev pub Plays : Game → List Move → List Game → Type 0
@@ -112,11 +117,14 @@ AllLost =
     (g : Game) (typed : List Move) (games : List Game) → IsGame g → Plays g typed games
     → (k : ℕ) (after : Game) → slice_get games k ≡ Some after → IsLostAfter g (suc k) after
 
--- from the start of a game with n moves: after the k-th move of the winner, counted from 0, the loser is mated within n - (k + 1)
+-- from the start of a game with n moves: after the k-th move of the winner, counted from 0, the loser is mated within n
+-- - (k + 1)
 abbrev pub WholeGameIsLost : Type 0
 WholeGameIsLost =
-    (s : Solution) (f : Frame) (typed : List Move) (games : List Game) → IsValid s → Value s.winner s.moves s.position → Plays (start_of s f) typed games
-    → (k : ℕ) (after : Game) → slice_get games k ≡ Some after → (suc k ≤ s.moves) × Lost s.winner (s.moves - suc k) after.position
+    (s : Solution) (f : Frame) (typed : List Move) (games : List Game) → IsValid s → Value s.winner s.moves s.position
+    → Plays (start_of s f) typed games
+    → (k : ℕ) (after : Game) → slice_get games k ≡ Some after
+    → (suc k ≤ s.moves) × Lost s.winner (s.moves - suc k) after.position
 
 -- what is told of the move that was made
 abbrev pub choice_of : Played → Choice

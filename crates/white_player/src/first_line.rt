@@ -50,7 +50,8 @@ pub fn first_moves(
     requires moves { 1 ≤ solved.now.moves }
     requires mover { HasRay solved.now.position man ray }
     requires room { HasRoom search.old solved.now }
-    ensures none { IfNone result ((distance : ℕ) → Firsts solved.now.winner solved.now.moves solved.now.position man ray distance → ⊥) }
+    ensures none { IfNone result
+        ((distance : ℕ) → Firsts solved.now.winner solved.now.moves solved.now.position man ray distance → ⊥) }
     ensures line { IfSome result (IsFirstLine frame solved.now.winner solved.now.moves solved.now.position man ray) }
     ensures kept { search.new ≡ search.old }
 {

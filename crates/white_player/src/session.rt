@@ -43,7 +43,8 @@ impl Model for Session {
 
     ghost view = { λ s. record { solution = s.solved; frame = s.frame; position = s.position; ply = s.ply } };
 
-    ghost invariant = { λ s. IsGame (record { solution = s.solved; frame = s.frame; position = s.position; ply = s.ply }) × HasRoom s.search s.solved };
+    ghost invariant = { λ s. IsGame (record { solution = s.solved; frame = s.frame; position = s.position; ply = s.ply })
+        × HasRoom s.search s.solved };
 }
 
 impl Session {

@@ -10,7 +10,9 @@ pub returns-in_err-check_apart-clause-reason : goal.returns-in_err-check_apart-c
 returns-in_err-check_apart-clause-reason c =
     let reason : IsFirstUnsoundness c.args.board.now c.in_err-check_apart.field-0.0 =
     first_pair c.args.board.now c.in_err-check_apart.field-0.0
-    (clear_kings c.args.board.now c.in_ok-white.white c.in_ok-black.black c.in_ok-white.ensures.king c.in_ok-black.ensures.king c.in_ok-white.ensures.first c.in_ok-black.ensures.first c.in_ok-check_only.ensures.only c.in_ok-check_only-2.ensures.only c.in_ok-check_live.ensures.live c.in_ok-check_live-2.ensures.live)
+    (clear_kings c.args.board.now c.in_ok-white.white c.in_ok-black.black c.in_ok-white.ensures.king c.in_ok-black.ensures.king
+    c.in_ok-white.ensures.first c.in_ok-black.ensures.first c.in_ok-check_only.ensures.only c.in_ok-check_only-2.ensures.only
+    c.in_ok-check_live.ensures.live c.in_ok-check_live-2.ensures.live)
     c.in_err-check_apart.ensures.twins in
     search rules
 
@@ -18,7 +20,9 @@ pub returns-then-in_check-clause-reason : goal.returns-then-in_check-clause-reas
 returns-then-in_check-clause-reason c =
     first_unsoundness c.args.board.now OtherInCheck (λ e. cc)
     (clear_apart c.args.board.now
-    (clear_kings c.args.board.now c.in_ok-white.white c.in_ok-black.black c.in_ok-white.ensures.king c.in_ok-black.ensures.king c.in_ok-white.ensures.first c.in_ok-black.ensures.first c.in_ok-check_only.ensures.only c.in_ok-check_only-2.ensures.only c.in_ok-check_live.ensures.live c.in_ok-check_live-2.ensures.live)
+    (clear_kings c.args.board.now c.in_ok-white.white c.in_ok-black.black c.in_ok-white.ensures.king c.in_ok-black.ensures.king
+    c.in_ok-white.ensures.first c.in_ok-black.ensures.first c.in_ok-check_only.ensures.only c.in_ok-check_only-2.ensures.only
+    c.in_ok-check_live.ensures.live c.in_ok-check_live-2.ensures.live)
     c.in_ok-check_apart.ensures.apart)
     (subst (InCheck c.args.board.now) (c.other.ensures ∙ ap other c.turn.ensures) (c.in_check.ensures.0 c.if-in_check.true))
 

@@ -18,6 +18,10 @@ returns-clause-span c =
     λ t. (
       λ h. absurd (omega (arith, h.0, h.1)),
       λ h.
-          let yes : c.is_inside.result ≡ true = c.is_inside.ensures.1 ((leap_inside t c.args.from c.args.ray c.args.frame c.first_square-square.result c.first_square-square.ensures.x c.first_square-square.ensures.y h.0).1 h.1) in
+          let yes : c.is_inside.result ≡ true =
+          c.is_inside.ensures.1
+          ((leap_inside t c.args.from c.args.ray c.args.frame c.first_square-square.result c.first_square-square.ensures.x
+          c.first_square-square.ensures.y h.0).1
+          h.1) in
           cc,
     )

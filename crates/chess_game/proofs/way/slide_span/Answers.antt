@@ -6,7 +6,10 @@ pub returns-clause-span : goal.returns-clause-span
 returns-clause-span c =
     λ t.
     let both = c.overlap.ensures.span t in
-    let inside = axes_inside t c.args.from c.args.ray c.args.frame c.x_axis-x.result c.y_axis-y.result c.x_axis-x.ensures.at c.x_axis-x.ensures.step c.x_axis-x.ensures.low c.x_axis-x.ensures.high c.y_axis-y.ensures.at c.y_axis-y.ensures.step c.y_axis-y.ensures.low c.y_axis-y.ensures.high in (
+    let inside =
+    axes_inside t c.args.from c.args.ray c.args.frame c.x_axis-x.result c.y_axis-y.result c.x_axis-x.ensures.at c.x_axis-x.ensures.step
+    c.x_axis-x.ensures.low c.x_axis-x.ensures.high c.y_axis-y.ensures.at c.y_axis-y.ensures.step c.y_axis-y.ensures.low
+    c.y_axis-y.ensures.high in (
       λ h.
           let w = both.0 h in
           let short : t ≤ 2 ^ 64 = omega (arith, w.0.1, c.axis_span-columns.ensures.bound) in

@@ -26,18 +26,30 @@ pub number_within-hits-requires : goal.number_within-hits-requires
 number_within-hits-requires c = few_hits c.men.result.now c.args.from c.args.ray c.first_on_ray-hit.result c.men.ensures.few c.first_on_ray-hit.ensures
 
 pub returns-then-span-far-clause-distances : goal.returns-then-span-far-clause-distances
-returns-then-span-far-clause-distances c = λ t. (λ h. free ((goal.at.returns-then-span-far-clause-distances c).After-number_within-hits) t h.0 h.1, λ h. not_free ((goal.at.returns-then-span-far-clause-distances c).After-number_within-hits) t h)
+returns-then-span-far-clause-distances c =
+    λ t. (
+      λ h. free ((goal.at.returns-then-span-far-clause-distances c).After-number_within-hits) t h.0 h.1,
+      λ h. not_free ((goal.at.returns-then-span-far-clause-distances c).After-number_within-hits) t h,
+    )
 
 pub returns-then-span-far-clause-none : goal.returns-then-span-far-clause-none
-returns-then-span-far-clause-none c = λ none. absurd (none c.reach-span.result.first (free ((goal.at.returns-then-span-far-clause-none c).After-number_within-hits) c.reach-span.result.first (omega arith) c.if-span-far.true))
+returns-then-span-far-clause-none c =
+    λ none. absurd
+    (none c.reach-span.result.first
+    (free ((goal.at.returns-then-span-far-clause-none c).After-number_within-hits) c.reach-span.result.first (omega arith)
+    c.if-span-far.true))
 
 pub returns-then-span-far-clause-hit : goal.returns-then-span-far-clause-hit
 returns-then-span-far-clause-hit c =
-    hits_some c.args.board.now c.args.from c.args.ray c.args.frame c.reach-span.result (λ t. (c.reach-span.ensures.span t).0) c.first_on_ray-hit.result (nearest ((goal.at.returns-then-span-far-clause-hit c).After-number_within-hits)) c.number_within-hits.result c.number_within-hits.ensures.some
+    hits_some c.args.board.now c.args.from c.args.ray c.args.frame c.reach-span.result (λ t. (c.reach-span.ensures.span t).0)
+    c.first_on_ray-hit.result (nearest ((goal.at.returns-then-span-far-clause-hit c).After-number_within-hits)) c.number_within-hits.result
+    c.number_within-hits.ensures.some
 
 pub returns-then-span-far-clause-no_hit : goal.returns-then-span-far-clause-no_hit
 returns-then-span-far-clause-no_hit c =
-    hits_none c.args.board.now c.args.from c.args.ray c.args.frame c.reach-span.result (λ t. (c.reach-span.ensures.span t).1) c.first_on_ray-hit.result (nearest ((goal.at.returns-then-span-far-clause-no_hit c).After-number_within-hits)) c.number_within-hits.result c.number_within-hits.ensures.none
+    hits_none c.args.board.now c.args.from c.args.ray c.args.frame c.reach-span.result (λ t. (c.reach-span.ensures.span t).1)
+    c.first_on_ray-hit.result (nearest ((goal.at.returns-then-span-far-clause-no_hit c).After-number_within-hits)) c.number_within-hits.result
+    c.number_within-hits.ensures.none
 
 pub returns-clause-distances : goal.returns-clause-distances
 returns-clause-distances c =
@@ -48,8 +60,12 @@ returns-clause-distances c =
 
 pub returns-clause-hit : goal.returns-clause-hit
 returns-clause-hit c =
-    hits_some c.args.board.now c.args.from c.args.ray c.args.frame c.reach-span.result (λ t. (c.reach-span.ensures.span t).0) c.first_on_ray-hit.result (nearest ((goal.at.returns-clause-hit c).After-number_within-hits)) c.number_within-hits.result c.number_within-hits.ensures.some
+    hits_some c.args.board.now c.args.from c.args.ray c.args.frame c.reach-span.result (λ t. (c.reach-span.ensures.span t).0)
+    c.first_on_ray-hit.result (nearest ((goal.at.returns-clause-hit c).After-number_within-hits)) c.number_within-hits.result
+    c.number_within-hits.ensures.some
 
 pub returns-clause-no_hit : goal.returns-clause-no_hit
 returns-clause-no_hit c =
-    hits_none c.args.board.now c.args.from c.args.ray c.args.frame c.reach-span.result (λ t. (c.reach-span.ensures.span t).1) c.first_on_ray-hit.result (nearest ((goal.at.returns-clause-no_hit c).After-number_within-hits)) c.number_within-hits.result c.number_within-hits.ensures.none
+    hits_none c.args.board.now c.args.from c.args.ray c.args.frame c.reach-span.result (λ t. (c.reach-span.ensures.span t).1)
+    c.first_on_ray-hit.result (nearest ((goal.at.returns-clause-no_hit c).After-number_within-hits)) c.number_within-hits.result
+    c.number_within-hits.ensures.none

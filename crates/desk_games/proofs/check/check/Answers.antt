@@ -22,6 +22,8 @@ returns-in-Err g c =
       ends = (
         f.0,
         f.1,
-        rw c.refuse_file.ensures.status (refused_ends Says file.budget file.name.now f.0 c.in-Err.why (Unit {0}) _ _ f.2 tt f.1 c.in-Err.ensures.same (λ e. c.in-Err.ensures.failed (ap Err e)) c.refuse_file.ensures.written),
+        rw c.refuse_file.ensures.status
+            (refused_ends Says file.budget file.name.now f.0 c.in-Err.why (Unit {0}) _ _ f.2 tt f.1 c.in-Err.ensures.same
+            (λ e. c.in-Err.ensures.failed (ap Err e)) c.refuse_file.ensures.written),
       );
     }

@@ -17,7 +17,8 @@ returns-in-Ok-Some g c = record {
       let of = rw c.in-Ok-Some.field-0-is at c.in-Ok-Some.ensures.found in
       let fits : FitsBudget problem task.budget task.moves = rw c.new-solver.ensures at c.in-Ok-Some.ensures.fits in
       let value = (rw c.in-Ok-Some.field-0-is at c.in-Ok-Some.ensures.won).0 refl in
-      ends_as c.keep_file.result (FileReports s.winner s.position s.moves c.args.name.now files) (KeepReports task.moves task.budget problem c.args.name.now files) (Unit {0}) (¬ HasNothingToPlay task.moves problem)
+      ends_as c.keep_file.result (FileReports s.winner s.position s.moves c.args.name.now files)
+      (KeepReports task.moves task.budget problem c.args.name.now files) (Unit {0}) (¬ HasNothingToPlay task.moves problem)
       _ (MissesKeep c.args.name.now (HasFileToKeep task.moves task.budget problem)) _ _
       (λ report right. inr (fits, inr (value, kept_reports problem task.moves s of c.args.name.now files report right)))
       (λ some none. none_mates problem task.moves none value)

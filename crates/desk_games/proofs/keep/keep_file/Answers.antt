@@ -18,7 +18,11 @@ returns-in-Err-TooLarge g c = record {
       let large = (file_is_kept s valid).size size (rw c.in-Err-TooLarge.field-0-is at c.in-Err-TooLarge.ensures.refused) in (
         _,
         inr (size, large, refl),
-        record { reported = refl; written = rw (c.as_slice.ensures, c.too_large_line-line.ensures, c.in-Err-TooLarge.field-0-is) at c.refuse.ensures.written; files = same_leaves (g.H.Shelf.files c.args.shelf.now) files kept },
+        record {
+          reported = refl;
+          written = rw (c.as_slice.ensures, c.too_large_line-line.ensures, c.in-Err-TooLarge.field-0-is) at c.refuse.ensures.written;
+          files = same_leaves (g.H.Shelf.files c.args.shelf.now) files kept;
+        },
       );
 }
 
@@ -45,6 +49,13 @@ returns-in-Err-Failed g c = record {
       let s = c.args.solved.now in
       let valid : IsSolution s = subst (λ o. IsValidBy o s) c.requires.plan c.masks-masks.ensures.valid in
       let bytes = c.in-Ok.bytes.items in
-      let file : IsFileToKeep s.winner s.position s.moves bytes = record { file = (file_is_kept s valid).file bytes c.in-Ok.ensures.file; small = c.in-Ok.ensures.small } in
-      (Some c.args.name.now, ((bytes, file), refl), record { failed = c.in-Err-Failed.ensures.failed (search rules); written = c.refuse-in-Err-Failed.ensures.written; files = c.in-Err-Failed.ensures.others (search rules) });
+      let file : IsFileToKeep s.winner s.position s.moves bytes = record { file = (file_is_kept s valid).file bytes c.in-Ok.ensures.file; small = c.in-Ok.ensures.small } in (
+        Some c.args.name.now,
+        ((bytes, file), refl),
+        record {
+          failed = c.in-Err-Failed.ensures.failed (search rules);
+          written = c.refuse-in-Err-Failed.ensures.written;
+          files = c.in-Err-Failed.ensures.others (search rules);
+        },
+      );
 }

@@ -27,7 +27,8 @@ returns-in-Ok g c = record {
       let value = (rw c.in-Ok-Some.field-0-is at c.in-Ok-Some.ensures.won).0 refl in
       let first = seen_first problem task.moves c.in-Ok-Some.solved c.whole.result c.in-Ok.session (rw c.in-Ok-Some.field-0-is at c.in-Ok-Some.ensures.found) c.in-Ok.ensures.ok in
       let game = c.play_game-played in
-      game_ends Says (LacksAtFirst task.moves problem) (λ (bytes : List ℕ). NeverMisses) files problem.lines (first_match task.moves problem) (reports_game task.moves task.budget problem files fits value)
+      game_ends Says (LacksAtFirst task.moves problem) (λ (bytes : List ℕ). NeverMisses) files problem.lines (first_match task.moves problem)
+      (reports_game task.moves task.budget problem files fits value)
       _ _ (seen game.new.session) _ _ _ _ _ _ _ _ _ _ game.result c.finish.result
       (same_played problem.lines game.result (seen c.in-Ok.session) (first_match task.moves problem) (seen game.new.session) _ _ first game.ensures.plays)
       game.ensures.read_failed game.ensures.write_failed game.ensures.writes_never_fall c.finish.ensures.never_falls c.finish.ensures.ends;

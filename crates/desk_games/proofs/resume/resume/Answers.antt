@@ -24,6 +24,11 @@ returns-in-Err g c =
       ends = (
         f.0,
         f.1,
-        ([], rw c.refuse_file.ensures.status (refused_resumes file.budget file.name.now f.0 c.in-Err.why _ _ f.2 f.1 c.in-Err.ensures.same (λ e. c.in-Err.ensures.failed (ap Err e)) c.refuse_file.ensures.written refl)),
+        (
+          [],
+          rw c.refuse_file.ensures.status
+              (refused_resumes file.budget file.name.now f.0 c.in-Err.why _ _ f.2 f.1 c.in-Err.ensures.same
+              (λ e. c.in-Err.ensures.failed (ap Err e)) c.refuse_file.ensures.written refl),
+        ),
       );
     }

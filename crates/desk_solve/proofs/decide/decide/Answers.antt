@@ -13,7 +13,9 @@ returns-in-Ok g c = record {
       let fits : FitsBudget task.problem task.budget task.moves = rw c.new-solver.ensures at c.in-Ok.ensures.fits in
       let line = c.verdict_line-line.ensures in
       let text = c.as_slice.result.now in
-      let verdict = verdict_is task.moves task.problem c.is_some.result text (λ won. c.as_slice.ensures ∙ line.won won) (λ not_won. c.as_slice.ensures ∙ line.not_won not_won) (rw c.is_some.ensures c.in-Ok.ensures.won) in
+      let verdict =
+      verdict_is task.moves task.problem c.is_some.result text (λ won. c.as_slice.ensures ∙ line.won won)
+      (λ not_won. c.as_slice.ensures ∙ line.not_won not_won) (rw c.is_some.ensures c.in-Ok.ensures.won) in
       printed c.print.result (DecideReports task.moves task.budget task.problem files) _ _ _ (done_with files text) (inr (text, fits, verdict, refl)) (c.print.ensures.ends files);
 }
 

@@ -1,9 +1,9 @@
 use Rattle.std.proofs.Common.{◌≡◌, ◌↔◌, ◌+◌, ℕ, suc, Bool, true, false, cond, IsTrue, ◌∙◌, ap, sym, subst, arith}
 use Rattle.std.specs.Int.{from_bool}
 use Rattle.std.proofs.lemmas.Result.{err_from_is_err_and}
+use Rattle.desk_words.specs.declared.order.TheConstants.{DEFAULT_STATES}
 use Rattle.game_rules.specs.Game.{Value}
 use Rattle.desk_solve.specs.Drill.{DrillFinds, drilled, next_state, problem_of, state_after}
-use Rattle.desk_words.specs.Order.{default_budget}
 use Rattle.desk_solve.specs.Verdict.{ExceedsAt, FitsBudget}
 use Rattle.desk_text.specs.declared.problem.Problem.{Problem}
 use Rattle.desk_solve.proofs.Drilled.{finds_more}
@@ -28,7 +28,7 @@ returns-in_err-won-clause-step c =
     let p = err_from_is_err_and c.from_residual.result c.from_residual.ensures.1 in
     let is : c.problem_of-problem.result ≡ drilled c.args.seed number =
     at_number c.args.seed number c.loop-number.generator.state c.next.result c.problem_of-problem.result inv.state c.next.ensures.next c.problem_of-problem.ensures in
-    rw (p.1, p.2) (λ step over. (number, omega arith, inv.found.fits, subst (λ q. ExceedsAt q default_budget 1 step) is (c.in_err-won.ensures.step step over)))
+    rw (p.1, p.2) (λ step over. (number, omega arith, inv.found.fits, subst (λ q. ExceedsAt q DEFAULT_STATES 1 step) is (c.in_err-won.ensures.step step over)))
 
 pub loop-number-preserved : goal.loop-number-preserved
 loop-number-preserved c =
@@ -38,7 +38,7 @@ loop-number-preserved c =
     let is : c.problem_of-problem.result ≡ drilled c.args.seed number =
     at_number c.args.seed number c.loop-number.generator.state c.next.result c.problem_of-problem.result inv.state c.next.ensures.next c.problem_of-problem.ensures in
     let next : suc number ≡ number + 1 = omega arith in
-    let fits : FitsBudget (drilled c.args.seed number) default_budget 1 = subst (λ q. FitsBudget q default_budget 1) is c.in_ok-won.ensures.fits in
+    let fits : FitsBudget (drilled c.args.seed number) DEFAULT_STATES 1 = subst (λ q. FitsBudget q DEFAULT_STATES 1) is c.in_ok-won.ensures.fits in
     let mates : IsTrue won ↔ Value (drilled c.args.seed number).winner 1 (drilled c.args.seed number).position =
     subst (λ q. IsTrue won ↔ Value q.winner 1 q.position) is c.in_ok-won.ensures.won in
     record {

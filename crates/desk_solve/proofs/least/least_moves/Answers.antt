@@ -15,7 +15,8 @@ pub returns-then-is_some-clause-found : goal.returns-then-is_some-clause-found
 returns-then-is_some-clause-found c =
     let inv = c.loop-moves.invariant in
     let task = c.args.task.now in
-    found_at task.problem task.budget task.moves c.loop-moves.moves (is_some c.in_ok-won.field-0) (omega arith) inv.passed (rw inv.budget at c.in_ok-won.ensures.fits) c.in_ok-won.ensures.won (sym c.is_some.ensures ∙ c.if-is_some.true)
+    found_at task.problem task.budget task.moves c.loop-moves.moves (is_some c.in_ok-won.field-0) (omega arith) inv.passed
+    (rw inv.budget at c.in_ok-won.ensures.fits) c.in_ok-won.ensures.won (sym c.is_some.ensures ∙ c.if-is_some.true)
 
 pub loop-moves-preserved : goal.loop-moves-preserved
 loop-moves-preserved c =
@@ -26,7 +27,8 @@ loop-moves-preserved c =
       winner = c.won.ensures.winner;
       budget = c.won.ensures.budget ∙ inv.budget;
       passed =
-          passed_more task.problem task.budget c.loop-moves.moves (is_some c.in_ok-won.field-0) inv.passed (rw inv.budget at c.in_ok-won.ensures.fits) c.in_ok-won.ensures.won (sym c.is_some.ensures ∙ c.if-is_some.false);
+          passed_more task.problem task.budget c.loop-moves.moves (is_some c.in_ok-won.field-0) inv.passed (rw inv.budget at c.in_ok-won.ensures.fits)
+          c.in_ok-won.ensures.won (sym c.is_some.ensures ∙ c.if-is_some.false);
     }
 
 pub returns-clause-found : goal.returns-clause-found
@@ -37,6 +39,7 @@ returns-clause-found c =
       | else-loop-moves-test w ↦ none_found task.problem task.budget task.moves c.loop-moves.moves (omega arith) inv.passed
       | then-loop-moves-test+in_ok-won+else-is_some+else-moves-limit w ↦
           let more : ArePassed task.problem task.budget (c.loop-moves.moves + 1) =
-          passed_more task.problem task.budget c.loop-moves.moves (is_some w.in_ok-won.field-0) inv.passed (rw inv.budget at w.in_ok-won.ensures.fits) w.in_ok-won.ensures.won (sym w.is_some.ensures ∙ w.if-is_some.false) in
+          passed_more task.problem task.budget c.loop-moves.moves (is_some w.in_ok-won.field-0) inv.passed (rw inv.budget at w.in_ok-won.ensures.fits)
+          w.in_ok-won.ensures.won (sym w.is_some.ensures ∙ w.if-is_some.false) in
           none_found task.problem task.budget task.moves (c.loop-moves.moves + 1) (omega arith) more
     ]

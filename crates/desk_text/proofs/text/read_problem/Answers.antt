@@ -14,7 +14,8 @@ loop-text-preserved g c =
       number = omega (arith, inv.number, step.nearer);
       few = step.few;
       so_far =
-          goes_on _ _ _ _ _ _ _ _ inv.so_far _ (rw c.in-Ok-Full.field-0-is at (call.lines inv.goes_on)) (line_read _ c.loop-text.reader.line _ (rw c.in-Ok-Full.field-0-is at (call.line inv.goes_on))) _
+          goes_on _ _ _ _ _ _ _ _ inv.so_far _ (rw c.in-Ok-Full.field-0-is at (call.lines inv.goes_on))
+          (line_read _ c.loop-text.reader.line _ (rw c.in-Ok-Full.field-0-is at (call.line inv.goes_on))) _
           (rw c.line.ensures at more.0);
       faults = omega (arith, inv.faults, c.next_line.ensures.never_falls);
     }
@@ -23,14 +24,19 @@ pub returns-in-Some-clause-reads : goal.returns-in-Some-clause-reads
 returns-in-Some-clause-reads g c =
     let inv = c.loop-text.invariant in
     let call = c.in-Ok-Full.ensures in
-    let feeds = answer_whole c.loop-text.text.stage c.line.result.now c.in-Ok.fed c.in-Some.position c.feed_line.new.self (sym c.position.ensures ∙ c.in-Some.is) (c.in-Ok.ensures.feeds inv.no_answer) in
-    is_whole _ _ _ _ _ _ _ _ inv.so_far _ (rw c.in-Ok-Full.field-0-is at (call.lines inv.goes_on)) (line_read _ c.loop-text.reader.line _ (rw c.in-Ok-Full.field-0-is at (call.line inv.goes_on))) _ call.within
+    let feeds =
+    answer_whole c.loop-text.text.stage c.line.result.now c.in-Ok.fed c.in-Some.position c.feed_line.new.self
+    (sym c.position.ensures ∙ c.in-Some.is) (c.in-Ok.ensures.feeds inv.no_answer) in
+    is_whole _ _ _ _ _ _ _ _ inv.so_far _ (rw c.in-Ok-Full.field-0-is at (call.lines inv.goes_on))
+    (line_read _ c.loop-text.reader.line _ (rw c.in-Ok-Full.field-0-is at (call.line inv.goes_on))) _ call.within
     (rw c.line.ensures at feeds)
 
 pub returns-in-Some-clause-few : goal.returns-in-Some-clause-few
 returns-in-Some-clause-few g c =
     let inv = c.loop-text.invariant in
-    let feeds = answer_whole c.loop-text.text.stage c.line.result.now c.in-Ok.fed c.in-Some.position c.feed_line.new.self (sym c.position.ensures ∙ c.in-Some.is) (c.in-Ok.ensures.feeds inv.no_answer) in
+    let feeds =
+    answer_whole c.loop-text.text.stage c.line.result.now c.in-Ok.fed c.in-Some.position c.feed_line.new.self
+    (sym c.position.ensures ∙ c.in-Some.is) (c.in-Ok.ensures.feeds inv.no_answer) in
     fed_whole c.loop-text.text.stage c.in-Some.position c.line.result.now inv.few feeds
 
 pub returns-in-Err-clause-reads : goal.returns-in-Err-clause-reads
@@ -38,7 +44,8 @@ returns-in-Err-clause-reads g c =
     let inv = c.loop-text.invariant in
     let call = c.in-Ok-Full.ensures in
     let feeds = (c.in-Err.ensures.feeds inv.no_answer).0 in
-    is_wrong _ _ _ _ _ _ _ _ inv.so_far _ (rw c.in-Ok-Full.field-0-is at (call.lines inv.goes_on)) (line_read _ c.loop-text.reader.line _ (rw c.in-Ok-Full.field-0-is at (call.line inv.goes_on))) _ call.within
+    is_wrong _ _ _ _ _ _ _ _ inv.so_far _ (rw c.in-Ok-Full.field-0-is at (call.lines inv.goes_on))
+    (line_read _ c.loop-text.reader.line _ (rw c.in-Ok-Full.field-0-is at (call.line inv.goes_on))) _ call.within
     (rw c.line.ensures at feeds)
 
 pub returns-in-Ok-End-clause-reads : goal.returns-in-Ok-End-clause-reads

@@ -1,6 +1,7 @@
 use Rattle.std.proofs.Common.{◌+◌, sym, ◌∙◌, arith, rules}
+use Rattle.desk_text.proofs.TextSteps.{line_read}
 use Rattle.game_report.specs.Laws.{seen}
-use Rattle.game_report.proofs.GameSteps.{cut_came, first_due, line_read, long_came, most_read, no_line_came, not_settled, ports, read_failed, reply_failed, reply_on, reply_over, risen_from, opening_failed, opening_on, opening_over}
+use Rattle.game_report.proofs.GameSteps.{cut_came, first_due, long_came, most_read, no_line_came, not_settled, ports, read_failed, reply_failed, reply_on, reply_over, risen_from, opening_failed, opening_on, opening_over}
 use Rattle.game_report.proofs.Some.{at_lines}
 use Rattle.game_report.proofs.play.play_game.Goals as goal
 
@@ -35,7 +36,10 @@ loop-read-init g c =
       is_open = (rw c.in-Ok-None.field-0-is at c.in-Ok-None.ensures.comes).5;
       goes_on = c.requires.goes_on;
       few = c.requires.held;
-      first = first_due c.args.before (seen old) (seen c.open.new.session) (ports c.args.reader.now.pending (source.left c.args.source.now) (sink.written c.args.sink.now)) c.args.reader.now.pending (source.left c.args.source.now) (sink.written c.open.new.sink) so_far;
+      first =
+          first_due c.args.before (seen old) (seen c.open.new.session)
+          (ports c.args.reader.now.pending (source.left c.args.source.now) (sink.written c.args.sink.now)) c.args.reader.now.pending
+          (source.left c.args.source.now) (sink.written c.open.new.sink) so_far;
       so_far = so_far;
       reads = omega arith;
       writes = c.open.ensures.never_falls;

@@ -47,7 +47,13 @@ returns-in-At-clause-added c =
     let x : SFits w64 c.in-At.x = search rules in
     let y : SFits w64 c.in-At.y = search rules in
     let here : Square = record { x = c.in-At.x; y = c.in-At.y } in
-    let wide : Frame = record { x_low = to_z w64 (of_z w64 c.min.result); x_high = to_z w64 (of_z w64 c.max.result); y_low = to_z w64 (of_z w64 c.min-in-At.result); y_high = to_z w64 (of_z w64 c.max-in-At.result) } in
+    let wide : Frame =
+    record {
+      x_low = to_z w64 (of_z w64 c.min.result);
+      x_high = to_z w64 (of_z w64 c.max.result);
+      y_low = to_z w64 (of_z w64 c.min-in-At.result);
+      y_high = to_z w64 (of_z w64 c.max-in-At.result);
+    } in
     let inside : IsInside wide here = record {
       left = low_edge c.min.result c.in-At.x c.in-At.x x_low x c.min.ensures.other_bound (no_more c.in-At.x);
       right = high_edge c.max.result c.in-At.x c.in-At.x x_high x c.max.ensures.other_bound (no_more c.in-At.x);

@@ -15,4 +15,5 @@ loop-man-preserved c = (
 
 pub returns-clause-pick : goal.returns-clause-pick
 returns-clause-pick c =
-    no_man (IsIn c.args.aim.now.sets.now) c.args.aim.now.frame c.args.aim.now.position.now c.loop-man.man (let count = c.count-man-end.ensures.count in let past = c.loop-man-test.false in omega (arith, count, past)) c.loop-man.invariant.1
+    no_man (IsIn c.args.aim.now.sets.now) c.args.aim.now.frame c.args.aim.now.position.now c.loop-man.man
+    (let count = c.count-man-end.ensures.count in let past = c.loop-man-test.false in omega (arith, count, past)) c.loop-man.invariant.1

@@ -17,7 +17,8 @@ along_ray-requires-clause-mover c =
 
 pub returns-in-Some-along_ray-clause-first : goal.returns-in-Some-along_ray-clause-first
 returns-in-Some-along_ray-clause-first c =
-    ray_first (IsIn c.args.aim.now.sets.now) c.args.aim.now.frame c.args.aim.now.position.now c.args.man c.loop-number.number c.loop-number.invariant.1 c.in-Some-along_ray.choice c.in-Some-along_ray.ensures.first
+    ray_first (IsIn c.args.aim.now.sets.now) c.args.aim.now.frame c.args.aim.now.position.now c.args.man c.loop-number.number
+    c.loop-number.invariant.1 c.in-Some-along_ray.choice c.in-Some-along_ray.ensures.first
 
 pub loop-number-preserved : goal.loop-number-preserved
 loop-number-preserved c = (

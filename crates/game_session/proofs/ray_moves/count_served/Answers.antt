@@ -41,10 +41,14 @@ pub returns-in-Some-last-clause-few : goal.returns-in-Some-last-clause-few
 returns-in-Some-last-clause-few c =
     let m = c.requires.mover in
     let serves : IsTrue (serves_moves m.man.kind c.args.his.number) = rw m.is_man at c.requires.serves in
-    counted_of c.args.aim.now.position.now c.args.aim.now.sets.now c.requires.aim.next c.in-Some.set.now (here (goal.at.returns-in-Some-last-clause-few c).In-Some) c.args.his.man c.args.his.number c.args.his.ray m serves c.count_to.result c.in-Some-last.last (rw c.in-Some-last.is at c.requires.last) c.count_to.ensures.few
+    counted_of c.args.aim.now.position.now c.args.aim.now.sets.now c.requires.aim.next c.in-Some.set.now
+    (here (goal.at.returns-in-Some-last-clause-few c).In-Some) c.args.his.man c.args.his.number c.args.his.ray m serves c.count_to.result
+    c.in-Some-last.last (rw c.in-Some-last.is at c.requires.last) c.count_to.ensures.few
 
 pub returns-in-None-clause-few : goal.returns-in-None-clause-few
 returns-in-None-clause-few c =
     let m = c.requires.mover in
     let serves : IsTrue (serves_moves m.man.kind c.args.his.number) = rw m.is_man at c.requires.serves in
-    all_counted_of c.args.aim.now.position.now c.args.aim.now.sets.now c.requires.aim.next c.in-Some.set.now (here (goal.at.returns-in-None-clause-few c).In-Some) c.args.his.man c.args.his.number c.args.his.ray m serves c.count_all.result (rw c.in-None.is at c.requires.all) c.count_all.ensures.few
+    all_counted_of c.args.aim.now.position.now c.args.aim.now.sets.now c.requires.aim.next c.in-Some.set.now
+    (here (goal.at.returns-in-None-clause-few c).In-Some) c.args.his.man c.args.his.number c.args.his.ray m serves c.count_all.result
+    (rw c.in-None.is at c.requires.all) c.count_all.ensures.few

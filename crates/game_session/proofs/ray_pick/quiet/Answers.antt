@@ -34,8 +34,13 @@ returns-in-Some-least_hit-clause-first c =
     let m = c.requires.mover in
     let way = c.choice_along.ensures in
     let serves : IsTrue (serves_moves m.man.kind c.args.his.number) = rw m.is_man at c.requires.serves in
-    quiet_first_hit c.args.aim.now.position.now c.args.aim.now.sets.now c.requires.aim.next c.args.aim.now.frame c.args.his.man c.args.his.number c.args.his.ray m c.in-Some.set.now (here (goal.at.returns-in-Some-least_hit-clause-first c).In-Some) c.args.way.near c.args.way.far c.requires.free c.in-Some-least_hit.distance c.choice_along.result c.in-Some-least_hit.ensures.least way.man way.ray way.distance way.leads serves
+    quiet_first_hit c.args.aim.now.position.now c.args.aim.now.sets.now c.requires.aim.next c.args.aim.now.frame c.args.his.man c.args.his.number
+    c.args.his.ray m c.in-Some.set.now (here (goal.at.returns-in-Some-least_hit-clause-first c).In-Some) c.args.way.near c.args.way.far
+    c.requires.free c.in-Some-least_hit.distance c.choice_along.result c.in-Some-least_hit.ensures.least way.man way.ray way.distance way.leads
+    serves
 
 pub returns-in-None-clause-first : goal.returns-in-None-clause-first
 returns-in-None-clause-first c =
-    quiet_none_hit c.args.aim.now.position.now c.args.aim.now.sets.now c.requires.aim.next c.args.aim.now.frame c.args.his.man c.args.his.number c.args.his.ray c.requires.mover c.in-Some.set.now (here (goal.at.returns-in-None-clause-first c).In-Some) c.args.way.near c.args.way.far c.requires.free c.in-None.ensures.least
+    quiet_none_hit c.args.aim.now.position.now c.args.aim.now.sets.now c.requires.aim.next c.args.aim.now.frame c.args.his.man c.args.his.number
+    c.args.his.ray c.requires.mover c.in-Some.set.now (here (goal.at.returns-in-None-clause-first c).In-Some) c.args.way.near c.args.way.far
+    c.requires.free c.in-None.ensures.least

@@ -4,18 +4,29 @@ use Rattle.game_session.proofs.ray_pick.take.Goals as goal
 
 pub returns-in_default : goal.returns-in_default
 returns-in_default c = record {
-  first = capture_none_legal c.args.aim.now.position.now c.args.aim.now.sets.now c.requires.aim.next c.args.aim.now.frame c.args.his.man c.args.his.number c.args.his.ray c.requires.mover c.requires.aim.sound c.args.mv c.requires.man c.requires.met c.in_default.ensures.illegal;
+  first =
+      capture_none_legal c.args.aim.now.position.now c.args.aim.now.sets.now c.requires.aim.next c.args.aim.now.frame c.args.his.man c.args.his.number
+      c.args.his.ray c.requires.mover c.requires.aim.sound c.args.mv c.requires.man c.requires.met c.in_default.ensures.illegal;
 }
 
 pub contains-requires : goal.contains-requires
-contains-requires c = c.requires.aim.next.askable c.in-Ok.after (step_stock c.args.aim.now.position.now.men c.args.aim.now.position.now c.in-Ok.after c.args.mv.man _ (own_stock c.args.aim.now.position.now) c.in-Ok.ensures.legal.step.after)
+contains-requires c =
+    c.requires.aim.next.askable c.in-Ok.after
+    (step_stock c.args.aim.now.position.now.men c.args.aim.now.position.now c.in-Ok.after c.args.mv.man _ (own_stock c.args.aim.now.position.now)
+    c.in-Ok.ensures.legal.step.after)
 
 pub returns-then-not-contains : goal.returns-then-not-contains
 returns-then-not-contains c = record {
-  first = capture_none_in c.args.aim.now.position.now c.args.aim.now.sets.now c.requires.aim.next c.args.aim.now.frame c.args.his.man c.args.his.number c.args.his.ray c.requires.mover c.requires.aim.sound c.args.mv c.requires.man c.requires.met c.in-Ok.after c.in-Ok.ensures.legal (λ is_in. let t : c.contains.result ≡ true = c.contains.ensures.1 is_in in let f = c.if-not-contains.true in cc);
+  first =
+      capture_none_in c.args.aim.now.position.now c.args.aim.now.sets.now c.requires.aim.next c.args.aim.now.frame c.args.his.man c.args.his.number
+      c.args.his.ray c.requires.mover c.requires.aim.sound c.args.mv c.requires.man c.requires.met c.in-Ok.after c.in-Ok.ensures.legal
+      (λ is_in. let t : c.contains.result ≡ true = c.contains.ensures.1 is_in in let f = c.if-not-contains.true in cc);
 }
 
 pub returns : goal.returns
 returns c = record {
-  first = capture_some_in c.args.aim.now.position.now c.args.aim.now.sets.now c.requires.aim.next c.args.aim.now.frame c.args.his.man c.args.his.number c.args.his.ray c.requires.mover c.requires.aim.sound c.args.mv c.requires.man c.requires.met c.in-Ok.after c.in-Ok.ensures.legal (c.contains.ensures.0 c.if-not-contains.false) c.steps_of.result c.steps_of.ensures.steps;
+  first =
+      capture_some_in c.args.aim.now.position.now c.args.aim.now.sets.now c.requires.aim.next c.args.aim.now.frame c.args.his.man c.args.his.number
+      c.args.his.ray c.requires.mover c.requires.aim.sound c.args.mv c.requires.man c.requires.met c.in-Ok.after c.in-Ok.ensures.legal
+      (c.contains.ensures.0 c.if-not-contains.false) c.steps_of.result c.steps_of.ensures.steps;
 }

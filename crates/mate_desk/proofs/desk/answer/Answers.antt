@@ -77,7 +77,8 @@ pub returns-in-Play-clause-ends : goal.returns-in-Play-clause-ends
 returns-in-Play-clause-ends g c = λ words o.
     let IsOrdered : TextOrder → Type 0 = λ x. Ordered words (Ok (as_order x)) in
     let source = g.S.Source in
-    play_ends words _ _ refl c.in-Play.moves c.in-Play.budget (subst IsOrdered c.in-Play.is o.ordered) _ _ (source.left c.read_problem.new.source) (source.faults c.read_problem.new.source) c.in-Ok.ensures.never_falls
+    play_ends words _ _ refl c.in-Play.moves c.in-Play.budget (subst IsOrdered c.in-Play.is o.ordered) _ _ (source.left c.read_problem.new.source)
+    (source.faults c.read_problem.new.source) c.in-Ok.ensures.never_falls
     c.in-Ok.problem c.in-Ok.ensures.reads (c.in_default.ensures.ok.0 refl) c.play.result (rw c.task-task.ensures at (c.play.ensures.ends (files_of (g.H.Shelf.files c.args.shelf.now))))
 
 pub returns-in-Play-clause-no_usage : goal.returns-in-Play-clause-no_usage

@@ -108,7 +108,8 @@ pub returns-in-Check-clause-ends : goal.returns-in-Check-clause-ends
 returns-in-Check-clause-ends g c =
     let words = map string_bytes c.args.words.now.items in
     let IsOrdered : Order → Type 0 = λ order. Ordered words (Ok order) in
-    check_ends words _ _ c.check.result c.in-Check.budget c.word_at-name-in-Check.result.now (subst IsOrdered c.in-Check.is c.in-Ok.ensures.ordered) c.word_at-name-in-Check.ensures refl c.check.ensures.ends
+    check_ends words _ _ c.check.result c.in-Check.budget c.word_at-name-in-Check.result.now (subst IsOrdered c.in-Check.is c.in-Ok.ensures.ordered)
+    c.word_at-name-in-Check.ensures refl c.check.ensures.ends
 
 pub returns-in-Check-clause-shelf_untouched : goal.returns-in-Check-clause-shelf_untouched
 returns-in-Check-clause-shelf_untouched g c = λ other also none.
@@ -120,7 +121,8 @@ pub returns-in-Resume-clause-ends : goal.returns-in-Resume-clause-ends
 returns-in-Resume-clause-ends g c =
     let words = map string_bytes c.args.words.now.items in
     let IsOrdered : Order → Type 0 = λ order. Ordered words (Ok order) in
-    resume_ends words _ _ c.resume.result c.in-Resume.budget c.word_at-name-in-Resume.result.now (subst IsOrdered c.in-Resume.is c.in-Ok.ensures.ordered) c.word_at-name-in-Resume.ensures c.resume.ensures.ends
+    resume_ends words _ _ c.resume.result c.in-Resume.budget c.word_at-name-in-Resume.result.now
+    (subst IsOrdered c.in-Resume.is c.in-Ok.ensures.ordered) c.word_at-name-in-Resume.ensures c.resume.ensures.ends
 
 pub returns-in-Resume-clause-no_text_read : goal.returns-in-Resume-clause-no_text_read
 returns-in-Resume-clause-no_text_read g c = λ other also none.

@@ -38,7 +38,9 @@ returns-in-Zero-clause-none c =
     let his = c.his_ray-his.ensures in
     let few = c.moves_along-moves.result.few in
     let All : Square → Type 0 = λ z. Unit {0} in
-    let here = passed_on s valid c.requires.plan c.requires.turn c.requires.moves t is All c.args.man c.args.ray (HasFew few) c.position-position.result c.his_ray-his.result.man c.his_ray-his.result.number c.position-position.ensures his.man his.number c.moves_along-moves.ensures.few in
+    let here =
+    passed_on s valid c.requires.plan c.requires.turn c.requires.moves t is All c.args.man c.args.ray (HasFew few) c.position-position.result
+    c.his_ray-his.result.man c.his_ray-his.result.number c.position-position.ensures his.man his.number c.moves_along-moves.ensures.few in
     let lost = firsts_few s valid c.requires.plan c.requires.turn c.requires.moves t is All c.args.man c.args.ray few here in
     subst (λ (f : Few). HasFew f (Firsts s.winner s.moves s.position c.args.man c.args.ray)) c.in-Zero.is lost
 
@@ -54,8 +56,13 @@ returns c =
     let mover : IsMover s.position c.args.man c.args.ray h.ray = subst (λ (p : Position). IsMover p c.args.man c.args.ray h.ray) c.position-position.ensures his.mover in
     let short = ray_slopes mover.man.kind mover.man.side c.args.ray h.ray mover.is_ray in
     let All : Square → Type 0 = λ z. Unit {0} in
-    let few = passed_on s valid c.requires.plan c.requires.turn c.requires.moves t is All c.args.man c.args.ray (HasFew moves.few) c.position-position.result h.man h.number c.position-position.ensures his.man his.number c.moves_along-moves.ensures.few in
-    let least = passed_on s valid c.requires.plan c.requires.turn c.requires.moves t is (IsInside c.args.frame) c.args.man c.args.ray (λ P. IsLeastOrNone P moves.least) c.position-position.result h.man h.number c.position-position.ensures his.man his.number c.moves_along-moves.ensures.least in
+    let few =
+    passed_on s valid c.requires.plan c.requires.turn c.requires.moves t is All c.args.man c.args.ray (HasFew moves.few)
+    c.position-position.result h.man h.number c.position-position.ensures his.man his.number c.moves_along-moves.ensures.few in
+    let least =
+    passed_on s valid c.requires.plan c.requires.turn c.requires.moves t is (IsInside c.args.frame) c.args.man c.args.ray
+    (λ P. IsLeastOrNone P moves.least) c.position-position.result h.man h.number c.position-position.ensures his.man his.number
+    c.moves_along-moves.ensures.least in
     record {
       none = tt;
       line = record {
