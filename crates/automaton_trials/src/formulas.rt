@@ -1,25 +1,25 @@
 //! Rows that compile formulas.
 
 ghost use Rattle.std.specs.Prelude.{IfOk};
+ghost use Rattle.auto_core.specs.Reduced.{IsReduced};
 ghost use Rattle.lin_formula.specs.TreeOf.{tree_of};
 ghost use Rattle.arith_desk.specs.Question.{IsQuestion};
 
 use crate::writing::{separate, write_truth};
 use arith_desk::{ArithError, read_formula};
+use auto_core::Auto;
 use auto_reduce::is_empty;
 use formula_auto::{CompileError, Memo, SetTable};
+use limits::MOST_LINE_BYTES;
 use lin_formula::Formula;
 use std::alloc::Global;
 use trial_rows::{Fields, RowError};
-
-/// The greatest number of bytes of a formula.
-const MOST_BYTES: usize = 200;
 
 /// The closed formula of a text.
 fn formula(alloc: Global, text: &str) -> Result<Formula, RowError>
     ensures { IfOk result (λ f. IsQuestion (tree_of f)) }
 {
-    if text.len() > MOST_BYTES {
+    if text.len() > MOST_LINE_BYTES {
         return Err(RowError::Word);
     }
     match read_formula(alloc, text.as_bytes()) {
@@ -38,16 +38,22 @@ enum Outcome {
     Over(u32),
 }
 
+fn outcome_of(answer: Result<Auto, CompileError>) -> Result<Outcome, RowError>
+    requires { IfOk answer IsReduced }
+{
+    match answer {
+        Ok(a) => Ok(Outcome::Holds(!is_empty(&a))),
+        Err(CompileError::Over { step }) => Ok(Outcome::Over(step)),
+        Err(CompileError::Memory) => Err(RowError::Memory),
+    }
+}
+
 /// Compiles a closed formula with a memo.
 fn compiled(alloc: Global, memo: &mut Memo, f: &Formula) -> Result<Outcome, RowError>
     requires { IsQuestion (tree_of f.now) }
 {
     let sets = SetTable::new(alloc);
-    match memo.compile(alloc, f, &sets) {
-        Ok(a) => Ok(Outcome::Holds(!is_empty(&a))),
-        Err(CompileError::Over { step }) => Ok(Outcome::Over(step)),
-        Err(CompileError::Memory) => Err(RowError::Memory),
-    }
+    outcome_of(memo.compile(alloc, f, &sets))
 }
 
 fn write_outcome(out: &mut String, outcome: Outcome) -> Result<(), RowError> {

@@ -1,5 +1,6 @@
 //! Sets of tuples of integers.
 
+ghost use Rattle.std.specs.Prelude.{IfOk};
 ghost use Rattle.auto_core.specs.Integers.{DecidesIntegers};
 
 use crate::reduced_auto::ReducedAuto;
@@ -26,12 +27,20 @@ impl Model for IntegerSet {
     ghost invariant = { λ set. DecidesIntegers set.automaton };
 }
 
+/// Refuses an automaton to which a repeated first letter may matter.
+fn check_stable(alloc: Global, a: &Auto) -> Result<(), RowError>
+    ensures { IfOk result (λ _. DecidesIntegers a.now) }
+{
+    if !sign_stable(alloc, a)? {
+        return Err(RowError::Condition);
+    }
+    Ok(())
+}
+
 impl IntegerSet {
     /// The set of an automaton, where it decides one.
     pub fn of(alloc: Global, automaton: ReducedAuto) -> Result<IntegerSet, RowError> {
-        if !sign_stable(alloc, automaton.auto())? {
-            return Err(RowError::Condition);
-        }
+        check_stable(alloc, automaton.auto())?;
         Ok(IntegerSet { automaton })
     }
 

@@ -9,15 +9,19 @@ use crate::spelling::{Reader, whole};
 use crate::tables::{are_below, width_of};
 use crate::writing::{separate, write_truth};
 use auto_core::Auto;
+use limits::MOST_TRACKS;
 use std::alloc::Global;
 use trial_rows::{Fields, RowError, numbers};
 
 /// Whether some letters are a word over so many tracks.
 fn is_word(tracks: usize, word: &[u32]) -> bool
-    requires { tracks ≤ 20 }
+    requires { tracks ≤ MOST_TRACKS }
     ensures { IsTrue result → IsWord tracks word.now }
 {
-    !word.is_empty() && are_below(word, width_of(tracks))
+    if word.is_empty() {
+        return false;
+    }
+    are_below(word, width_of(tracks))
 }
 
 /// Whether the automaton accepts the word of a text.
@@ -48,15 +52,22 @@ pub fn write_accepts(
     write_words(reader.alloc, set.auto(), words, out)
 }
 
+/// Whether a tuple is in the automaton's set.
+fn is_member(a: &Auto, values: &[i64]) -> Result<bool, RowError>
+    requires { DecidesIntegers a.now }
+{
+    if values.len() != a.tracks().len() {
+        return Err(RowError::Condition);
+    }
+    Ok(a.member(values))
+}
+
 /// Whether the tuple of a text is in the automaton's set.
 fn has_member(alloc: Global, a: &Auto, text: &str) -> Result<bool, RowError>
     requires { DecidesIntegers a.now }
 {
     let values = numbers::<i64>(alloc, text)?;
-    if values.len() != a.tracks().len() {
-        return Err(RowError::Condition);
-    }
-    Ok(a.member(values.as_slice()))
+    is_member(a, values.as_slice())
 }
 
 fn write_tuples(alloc: Global, a: &Auto, tuples: &str, out: &mut String) -> Result<(), RowError>

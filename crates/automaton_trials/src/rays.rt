@@ -70,7 +70,7 @@ impl Spelled {
 }
 
 /// The two numbers of the next field.
-fn pair<T: FromStr<Err = ParseIntError> + Drop>(fields: &mut Fields) -> Result<(T, T), RowError> {
+fn pair<T: FromStr<Err = ParseIntError> + Copy>(fields: &mut Fields) -> Result<(T, T), RowError> {
     let Some((first, second)) = fields.word()?.split_once(',') else {
         return Err(RowError::Word);
     };

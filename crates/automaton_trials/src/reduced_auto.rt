@@ -9,6 +9,7 @@ use auto_bool::{join, meet, not};
 use auto_core::Auto;
 use auto_reduce::reduce;
 use auto_walk::Grown;
+use limits::{Budget, MOST_TRACKS};
 use lin_formula::{LinWhy, lin};
 use std::alloc::Global;
 use std::marker::Model;
@@ -101,18 +102,18 @@ pub fn comparison(
 /// How many tracks there are.
 fn track_count(a: &Auto) -> usize
     ensures count { result ≡ length a.now.tracks }
-    ensures few { result ≤ 20 }
+    ensures few { result ≤ MOST_TRACKS }
 {
     a.tracks().len()
 }
 
 /// Whether both have so few tracks that their product may be made.
 fn are_few_together(a: &Auto, b: &Auto) -> bool
-    ensures { IsTrue result → length (with_vars a.now.tracks b.now.tracks) ≤ 20 }
+    ensures { IsTrue result → length (with_vars a.now.tracks b.now.tracks) ≤ MOST_TRACKS }
 {
     let left = track_count(a);
     let right = track_count(b);
-    if left + right > 20 {
+    if left + right > MOST_TRACKS as usize {
         return false;
     }
     true
@@ -124,10 +125,8 @@ pub fn joined(
     connective: Connective,
     a: &ReducedAuto,
     b: &ReducedAuto,
-    budget: u32,
-) -> Result<ReducedAuto, RowError>
-    requires { (1 ≤ budget) × (budget ≤ 200000) }
-{
+    budget: Budget,
+) -> Result<ReducedAuto, RowError> {
     let a = a.auto();
     let b = b.auto();
     if !are_few_together(a, b) {

@@ -1,12 +1,13 @@
 //! The spelling of an automaton: fields in prefix form, as `docs/CALLS.md` has them.
 
-ghost use Rattle.std.specs.Prelude.{◌<◌, ◌≤◌, IfOk};
+ghost use Rattle.std.specs.Prelude.{◌<◌, IfOk};
 
 use crate::letters::{var, vars};
 use crate::reduced_auto::{Connective, ReducedAuto, comparison, grown, joined, others, reduced};
 use crate::tables::{Tables, tabled};
 use auto_core::Auto;
 use auto_walk::residue;
+use limits::Budget;
 use std::alloc::Global;
 use track_word::{Rel, Var};
 use trial_rows::{Fields, Named, RowError, number, numbers};
@@ -213,11 +214,9 @@ fn with_next(
     inner: Reader,
     connective: Connective,
     left: &ReducedAuto,
-    budget: u32,
+    budget: Budget,
     fields: &mut Fields,
-) -> Result<ReducedAuto, RowError>
-    requires { (1 ≤ budget) × (budget ≤ 200000) }
-{
+) -> Result<ReducedAuto, RowError> {
     let right = automaton(inner, fields)?;
     joined(inner.alloc, connective, left, &right, budget)
 }

@@ -5,6 +5,7 @@ ghost use Rattle.track_word.specs.Tracks.{IsAscending};
 ghost use Rattle.auto_core.specs.Rows.{AreTables};
 
 use auto_core::Auto;
+use limits::{MOST_STATES, MOST_TRACKS};
 use std::alloc::Global;
 use track_word::Var;
 use trial_rows::RowError;
@@ -27,7 +28,7 @@ fn are_ascending(tracks: &[Var]) -> bool
 
 /// How many letters there are over so many tracks.
 pub fn width_of(tracks: usize) -> usize
-    requires { tracks ≤ 20 }
+    requires { tracks ≤ MOST_TRACKS }
     ensures { result ≡ 2 ^ tracks }
 {
     1 << tracks
@@ -51,10 +52,11 @@ pub struct Tables {
 
 /// Whether tables are those of an automaton.
 fn are_tables(tables: &Tables) -> bool
-    ensures { IsTrue result → AreTables tables.now.tracks.items tables.now.first.items tables.now.next.items tables.now.accept.items }
+    ensures { IsTrue result
+        → AreTables tables.now.tracks.items tables.now.first.items tables.now.next.items tables.now.accept.items }
 {
     let states = tables.accept.len();
-    if tables.tracks.len() > 20 || states == 0 || states > 200000 {
+    if tables.tracks.len() > MOST_TRACKS as usize || states == 0 || states > MOST_STATES as usize {
         return false;
     }
     let width = width_of(tables.tracks.len());

@@ -95,7 +95,7 @@ fn brought_node(others: &mut Diagrams, diagrams: &Diagrams, node: Node) -> Resul
 {
     let nodes = others.bring(diagrams, &[node])?;
     match nodes.first() {
-        Some(brought) if others.is_node(*brought) => Ok(*brought),
+        Some(brought) if brought.number() < others.len() => Ok(*brought),
         _ => Err(RowError::Condition),
     }
 }

@@ -3,11 +3,9 @@
 ghost use Rattle.std.specs.Prelude.{◌<◌, IfOk, length};
 
 use letter_diagram::{Diagrams, Node, Pairs, Sets};
+use limits::MOST_TRACKS;
 use std::alloc::Global;
 use trial_rows::{Fields, RowError};
-
-/// How many tracks there are.
-pub const TRACKS: u8 = 20;
 
 /// The nodes that the steps of a row have made, in their order, and what is numbered.
 #[derive(Drop)]
@@ -50,7 +48,7 @@ impl Bench {
 fn known(diagrams: &Diagrams, node: Node) -> Result<Node, RowError>
     ensures { IfOk result (λ known. known < length diagrams.now) }
 {
-    if diagrams.is_node(node) {
+    if node.number() < diagrams.len() {
         Ok(node)
     } else {
         Err(RowError::Condition)
@@ -59,10 +57,10 @@ fn known(diagrams: &Diagrams, node: Node) -> Result<Node, RowError>
 
 /// The track of the next field.
 pub fn track(fields: &mut Fields) -> Result<u8, RowError>
-    ensures { IfOk result (λ track. track < 20) }
+    ensures { IfOk result (λ track. track < MOST_TRACKS) }
 {
     let track = fields.u8()?;
-    if track >= TRACKS {
+    if track >= MOST_TRACKS {
         return Err(RowError::Condition);
     }
     Ok(track)

@@ -3,9 +3,10 @@
 ghost use Rattle.std.specs.Prelude.{◌≡◌, ◌<◌, ℕ, All, IsTrue, IfOk, length};
 ghost use Rattle.letter_diagram.specs.Diagram.{map_at};
 
-use crate::bench::{Bench, TRACKS, track};
+use crate::bench::{Bench, track};
 use letter_diagram::laws::a_map_looks_from_its_top_track;
 use letter_diagram::{Diagrams, Node};
+use limits::MOST_TRACKS;
 use std::alloc::Global;
 use trial_rows::{Fields, RowError, numbers};
 
@@ -16,28 +17,24 @@ const MOST_NUMBERED: usize = 1000000;
 #[derive(Clone, Copy)]
 pub enum Making {
     Leaf,
-    Bit,
     Node,
     Choose,
     Apply2,
     Merge,
     Map,
     Relabel,
-    Restrict,
 }
 
 /// What the step of this word makes.
 pub fn making_of(word: &str) -> Option<Making> {
     match word {
         "leaf" => Some(Making::Leaf),
-        "bit" => Some(Making::Bit),
         "node" => Some(Making::Node),
         "choose" => Some(Making::Choose),
         "apply2" => Some(Making::Apply2),
         "merge" => Some(Making::Merge),
         "map" => Some(Making::Map),
         "relabel" => Some(Making::Relabel),
-        "restrict" => Some(Making::Restrict),
         _ => None,
     }
 }
@@ -51,14 +48,12 @@ pub fn make(
 ) -> Result<Node, RowError> {
     match making {
         Making::Leaf => leaf(bench, fields),
-        Making::Bit => bit(bench, fields),
         Making::Node => test_node(bench, fields),
         Making::Choose => choice(bench, fields),
         Making::Apply2 => pairs_node(bench, fields),
         Making::Merge => merged(bench, fields),
         Making::Map => mapped(alloc, bench, fields),
         Making::Relabel => relabelled(alloc, bench, fields),
-        Making::Restrict => restricted(bench, fields),
     }
 }
 
@@ -66,12 +61,6 @@ pub fn make(
 fn leaf(bench: &mut Bench, fields: &mut Fields) -> Result<Node, RowError> {
     let value = fields.u32()?;
     Ok(bench.diagrams.leaf(value)?)
-}
-
-/// `bit TRACK`: the bit of the track.
-fn bit(bench: &mut Bench, fields: &mut Fields) -> Result<Node, RowError> {
-    let track = track(fields)?;
-    Ok(bench.diagrams.bit(track)?)
 }
 
 /// `node TRACK LOW HIGH`: both maps look only at later tracks.
@@ -144,8 +133,8 @@ fn mapped(alloc: Global, bench: &mut Bench, fields: &mut Fields) -> Result<Node,
 /// The map on the letters with the bits of these tracks.
 fn relabel(diagrams: &mut Diagrams, node: Node, tracks: &[u8]) -> Result<Node, RowError>
     requires known { node < length diagrams.old }
-    requires count { length tracks.now ≡ 20 }
-    requires tracks { All (λ track. track < 20) tracks.now }
+    requires count { length tracks.now ≡ MOST_TRACKS }
+    requires tracks { All (λ track. track < MOST_TRACKS) tracks.now }
 {
     a_map_looks_from_its_top_track();
     let _ = diagrams.alloc();
@@ -155,7 +144,7 @@ fn relabel(diagrams: &mut Diagrams, node: Node, tracks: &[u8]) -> Result<Node, R
 /// The tracks of the next field. A track past the list's end is itself.
 fn tracks(alloc: Global, fields: &mut Fields) -> Result<Vec<u8>, RowError> {
     let mut tracks = numbers::<u8>(alloc, fields.word()?)?;
-    for track in 0..TRACKS {
+    for track in 0..MOST_TRACKS {
         if tracks.len() <= track as usize {
             tracks.push(track)?;
         }
@@ -165,10 +154,10 @@ fn tracks(alloc: Global, fields: &mut Fields) -> Result<Vec<u8>, RowError> {
 
 /// Whether each is a track, and there is one for each track.
 fn are_tracks(tracks: &[u8]) -> bool
-    ensures count { IsTrue result → length tracks.now ≡ 20 }
-    ensures tracks { IsTrue result → All (λ track. track < 20) tracks.now }
+    ensures count { IsTrue result → length tracks.now ≡ MOST_TRACKS }
+    ensures tracks { IsTrue result → All (λ track. track < MOST_TRACKS) tracks.now }
 {
-    tracks.len() == 20 && tracks.iter().all(|track| *track < 20)
+    tracks.len() == MOST_TRACKS as usize && tracks.iter().all(|track| *track < MOST_TRACKS)
 }
 
 /// `relabel TRACKS NODE`: the map whose tracks take their bits from these. A track past the list's end keeps its own.
@@ -179,15 +168,4 @@ fn relabelled(alloc: Global, bench: &mut Bench, fields: &mut Fields) -> Result<N
         return Err(RowError::Condition);
     }
     relabel(&mut bench.diagrams, node, tracks.as_slice())
-}
-
-/// `restrict TRACK BIT NODE`: the map with this bit on the track.
-fn restricted(bench: &mut Bench, fields: &mut Fields) -> Result<Node, RowError> {
-    let track = track(fields)?;
-    let bit = fields.u8()?;
-    let node = bench.node(fields)?;
-    if bit > 1 {
-        return Err(RowError::Condition);
-    }
-    Ok(bench.diagrams.restrict(node, track, bit)?)
 }

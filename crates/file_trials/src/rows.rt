@@ -8,6 +8,7 @@ use crate::outcome::write_outcome;
 use crate::spelling::spelled;
 use auto_core::Auto;
 use chess_game::Side;
+use limits::Budget;
 use std::alloc::Global;
 use strategy_file::{Claim, FileError, WriteFileError, read_file, write_file};
 use trial_rows::{Fields, Named, RowError, numbers, yes_or_no};
@@ -152,7 +153,13 @@ pub fn accepts_row(
 fn solved_file(alloc: Global, claim: &Claim) -> Result<Result<Vec<u8>, WriteFileError>, RowError>
     requires { HasFile (claim_of claim.now) }
 {
-    match solve(alloc, &claim.position, Side::White, claim.moves, 50_000) {
+    match solve(
+        alloc,
+        &claim.position,
+        Side::White,
+        claim.moves,
+        Budget::new(50_000),
+    ) {
         Ok(solved) => Ok(write_file(alloc, &solved)),
         Err(SolveError::Over(_)) => Err(RowError::Condition),
         Err(SolveError::Memory) => Err(RowError::Memory),

@@ -9,7 +9,7 @@ use chess_game::{
     mated, ray, soundness, try_move,
 };
 use chess_text::{MoveText, MoveWhy, PositionReader, Typed, read_move};
-use rule_formula::{masks, options};
+use rule_formula::{Opt, masks, options};
 use std::alloc::Global;
 use trial_rows::{Fields, Named, RowError, numbers, yes_or_no};
 
@@ -195,7 +195,12 @@ pub fn frame_of(alloc: Global, field: &str) -> Result<Frame, RowError> {
     if field == "whole" {
         return Ok(Frame::whole());
     }
-    match numbers::<i64>(alloc, field)?.as_slice() {
+    let edges = numbers::<i64>(alloc, field)?;
+    frame_within(edges.as_slice())
+}
+
+fn frame_within(edges: &[i64]) -> Result<Frame, RowError> {
+    match edges {
         [x_low, x_high, y_low, y_high] => Ok(Frame {
             x_low: *x_low,
             x_high: *x_high,
@@ -268,15 +273,16 @@ pub fn options_row(
     let mask = fields.u8()?;
     let side = side_of(fields.word()?)?;
     fields.end()?;
-    for (place, opt) in options(alloc, &position, mask, side)?
-        .as_slice()
-        .iter()
-        .enumerate()
-    {
+    let ways = options(alloc, &position, mask, side)?;
+    write_options(ways.as_slice(), out)
+}
+
+fn write_options(ways: &[Opt], out: &mut String) -> Result<(), RowError> {
+    for (place, way) in ways.iter().enumerate() {
         if place > 0 {
             out.push(' ')?;
         }
-        write!(out, "{}/{}/{}", opt.man, opt.ray, opt.taken)?;
+        write!(out, "{}/{}/{}", way.man, way.ray, way.taken)?;
     }
     Ok(())
 }
@@ -290,7 +296,12 @@ pub fn mask_row(
 ) -> Result<(), RowError> {
     let position = position_named(positions, fields)?;
     fields.end()?;
-    for (place, mask) in masks(alloc, &position)?.as_slice().iter().enumerate() {
+    let masks = masks(alloc, &position)?;
+    write_masks(masks.as_slice(), out)
+}
+
+fn write_masks(masks: &[u8], out: &mut String) -> Result<(), RowError> {
+    for (place, mask) in masks.iter().enumerate() {
         if place > 0 {
             out.push(' ')?;
         }

@@ -20,7 +20,7 @@ fn solved(
     let winner = side_of(fields.word()?)?;
     let moves = fields.u8()?;
     let budget = fields.budget()?;
-    let _ = position.count();
+    let _ = position.count(); // for its invariant
     if moves > 20 {
         return Err(RowError::Condition);
     }

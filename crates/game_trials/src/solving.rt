@@ -18,6 +18,21 @@ struct Bench {
 }
 
 impl Bench {
+    /// Whether the winner mates within so many moves.
+    fn solve(&mut self, moves: u8) -> Result<bool, RowError>
+        requires { moves ≤ 20 }
+    {
+        match self.solver.solve(moves) {
+            Ok(solved) => {
+                let is_mate = solved.verdict();
+                self.last = Some(solved);
+                Ok(is_mate)
+            }
+            Err(SolveError::Over(_)) => Err(RowError::Over),
+            Err(SolveError::Memory) => Err(RowError::Memory),
+        }
+    }
+
     fn solved(&self) -> Result<&Solved, RowError> {
         self.last.as_ref().ok_or(RowError::Condition)
     }
@@ -29,23 +44,26 @@ fn solve_step(bench: &mut Bench, fields: &mut Fields, out: &mut String) -> Resul
     if moves > 20 {
         return Err(RowError::Condition);
     }
-    match bench.solver.solve(moves) {
-        Ok(solved) => {
-            out.push_str(if solved.verdict() { "mate" } else { "no mate" })?;
-            bench.last = Some(solved);
-            Ok(())
-        }
-        Err(SolveError::Over(_)) => Err(RowError::Over),
-        Err(SolveError::Memory) => Err(RowError::Memory),
-    }
+    let is_mate = bench.solve(moves)?;
+    out.push_str(if is_mate { "mate" } else { "no mate" })?;
+    Ok(())
 }
 
 /// Whether a tuple is in a set.
 fn is_member(alloc: Global, a: &Auto, tuple: &[i64]) -> Result<bool, RowError> {
-    if tuple.len() != a.tracks().len() || !sign_stable(alloc, a)? {
+    if tuple.len() != a.tracks().len() {
+        return Err(RowError::Condition);
+    }
+    if !sign_stable(alloc, a)? {
         return Err(RowError::Condition);
     }
     Ok(a.member(tuple))
+}
+
+/// Whether the tuple of a text is in a set.
+fn has_member(alloc: Global, a: &Auto, tuple: &str) -> Result<bool, RowError> {
+    let values = numbers::<i64>(alloc, tuple)?;
+    is_member(alloc, a, values.as_slice())
 }
 
 /// Writes whether a tuple is in a set, or that there is none.
@@ -57,10 +75,7 @@ fn write_is_in(
 ) -> Result<(), RowError> {
     match set {
         None => out.push_str("none")?,
-        Some(set) => {
-            let values = numbers::<i64>(alloc, tuple)?;
-            out.push_str(yes_or_no(is_member(alloc, set, values.as_slice())?))?;
-        }
+        Some(set) => out.push_str(yes_or_no(has_member(alloc, set, tuple)?))?,
     }
     Ok(())
 }
@@ -137,7 +152,7 @@ fn solver_of(
     let position = sound_named(positions, fields)?;
     let winner = side_of(fields.word()?)?;
     let budget = fields.budget()?;
-    let _ = position.count();
+    let _ = position.count(); // for its invariant
     Ok(Solver::new(alloc, &position, winner, budget))
 }
 

@@ -15,7 +15,8 @@ AreDigits high low byte = (h l : ℕ) × IsDigit high h × IsDigit low l × (byt
 abbrev pub BeginsWithDigits : (text : List ℕ) (byte : ℕ) (rest : List ℕ) → Type 0
 BeginsWithDigits text byte rest = (high low : ℕ) × (text ≡ high ∷ (low ∷ rest)) × AreDigits high low byte
 
--- Behind a backslash the text begins with the letters for the byte: a backslash, n for LF, r for CR, or x and two digits.
+-- Behind a backslash the text begins with the letters for the byte: a backslash, n for LF, r for CR, or x and two
+-- digits.
 abbrev pub Escapes : (text : List ℕ) (byte : ℕ) (rest : List ℕ) → Type 0
 Escapes text byte rest =
     ((text ≡ 92 ∷ rest) × (byte ≡ 92))

@@ -1,9 +1,10 @@
 //! The fields of a row.
 
-ghost use Rattle.std.specs.Prelude.{◌≡◌, ◌≤◌, ◌↔◌, [], Some, None, Ok, Err, IsTrue, IsOk, IsOkAnd, IfOk, MatchOption, MatchResult, unwrap_or};
+ghost use Rattle.std.specs.Prelude.{◌≡◌, ◌↔◌, [], Some, None, Ok, Err, IsTrue, IsOk, IsOkAnd, IfOk, MatchOption, MatchResult, unwrap_or};
 ghost use Rattle.trial_rows.specs.Fields.{IsNextField};
 
 use crate::errors::RowError;
+use limits::Budget;
 use std::alloc::Global;
 use std::marker::Model;
 use std::num::ParseIntError;
@@ -32,7 +33,8 @@ impl<'a> Fields<'a> {
 
     /// The next field.
     pub fn word(&mut self) -> Result<&'a str, RowError>
-        ensures { MatchOption self.old ((result ≡ Err RowError.Missing) × (self.new ≡ None)) (λ text. IsOkAnd result (λ field. IsNextField text field.now self.new)) }
+        ensures { MatchOption self.old ((result ≡ Err RowError.Missing) × (self.new ≡ None))
+            (λ text. IsOkAnd result (λ field. IsNextField text field.now self.new)) }
     {
         let Some(text) = self.rest else {
             return Err(RowError::Missing);
@@ -95,20 +97,15 @@ impl<'a> Fields<'a> {
     }
 
     /// A budget of states, from 1 to 200000.
-    pub fn budget(&mut self) -> Result<u32, RowError>
-        ensures { IfOk result (λ budget. (1 ≤ budget) × (budget ≤ 200000)) }
-    {
-        let budget = self.u32()?;
-        if budget < 1 || budget > 200000 {
-            return Err(RowError::Number);
-        }
-        Ok(budget)
+    pub fn budget(&mut self) -> Result<Budget, RowError> {
+        Budget::checked(self.u32()?).ok_or(RowError::Number)
     }
 }
 
 /// The number that a field spells.
 pub fn number<T: FromStr<Err = ParseIntError>>(field: &str) -> Result<T, RowError>
-    ensures { MatchResult result (λ number. T.from_str_gives field.now (Ok number)) (λ why. (why ≡ RowError.Number) × (error : ParseIntError) × T.from_str_gives field.now (Err error)) }
+    ensures { MatchResult result (λ number. T.from_str_gives field.now (Ok number))
+        (λ why. (why ≡ RowError.Number) × (error : ParseIntError) × T.from_str_gives field.now (Err error)) }
 {
     match field.parse::<T>() {
         Ok(number) => Ok(number),
