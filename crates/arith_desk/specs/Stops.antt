@@ -1,6 +1,5 @@
 -- Which field is the first that cannot stand where it stands. It is given by how many fields are left from it on,
--- itself
--- counted. None are left where fields are missing.
+-- itself counted. None are left where fields are missing.
 use Rattle.std.specs.Prelude.{◌≡◌, ◌≢◌, ◌⊎◌, ℕ, zero, suc, ◌<◌, List, [], ◌∷◌, ◌++◌, length, ℤ, pos, negsuc, ◌≤ℤ◌}
 use Rattle.std.specs.List.{All}
 use Rattle.std.specs.Fmt.{signed_decimal}

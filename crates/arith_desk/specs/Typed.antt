@@ -52,8 +52,7 @@ meaning (Joined connective f g) = join connective (meaning f) (meaning g)
 meaning (Bound quantifier x f) = bind quantifier x (meaning f)
 
 -- Within quantifiers of these letters: each further quantifier has a letter that none around it has, and each letter of
--- a
--- comparison is that of a quantifier around it.
+-- a comparison is that of a quantifier around it.
 abbrev pub IsProper : List Var → Typed → Type 0
 IsProper scope (Compared rel terms bound) = IsAtom terms bound × All (λ t. IsOneOf t.1 scope) terms
 IsProper scope (Denied f) = IsProper scope f

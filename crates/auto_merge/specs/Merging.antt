@@ -1,6 +1,5 @@
 -- Classes of states that are given one by one. Each is given to a state whose row leads to classes that were given
--- before, or to
--- the state itself: the class of another such state with the same row, or one of its own.
+-- before, or to the state itself: the class of another such state with the same row, or one of its own.
 use Rattle.std.specs.Prelude.{◌≡◌, ◌≢◌, ◌⊎◌, ℕ, ◌<◌, ◌≤◌, ◌+◌, Bool, List, length, slice_index, Some, sum_by, nat_eq, ◌&&◌, if◌then◌else◌}
 use Rattle.std.specs.HashMap.{HashMap, get}
 use Rattle.letter_diagram.specs.declared.diagrams.Shape.{Shape}

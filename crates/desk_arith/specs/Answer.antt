@@ -15,8 +15,7 @@ abbrev pub IsAskedFor : Tree → ℤ → Type 0
 IsAskedFor f w = (x : Var) × (g : Tree) × Asks f x g × IsNearest (HoldsWith x g) w
 
 -- The line says that the formula holds exactly where it does over all integers, and `false` exactly where it does not.
--- It has a number up to
--- 2^64 or down to -2^64 exactly where that is the one asked for.
+-- It has a number up to 2^64 or down to -2^64 exactly where that is the one asked for.
 pub record Answers (f : Tree) (line : List ℕ) : Type 0 where
   pub holds : SaysTrue line ↔ IsTrueFormula f
   pub fails : (line ≡ codes "false\n") ↔ (¬ IsTrueFormula f)

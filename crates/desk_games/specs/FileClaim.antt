@@ -33,8 +33,7 @@ abbrev pub file_refused : Files → List ℕ → Report
 file_refused files line = refusal_as files is.File line false
 
 -- what is reported of a claim: the first rule that it does not keep, or the first step of the plan that checks it that
--- exceeds the budget, or
--- else what `reports` says
+-- exceeds the budget, or else what `reports` says
 abbrev pub OfClaim : (Claim → Report → Type 0) → (budget : ℕ) → Files → Claim → Report → Type 0
 OfClaim reports budget files c report =
     ((failed : RuleAt) × plan.Ends (check_plan c) budget (Some failed)

@@ -12,8 +12,8 @@ abbrev pub IsDueBy : (Lines → Report → Type 0) → (before : List (List ℕ)
 IsDueBy reports before = (report : Report) × reports (lines_of (text_of_lines before)) report × IsTrue report.short
 
 -- How a command ends that reads lines, of whose input `held` was taken before, and not read; what is held in the end is
--- `pending`. What is
--- reported of the lines, where memory may be wanting after these bytes, and where the shelf may fail then, is told.
+-- `pending`. What is reported of the lines, where memory may be wanting after these bytes, and where the shelf may fail
+-- then, is told.
 pub record EndsByLines (reports : Lines → Report → Type 0) (may_lack : (bytes : List ℕ) → Type 0)
     (may_miss : (bytes : List ℕ) → (keeping : Option (List ℕ)) → Type 0) (status : Status) (held pending : List ℕ)
     (old new : Seen) : Type 0 where

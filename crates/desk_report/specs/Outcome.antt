@@ -35,16 +35,14 @@ abbrev pub over_budget : Files → StepName → Report
 over_budget files step = refusal_as files is.Budget (budget_line step) false
 
 -- This text was written to a sink that goes from `old` to `new`, and then this fault line, of which a suffix may be
--- missing where the
--- sink has failed.
+-- missing where the sink has failed.
 pub record Writes (text fault : List ℕ) (old new : Option (List ℕ)) (failed : Type 0) : Type 0 where
   pub count : ℕ
   pub front : Appends old new (text ++ take count fault)
   pub whole : (length fault ≤ count) ⊎ failed
 
 -- What the ports of a run tell at a moment: the bytes still to come, those written and the files, each where its port
--- tells it, and how
--- often the source, the sink and the shelf have failed.
+-- tells it, and how often the source, the sink and the shelf have failed.
 pub record Seen : Type 0 where
   pub left : Option (List ℕ)
   pub written : Option (List ℕ)
@@ -136,8 +134,7 @@ abbrev pub NeverMisses : (keeping : Option (List ℕ)) → Type 0
 NeverMisses keeping = ⊥
 
 -- How a run, or the command in it, ends with this status, where `reports` says what is reported, `may_lack` that memory
--- may be wanting, and
--- `may_miss` that the shelf may fail while the file of this name, or none, is being kept.
+-- may be wanting, and `may_miss` that the shelf may fail while the file of this name, or none, is being kept.
 abbrev pub Ends : Status → (Report → Type 0) → (may_lack : Type 0) → (may_miss : Option (List ℕ) → Type 0) → Seen → Seen
     → Type 0
 Ends is.ReadFault reports may_lack may_miss old new = (report : Report) × reports report × ReadsSome report old new

@@ -30,8 +30,8 @@ pub record IsOverBudget (n budget : ℕ) (problem : Problem) (report : Report) :
   pub fault : report.fault ≡ budget_line step
 
 -- What a run of `decide` reports of a sound position: it is done, with the one line exactly where the winner mates
--- within n moves of his own,
--- and the other exactly where he does not; or it names the first step that exceeds the budget.
+-- within n moves of his own, and the other exactly where he does not; or it names the first step that exceeds the
+-- budget.
 pub record IsExact (n budget : ℕ) (problem : Problem) (report : Report) : Type 0 where
   pub cause : IsAnswered n report ⊎ IsOverBudget n budget problem report
   pub mate : report.status ≡ is.Done → (report.text ≡ mate_line n) ↔ Value problem.winner n problem.position

@@ -14,8 +14,7 @@ least_line limit (Some n) = codes "least " ++ decimal n ++ codes "\n"
 least_line limit None = codes "none up to " ++ decimal limit ++ codes "\n"
 
 -- The numbers of moves are gone through from 0 on. The winner mates within none of those before one of them, the plans
--- for them are within
--- the budget, and the step is the first of the plan for that one that exceeds it.
+-- for them are within the budget, and the step is the first of the plan for that one that exceeds it.
 abbrev pub LeastStops : ℕ → ℕ → Problem → StepName → Type 0
 LeastStops limit budget problem step =
     (n : ℕ) × (n ≤ limit)

@@ -71,8 +71,7 @@ GameEnds (Err Write) before taken rest g after old new =
     × AppendsFront old.written new.written report.text
 
 -- How a game is played from `g` on, before which so many lines of the input stood. The bytes behind those that it takes
--- are what the source
--- tells, where it tells.
+-- are what the source tells, where it tells.
 pub record IsPlayed (answer : Result Ending GameError) (before : ℕ) (g after : Match) (old new : Ports) : Type 0 where
   pub bytes : List ℕ
   pub rest : List ℕ

@@ -24,8 +24,7 @@ pub data Strategy : Type 0 where
   ByClaim : Claim → Strategy
 
 -- a game: which side is to mate, from which position and within how many moves of its own, by what it plays, and the
--- position after so many
--- moves of both sides
+-- position after so many moves of both sides
 pub record Match : Type 0 where
   pub winner : Side
   pub start : Position
@@ -35,8 +34,7 @@ pub record Match : Type 0 where
   pub ply : ℕ
 
 -- what is reported of a game: the text that is written, the game after each of the winner's moves, how it ends, and
--- what the input has
--- behind the last line that was read whole
+-- what the input has behind the last line that was read whole
 pub record Report : Type 0 where
   pub text : List ℕ
   pub games : List Match
@@ -145,8 +143,7 @@ Unless true left report Else = report ≡ ends Many [] left
 Unless false left report Else = Else
 
 -- the report of a game with the loser to move, who is not mated, where so many lines of the input stood before those of
--- the game, and so many of
--- the game were read
+-- the game, and so many of the game were read
 abbrev pub AtLines : ℕ → ℕ → Lines → Match → Report → Type 0
 AtLines before read (full line rest) g report =
     Unless (read == most_lines) (full line rest) report

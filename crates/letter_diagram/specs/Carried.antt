@@ -17,8 +17,8 @@ pub record IsCarried (from shapes : List Shape) (letters values : ℕ → ℕ) (
   pub map : (letter : ℕ) → map_at shapes r letter ≡ values (map_at from a (letters letter))
   pub top : KeepsLetters letters → top_track from a ≤ top_track shapes r
 
--- the nodes that are carried, or none where they are those that others are added to;
--- the letter at which an old map is read, what a value becomes, and a bound of the tracks that old maps look at
+-- the nodes that are carried, or none where they are those that others are added to; the letter at which an old map is
+-- read, what a value becomes, and a bound of the tracks that old maps look at
 pub record Carrier : Type 0 where
   pub from : Option (List Shape)
   pub letters : ℕ → ℕ

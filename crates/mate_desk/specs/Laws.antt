@@ -36,8 +36,7 @@ use Rattle.desk_report.specs.declared.status.Status.{Status}
 use Rattle.desk_report.specs.declared.status.Status.TheVariants as is
 
 -- What `decide` wrote behind the bytes `old`: one of the two lines, the one exactly where White mates within n moves of
--- his own, and the
--- other exactly where he does not.
+-- his own, and the other exactly where he does not.
 pub record WritesVerdict (n : ℕ) (p : Position) (old new : List ℕ) : Type 0 where
   pub one : (new ≡ old ++ mate_line n) ⊎ (new ≡ old ++ no_mate_line n)
   pub mate : (new ≡ old ++ mate_line n) ↔ Value White n p
@@ -143,15 +142,14 @@ DecidesExactly =
     → IsExact n budget problem report
 
 -- After the winner's move of this number, counted from 0, of a game that began with the problem: legal moves have led
--- to the position, and the
--- winner still mates within the moves that he has left.
+-- to the position, and the winner still mates within the moves that he has left.
 pub record IsKeptGame (n : ℕ) (problem : Problem) (number : ℕ) (after : Match) : Type 0 where
   pub reached : Reach problem.position after.ply after.position
   pub value : Value problem.winner (n - (number + 1)) after.position
 
 -- What `play` reports of a sound position: the first step that exceeds the budget, or that the winner does not mate
--- within n moves of his own,
--- or, where he does, the game with the lines behind the text, in which each of his moves is legal and keeps the count.
+-- within n moves of his own, or, where he does, the game with the lines behind the text, in which each of his moves is
+-- legal and keeps the count.
 abbrev pub PlaysGame : ℕ → ℕ → Problem → Lines → Files → Report → Type 0
 PlaysGame n budget problem lines files report =
     ((step : StepName) × ExceedsAt problem budget n step × (report ≡ over_budget files step))
@@ -173,15 +171,13 @@ PlayKeeps =
     → PlaysGame n budget problem rest files report
 
 -- After the winner's move of this number, counted from 0, of a game that began with the claim: legal moves have led to
--- the position, and the loser
--- is mated within the moves that the winner has left.
+-- the position, and the loser is mated within the moves that the winner has left.
 pub record IsLostGame (c : Claim) (number : ℕ) (after : Match) : Type 0 where
   pub reached : Reach c.position after.ply after.position
   pub lost : Lost c.winner (c.moves - (number + 1)) after.position
 
 -- What `resume` reports of the claim of a file that keeps all rules: its winner mates within its moves, and in the game
--- with the lines each of his
--- moves is legal and keeps the count.
+-- with the lines each of his moves is legal and keeps the count.
 abbrev pub ResumesGame : Lines → Files → Claim → Report → Type 0
 ResumesGame lines files c report =
     Value c.winner c.moves c.position

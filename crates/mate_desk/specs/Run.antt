@@ -10,8 +10,7 @@ use Rattle.desk_report.specs.declared.status.Status.{Status}
 use Rattle.desk_report.specs.declared.status.Status.TheVariants as is
 
 -- What a run was given: the bytes that it took of its source, those behind them, and the files. They are what the ports
--- tell, where they
--- tell.
+-- tell, where they tell.
 pub record Given (old new : Seen) : Type 0 where
   pub taken : List ℕ
   pub rest : List ℕ

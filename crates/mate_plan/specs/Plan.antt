@@ -180,8 +180,7 @@ module _ (rules : Rules) where
       reach1 kept1
 
   -- what is kept at each ply, the first one first: from what is reached at a ply, what is reached at the plies before,
-  -- the last one first,
-  -- what is kept at the ply, and what is kept at those after it
+  -- the last one first, what is kept at the ply, and what is kept at those after it
   abbrev pub backward : Side → Level → List Level → Level → List Level → Program (List Level)
   backward first reach1 [] kept1 later = Give (kept1 ∷ later)
   backward first reach1 (reach ∷ before) kept1 later = do

@@ -16,10 +16,8 @@ abbrev pub IsBegun : Side → Position → (ℕ → Position → Type 0) → Typ
 IsBegun winner p C = ((p.turn ≡ winner) × LeadsInto (C 1) p) ⊎ ((p.turn ≡ other winner) × C 0 p)
 
 -- a set of positions for each ply of the loser is won: in its positions live men stand on distinct squares and the
--- winner is not in check,
--- it is begun, each legal move is answered by a legal move into the set two plies later, and the loser is in check or
--- has a legal move;
--- past the last ply there is no set, so that there is no legal move then
+-- winner is not in check, it is begun, each legal move is answered by a legal move into the set two plies later, and
+-- the loser is in check or has a legal move; past the last ply there is no set, so that there is no legal move then
 pub record IsWonBy (winner : Side) (p : Position) (C : ℕ → Position → Type 0) : Type 0 where
   pub same : (ply : ℕ) (q : Position) → C ply q → IsApart q
   pub guard : (ply : ℕ) (q : Position) → C ply q → InCheck q winner → ⊥

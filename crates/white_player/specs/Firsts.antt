@@ -12,8 +12,7 @@ use Rattle.game_session.specs.Along.{IsLeastOrNone, LeadsAnywhere, LeadsInside}
 use Rattle.white_player.specs.declared.first_line.FirstLine.{FirstLine}
 
 -- the distances at which the man's move along the ray of this number is legal, and after which the loser, who is then
--- to move, is mated
--- within n - 1 moves of the winner, whatever he plays
+-- to move, is mated within n - 1 moves of the winner, whatever he plays
 abbrev pub Firsts : Side → ℕ → Position → ℕ → ℕ → ℕ → Type 0
 Firsts winner n p man ray distance = LeadsAnywhere (Lost winner (n - 1)) p man ray distance
 
@@ -22,8 +21,7 @@ abbrev pub FirstsInside : Frame → Side → ℕ → Position → ℕ → ℕ �
 FirstsInside frame winner n p man ray distance = LeadsInside frame (Lost winner (n - 1)) p man ray distance
 
 -- the line tells of the man, of the step of his ray, of how many such distances there are on the board, one at least,
--- and of the least of
--- those whose square lies in the frame, or that there is none
+-- and of the least of those whose square lies in the frame, or that there is none
 pub record IsFirstLine (frame : Frame) (winner : Side) (n : ℕ) (p : Position) (man ray : ℕ) (line : FirstLine) : Type
     0 where
   pub him : Man

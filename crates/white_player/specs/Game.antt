@@ -38,8 +38,7 @@ Stands g =
     ⊎ ((g.position.turn ≡ g.solution.winner) × LeadsInto (IsHeld g.solution (suc g.ply)) g.position)
 
 -- what a session keeps true: legal moves have led to the position of its ply, which is not the last one, and from there
--- the winner still mates
--- in time by what is held
+-- the winner still mates in time by what is held
 pub record IsGame (g : Game) : Type 0 where
   pub valid : IsValid g.solution
   pub value : Value g.solution.winner g.solution.moves g.solution.position
@@ -96,8 +95,7 @@ WinnerGoes On g games =
     × On after later)
 
 -- with the loser to move, these are the games after each of the winner's moves where these replies are typed, in order:
--- one that is not legal
--- changes nothing, and once the loser is mated none is legal
+-- one that is not legal changes nothing, and once the loser is mated none is legal
 abbrev pub Goes : Game → List Move → List Game → Type 0
 Goes g [] games = games ≡ []
 Goes g (mv ∷ typed) games =

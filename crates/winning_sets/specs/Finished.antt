@@ -11,9 +11,8 @@ use Rattle.mate_plan.specs.PlanOf.{rules_of}
 use Rattle.winning_sets.specs.Lent.{AreEmpties}
 
 -- of a sound position the names in a table of the sets that are reached at each ply, the first one first, in the order
--- of the masks,
--- and sets to lend where there is no name: up to each ply they are those with which the plan's way forward ends within
--- the budget
+-- of the masks, and sets to lend where there is no name: up to each ply they are those with which the plan's way
+-- forward ends within the budget
 pub record AreFinished (p : Position) (budget : ℕ) (masks : List ℕ) (empties table : List Automaton)
     (levels : List (List (Option SetId))) : Type 0 where
   pub sound : Sound p

@@ -36,8 +36,7 @@ pub record HasTuplesOf (Set : Position → Type 0) (mask : ℕ) (a : Automaton) 
   pub same : (tuple : List ℤ) → IsAccepted a tuple ↔ IsTupleOf Set mask tuple
 
 -- the automaton is reduced and decides a set of integers, its tracks are those of the mask's men, ascending, and it has
--- no more states than
--- the greatest budget
+-- no more states than the greatest budget
 pub record IsSetAt (stock : List Man) (mask : ℕ) (a : Automaton) : Type 0 where
   pub reduced : IsReduced a
   pub integers : DecidesIntegers a
@@ -53,8 +52,7 @@ abbrev pub sets_at : List ℕ → List (List Automaton) → Sets
 sets_at masks plies ply mask = option_and_then (λ sets. set_of masks sets mask) (slice_get plies ply)
 
 -- what a solved position is seen as: where its sets come from, and the sets ply by ply, in each ply in the order of the
--- masks of the
--- position, or none of them
+-- masks of the position, or none of them
 pub record Solution : Type 0 where
   pub origin : Origin
   pub position : Position
