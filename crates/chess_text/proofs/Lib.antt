@@ -1,6 +1,5 @@
-pub mod Blanks
+pub mod Pairs
 pub mod PositionLemmas
 pub mod ReplyLemmas
-pub mod Signed
 pub mod Spellings
 pub mod TextLemmas

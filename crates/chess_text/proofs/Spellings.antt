@@ -2,7 +2,7 @@
 use Rattle.std.proofs.Common.{◌≡◌, ◌≢◌, inl, inr, ℕ, ◌<◌, ◌+◌, ◌==◌, if◌then◌else◌, ◌^◌, ◌%◌, zero, suc, List, [], ◌∷◌, ◌++◌, length, ℤ, pos, negsuc, FitsSigned, refl, sym, ap, ◌∙◌, subst, arith, codes}
 use Rattle.std.specs.Int.{w64}
 use Rattle.std.specs.Fmt.{decimal, signed_decimal}
-use Rattle.std.proofs.lemmas.Fmt.{decimal_by_steps, decimal_nonempty, signed_decimal_injective}
+use Rattle.std.proofs.lemmas.Fmt.{decimal_by_steps, decimal_nonempty}
 use Rattle.game_rules.specs.declared.men.Side.{Side}
 use Rattle.game_rules.specs.declared.men.Side.TheVariants.{White, Black}
 use Rattle.game_rules.specs.declared.men.Kind.{Kind}
@@ -10,13 +10,15 @@ use Rattle.game_rules.specs.declared.men.Kind.TheVariants.{King, Queen, Rook, Bi
 use Rattle.game_rules.specs.declared.men.Place.{Place}
 use Rattle.game_rules.specs.declared.men.Place.TheVariants.{Gone, At}
 use Rattle.game_rules.specs.declared.men.Man.{Man}
-use Rattle.chess_text.specs.Fields.{HasNoBlank, HasTwoFields, HasNoNumber, IsField, IsNumber, pair_text}
+use Rattle.line_fields.specs.Blanks.{HasNoBlank}
+use Rattle.line_fields.specs.Numbers.{IsNumber}
+use Rattle.line_fields.proofs.Blanks.{head_no_blank, no_blank_within, same_parts, tail_no_blank}
+use Rattle.line_fields.proofs.Signed.{same_number}
+use Rattle.chess_text.specs.Fields.{HasTwoFields, HasNoNumber, IsField, pair_text}
 use Rattle.chess_text.specs.ManLine.{HasPlaceShape, IsManRefusal, behind_letters, kind_letter, place_text, side_letter}
 use Rattle.chess_text.specs.PositionText.{FitsPlace, IsManLine}
 use Rattle.chess_text.specs.declared.man_line.TextWhy.{TextWhy}
 use Rattle.chess_text.specs.declared.man_line.TextWhy.TheVariants as why
-use Rattle.chess_text.proofs.Blanks.{head_no_blank, no_blank_within, same_parts, tail_no_blank}
-use Rattle.chess_text.proofs.Signed.{small}
 
 cons_no_blank : (x : ℕ) (a : List ℕ) → x ≢ 32 → HasNoBlank a → HasNoBlank (x ∷ a)
 cons_no_blank x a ne h zero e lt is = ne is
@@ -51,9 +53,6 @@ some_signed (negsuc n) fits = λ e. cc
 
 pub signed_is_field : (z : ℤ) → FitsSigned w64 z → IsField (signed_decimal z)
 signed_is_field z fits = record { some = some_signed z fits; no_blank = no_blank_signed z fits }
-
-pub same_number : (y z : ℤ) → FitsSigned w64 y → FitsSigned w64 z → signed_decimal y ≡ signed_decimal z → y ≡ z
-same_number y z fy fz h = signed_decimal_injective y z (small y fy) (small z fz) h
 
 pub same_pair : (x y u v : ℤ) → FitsSigned w64 x → FitsSigned w64 y → FitsSigned w64 u → FitsSigned w64 v → pair_text x y ≡ pair_text u v → (x ≡ u) × (y ≡ v)
 same_pair x y u v fx fy fu fv h =

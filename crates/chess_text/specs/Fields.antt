@@ -1,13 +1,10 @@
--- Fields of a line, and numbers in them.
-use Rattle.std.specs.Prelude.{◌≡◌, ◌≢◌, ◌⊎◌, ℕ, List, [], ◌∷◌, ◌++◌, ℤ, FitsSigned}
-use Rattle.std.specs.List.{All}
-use Rattle.std.specs.Int.{w64}
+-- Pairs of fields in a line, and pairs of numbers.
+use Rattle.std.specs.Prelude.{◌≡◌, ◌≢◌, ◌⊎◌, ℕ, List, [], ◌∷◌, ◌++◌, ℤ}
 use Rattle.std.specs.Fmt.{signed_decimal}
+use Rattle.line_fields.specs.Blanks.{HasNoBlank}
+use Rattle.line_fields.specs.Numbers.{IsNumber}
 use Rattle.chess_text.specs.declared.fields.PairWhy.{PairWhy}
 use Rattle.chess_text.specs.declared.fields.PairWhy.TheVariants.{Shape, Number}
-
-abbrev pub HasNoBlank : List ℕ → Type 0
-HasNoBlank text = All (λ byte. byte ≢ 32) text
 
 -- a field has a byte, and no blank
 pub record IsField (text : List ℕ) : Type 0 where
@@ -17,12 +14,6 @@ pub record IsField (text : List ℕ) : Type 0 where
 -- two fields, with one blank between them
 abbrev pub two_fields : List ℕ → List ℕ → List ℕ
 two_fields first second = first ++ 32 ∷ second
-
--- the text is a number of 64 bits in its one spelling: no plus, no leading zero, and no minus before zero
-pub record IsNumber (text : List ℕ) : Type 0 where
-  pub number : ℤ
-  pub fits : FitsSigned w64 number
-  pub spelled : text ≡ signed_decimal number
 
 -- two numbers, with one blank between them
 abbrev pub pair_text : ℤ → ℤ → List ℕ

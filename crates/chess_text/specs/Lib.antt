@@ -1,3 +1,5 @@
+pub use Rattle.line_fields.specs.Blanks
+pub use Rattle.line_fields.specs.Numbers
 pub mod Fields
 pub mod Gathering
 pub mod Laws

@@ -1,12 +1,9 @@
-//! Numbers and pairs of numbers in lines.
+//! Pairs of numbers in lines.
 
-ghost use Rattle.std.specs.Prelude.{◌≡◌, ◌≢◌, ◌↔◌, ◌++◌, [], ℤ, FitsSigned, IfSome, IfNone, IfOk, IfErr, IsTrue, ◌∷◌};
-ghost use Rattle.std.specs.Int.{w64};
-ghost use Rattle.std.specs.Fmt.{signed_decimal};
-ghost use Rattle.chess_text.specs.Fields.{IsField, IsPairRefusal, HasNoBlank, HasTwoFields, pair_text, two_fields};
+ghost use Rattle.std.specs.Prelude.{◌≡◌, ◌↔◌, IfSome, IfNone, IfOk, IfErr, IsTrue};
+ghost use Rattle.chess_text.specs.Fields.{IsField, IsPairRefusal, HasTwoFields, pair_text, two_fields};
 
-use itoa::Buffer;
-use std::str;
+use line_fields::{read_number, split_at_blank};
 
 /// Why two fields are no pair of numbers.
 #[derive(Clone, Copy, Debug, PartialEq, Eq)]
@@ -15,35 +12,6 @@ pub enum PairWhy {
     Shape,
     /// A field is no number of 64 bits.
     Number,
-}
-
-/// The number that the text spells, in its one spelling.
-pub fn read_number(text: &[u8]) -> Option<i64>
-    ensures found { IfSome result (λ n. text.now ≡ signed_decimal n) }
-    ensures none { IfNone result ((n : ℤ) → FitsSigned w64 n → text.now ≢ signed_decimal n) }
-{
-    match str::from_utf8(text) {
-        Err(_) => None,
-        Ok(text) => match text.parse::<i64>() {
-            Err(_) => None,
-            Ok(number) => {
-                if Buffer::new().format(number) == text {
-                    Some(number)
-                } else {
-                    None
-                }
-            }
-        },
-    }
-}
-
-/// The text before the first blank, and the text after it.
-fn split_at_blank(text: &[u8]) -> Option<(&[u8], &[u8])>
-    ensures some { IfSome result (λ p. (text.now ≡ p.0.now ++ 32 ∷ p.1.now) × HasNoBlank p.0.now) }
-    ensures none { IfNone result (HasNoBlank text.now) }
-{
-    let at = text.iter().position(|byte| *byte == b' ')?;
-    Some((&text[..at], &text[at + 1..]))
 }
 
 /// Whether the text is a field: it has a byte and no blank.

@@ -172,6 +172,13 @@ impl PositionReader {
         }
     }
 
+    /// The number of the line that is due, counted from 1, while the text goes on.
+    pub fn line_due(&self) -> u32
+        ensures { result ≡ line_due self.now.stage }
+    {
+        self.stage.number()
+    }
+
     /// Takes the next line of a text, without its LF. After an error, or once the text is whole, the answer stays.
     pub fn feed_line(&mut self, line: &[u8]) -> Result<Fed, TextError>
         ensures stopped { IfSome self.old.answer (λ answer. (result ≡ fed_of answer) × (self.new ≡ self.old)) }
@@ -182,7 +189,7 @@ impl PositionReader {
             Some(Err(error)) => return Err(error),
             None => {}
         }
-        let number = self.stage.number();
+        let number = self.line_due();
         match feed(&mut self.stage, line) {
             Ok(None) => Ok(Fed::More),
             Ok(Some(position)) => {

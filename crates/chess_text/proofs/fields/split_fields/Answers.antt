@@ -1,4 +1,4 @@
-use Rattle.chess_text.proofs.Blanks.{no_two_fields, fields_are}
+use Rattle.chess_text.proofs.Pairs.{no_two_fields, fields_are}
 use Rattle.chess_text.proofs.fields.split_fields.Goals as goal
 
 pub returns-in_default-clause-none : goal.returns-in_default-clause-none

@@ -1,12 +1,13 @@
--- Texts with a blank in them.
-use Rattle.std.proofs.Common.{◌≡◌, ◌≢◌, ℕ, suc, List, [], ◌∷◌, ◌++◌, refl, sym, ◌∙◌, arith, subst}
-use Rattle.chess_text.specs.Fields.{HasNoBlank, HasTwoFields, IsField}
+-- Texts with a blank in them, and texts without one. Crates above cite these lemmas.
+use Rattle.std.proofs.Common.{◌≡◌, ◌≢◌, ℕ, List, [], ◌∷◌, ◌++◌, refl}
+use Rattle.std.proofs.lemmas.List.Elements.{All-head, All-tail}
+use Rattle.line_fields.specs.Blanks.{HasNoBlank}
 
 pub head_no_blank : (x : ℕ) (a : List ℕ) → HasNoBlank (x ∷ a) → x ≢ 32
-head_no_blank x a h = h 0 0 (omega arith)
+head_no_blank x a h = All-head (λ byte. byte ≢ 32) x a h
 
 pub tail_no_blank : (x : ℕ) (a : List ℕ) → HasNoBlank (x ∷ a) → HasNoBlank a
-tail_no_blank x a h = λ k d lt e. h (suc k) d (omega arith) e
+tail_no_blank x a h = All-tail (λ byte. byte ≢ 32) x a h
 
 -- a text has a blank where it is a front and a blank and more
 pub no_blank_within : (a b : List ℕ) → HasNoBlank (a ++ 32 ∷ b) → ⊥
@@ -23,12 +24,3 @@ same_parts (x ∷ a) b (y ∷ c) d ha hc h =
     let rest : a ++ 32 ∷ b ≡ c ++ 32 ∷ d = cc in
     let parts = same_parts a b c d (tail_no_blank x a ha) (tail_no_blank y c hc) rest in
     (let same = parts.0 in cc, parts.1)
-
-pub no_two_fields : (text : List ℕ) → HasNoBlank text → HasTwoFields text → ⊥
-no_two_fields text h t = no_blank_within t.first t.second (subst HasNoBlank t.joined h)
-
--- where two fields are split at the first blank, both parts are fields
-pub fields_are : (text a b : List ℕ) → text ≡ a ++ 32 ∷ b → HasNoBlank a → HasTwoFields text → IsField a × IsField b
-fields_are text a b e h t =
-    let parts = same_parts a b t.first t.second h t.is_first.no_blank (sym e ∙ t.joined) in
-    (subst IsField (sym parts.0) t.is_first, subst IsField (sym parts.1) t.is_second)
