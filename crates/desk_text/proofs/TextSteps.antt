@@ -15,7 +15,7 @@ use Rattle.desk_base.specs.declared.line.LineError.TheVariants as fails
 use Rattle.game_rules.specs.Game.{Position}
 use Rattle.chess_text.specs.PositionText.{Feeds, Turnout, text_of_lines, with_man}
 use Rattle.chess_text.specs.PositionText as turnouts
-use Rattle.chess_text.specs.Progress.{Progress, ReadsLine, position_of}
+use Rattle.chess_text.specs.Progress.{Progress, ReadsLine, line_due, position_of}
 use Rattle.chess_text.specs.declared.man_line.TextWhy.{TextWhy}
 use Rattle.chess_text.specs.declared.reader.Stage.{Stage}
 use Rattle.chess_text.specs.declared.reader.Stage.TheVariants as stages
@@ -40,27 +40,38 @@ IsFew stages.Header = Unit {0}
 IsFew stages.Turn = Unit {0}
 IsFew (stages.Men p) = length p.men ≤ 5
 
+-- the line that is due is one of the first eight
+pub due_early : (stage : Stage) → IsFew stage → line_due stage ≤ 8
+due_early stages.Header few = omega arith
+due_early stages.Turn few = omega arith
+due_early (stages.Men p) few = omega (arith, few)
+
 -- what a text that goes on has come to
 pub record GoesOn (stage next : Stage) : Type 0 where
   pub nearer : lines_left next + 1 ≡ lines_left stage
+  pub counted : line_due next ≡ line_due stage + 1
   pub few : IsFew next
 
 goes_to : (stage next due : Stage) → next ≡ due → GoesOn stage due → GoesOn stage next
 goes_to stage next due is h = let P : Stage → Type 0 = λ s. GoesOn stage s in subst P (sym is) h
 
 pub fed_more : (stage next : Stage) (line : List ℕ) → Feeds stage line (turnouts.more next) → GoesOn stage next
-fed_more stages.Header next line (inl (e, i)) = goes_to stages.Header next stages.Turn (let s : next ≡ stages.Turn = cc in s) (record { nearer = refl; few = tt })
+fed_more stages.Header next line (inl (e, i)) = goes_to stages.Header next stages.Turn (let s : next ≡ stages.Turn = cc in s) (record { nearer = refl; counted = refl; few = tt })
 fed_more stages.Header next line (inr (e, i)) = absurd (cc)
 fed_more stages.Turn next line (inl (s, e, i)) =
     goes_to stages.Turn next (stages.Men (record { men = []; turn = s })) (let same : next ≡ stages.Men (record { men = []; turn = s }) = cc in same)
-    (record { nearer = refl; few = omega arith })
+    (record { nearer = refl; counted = refl; few = omega arith })
 fed_more stages.Turn next line (inr (e, i)) = absurd (cc)
 fed_more (stages.Men p) next line (inl (a, e, i)) = absurd (cc)
 fed_more (stages.Men p) next line (inr (inl (a, e, i))) = absurd (cc)
 fed_more (stages.Men p) next line (inr (inr (inl (a, e, i)))) = absurd (cc)
 fed_more (stages.Men p) next line (inr (inr (inr (a, e, inl (m, is, i))))) =
     goes_to (stages.Men p) next (stages.Men (with_man p m)) (let same : next ≡ stages.Men (with_man p m) = cc in same)
-    (record { nearer = omega (arith, a, length-append p.men (m ∷ [])); few = omega (arith, a, length-append p.men (m ∷ [])) })
+    (record {
+      nearer = omega (arith, a, length-append p.men (m ∷ []));
+      counted = omega (arith, length-append p.men (m ∷ []));
+      few = omega (arith, a, length-append p.men (m ∷ []));
+    })
 fed_more (stages.Men p) next line (inr (inr (inr (a, e, inr (reason, r, i))))) = absurd (cc)
 
 pub fed_whole : (stage : Stage) (p : Position) (line : List ℕ) → IsFew stage → Feeds stage line (turnouts.complete p) → length p.men ≤ 5

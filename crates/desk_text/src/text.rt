@@ -62,21 +62,22 @@ pub fn read_problem<S: Source>(reader: &mut LineReader, source: &mut S) -> Resul
     ensures never_falls { S.faults source.old ≤ S.faults source.new }
 {
     let mut text = PositionReader::new();
-    let mut number = 1;
     loop {
+        let number = text.line_due();
         match reader.next_line(source) {
             Ok(Line::Full(_)) => match text.feed_line(reader.line()) {
-                Ok(fed) => match fed.position() {
-                    Some(position) => {
+                Ok(fed) => {
+                    if let Some(position) = fed.position() {
                         return Ok(Problem {
                             position,
                             winner: Side::White,
                             lines: number,
                         });
                     }
-                    None => number += 1,
-                },
-                Err(error) => return Err(TextEnd::Refused(number, LineWhy::Grammar(error.why))),
+                }
+                Err(error) => {
+                    return Err(TextEnd::Refused(error.line, LineWhy::Grammar(error.why)));
+                }
             },
             Ok(Line::End) => return Err(TextEnd::Refused(number, LineWhy::Missing)),
             Err(LineError::Cut) => return Err(TextEnd::Refused(number, LineWhy::Cut)),

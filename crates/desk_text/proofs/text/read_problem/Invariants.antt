@@ -1,4 +1,5 @@
-use Rattle.std.proofs.Common.{◌≡◌, ◌+◌, ◌≤◌, None}
+use Rattle.std.proofs.Common.{◌≡◌, ◌≤◌, None}
+use Rattle.chess_text.specs.Progress.{line_due}
 use Rattle.desk_text.proofs.TextSteps.{SoFar, IsFew, lines_left}
 use Rattle.desk_text.proofs.text.read_problem.Given as goal
 
@@ -8,9 +9,8 @@ invariant-loop-text g l =
     record {
       goes_on : l.reader.stopped ≡ None;
       no_answer : l.text.answer ≡ None;
-      number : l.number + lines_left l.text.stage ≡ 8;
       few : IsFew l.text.stage;
-      so_far : SoFar l.text.stage l.number l.reader.pending (source.left l.fn.source) (source.left l.source);
+      so_far : SoFar l.text.stage (line_due l.text.stage) l.reader.pending (source.left l.fn.source) (source.left l.source);
       faults : source.faults l.fn.source ≤ source.faults l.source;
     }
 
