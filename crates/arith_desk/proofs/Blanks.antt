@@ -1,30 +1,10 @@
 -- The fields of a line are determined.
-use Rattle.std.proofs.Common.{◌≡◌, ◌≢◌, ℕ, List, [], ◌∷◌, ◌++◌, refl, sym, ap, ◌∙◌, subst}
+use Rattle.std.proofs.Common.{◌≡◌, ◌≢◌, ℕ, List, [], ◌∷◌, refl, sym, ap, ◌∙◌, subst}
 use Rattle.std.specs.List.{All}
 use Rattle.std.proofs.lemmas.List.Elements.{All-head, All-tail}
-use Rattle.arith_desk.specs.Line.{AreFields, HasNoBlank, parted}
-
-head_no_blank : (x : ℕ) (a : List ℕ) → HasNoBlank (x ∷ a) → x ≢ 32
-head_no_blank x a h = All-head (λ byte. byte ≢ 32) x a h
-
-tail_no_blank : (x : ℕ) (a : List ℕ) → HasNoBlank (x ∷ a) → HasNoBlank a
-tail_no_blank x a h = All-tail (λ byte. byte ≢ 32) x a h
-
--- a text has a blank where it is a front and a blank and more
-no_blank_within : (a b : List ℕ) → HasNoBlank (a ++ 32 ∷ b) → ⊥
-no_blank_within [] b h = head_no_blank 32 b h refl
-no_blank_within (x ∷ a) b h = no_blank_within a b (tail_no_blank x (a ++ 32 ∷ b) h)
-
--- what stands before the first blank, and what after it, are determined
-same_parts : (a b c d : List ℕ) → HasNoBlank a → HasNoBlank c → a ++ 32 ∷ b ≡ c ++ 32 ∷ d → (a ≡ c) × (b ≡ d)
-same_parts [] b [] d ha hc h = (refl, cc)
-same_parts [] b (y ∷ c) d ha hc h = absurd (head_no_blank y c hc cc)
-same_parts (x ∷ a) b [] d ha hc h = absurd (head_no_blank x a ha cc)
-same_parts (x ∷ a) b (y ∷ c) d ha hc h =
-    let first : x ≡ y = cc in
-    let rest : a ++ 32 ∷ b ≡ c ++ 32 ∷ d = cc in
-    let parts = same_parts a b c d (tail_no_blank x a ha) (tail_no_blank y c hc) rest in
-    (let same = parts.0 in cc, parts.1)
+use Rattle.line_fields.specs.Blanks.{HasNoBlank}
+use Rattle.line_fields.proofs.Blanks.{no_blank_within, same_parts}
+use Rattle.arith_desk.specs.Line.{AreFields, parted}
 
 parted_same : (fs gs : List (List ℕ)) → fs ≢ [] → gs ≢ [] → All HasNoBlank fs → All HasNoBlank gs → parted fs ≡ parted gs → fs ≡ gs
 parted_same [] gs some_f some_g hf hg e = absurd (some_f refl)

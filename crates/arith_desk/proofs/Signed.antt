@@ -3,19 +3,9 @@ use Rattle.std.proofs.Common.{◌≡◌, ◌<◌, ◌≤◌, ◌^◌, ℤ, pos, 
 use Rattle.std.specs.Prelude.{unsigned_abs}
 use Rattle.std.specs.Int.{w8, w32, w64, w128}
 use Rattle.std.specs.Int.Signed.{mag}
-use Rattle.std.specs.Fmt.{signed_decimal}
 use Rattle.std.proofs.lemmas.Int.{ints, to_z-of_z}
-use Rattle.std.proofs.lemmas.Fmt.{signed_decimal_injective}
 use Rattle.track_word.specs.Atom.{IsBound}
 use Rattle.arith_desk.specs.Words.{IsFactor}
-
-pub small : (z : ℤ) → FitsSigned w64 z → mag z < 2 ^ 63
-small (pos n) fits = omega (arith, fits)
-small (negsuc n) fits = omega (arith, fits)
-
--- one spelling is that of one number
-pub same_spelled : (y z : ℤ) → FitsSigned w64 y → FitsSigned w64 z → signed_decimal y ≡ signed_decimal z → y ≡ z
-same_spelled y z fy fz e = signed_decimal_injective y z (small y fy) (small z fz) e
 
 -- what lies between two numbers of 32 bits has 64 bits
 pub between_fits : (low n high : ℤ) → mag low < 2 ^ 31 → mag high < 2 ^ 31 → low ≤ℤ n → n ≤ℤ high → FitsSigned w64 n

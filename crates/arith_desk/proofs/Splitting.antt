@@ -1,7 +1,8 @@
 -- The fields of a line, one after another.
 use Rattle.std.proofs.Common.{◌≡◌, ◌≢◌, ℕ, List, [], ◌∷◌, ◌++◌, refl, ap, ◌∙◌, append_assoc}
 use Rattle.std.proofs.lemmas.List.Elements.{All-cons, All-nil}
-use Rattle.arith_desk.specs.Line.{AddsFields, HasNoBlank, parted}
+use Rattle.line_fields.specs.Blanks.{HasNoBlank}
+use Rattle.arith_desk.specs.Line.{AddsFields, parted}
 
 pub one_field : (line : List ℕ) (old new : List (List ℕ)) → HasNoBlank line → new ≡ old ++ line ∷ [] → AddsFields line old new
 one_field line old new no_blank is = record {

@@ -2,9 +2,7 @@
 use Rattle.std.specs.Prelude.{◌≡◌, ◌≢◌, ℕ, List, [], ◌∷◌, ◌++◌, map}
 use Rattle.std.specs.Borrow.{Bor}
 use Rattle.std.specs.List.{All}
-
-abbrev pub HasNoBlank : List ℕ → Type 0
-HasNoBlank text = All (λ byte. byte ≢ 32) text
+use Rattle.line_fields.specs.Blanks.{HasNoBlank}
 
 -- fields with one blank between each two
 abbrev pub parted : List (List ℕ) → List ℕ

@@ -1,17 +1,9 @@
 //! The fields of a line.
-ghost use Rattle.std.specs.Prelude.{◌≡◌, ◌++◌, ◌∷◌, IfSome, IfNone, OnOk};
-ghost use Rattle.arith_desk.specs.Line.{AddsFields, HasNoBlank, texts};
+ghost use Rattle.std.specs.Prelude.{OnOk};
+ghost use Rattle.arith_desk.specs.Line.{AddsFields, texts};
 
+use line_fields::split_at_blank;
 use std::alloc::AllocError;
-
-/// The text before the first blank, and the text after it.
-fn split_at_blank(text: &[u8]) -> Option<(&[u8], &[u8])>
-    ensures some { IfSome result (λ p. (text.now ≡ p.0.now ++ 32 ∷ p.1.now) × HasNoBlank p.0.now) }
-    ensures none { IfNone result (HasNoBlank text.now) }
-{
-    let at = text.iter().position(|byte| *byte == b' ')?;
-    Some((&text[..at], &text[at + 1..]))
-}
 
 /// Adds the fields of a line.
 pub fn push_fields<'a>(fields: &mut Vec<&'a [u8]>, line: &'a [u8]) -> Result<(), AllocError>

@@ -1,12 +1,10 @@
 //! What a field says by itself: a word, a letter, a number.
-ghost use Rattle.std.specs.Prelude.{◌≡◌, ◌≢◌, ◌<◌, ◌≤ℤ◌, ℤ, FitsSigned, IfSome, IfNone};
-ghost use Rattle.std.specs.Int.{w64};
+ghost use Rattle.std.specs.Prelude.{◌≡◌, ◌≢◌, ◌<◌, ◌≤ℤ◌, ℤ, IfSome, IfNone};
 ghost use Rattle.std.specs.Fmt.{signed_decimal};
 ghost use Rattle.track_word.specs.declared.tracks.Var.{Var};
 ghost use Rattle.arith_desk.specs.Words.{IsNamed, letter};
 
-use itoa::Buffer;
-use std::str;
+use line_fields::read_number;
 use track_word::{Rel, Var};
 
 /// What two formulas are joined by.
@@ -74,27 +72,6 @@ pub fn letter_of(field: &[u8]) -> Option<Var>
         return None;
     }
     Some(Var(*byte - b'a'))
-}
-
-/// The number that the field spells, in its one spelling.
-fn read_number(field: &[u8]) -> Option<i64>
-    ensures some { IfSome result (λ n. field.now ≡ signed_decimal n) }
-    ensures fits { IfSome result (FitsSigned w64) }
-    ensures none { IfNone result ((n : ℤ) → FitsSigned w64 n → field.now ≢ signed_decimal n) }
-{
-    match str::from_utf8(field) {
-        Err(_) => None,
-        Ok(text) => match text.parse::<i64>() {
-            Err(_) => None,
-            Ok(number) => {
-                if Buffer::new().format(number) == text {
-                    Some(number)
-                } else {
-                    None
-                }
-            }
-        },
-    }
 }
 
 /// The number that the field spells, if it is one between two others.

@@ -40,12 +40,6 @@ IsFew stages.Header = Unit {0}
 IsFew stages.Turn = Unit {0}
 IsFew (stages.Men p) = length p.men ≤ 5
 
--- the line that is due is one of the first eight
-pub due_early : (stage : Stage) → IsFew stage → line_due stage ≤ 8
-due_early stages.Header few = omega arith
-due_early stages.Turn few = omega arith
-due_early (stages.Men p) few = omega (arith, few)
-
 -- what a text that goes on has come to
 pub record GoesOn (stage next : Stage) : Type 0 where
   pub nearer : lines_left next + 1 ≡ lines_left stage
