@@ -42,7 +42,6 @@ IsFew (stages.Men p) = length p.men ≤ 5
 
 -- what a text that goes on has come to
 pub record GoesOn (stage next : Stage) : Type 0 where
-  pub nearer : lines_left next + 1 ≡ lines_left stage
   pub counted : line_due next ≡ line_due stage + 1
   pub few : IsFew next
 
@@ -50,11 +49,11 @@ goes_to : (stage next due : Stage) → next ≡ due → GoesOn stage due → Goe
 goes_to stage next due is h = let P : Stage → Type 0 = λ s. GoesOn stage s in subst P (sym is) h
 
 pub fed_more : (stage next : Stage) (line : List ℕ) → Feeds stage line (turnouts.more next) → GoesOn stage next
-fed_more stages.Header next line (inl (e, i)) = goes_to stages.Header next stages.Turn (let s : next ≡ stages.Turn = cc in s) (record { nearer = refl; counted = refl; few = tt })
+fed_more stages.Header next line (inl (e, i)) = goes_to stages.Header next stages.Turn (let s : next ≡ stages.Turn = cc in s) (record { counted = refl; few = tt })
 fed_more stages.Header next line (inr (e, i)) = absurd (cc)
 fed_more stages.Turn next line (inl (s, e, i)) =
     goes_to stages.Turn next (stages.Men (record { men = []; turn = s })) (let same : next ≡ stages.Men (record { men = []; turn = s }) = cc in same)
-    (record { nearer = refl; counted = refl; few = omega arith })
+    (record { counted = refl; few = omega arith })
 fed_more stages.Turn next line (inr (e, i)) = absurd (cc)
 fed_more (stages.Men p) next line (inl (a, e, i)) = absurd (cc)
 fed_more (stages.Men p) next line (inr (inl (a, e, i))) = absurd (cc)
@@ -62,7 +61,6 @@ fed_more (stages.Men p) next line (inr (inr (inl (a, e, i)))) = absurd (cc)
 fed_more (stages.Men p) next line (inr (inr (inr (a, e, inl (m, is, i))))) =
     goes_to (stages.Men p) next (stages.Men (with_man p m)) (let same : next ≡ stages.Men (with_man p m) = cc in same)
     (record {
-      nearer = omega (arith, a, length-append p.men (m ∷ []));
       counted = omega (arith, length-append p.men (m ∷ []));
       few = omega (arith, a, length-append p.men (m ∷ []));
     })

@@ -10,7 +10,7 @@ use Rattle.std.specs.Int.{w64}
 use Rattle.std.specs.Fmt.{signed_decimal}
 use Rattle.std.proofs.lemmas.Fmt.{length_signed_le}
 use Rattle.std.proofs.lemmas.Option.{slice_get_cases}
-use Rattle.chess_text.proofs.Signed.{small}
+use Rattle.line_fields.proofs.Signed.{small}
 use Rattle.chess_text.specs.Replies.{move_text}
 use Rattle.game_rules.specs.Game.{Legal, Mate, Position, man_at, other}
 use Rattle.game_rules.specs.declared.men.Square.{Square}

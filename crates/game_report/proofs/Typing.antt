@@ -4,12 +4,15 @@ use Rattle.std.specs.Int.{w64}
 use Rattle.std.specs.Fmt.{signed_decimal}
 use Rattle.game_laws.proofs.DecideLemmas.{Decided, below, both, either, less, map_decided, number_same}
 use Rattle.chess_game.specs.declared.moves.Move.{Move}
-use Rattle.chess_text.specs.Fields.{HasNoBlank, HasNoNumber, HasTwoFields, IsField, IsNumber, pair_text, two_fields}
+use Rattle.line_fields.specs.Blanks.{HasNoBlank}
+use Rattle.line_fields.specs.Numbers.{IsNumber}
+use Rattle.line_fields.proofs.Blanks.{no_blank_within}
+use Rattle.chess_text.specs.Fields.{HasNoNumber, HasTwoFields, IsField, pair_text, two_fields}
 use Rattle.chess_text.specs.Replies.{HasDigit, man_digit}
 use Rattle.chess_text.specs.declared.replies.MoveWhy.TheVariants as why
 use Rattle.chess_text.specs.declared.replies.Typed.{Typed}
 use Rattle.chess_text.specs.declared.replies.Typed.TheVariants as typed
-use Rattle.chess_text.proofs.Blanks.{fields_are, no_blank_within, no_two_fields}
+use Rattle.chess_text.proofs.Pairs.{fields_are, no_two_fields}
 use Rattle.game_report.specs.Report.{IsTyped}
 
 same_bytes : (xs ys : List ℕ) → Decided (xs ≡ ys)
