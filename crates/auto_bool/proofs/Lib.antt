@@ -1,5 +1,6 @@
 pub mod TrackLemmas
 pub mod SideLemmas
+pub mod AbsorbedPairs
 pub mod PairLemmas
 pub mod Spreads
 pub mod Complements

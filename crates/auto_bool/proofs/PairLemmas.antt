@@ -1,5 +1,5 @@
 -- Pairs of states as places, and rows of them.
-use Rattle.std.proofs.Common.{◌≡◌, ◌≢◌, ◌↔◌, ◌⊎◌, ℕ, ◌<◌, ◌%◌, ◌^◌, Bool, true, false, IsTrue, ◌&&◌, ◌||◌, List, [], ◌∷◌, length, map, get_or, slice_get, Some, AllPairs, arith, refl, sym, ap, ◌∙◌, subst, inl, inr, true≢false}
+use Rattle.std.proofs.Common.{◌≡◌, ◌≢◌, ◌↔◌, ◌⊎◌, ℕ, ◌<◌, ◌%◌, ◌^◌, Bool, true, false, IsTrue, ◌&&◌, ◌||◌, not, List, [], ◌∷◌, length, map, get_or, slice_get, Some, AllPairs, arith, refl, sym, ap, ◌∙◌, subst, inl, inr, true≢false}
 use Rattle.std.specs.List.{fold}
 use Rattle.std.specs.Option.{option_map}
 use Rattle.std.proofs.lemmas.Nat.{mod_below, pow_pos}
@@ -10,18 +10,20 @@ use Rattle.track_word.specs.Word.{IsWord}
 use Rattle.track_word.specs.Tracks.{with_vars, restrict, part_of}
 use Rattle.letter_diagram.specs.declared.diagrams.Shape.{Shape}
 use Rattle.letter_diagram.specs.Diagram.{map_at}
-use Rattle.letter_diagram.specs.Paired.{AreAnswers}
+use Rattle.letter_diagram.specs.declared.absorbing.Absorbing.{Absorbing}
+use Rattle.letter_diagram.specs.Absorbed.{absorbed, absorbed_at, AreAbsorbed}
 use Rattle.letter_diagram.specs.Numbering.{PairsKept}
 use Rattle.auto_core.specs.Automaton.{Automaton, IsAutomaton, next_state, run, state_of, is_final, Accepts}
-use Rattle.auto_walk.specs.Walker.{Walker, place_of, IsReached, IsWalked}
+use Rattle.auto_walk.specs.Walker.{Walker, place_of, IsReached}
 use Rattle.auto_walk.specs.Rows.{AreNumbered, Extends, IsRow}
 use Rattle.auto_walk.proofs.WalkLemmas.{All-at, one_place}
 use Rattle.auto_walk.proofs.WalkWords.{map_at-low}
 use Rattle.auto_bool.specs.declared.connective.Connective.{Connective}
-use Rattle.auto_bool.specs.declared.connective.Connective.TheVariants.{And, Or}
+use Rattle.auto_bool.specs.declared.connective.Connective.TheVariants.{And, Or, AndNot}
 use Rattle.auto_bool.specs.Both.{combined, place_of_pair, walker_over, both_walker}
 use Rattle.auto_bool.specs.Sides.{Reads}
-use Rattle.auto_core.proofs.States.{state_within}
+use Rattle.auto_bool.specs.Absorbed.{AreSinks, absorbing_walker, IsProduct}
+use Rattle.auto_bool.proofs.AbsorbedPairs.{place-pair_of}
 
 pub get_pair : (pairs : List (ℕ × ℕ)) (number : ℕ) (pair : ℕ × ℕ) → slice_get pairs number ≡ Some pair → slice_get (map place_of_pair pairs) number ≡ Some (place_of_pair pair)
 get_pair pairs number pair at = slice_get-map place_of_pair pairs number ∙ ap (option_map place_of_pair) at
@@ -65,40 +67,37 @@ module _ (tracks : List Var) (a b : Automaton) (connective : Connective) where
   place_of-pair [] nonempty = absurd (nonempty refl)
   place_of-pair (sign ∷ letters) nonempty = fold-pair letters _ _
 
-  record AreStates (left right : ℕ) : Type 0 where
-    pub left_known : left < length a.accept
-    pub right_known : right < length b.accept
-
-  pub states_at : (pairs : List (ℕ × ℕ)) (number left right : ℕ) → IsAutomaton a → IsAutomaton b → slice_get pairs number ≡ Some (left, right)
-      → AreNumbered (walker_over tracks a b connective) (map place_of_pair pairs) → (left < length a.accept) × (right < length b.accept)
-  states_at pairs number left right a_valid b_valid at numbered =
-      let r = All-at (IsReached (walker_over tracks a b connective)) (map place_of_pair pairs) number (left ∷ right ∷ []) (get_pair pairs number (left, right) at) numbered.reached in
-      let e = sym (place_of-pair r.word r.is_word.nonempty) ∙ r.leads in (
-        subst (λ n. n < length a.accept) (first_of_two _ _ _ _ e) (state_within a a_valid (part_of tracks a.tracks r.word)),
-        subst (λ n. n < length b.accept) (second_of_two _ _ _ _ e) (state_within b b_valid (part_of tracks b.tracks r.word)),
-      )
+-- the states of a numbered pair
+states_at : (g : Absorbing) (tracks : List Var) (a b : Automaton) (connective : Connective) (pairs : List (ℕ × ℕ)) (number left right : ℕ) → IsAutomaton a → IsAutomaton b
+    → AreSinks a b connective g → slice_get pairs number ≡ Some (left, right) → AreNumbered (absorbing_walker g tracks a b connective) (map place_of_pair pairs)
+    → (left < length a.accept) × (right < length b.accept)
+states_at g tracks a b connective pairs number left right a_valid b_valid sinks at numbered =
+    let r = All-at (IsReached (absorbing_walker g tracks a b connective)) (map place_of_pair pairs) number (left ∷ right ∷ []) (get_pair pairs number (left, right) at) numbered.reached in
+    let pair = place-pair_of g tracks a b connective a_valid b_valid sinks r.word r.is_word.nonempty in
+    let e = sym pair.is ∙ r.leads in
+    (subst (λ n. n < length a.accept) (first_of_two _ _ _ _ e) pair.left_known, subst (λ n. n < length b.accept) (second_of_two _ _ _ _ e) pair.right_known)
 
 -- the row of the pairs of two rows
-pub IsRow-paired : (w : Walker) (old_shapes shapes : List Shape) (old_pairs pairs : List (ℕ × ℕ)) (lead : ℕ → List ℕ) (left right node : ℕ) (left_value right_value : ℕ → ℕ)
+pub IsRow-paired : (g : Absorbing) (w : Walker) (old_shapes shapes : List Shape) (old_pairs pairs : List (ℕ × ℕ)) (lead : ℕ → List ℕ) (left right node : ℕ)
+    (left_value right_value : ℕ → ℕ)
     → Reads old_shapes (length w.tracks) left left_value → Reads old_shapes (length w.tracks) right right_value
-    → ((letter : ℕ) → lead letter ≡ left_value letter ∷ right_value letter ∷ []) → node < length shapes
-    → ((letter : ℕ) → slice_get pairs (map_at shapes node letter) ≡ Some (map_at old_shapes left letter, map_at old_shapes right letter))
-    → AreAnswers old_shapes (length old_pairs) pairs left right → AllPairs (λ p q. p ≢ q) pairs
+    → ((letter : ℕ) → lead letter ≡ place_of_pair (absorbed g (left_value letter) (right_value letter))) → node < length shapes
+    → ((letter : ℕ) → slice_get pairs (map_at shapes node letter) ≡ Some (absorbed_at g old_shapes left right letter))
+    → AreAbsorbed g old_shapes (length old_pairs) pairs left right → AllPairs (λ p q. p ≢ q) pairs
     → IsRow w shapes (map place_of_pair old_pairs) (map place_of_pair pairs) lead node
-IsRow-paired w old_shapes shapes old_pairs pairs lead left right node left_value right_value l r leads_to known maps answers different =
+IsRow-paired g w old_shapes shapes old_pairs pairs lead left right node left_value right_value l r leads_to known maps answers different =
     let apart = different-places pairs different in
-    let places = map place_of_pair pairs in
-    let at = λ (letter : ℕ). get_pair pairs (map_at shapes node letter) (map_at old_shapes left letter, map_at old_shapes right letter) (maps letter) in
+    let at = λ (letter : ℕ). get_pair pairs (map_at shapes node letter) (absorbed_at g old_shapes left right letter) (maps letter) in
     let value = λ (letter : ℕ) (below : letter < 2 ^ length w.tracks).
-    let both : map_at old_shapes left letter ∷ map_at old_shapes right letter ∷ [] ≡ left_value letter ∷ right_value letter ∷ [] =
-    λ i. l.reads letter below i ∷ r.reads letter below i ∷ [] in
+    let both : place_of_pair (absorbed_at g old_shapes left right letter) ≡ place_of_pair (absorbed g (left_value letter) (right_value letter)) =
+    λ i. place_of_pair (absorbed g (l.reads letter below i) (r.reads letter below i)) in
     both ∙ sym (leads_to letter) in
     record {
       known = known;
       narrow = record {
         same = λ x y agree.
-            let both : map_at old_shapes left x ∷ map_at old_shapes right x ∷ [] ≡ map_at old_shapes left y ∷ map_at old_shapes right y ∷ [] =
-            λ i. l.narrow.same x y agree i ∷ r.narrow.same x y agree i ∷ [] in
+            let both : place_of_pair (absorbed_at g old_shapes left right x) ≡ place_of_pair (absorbed_at g old_shapes left right y) =
+            λ i. place_of_pair (absorbed g (l.narrow.same x y agree i) (r.narrow.same x y agree i)) in
             one_place (map place_of_pair pairs) apart _ _ _ (at x) (at y ∙ ap Some (sym both));
       };
       leads = λ letter below. at letter ∙ ap Some (value letter below);
@@ -111,13 +110,12 @@ IsRow-paired w old_shapes shapes old_pairs pairs lead left right node left_value
           let below : answer.0 % 2 ^ length w.tracks < 2 ^ length w.tracks = mod_below answer.0 (2 ^ length w.tracks) (pow_pos (length w.tracks)) in
           let left_low = map_at-low old_shapes left (length w.tracks) answer.0 l.narrow in
           let right_low = map_at-low old_shapes right (length w.tracks) answer.0 r.narrow in
-          let both : map_at old_shapes left answer.0 ∷ map_at old_shapes right answer.0 ∷ [] ≡ map_at old_shapes left (answer.0 % 2 ^ length w.tracks)
-          ∷ map_at old_shapes right (answer.0 % 2 ^ length w.tracks) ∷ [] =
-          λ i. left_low i ∷ right_low i ∷ [] in
+          let both : place_of_pair (absorbed_at g old_shapes left right answer.0) ≡ place_of_pair (absorbed_at g old_shapes left right (answer.0 % 2 ^ length w.tracks)) =
+          λ i. place_of_pair (absorbed g (left_low i) (right_low i)) in
           record {
             letter = answer.0 % 2 ^ length w.tracks;
             below = below;
-            leads = get_pair pairs number (map_at old_shapes left answer.0, map_at old_shapes right answer.0) answer.1 ∙ ap Some (both ∙ value (answer.0 % 2 ^ length w.tracks) below);
+            leads = get_pair pairs number (absorbed_at g old_shapes left right answer.0) answer.1 ∙ ap Some (both ∙ value (answer.0 % 2 ^ length w.tracks) below);
           };
     }
 
@@ -130,44 +128,56 @@ one_true : (p q : Bool) → IsTrue (p || q) ↔ (IsTrue p ⊎ IsTrue q)
 one_true true q = (λ h. inl refl, λ h. refl)
 one_true false q = (λ h. inr h, λ h. elim h [ inl wrong ↦ absurd (true≢false (sym wrong)) | inr right ↦ right ])
 
+but_true : (p q : Bool) → IsTrue (p && not q) ↔ (IsTrue p × (IsTrue q → ⊥))
+but_true true true = (λ h. absurd (true≢false (sym h)), λ h. absurd (h.1 refl))
+but_true true false = (λ h. (refl, λ e. true≢false (sym e)), λ h. refl)
+but_true false q = (λ h. absurd (true≢false (sym h)), λ h. absurd (true≢false (sym h.0)))
+
 module _ (a b m : Automaton) where
-  accepts-combined : (connective : Connective) → IsWalked (both_walker a b connective) m → (word : List ℕ) → IsWord (length m.tracks) word
+  accepts-combined : (connective : Connective) → IsProduct a b connective m → (word : List ℕ) → IsWord (length m.tracks) word
       → Accepts m word ↔ IsTrue (combined connective (is_final a (state_of a (part_of m.tracks a.tracks word))) (is_final b (state_of b (part_of m.tracks b.tracks word))))
-  accepts-combined connective walked word is =
+  accepts-combined connective product word is =
       let all = with_vars a.tracks b.tracks in
-      let is_all = subst (λ t. IsWord (length t) word) walked.tracks is in
+      let is_all = subst (λ t. IsWord (length t) word) product.tracks is in
       let flag = ap (both_walker a b connective).final (place_of-pair (with_vars a.tracks b.tracks) a b connective word is.nonempty) in
-      let words = walked.words word is_all in
+      let words = product.words word is_all in
       let here : IsTrue ((both_walker a b connective).final (place_of (both_walker a b connective) word))
       ↔ IsTrue
       (combined connective (is_final a (state_of a (part_of (with_vars a.tracks b.tracks) a.tracks word)))
       (is_final b (state_of b (part_of (with_vars a.tracks b.tracks) b.tracks word)))) =
       (λ h. sym flag ∙ h, λ h. flag ∙ h) in
-      subst (λ t. Accepts m word ↔ IsTrue (combined connective (is_final a (state_of a (part_of t a.tracks word))) (is_final b (state_of b (part_of t b.tracks word))))) (sym walked.tracks)
+      subst (λ t. Accepts m word ↔ IsTrue (combined connective (is_final a (state_of a (part_of t a.tracks word))) (is_final b (state_of b (part_of t b.tracks word))))) (sym product.tracks)
       (λ h. here.0 (words.0 h), λ h. words.1 (here.1 h))
 
-  pub accepts-both : IsWalked (both_walker a b And) m → (word : List ℕ) → IsWord (length m.tracks) word
+  pub accepts-both : IsProduct a b And m → (word : List ℕ) → IsWord (length m.tracks) word
       → Accepts m word ↔ (Accepts a (part_of m.tracks a.tracks word) × Accepts b (part_of m.tracks b.tracks word))
-  accepts-both walked word is =
-      let one = accepts-combined And walked word is in
+  accepts-both product word is =
+      let one = accepts-combined And product word is in
       let two = both_true (is_final a (state_of a (part_of m.tracks a.tracks word))) (is_final b (state_of b (part_of m.tracks b.tracks word))) in
       (λ h. two.0 (one.0 h), λ h. one.1 (two.1 h))
 
-  pub accepts-one : IsWalked (both_walker a b Or) m → (word : List ℕ) → IsWord (length m.tracks) word
+  pub accepts-one : IsProduct a b Or m → (word : List ℕ) → IsWord (length m.tracks) word
       → Accepts m word ↔ (Accepts a (part_of m.tracks a.tracks word) ⊎ Accepts b (part_of m.tracks b.tracks word))
-  accepts-one walked word is =
-      let one = accepts-combined Or walked word is in
+  accepts-one product word is =
+      let one = accepts-combined Or product word is in
       let two = one_true (is_final a (state_of a (part_of m.tracks a.tracks word))) (is_final b (state_of b (part_of m.tracks b.tracks word))) in
       (λ h. two.0 (one.0 h), λ h. one.1 (two.1 h))
 
+  pub accepts-left : IsProduct a b AndNot m → (word : List ℕ) → IsWord (length m.tracks) word
+      → Accepts m word ↔ (Accepts a (part_of m.tracks a.tracks word) × (Accepts b (part_of m.tracks b.tracks word) → ⊥))
+  accepts-left product word is =
+      let one = accepts-combined AndNot product word is in
+      let two = but_true (is_final a (state_of a (part_of m.tracks a.tracks word))) (is_final b (state_of b (part_of m.tracks b.tracks word))) in
+      (λ h. two.0 (one.0 h), λ h. one.1 (two.1 h))
+
 -- the states of a numbered pair, however the pairs are listed
-pub states_in : (tracks : List Var) (a b : Automaton) (connective : Connective) (pairs listed : List (ℕ × ℕ)) (number : ℕ) → IsAutomaton a → IsAutomaton b → listed ≡ pairs
-    → number < length (map place_of_pair pairs)
-    → AreNumbered (walker_over tracks a b connective) (map place_of_pair pairs) → ((get_or listed number (0, 0)).0 < length a.accept) × ((get_or listed number (0, 0)).1 < length b.accept)
-states_in tracks a b connective pairs listed number a_valid b_valid same known numbered =
+pub states_in : (g : Absorbing) (tracks : List Var) (a b : Automaton) (connective : Connective) (pairs listed : List (ℕ × ℕ)) (number : ℕ) → IsAutomaton a → IsAutomaton b
+    → AreSinks a b connective g → listed ≡ pairs → number < length (map place_of_pair pairs) → AreNumbered (absorbing_walker g tracks a b connective) (map place_of_pair pairs)
+    → ((get_or listed number (0, 0)).0 < length a.accept) × ((get_or listed number (0, 0)).1 < length b.accept)
+states_in g tracks a b connective pairs listed number a_valid b_valid sinks same known numbered =
     let within : number < length pairs = let l = length-map pairs place_of_pair in omega (arith, l, known) in
     let at = slice_get-get_or pairs number (0, 0) within in
-    let found = states_at tracks a b connective pairs number (get_or pairs number (0, 0)).0 (get_or pairs number (0, 0)).1 a_valid b_valid at numbered in (
+    let found = states_at g tracks a b connective pairs number (get_or pairs number (0, 0)).0 (get_or pairs number (0, 0)).1 a_valid b_valid sinks at numbered in (
       subst (λ (l : List (ℕ × ℕ)). (get_or {A = ℕ × ℕ} l number (0, 0)).0 < length a.accept) (sym same) found.0,
       subst (λ (l : List (ℕ × ℕ)). (get_or {A = ℕ × ℕ} l number (0, 0)).1 < length b.accept) (sym same) found.1,
     )
@@ -178,5 +188,6 @@ place_in pairs listed number same known =
     let within : number < length pairs = let l = length-map pairs place_of_pair in omega (arith, l, known) in
     get_pair pairs number (get_or pairs number (0, 0)) (slice_get-get_or pairs number (0, 0) within) ∙ ap (λ (l : List (ℕ × ℕ)). Some (place_of_pair (get_or l number (0, 0)))) (sym same)
 
-pub walker-same : (tracks : List Var) (a b c d : Automaton) (j k : Connective) → a ≡ c → b ≡ d → j ≡ k → tracks ≡ with_vars c.tracks d.tracks → walker_over tracks a b j ≡ both_walker c d k
-walker-same tracks a b c d j k e f g h = λ i. walker_over (h i) (e i) (f i) (g i)
+pub walker-same : (g h : Absorbing) (tracks : List Var) (a b c d : Automaton) (j k : Connective) → g ≡ h → a ≡ c → b ≡ d → j ≡ k → tracks ≡ with_vars c.tracks d.tracks
+    → absorbing_walker g tracks a b j ≡ absorbing_walker h (with_vars c.tracks d.tracks) c d k
+walker-same g h tracks a b c d j k o e f p t = λ i. absorbing_walker (o i) (t i) (e i) (f i) (p i)

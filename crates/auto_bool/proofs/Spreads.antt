@@ -1,14 +1,28 @@
 -- Words that lead to one pair of states are alike, and in reduced automata no others are. Crates above cite these lemmas.
-use Rattle.std.proofs.Common.{◌≡◌, ◌≢◌, ℕ, List, [], ◌∷◌, map, refl, sym, ◌∙◌, arith}
+use Rattle.std.proofs.Common.{◌≡◌, ◌≢◌, ℕ, suc, ◌+◌, ◌*◌, ◌/◌, ◌<◌, ◌≤◌, List, [], ◌∷◌, length, map, All, AllPairs, get_or, refl, sym, ap, ◌∙◌, arith}
+use Rattle.std.proofs.Math.Nat.{mul-le-mul_right}
+use Rattle.std.proofs.lemmas.Nat.{div-mul-add}
+use Rattle.std.proofs.lemmas.Bool.Decides.{Decides-eqb}
+use Rattle.std.proofs.lemmas.List.{length-map, get_or-map}
+use Rattle.std.proofs.lemmas.List.Elements.{All-map, All-contains}
+use Rattle.std.proofs.lemmas.Map.Made.{IsDistinct-from_AllPairs, is_member-Decides}
+use Rattle.std.proofs.lemmas.Map.Steps.{length-le_from_distinct_below}
 use Rattle.track_word.specs.Tracks.{with_vars, restrict, part_of}
 use Rattle.auto_core.specs.Automaton.{Automaton, IsAutomaton, state_of, Accepts}
 use Rattle.auto_core.specs.Reduced.{IsReduced}
 use Rattle.auto_core.specs.Spread.{AlikeInBoth, BothSpreadExceeds}
 use Rattle.auto_walk.specs.Walker.{place_of, MoreThan}
 use Rattle.auto_bool.specs.declared.connective.Connective.{Connective}
+use Rattle.auto_bool.specs.declared.connective.Connective.TheVariants.{And}
 use Rattle.auto_bool.specs.Both.{both_walker}
-use Rattle.auto_core.proofs.States.{same_state, same_residual}
+use Rattle.auto_core.proofs.States.{state_within, same_state, same_residual}
 use Rattle.auto_bool.proofs.PairLemmas.{place_of-pair, first_of_two, second_of_two}
+
+row_below : (x y rows row : ℕ) → x < rows → y < row → x * row + y < rows * row
+row_below x y rows row first second =
+    let most = mul-le-mul_right {m = suc x} {n = rows} row first in
+    let next : suc x * row ≡ x * row + row = grind arith in
+    omega (arith, most, next, second)
 
 pub not_nil-map : (f : ℕ → ℕ) (word : List ℕ) → word ≢ [] → map f word ≢ []
 not_nil-map f [] h e = h refl
@@ -65,3 +79,52 @@ module _ (a b : Automaton) (connective : Connective) (a_valid : IsAutomaton a) (
         let w = (more.are_words j d within).nonempty in
         more.apart i j d less within (same_place _ _ v w alike);
   }
+
+-- words that are told apart are at most as many as the pairs of states
+module _ (a b : Automaton) (a_valid : IsAutomaton a) (b_valid : IsAutomaton b) where
+  abbrev left_of : List ℕ → ℕ
+  left_of word = state_of a (part_of (with_vars a.tracks b.tracks) a.tracks word)
+
+  abbrev right_of : List ℕ → ℕ
+  right_of word = state_of b (part_of (with_vars a.tracks b.tracks) b.tracks word)
+
+  -- the number of the pair of states that a word leads to
+  abbrev number_of : List ℕ → ℕ
+  number_of word = left_of word * length b.accept + right_of word
+
+  number_of-below : (word : List ℕ) → number_of word < length a.accept * length b.accept
+  number_of-below word =
+      let left : left_of word < length a.accept = state_within a a_valid (part_of (with_vars a.tracks b.tracks) a.tracks word) in
+      let right : right_of word < length b.accept = state_within b b_valid (part_of (with_vars a.tracks b.tracks) b.tracks word) in
+      row_below (left_of word) (right_of word) (length a.accept) (length b.accept) left right
+
+  same_pair : (v w : List ℕ) → number_of v ≡ number_of w → (left_of v ≡ left_of w) × (right_of v ≡ right_of w)
+  same_pair v w e =
+      let right_v : right_of v < length b.accept = state_within b b_valid (part_of (with_vars a.tracks b.tracks) b.tracks v) in
+      let right_w : right_of w < length b.accept = state_within b b_valid (part_of (with_vars a.tracks b.tracks) b.tracks w) in
+      let left =
+      sym (div-mul-add (left_of v) (length b.accept) (right_of v) right_v) ∙ ap (λ n. n / length b.accept) e
+      ∙ div-mul-add (left_of w) (length b.accept) (right_of w) right_w in
+      let same = ap (λ n. n * length b.accept) left in
+      (left, omega (arith, e, same))
+
+  pub few_pairs : (budget : ℕ) → length a.accept * length b.accept ≤ budget → BothSpreadExceeds a.tracks b.tracks (Accepts a) (Accepts b) budget → ⊥
+  few_pairs budget enough spread =
+      let more = MoreThan-from_spread a b And budget spread in
+      let size = length-map more.words number_of in
+      let count = more.count in
+      let apart : AllPairs (λ m n. m ≢ n) (map number_of more.words) = λ i j d less within e.
+      let inside : j < length more.words = omega (arith, size, within) in
+      let first : i < length more.words = omega (arith, less, inside) in
+      let v = (more.are_words i [] first).nonempty in
+      let w = (more.are_words j [] inside).nonempty in
+      let numbers = sym (get_or-map number_of more.words i [] d first) ∙ e ∙ get_or-map number_of more.words j [] d inside in
+      let pair = same_pair (get_or more.words i []) (get_or more.words j []) numbers in
+      more.apart i j [] less inside
+      (place_of-pair (with_vars a.tracks b.tracks) a b And _ v ∙ (λ k. pair.0 k ∷ pair.1 k ∷ []) ∙ sym (place_of-pair (with_vars a.tracks b.tracks) a b And _ w)) in
+      let below : All (λ n. n < length a.accept * length b.accept) (map number_of more.words) =
+      All-map (λ n. n < length a.accept * length b.accept) number_of more.words (λ i d h. number_of-below (get_or more.words i d)) in
+      let most =
+      length-le_from_distinct_below (map number_of more.words) (length a.accept * length b.accept) (IsDistinct-from_AllPairs Decides-eqb (map number_of more.words) apart)
+      (λ n h. All-contains (λ m. m < length a.accept * length b.accept) (map number_of more.words) n below ((is_member-Decides Decides-eqb (map number_of more.words) n).0 h)) in
+      omega (arith, size, count, most, enough)

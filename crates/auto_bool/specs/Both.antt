@@ -1,16 +1,17 @@
 -- The pairs of states to which words lead in two automata.
-use Rattle.std.specs.Prelude.{ℕ, List, [], ◌∷◌, Bool, false, ◌&&◌, ◌||◌}
+use Rattle.std.specs.Prelude.{ℕ, List, [], ◌∷◌, Bool, false, ◌&&◌, ◌||◌, not}
 use Rattle.track_word.specs.declared.tracks.Var.{Var}
 use Rattle.track_word.specs.Tracks.{with_vars, restrict}
 use Rattle.auto_core.specs.Automaton.{Automaton, first_state, next_state, is_final}
 use Rattle.auto_walk.specs.Walker.{Walker}
 use Rattle.auto_bool.specs.declared.connective.Connective.{Connective}
-use Rattle.auto_bool.specs.declared.connective.Connective.TheVariants.{And, Or}
+use Rattle.auto_bool.specs.declared.connective.Connective.TheVariants.{And, Or, AndNot}
 
 -- the flag that a connective makes of two
 abbrev pub combined : Connective → Bool → Bool → Bool
 combined And left right = left && right
 combined Or left right = left || right
+combined AndNot left right = left && not right
 
 -- a pair of states as a place
 abbrev pub place_of_pair : ℕ × ℕ → List ℕ

@@ -6,4 +6,5 @@ pub use Rattle.auto_core.specs.Reduced
 pub use Rattle.auto_core.specs.Spread
 pub use Rattle.auto_walk.specs.Walker
 pub mod Both
+pub mod Absorbed
 pub mod Sides

@@ -4,12 +4,13 @@ ghost use Rattle.auto_core.specs.Automaton.{IsAutomaton};
 ghost use Rattle.track_word.specs.Tracks.{with_vars};
 ghost use Rattle.auto_walk.specs.Walker.{AreTracks};
 ghost use Rattle.auto_bool.specs.Sides.{IsSide};
+ghost use Rattle.auto_bool.specs.Absorbed.{AreSinks};
 
 use crate::connective::Connective;
 use crate::side::side;
 use auto_core::Auto;
 use auto_walk::Walk;
-use letter_diagram::{Diagrams, Node, Pairs, Product};
+use letter_diagram::{Absorbing, Diagrams, Node, Pairs, Product};
 use limits::MOST_TRACKS;
 use std::alloc::{AllocError, Global};
 use track_word::{Var, insert_tracks};
@@ -23,7 +24,8 @@ fn both_tracks(alloc: Global, left: &[Var], right: &[Var]) -> Result<Vec<Var>, A
     Ok(tracks)
 }
 
-/// Two automata, with their rows as nodes over the tracks of both. The pairs of states are the pairs of the product.
+/// Two automata, with their rows as nodes over the tracks of both. The pairs of states are the pairs of the product: one stands
+/// for all that have an absorbing state.
 #[derive(Drop)]
 pub struct Both<'a> {
     left: &'a Auto,
@@ -36,6 +38,7 @@ pub struct Both<'a> {
     ghost are_tracks: { AreTracks tracks.items },
     ghost left_side: { IsSide product.shapes tracks.items left.now left_nodes.items },
     ghost right_side: { IsSide product.shapes tracks.items right.now right_nodes.items },
+    ghost sinks: { AreSinks left.now right.now connective product.absorbing },
 }
 
 impl<'a> Both<'a> {
@@ -44,12 +47,15 @@ impl<'a> Both<'a> {
         left: &'a Auto,
         right: &'a Auto,
         connective: Connective,
+        absorbing: Absorbing,
     ) -> Result<Self, AllocError>
-        requires { length (with_vars left.now.tracks right.now.tracks) ≤ MOST_TRACKS }
+        requires tracks { length (with_vars left.now.tracks right.now.tracks) ≤ MOST_TRACKS }
+        requires sinks { AreSinks left.now right.now connective absorbing }
         ensures left { IfOk result (λ both. both.left.now ≡ left.now) }
         ensures right { IfOk result (λ both. both.right.now ≡ right.now) }
         ensures connective { IfOk result (λ both. both.connective ≡ connective) }
         ensures tracks { IfOk result (λ both. both.tracks.items ≡ with_vars left.now.tracks right.now.tracks) }
+        ensures absorbing { IfOk result (λ both. both.product.absorbing ≡ absorbing) }
         ensures fresh { IfOk result (λ both. both.product.pairs ≡ []) }
         ensures left_valid { IsAutomaton left.now }
         ensures right_valid { IsAutomaton right.now }
@@ -63,7 +69,7 @@ impl<'a> Both<'a> {
         let left_nodes = side(alloc, &mut diagrams, tracks.as_slice(), left)?;
         let right_nodes = side(alloc, &mut diagrams, tracks.as_slice(), right)?;
         let pairs = Pairs::with_capacity(alloc, left.states().max(right.states()) as usize)?;
-        let product = Product::new(diagrams, pairs)?;
+        let product = Product::new(diagrams, pairs, absorbing)?;
         Ok(Both {
             left,
             right,
@@ -78,9 +84,10 @@ impl<'a> Both<'a> {
 
 impl<'a> Walk for Both<'a> {
     ghost use Rattle.std.specs.Prelude.{map};
-    ghost use Rattle.auto_bool.specs.Both.{walker_over, place_of_pair};
+    ghost use Rattle.auto_bool.specs.Both.{place_of_pair};
+    ghost use Rattle.auto_bool.specs.Absorbed.{absorbing_walker};
 
-    ghost walker = { λ s. walker_over s.tracks.items s.left.now s.right.now s.connective };
+    ghost walker = { λ s. absorbing_walker s.product.absorbing s.tracks.items s.left.now s.right.now s.connective };
 
     ghost places = { λ s. map place_of_pair s.product.pairs };
 

@@ -1,5 +1,6 @@
 //! Boolean operations on automata: the product of two automata over the tracks of both, and the complement.
-//! `specs/Both` has the pairs of states that a product goes over; `auto_walk` numbers them, and `letter_diagram` makes their rows.
+//! `specs/Both` has the pairs of states that a product goes over, `specs/Absorbed` which of them are one where the budget has room
+//! for all; `auto_walk` numbers them, and `letter_diagram` makes their rows.
 #![tactic(auto)]
 
 mod both;
@@ -7,6 +8,7 @@ mod complement;
 mod connective;
 mod product;
 mod side;
+mod sink;
 
 pub use complement::not;
-pub use product::{join, join_within, meet, meet_within};
+pub use product::{difference, difference_within, join, join_within, meet, meet_within};

@@ -1,22 +1,26 @@
 //! The product of two automata.
-ghost use Rattle.std.specs.Prelude.{◌≡◌, ◌↔◌, ◌⊎◌, ◌<◌, ◌≤◌, ◌^◌, List, ℕ, length, IfOk, OnOk};
+ghost use Rattle.std.specs.Prelude.{◌≡◌, ◌↔◌, ◌⊎◌, ◌<◌, ◌≤◌, ◌^◌, List, ℕ, length, IfOk, OnOk, IsTrue};
 ghost use Rattle.track_word.specs.Word.{IsWord};
 ghost use Rattle.track_word.specs.Tracks.{with_vars, part_of};
 ghost use Rattle.auto_core.specs.Automaton.{Accepts};
 ghost use Rattle.auto_core.specs.Reduced.{IsReduced, IsReachedState};
 ghost use Rattle.auto_core.specs.Spread.{BothSpreadExceeds};
-ghost use Rattle.auto_walk.specs.Walker.{IsWalked, MoreThan};
+ghost use Rattle.auto_walk.specs.Walker.{MoreThan};
 ghost use Rattle.auto_bool.specs.Both.{both_walker};
+ghost use Rattle.auto_bool.specs.Absorbed.{IsProduct};
 
 use crate::both::Both;
 use crate::connective::Connective;
+use crate::sink::sinks;
 use auto_core::Auto;
 use auto_walk::{Grown, walked};
+use letter_diagram::Absorbing;
 use limits::{Budget, MOST_TRACKS};
 use std::alloc::Global;
 
 /// The automaton over the pairs of states that words lead to, or `Over` where they are more than the budget. Words that lead to
-/// one pair have the same residuals; in reduced automata words that lead to different pairs have not.
+/// one pair have the same residuals; in reduced automata words that lead to different pairs have not. Where the budget has room
+/// for all pairs of states, those in which one side decides for good are one state.
 fn product(
     alloc: Global,
     a: &Auto,
@@ -25,7 +29,7 @@ fn product(
     budget: Budget,
 ) -> Result<Auto, Grown>
     requires tracks { length (with_vars a.now.tracks b.now.tracks) ≤ MOST_TRACKS }
-    ensures ok { IfOk result (IsWalked (both_walker a.now b.now connective)) }
+    ensures ok { IfOk result (IsProduct a.now b.now connective) }
     ensures few { IfOk result (λ m. length m.accept ≤ budget) }
     ensures within { OnOk result
         (¬ BothSpreadExceeds a.now.tracks b.now.tracks (Accepts a.now) (Accepts b.now) budget) }
@@ -33,13 +37,66 @@ fn product(
         → BothSpreadExceeds a.now.tracks b.now.tracks (Accepts a.now) (Accepts b.now) budget }
     ensures many { result ≡ Err Grown.Over → MoreThan (both_walker a.now b.now connective) budget }
 {
-    let both = Both::new(alloc, a, b, connective)?;
+    if !pairs_fit(a, b, budget) {
+        return exact_product(alloc, a, b, connective, budget);
+    }
+    match absorbed_product(alloc, a, b, connective, budget) {
+        Ok(m) => Ok(m),
+        Err(Grown::Memory) => Err(Grown::Memory),
+        Err(Grown::Over) => exact_product(alloc, a, b, connective, budget),
+    }
+}
+
+/// Whether the budget has room for all pairs of states.
+fn pairs_fit(a: &Auto, b: &Auto, budget: Budget) -> bool
+    ensures { IsTrue result
+        → ¬ BothSpreadExceeds a.now.tracks b.now.tracks (Accepts a.now) (Accepts b.now) budget }
+{
+    u64::from(a.states()) * u64::from(b.states()) <= u64::from(budget.states())
+}
+
+/// With one state for all pairs in which one side decides for good. It says nothing of the pairs that words lead to.
+fn absorbed_product(
+    alloc: Global,
+    a: &Auto,
+    b: &Auto,
+    connective: Connective,
+    budget: Budget,
+) -> Result<Auto, Grown>
+    requires tracks { length (with_vars a.now.tracks b.now.tracks) ≤ MOST_TRACKS }
+    ensures ok { IfOk result (IsProduct a.now b.now connective) }
+    ensures few { IfOk result (λ m. length m.accept ≤ budget) }
+{
+    let both = Both::new(alloc, a, b, connective, sinks(a, b, connective))?;
+    let m = walked(alloc, both, budget)?;
+    Ok(m)
+}
+
+/// With a state for each pair of states that words lead to.
+fn exact_product(
+    alloc: Global,
+    a: &Auto,
+    b: &Auto,
+    connective: Connective,
+    budget: Budget,
+) -> Result<Auto, Grown>
+    requires tracks { length (with_vars a.now.tracks b.now.tracks) ≤ MOST_TRACKS }
+    ensures ok { IfOk result (IsProduct a.now b.now connective) }
+    ensures few { IfOk result (λ m. length m.accept ≤ budget) }
+    ensures within { OnOk result
+        (¬ BothSpreadExceeds a.now.tracks b.now.tracks (Accepts a.now) (Accepts b.now) budget) }
+    ensures over { IsReduced a.now → IsReduced b.now → result ≡ Err Grown.Over
+        → BothSpreadExceeds a.now.tracks b.now.tracks (Accepts a.now) (Accepts b.now) budget }
+    ensures many { result ≡ Err Grown.Over → MoreThan (both_walker a.now b.now connective) budget }
+{
+    let both = Both::new(alloc, a, b, connective, Absorbing::nothing())?;
     walked(alloc, both, budget)
 }
 
 /// The automaton of the words over the tracks of both that both accept, each word read on the argument's own tracks.
-/// Its states are the pairs of states that words lead to (Rabin and Scott 1959); some of them may accept the same suffixes.
-/// `Over` where they are more than the budget. Costs the pairs of nodes that are met over all rows together.
+/// Its states are the pairs of states that words lead to (Rabin and Scott 1959), or fewer where the budget has room for all pairs:
+/// those in which a side rejects for good are one then. Some states may accept the same suffixes. `Over` where the pairs are more
+/// than the budget. Costs the pairs of nodes that are met over all rows together.
 pub fn meet(alloc: Global, a: &Auto, b: &Auto, budget: Budget) -> Result<Auto, Grown>
     requires a_reduced { IsReduced a.now }
     requires b_reduced { IsReduced b.now }
@@ -82,6 +139,28 @@ pub fn join(alloc: Global, a: &Auto, b: &Auto, budget: Budget) -> Result<Auto, G
     Ok(m)
 }
 
+/// The automaton of the words over the tracks of both that `a` accepts and `b` does not, each word read on the argument's own
+/// tracks. Otherwise as `meet`; no complement is made.
+pub fn difference(alloc: Global, a: &Auto, b: &Auto, budget: Budget) -> Result<Auto, Grown>
+    requires a_reduced { IsReduced a.now }
+    requires b_reduced { IsReduced b.now }
+    requires tracks { length (with_vars a.now.tracks b.now.tracks) ≤ MOST_TRACKS }
+    ensures tracks { IfOk result (λ m. m.tracks ≡ with_vars a.now.tracks b.now.tracks) }
+    ensures words { IfOk result
+        (λ m. (word : List ℕ) → IsWord (length m.tracks) word
+        → Accepts m word
+        ↔ (Accepts a.now (part_of m.tracks a.now.tracks word)
+        × ¬ Accepts b.now (part_of m.tracks b.now.tracks word))) }
+    ensures reached { IfOk result (λ m. (state : ℕ) → state < length m.accept → IsReachedState m state) }
+    ensures within { OnOk result
+        (¬ BothSpreadExceeds a.now.tracks b.now.tracks (Accepts a.now) (Accepts b.now) budget) }
+    ensures over { result ≡ Err Grown.Over
+        → BothSpreadExceeds a.now.tracks b.now.tracks (Accepts a.now) (Accepts b.now) budget }
+{
+    let m = product(alloc, a, b, Connective::AndNot, budget)?;
+    Ok(m)
+}
+
 /// `meet` of any two automata, reduced or not, that is within the budget where the pairs of states that words lead to are.
 /// `Over` where they are more. That says nothing of how many words the step has to tell apart: of the reduced automata for the
 /// same words `meet` may still be within.
@@ -120,4 +199,23 @@ pub fn join_within(alloc: Global, a: &Auto, b: &Auto, budget: Budget) -> Result<
 {
     let either = product(alloc, a, b, Connective::Or, budget)?;
     Ok(either)
+}
+
+/// `difference` of any two automata, reduced or not. Otherwise as `meet_within`.
+pub fn difference_within(alloc: Global, a: &Auto, b: &Auto, budget: Budget) -> Result<Auto, Grown>
+    requires tracks { length (with_vars a.now.tracks b.now.tracks) ≤ MOST_TRACKS }
+    ensures tracks { IfOk result (λ m. m.tracks ≡ with_vars a.now.tracks b.now.tracks) }
+    ensures words { IfOk result
+        (λ m. (word : List ℕ) → IsWord (length m.tracks) word
+        → Accepts m word
+        ↔ (Accepts a.now (part_of m.tracks a.now.tracks word)
+        × ¬ Accepts b.now (part_of m.tracks b.now.tracks word))) }
+    ensures reached { IfOk result (λ m. (state : ℕ) → state < length m.accept → IsReachedState m state) }
+    ensures few { IfOk result (λ m. length m.accept ≤ budget) }
+    ensures within { OnOk result
+        (¬ BothSpreadExceeds a.now.tracks b.now.tracks (Accepts a.now) (Accepts b.now) budget) }
+    ensures over { result ≡ Err Grown.Over → MoreThan (both_walker a.now b.now Connective.AndNot) budget }
+{
+    let only = product(alloc, a, b, Connective::AndNot, budget)?;
+    Ok(only)
 }

@@ -7,10 +7,13 @@ use Rattle.std.proofs.lemmas.Bool.{cases_lt}
 use Rattle.std.proofs.lemmas.List.{length_push, get_or_push}
 use Rattle.std.proofs.lemmas.Option.{slice_get-get_or}
 use Rattle.std.proofs.Math.Pow.{pow_mono}
+use Rattle.std.proofs.lemmas.Nat.{pow_pos}
 use Rattle.letter_diagram.specs.declared.diagrams.Shape.{Shape}
 use Rattle.letter_diagram.specs.Diagram.{map_at, top_track, chosen, IsDiagram, Grows}
 use Rattle.letter_diagram.specs.Numbering.{Numbers, PairsKept}
-use Rattle.letter_diagram.specs.Paired.{IsSplit, top_of_both, room_for, IsPaired, AreAnswers, pair_eq, RemembersPaired}
+use Rattle.letter_diagram.specs.declared.absorbing.Absorbing.{Absorbing}
+use Rattle.letter_diagram.specs.Paired.{IsSplit, top_of_both, room_for, pair_eq}
+use Rattle.letter_diagram.specs.Absorbed.{absorbed, absorbed_at, IsPaired, AreAbsorbed, RemembersPaired}
 use Rattle.letter_diagram.proofs.Canonical.{flip, bit_at-flip_same, bit_cases, flipped}
 use Rattle.letter_diagram.proofs.Memos.{pair_answers-insert}
 
@@ -25,6 +28,10 @@ room_for-grows old new a b grows ka kb = ap (λ t. 2 ^ (20 - t)) (top_of_both-gr
 pub room_for-constant : (shapes : List Shape) (a b : ℕ) → top_of_both shapes a b ≡ 20 → room_for shapes a b ≡ 1
 unfolding room_for
 room_for-constant shapes a b e = ap (λ t. 2 ^ (20 - t)) e
+
+pub room_for-some : (shapes : List Shape) (a b : ℕ) → 1 ≤ room_for shapes a b
+unfolding room_for
+room_for-some shapes a b = let some = pow_pos (20 - top_of_both shapes a b) in omega (arith, some)
 
 pub room_for-le : (shapes : List Shape) (a b : ℕ) → room_for shapes a b ≤ 2 ^ 20
 unfolding room_for
@@ -73,8 +80,9 @@ IsSplit-grows old new node track low high known grows s =
       high_smaller = λ e. s.high_smaller (sym (grows.top node known) ∙ e);
     }
 
-pub IsPaired-grows : (old new : List Shape) (pairs pairs' : List (ℕ × ℕ)) (a b r : ℕ) → Grows old new → PairsKept pairs pairs' → IsPaired old pairs a b r → IsPaired new pairs' a b r
-IsPaired-grows old new pairs pairs' a b r grows kept is =
+pub IsPaired-grows : (g : Absorbing) (old new : List Shape) (pairs pairs' : List (ℕ × ℕ)) (a b r : ℕ) → Grows old new → PairsKept pairs pairs' → IsPaired g old pairs a b r
+    → IsPaired g new pairs' a b r
+IsPaired-grows g old new pairs pairs' a b r grows kept is =
     let longer = grows.longer in
     let k = is.known in
     let ka = is.a_known in
@@ -88,26 +96,26 @@ IsPaired-grows old new pairs pairs' a b r grows kept is =
       b_known = omega arith;
       map =
           λ letter. ap (λ n. slice_get pairs' n) (grows.map r letter is.known) ∙ kept.at _ _ (is.map letter)
-          ∙ (λ i. Some (sym (grows.map a letter is.a_known) i, sym (grows.map b letter is.b_known) i));
+          ∙ (λ i. Some (absorbed g (sym (grows.map a letter is.a_known) i) (sym (grows.map b letter is.b_known) i)));
       top = omega arith;
     }
 
-pick : (c : Bool) (pairs : List (ℕ × ℕ)) (x y xa ya xb yb : ℕ) → slice_get pairs x ≡ Some (xa, xb) → slice_get pairs y ≡ Some (ya, yb)
-    → slice_get pairs (if c then x else y) ≡ Some (if c then xa else ya, if c then xb else yb)
-pick true pairs x y xa ya xb yb p q = p
-pick false pairs x y xa ya xb yb p q = q
+pick : (c : Bool) (g : Absorbing) (pairs : List (ℕ × ℕ)) (x y xa ya xb yb : ℕ) → slice_get pairs x ≡ Some (absorbed g xa xb) → slice_get pairs y ≡ Some (absorbed g ya yb)
+    → slice_get pairs (if c then x else y) ≡ Some (absorbed g (if c then xa else ya) (if c then xb else yb))
+pick true g pairs x y xa ya xb yb p q = p
+pick false g pairs x y xa ya xb yb p q = q
 
-pub IsPaired-sides : (shapes : List Shape) (pairs : List (ℕ × ℕ)) (a b r track al ah bl bh low high : ℕ) → a < length shapes → b < length shapes → r < length shapes
-    → IsSplit shapes a track al ah → IsSplit shapes b track bl bh → track ≡ top_of_both shapes a b → IsPaired shapes pairs al bl low → IsPaired shapes pairs ah bh high
-    → ((letter : ℕ) → map_at shapes r letter ≡ chosen shapes track low high letter) → track ≤ top_track shapes r → IsPaired shapes pairs a b r
-IsPaired-sides shapes pairs a b r track al ah bl bh low high ka kb kr sa sb e pl ph map top = record {
+pub IsPaired-sides : (g : Absorbing) (shapes : List Shape) (pairs : List (ℕ × ℕ)) (a b r track al ah bl bh low high : ℕ) → a < length shapes → b < length shapes → r < length shapes
+    → IsSplit shapes a track al ah → IsSplit shapes b track bl bh → track ≡ top_of_both shapes a b → IsPaired g shapes pairs al bl low → IsPaired g shapes pairs ah bh high
+    → ((letter : ℕ) → map_at shapes r letter ≡ chosen shapes track low high letter) → track ≤ top_track shapes r → IsPaired g shapes pairs a b r
+IsPaired-sides g shapes pairs a b r track al ah bl bh low high ka kb kr sa sb e pl ph map top = record {
   known = kr;
   a_known = ka;
   b_known = kb;
   map = λ letter.
       ap (λ n. slice_get pairs n) (map letter)
-      ∙ pick (nat_eq (bit_at letter track) 0) pairs _ _ _ _ _ _ (pl.map letter) (ph.map letter)
-      ∙ (λ i. Some (sym (sa.map letter) i, sym (sb.map letter) i));
+      ∙ pick (nat_eq (bit_at letter track) 0) g pairs _ _ _ _ _ _ (pl.map letter) (ph.map letter)
+      ∙ (λ i. Some (absorbed g (sym (sa.map letter) i) (sym (sb.map letter) i)));
   top = subst (λ t. t ≤ top_track shapes r) e top;
 }
 
@@ -142,50 +150,52 @@ high_answer shapes is a b track al ah bl bh letter sa sb = elim (bit_cases lette
     set : (low high l : ℕ) → bit_at l track ≡ 1 → chosen shapes track low high l ≡ map_at shapes high l
     set low high l o = ap (λ n. if nat_eq n 0 then map_at shapes low l else map_at shapes high l) o
 
-pub RemembersPaired-grows : {S : Type 0} (old new : List Shape) (pairs pairs' : List (ℕ × ℕ)) (memo : HashMap (ℕ × ℕ) ℕ S) → Grows old new → PairsKept pairs pairs'
-    → RemembersPaired old pairs memo → RemembersPaired new pairs' memo
-RemembersPaired-grows old new pairs pairs' memo grows kept all = record { paired = λ a b r at. IsPaired-grows old new pairs pairs' a b r grows kept (all.paired a b r at) }
+pub RemembersPaired-grows : {S : Type 0} (g : Absorbing) (old new : List Shape) (pairs pairs' : List (ℕ × ℕ)) (memo : HashMap (ℕ × ℕ) ℕ S) → Grows old new → PairsKept pairs pairs'
+    → RemembersPaired g old pairs memo → RemembersPaired g new pairs' memo
+RemembersPaired-grows g old new pairs pairs' memo grows kept all = record { paired = λ a b r at. IsPaired-grows g old new pairs pairs' a b r grows kept (all.paired a b r at) }
 
-pub RemembersPaired-insert : {S : Type 0} (shapes : List Shape) (pairs : List (ℕ × ℕ)) (memo new : HashMap (ℕ × ℕ) ℕ S) (a b r : ℕ) → RemembersPaired shapes pairs memo
-    → Updates pair_eq memo new (a, b) (Some r) → IsPaired shapes pairs a b r → RemembersPaired shapes pairs new
-RemembersPaired-insert shapes pairs memo new a b r all updates is = record { paired = pair_answers-insert (IsPaired shapes pairs) memo new a b r all.paired updates is }
+pub RemembersPaired-insert : {S : Type 0} (g : Absorbing) (shapes : List Shape) (pairs : List (ℕ × ℕ)) (memo new : HashMap (ℕ × ℕ) ℕ S) (a b r : ℕ) → RemembersPaired g shapes pairs memo
+    → Updates pair_eq memo new (a, b) (Some r) → IsPaired g shapes pairs a b r → RemembersPaired g shapes pairs new
+RemembersPaired-insert g shapes pairs memo new a b r all updates is = record { paired = pair_answers-insert (IsPaired g shapes pairs) memo new a b r all.paired updates is }
 
 -- the pairs that two sides added are pairs of values of both nodes
-pub AreAnswers-sides : (shapes mid : List Shape) → IsDiagram shapes → (first second third : List (ℕ × ℕ)) (a b track al ah bl bh : ℕ) → Grows shapes mid → PairsKept second third
-    → IsSplit shapes a track al ah → IsSplit shapes b track bl bh → AreAnswers shapes (length first) second al bl → AreAnswers mid (length second) third ah bh
-    → AreAnswers shapes (length first) third a b
-AreAnswers-sides shapes mid is first second third a b track al ah bl bh grows kept sa sb low high = record {
+pub AreAbsorbed-sides : (g : Absorbing) (shapes mid : List Shape) → IsDiagram shapes → (first second third : List (ℕ × ℕ)) (a b track al ah bl bh : ℕ) → Grows shapes mid → PairsKept second third
+    → IsSplit shapes a track al ah → IsSplit shapes b track bl bh → AreAbsorbed g shapes (length first) second al bl → AreAbsorbed g mid (length second) third ah bh
+    → AreAbsorbed g shapes (length first) third a b
+AreAbsorbed-sides g shapes mid is first second third a b track al ah bl bh grows kept sa sb low high = record {
   answer = λ number from below. elim (cases_lt number (length second)) [
     | inl early ↦
         let l = low.answer number from early in
         let m = low_answer shapes is a b track al ah bl bh l.0 sa sb in
-        (m.0, kept.at _ _ l.1 ∙ (λ i. Some (m.1 i, m.2 i)))
+        (m.0, kept.at _ _ l.1 ∙ (λ i. Some (absorbed g (m.1 i) (m.2 i))))
     | inr late ↦
         let h = high.answer number late below in
-        let m = high_answer shapes is a b track al ah bl bh h.0 sa sb in
-        (m.0, h.1 ∙ (λ i. Some (grows.map ah h.0 sa.high_known i, grows.map bh h.0 sb.high_known i)) ∙ (λ i. Some (m.1 i, m.2 i)))
+        let m = high_answer shapes is a b track al ah bl bh h.0 sa sb in (
+          m.0,
+          h.1 ∙ (λ i. Some (absorbed g (grows.map ah h.0 sa.high_known i) (grows.map bh h.0 sb.high_known i))) ∙ (λ i. Some (absorbed g (m.1 i) (m.2 i))),
+        )
   ];
 }
 
--- one pair that was added is a pair of values of both nodes, which are constant
-pub AreAnswers-leaves : (shapes : List Shape) (old new : List (ℕ × ℕ)) (a b number : ℕ) → slice_get new number ≡ Some (map_at shapes a 0, map_at shapes b 0)
-    → Numbers old new (map_at shapes a 0, map_at shapes b 0) → AreAnswers shapes (length old) new a b
-AreAnswers-leaves shapes old new a b number at (inl e) = record { answer = λ n from below. let l = ap length e in absurd (omega arith) }
-AreAnswers-leaves shapes old new a b number at (inr (e, absent)) = record {
+-- one pair that was added is the pair at the first letter
+pub AreAbsorbed-leaves : (g : Absorbing) (shapes : List Shape) (old new : List (ℕ × ℕ)) (a b number : ℕ) → slice_get new number ≡ Some (absorbed_at g shapes a b 0)
+    → Numbers old new (absorbed_at g shapes a b 0) → AreAbsorbed g shapes (length old) new a b
+AreAbsorbed-leaves g shapes old new a b number at (inl e) = record { answer = λ n from below. let l = ap length e in absurd (omega arith) }
+AreAbsorbed-leaves g shapes old new a b number at (inr (e, absent)) = record {
   answer = λ n from below.
-      let l = ap length e ∙ length_push old (map_at shapes a 0, map_at shapes b 0) in
+      let l = ap length e ∙ length_push old (absorbed_at g shapes a b 0) in
       let last : n ≡ length old = omega arith in (
         0,
-        ap (λ k. slice_get new k) last ∙ slice_get-get_or new (length old) (map_at shapes a 0, map_at shapes b 0) (omega arith)
-            ∙ ap Some (ap (λ k. get_or k (length old) (map_at shapes a 0, map_at shapes b 0)) e ∙ get_or_push old _ _ (length old) refl),
+        ap (λ k. slice_get new k) last ∙ slice_get-get_or new (length old) (absorbed_at g shapes a b 0) (omega arith)
+            ∙ ap Some (ap (λ k. get_or k (length old) (absorbed_at g shapes a b 0)) e ∙ get_or_push old _ _ (length old) refl),
       );
 }
 
-pub IsPaired-leaves : (shapes old : List Shape) (pairs : List (ℕ × ℕ)) (a b r number : ℕ) → a < length old → b < length old → Grows old shapes → r < length shapes
-    → ((letter : ℕ) → map_at old a letter ≡ map_at old a 0) → ((letter : ℕ) → map_at old b letter ≡ map_at old b 0)
-    → slice_get pairs number ≡ Some (map_at old a 0, map_at old b 0) → ((letter : ℕ) → map_at shapes r letter ≡ number) → top_track shapes r ≡ 20 → top_of_both old a b ≡ 20
-    → IsPaired shapes pairs a b r
-IsPaired-leaves shapes old pairs a b r number ka kb grows kr ca cb at map top both =
+pub IsPaired-leaves : (g : Absorbing) (shapes old : List Shape) (pairs : List (ℕ × ℕ)) (a b r number : ℕ) → a < length old → b < length old → Grows old shapes → r < length shapes
+    → ((letter : ℕ) → absorbed_at g old a b letter ≡ absorbed_at g old a b 0) → slice_get pairs number ≡ Some (absorbed_at g old a b 0)
+    → ((letter : ℕ) → map_at shapes r letter ≡ number) → top_track shapes r ≡ 20 → top_of_both old a b ≤ 20
+    → IsPaired g shapes pairs a b r
+IsPaired-leaves g shapes old pairs a b r number ka kb grows kr one at map top both =
     let longer = grows.longer in
     let ta = grows.top a ka in
     let tb = grows.top b kb in
@@ -193,7 +203,9 @@ IsPaired-leaves shapes old pairs a b r number ka kb grows kr ca cb at map top bo
       known = kr;
       a_known = omega arith;
       b_known = omega arith;
-      map = λ letter. ap (λ n. slice_get pairs n) (map letter) ∙ at ∙ (λ i. Some (sym (grows.map a letter ka ∙ ca letter) i, sym (grows.map b letter kb ∙ cb letter) i));
+      map = λ letter.
+          ap (λ n. slice_get pairs n) (map letter) ∙ at
+          ∙ ap Some (sym (one letter)) ∙ (λ i. Some (absorbed g (sym (grows.map a letter ka) i) (sym (grows.map b letter kb) i)));
       top = omega arith;
     }
 

@@ -2,6 +2,7 @@ pub mod Diagram
 pub mod Carried
 pub mod Numbering
 pub mod Paired
+pub mod Absorbed
 pub mod Chosen
 pub mod Relabelled
 pub mod Least

@@ -1,8 +1,10 @@
 -- What contracts see of a product.
 use Rattle.std.specs.Prelude.{ℕ, List}
 use Rattle.letter_diagram.specs.declared.diagrams.Shape.{Shape}
+use Rattle.letter_diagram.specs.declared.absorbing.Absorbing.{Absorbing}
 
--- the nodes of a product, and the pairs that are numbered
+-- the nodes of a product, the pairs that are numbered, and which values absorb the other
 pub record ProductTables : Type 0 where
   pub shapes : List Shape
   pub pairs : List (ℕ × ℕ)
+  pub absorbing : Absorbing

@@ -1,6 +1,7 @@
 //! Shared diagrams: maps from letters to numbers that look at finitely many tracks.
 #![tactic(auto)]
 
+mod absorbing;
 mod apply2;
 mod bring;
 mod carry;
@@ -18,6 +19,7 @@ mod product;
 mod relabel;
 mod sets;
 
+pub use absorbing::Absorbing;
 pub use carry::{Carry, carried, carried_all};
 pub use diagrams::{Diagrams, Node, Shape};
 pub use memo::Memo;

@@ -2,8 +2,10 @@
 ghost use Rattle.std.specs.Prelude.{◌≡◌, ◌<◌, ◌≤◌, ◌+◌, ◌^◌, ℕ, length, slice_get, Some, IfOk, OnOk};
 ghost use Rattle.letter_diagram.specs.Diagram.{map_at, top_track, Grows};
 ghost use Rattle.letter_diagram.specs.Numbering.{PairsKept};
-ghost use Rattle.letter_diagram.specs.Paired.{top_of_both, AreAnswers};
+ghost use Rattle.letter_diagram.specs.Paired.{top_of_both};
+ghost use Rattle.letter_diagram.specs.Absorbed.{absorbed_at, AreAbsorbed};
 
+use crate::absorbing::Absorbing;
 use crate::diagrams::{Diagrams, Node};
 use crate::pairs::Pairs;
 use limits::MOST_TRACKS;
@@ -17,30 +19,33 @@ pub struct Product {
     diagrams: Diagrams,
     pairs: Pairs,
     memo: HashMap<(Node, Node), Node>,
+    absorbing: Absorbing,
 }
 
 impl Model for Product {
     ghost use Rattle.letter_diagram.specs.Product.{ProductTables};
-    ghost use Rattle.letter_diagram.specs.Paired.{RemembersPaired};
+    ghost use Rattle.letter_diagram.specs.Absorbed.{RemembersPaired};
 
     ghost Value = { ProductTables };
 
-    ghost view = { λ p. record { shapes = p.diagrams; pairs = p.pairs } };
+    ghost view = { λ p. record { shapes = p.diagrams; pairs = p.pairs; absorbing = p.absorbing } };
 
-    ghost invariant = { λ p. RemembersPaired p.diagrams p.pairs p.memo };
+    ghost invariant = { λ p. RemembersPaired p.absorbing p.diagrams p.pairs p.memo };
 }
 
 impl Product {
     /// Over nodes and pairs that are there already. The memo has room for as many pairs of nodes as there are nodes.
-    pub fn new(diagrams: Diagrams, pairs: Pairs) -> Result<Self, AllocError>
+    pub fn new(diagrams: Diagrams, pairs: Pairs, absorbing: Absorbing) -> Result<Self, AllocError>
         ensures shapes { IfOk result (λ product. product.shapes ≡ diagrams) }
         ensures pairs { IfOk result (λ product. product.pairs ≡ pairs) }
+        ensures absorbing { IfOk result (λ product. product.absorbing ≡ absorbing) }
     {
         let memo = HashMap::with_capacity(diagrams.alloc(), diagrams.len())?;
         Ok(Product {
             diagrams,
             pairs,
             memo,
+            absorbing,
         })
     }
 
@@ -67,12 +72,14 @@ impl Product {
             diagrams,
             pairs,
             memo: _,
+            absorbing: _,
         } = self;
         (diagrams, pairs)
     }
 
-    /// The map from a letter to the number of the pair of both values, as `Diagrams::apply2` gives it. Pairs of nodes that
-    /// earlier calls met are not visited again. Want of memory empties the memo.
+    /// The map from a letter to the number of the absorbed pair of both values, as `Diagrams::apply2` gives it where nothing
+    /// absorbs. Where a node's map is an absorbing value alone, the other node is not visited, nor are pairs of nodes that
+    /// earlier calls met. Want of memory empties the memo.
     pub fn apply(&mut self, a: Node, b: Node) -> Result<Node, AllocError>
         requires a_known { a < length self.old.shapes }
         requires b_known { b < length self.old.shapes }
@@ -81,14 +88,20 @@ impl Product {
         ensures map { IfOk result
             (λ node. (letter : ℕ)
             → slice_get self.new.pairs (map_at self.new.shapes node letter) ≡ Some
-            (map_at self.old.shapes a letter, map_at self.old.shapes b letter)) }
+            (absorbed_at self.old.absorbing self.old.shapes a b letter)) }
         ensures top { IfOk result (λ node. top_of_both self.old.shapes a b ≤ top_track self.new.shapes node) }
-        ensures answers { OnOk result (AreAnswers self.old.shapes (length self.old.pairs) self.new.pairs a b) }
+        ensures answers { OnOk result
+            (AreAbsorbed self.old.absorbing self.old.shapes (length self.old.pairs) self.new.pairs a b) }
         ensures few { OnOk result (length self.new.pairs ≤ length self.old.pairs + 2 ^ MOST_TRACKS) }
         ensures pairs { PairsKept self.old.pairs self.new.pairs }
         ensures grows { Grows self.old.shapes self.new.shapes }
+        ensures absorbing { self.new.absorbing ≡ self.old.absorbing }
     {
-        match self.diagrams.paired(a, b, &mut self.pairs, &mut self.memo) {
+        let absorbing = self.absorbing;
+        match self
+            .diagrams
+            .paired(a, b, absorbing, &mut self.pairs, &mut self.memo)
+        {
             Ok(node) => Ok(node),
             Err(refused) => {
                 self.memo.clear();

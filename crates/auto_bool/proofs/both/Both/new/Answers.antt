@@ -22,8 +22,9 @@ invariant_of-result c =
           rw (tracks, c.tracks-left_tracks.ensures.tracks, c.tracks-right_tracks.ensures.tracks)
           (record {
             ascending = ascending-with_vars c.args.left.now.tracks c.args.right.now.tracks c.tracks-right_tracks.ensures.valid.ascending;
-            few = c.requires;
+            few = c.requires.tracks;
           });
       left_side = rw c.in_ok-product.ensures.shapes (IsSide-kept _ _ _ _ _ c.in_ok-right_nodes.ensures.grows left);
       right_side = rw c.in_ok-product.ensures.shapes right;
+      sinks = rw c.in_ok-product.ensures.absorbing c.requires.sinks;
     }

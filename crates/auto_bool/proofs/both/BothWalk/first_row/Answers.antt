@@ -14,10 +14,11 @@ invariant_of-self c = record {
   are_tracks = c.args.self.now.are_tracks;
   left_side = IsSide-kept _ _ _ _ _ c.apply.ensures.grows c.args.self.now.left_side;
   right_side = IsSide-kept _ _ _ _ _ c.apply.ensures.grows c.args.self.now.right_side;
+  sinks = rw c.apply.ensures.absorbing c.args.self.now.sinks;
 }
 
 pub returns-clause-row : goal.returns-clause-row
 returns-clause-row c =
     let made = c.in_ok-node.ensures in
-    IsRow-paired _ _ _ _ _ _ _ _ _ _ _ (first-reads _ _ _ _ _ c.args.self.now.left_side c.index.ensures) (first-reads _ _ _ _ _ c.args.self.now.right_side c.index-2.ensures) (λ letter. refl)
+    IsRow-paired _ _ _ _ _ _ _ _ _ _ _ _ (first-reads _ _ _ _ _ c.args.self.now.left_side c.index.ensures) (first-reads _ _ _ _ _ c.args.self.now.right_side c.index-2.ensures) (λ letter. refl)
     made.known made.map made.answers (subst (λ (l : List (ℕ × ℕ)). AllPairs (λ p q. p ≢ q) l) c.pairs.ensures c.len.ensures.unrepeated)

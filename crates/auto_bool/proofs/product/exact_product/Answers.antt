@@ -1,0 +1,40 @@
+use Rattle.std.proofs.Common.{IfOk, OnOk, subst, ◌∙◌}
+use Rattle.std.proofs.lemmas.Result.{on_ok_weaker, IfOk-weaker}
+use Rattle.track_word.specs.Tracks.{with_vars}
+use Rattle.auto_walk.specs.Walker.{IsWalked, MoreThan}
+use Rattle.auto_bool.proofs.AbsorbedPairs.{walker-nothing, AreSinks-nothing, IsProduct-walked}
+use Rattle.auto_bool.proofs.PairLemmas.{walker-same}
+use Rattle.auto_bool.proofs.Spreads.{BothSpreadExceeds-from, MoreThan-from_spread}
+use Rattle.auto_bool.proofs.product.exact_product.Goals as goal
+
+pub returns-clause-ok : goal.returns-clause-ok
+returns-clause-ok c =
+    let made = c.in_ok-both.ensures in
+    let same = walker-same _ _ _ _ _ _ _ _ _ made.absorbing made.left made.right made.connective made.tracks in
+    IfOk-weaker c.walked.result _ _ (λ m. IsProduct-walked c.nothing.result c.args.a.now c.args.b.now m c.args.connective
+    (AreSinks-nothing c.nothing.result c.nothing.ensures.left c.nothing.ensures.right (with_vars c.args.a.now.tracks c.args.b.now.tracks) c.args.a.now c.args.b.now c.args.connective))
+    (subst (λ w. IfOk c.walked.result (IsWalked w)) same c.walked.ensures.ok)
+
+pub returns-clause-within : goal.returns-clause-within
+returns-clause-within c =
+    let made = c.in_ok-both.ensures in
+    let same = walker-same _ _ _ _ _ _ _ _ _ made.absorbing made.left made.right made.connective made.tracks
+    ∙ walker-nothing c.nothing.result c.nothing.ensures.left c.nothing.ensures.right (with_vars c.args.a.now.tracks c.args.b.now.tracks) c.args.a.now c.args.b.now c.args.connective in
+    let few = subst (λ w. OnOk c.walked.result (MoreThan w c.args.budget → ⊥)) same c.walked.ensures.within in
+    on_ok_weaker c.walked.result (λ no spread. no (MoreThan-from_spread c.args.a.now c.args.b.now c.args.connective c.args.budget spread)) few
+
+pub returns-clause-over : goal.returns-clause-over
+returns-clause-over c =
+    let made = c.in_ok-both.ensures in
+    let same = walker-same _ _ _ _ _ _ _ _ _ made.absorbing made.left made.right made.connective made.tracks
+    ∙ walker-nothing c.nothing.result c.nothing.ensures.left c.nothing.ensures.right (with_vars c.args.a.now.tracks c.args.b.now.tracks) c.args.a.now c.args.b.now c.args.connective in
+    λ a_reduced b_reduced over.
+    BothSpreadExceeds-from c.args.a.now c.args.b.now c.args.connective made.left_valid made.right_valid a_reduced b_reduced c.args.budget
+    (subst (λ w. MoreThan w c.args.budget) same (c.walked.ensures.over over))
+
+pub returns-clause-many : goal.returns-clause-many
+returns-clause-many c =
+    let made = c.in_ok-both.ensures in
+    let same = walker-same _ _ _ _ _ _ _ _ _ made.absorbing made.left made.right made.connective made.tracks
+    ∙ walker-nothing c.nothing.result c.nothing.ensures.left c.nothing.ensures.right (with_vars c.args.a.now.tracks c.args.b.now.tracks) c.args.a.now c.args.b.now c.args.connective in
+    λ over. subst (λ w. MoreThan w c.args.budget) same (c.walked.ensures.over over)

@@ -1,0 +1,63 @@
+-- Pairs of states in which one side decides for good what a connective gives, and the automaton of a product.
+use Rattle.std.specs.Prelude.{◌≡◌, ◌↔◌, ℕ, ◌<◌, Bool, true, false, IsTrue, List, [], ◌∷◌, length, Some}
+use Rattle.track_word.specs.declared.tracks.Var.{Var}
+use Rattle.track_word.specs.Word.{IsWord}
+use Rattle.track_word.specs.Tracks.{with_vars, restrict}
+use Rattle.letter_diagram.specs.declared.absorbing.Absorbing.{Absorbing}
+use Rattle.letter_diagram.specs.Absorbed.{absorbed}
+use Rattle.auto_core.specs.Automaton.{Automaton, width, first_state, next_state, is_final, Accepts}
+use Rattle.auto_core.specs.Reduced.{IsReachedState}
+use Rattle.auto_walk.specs.Walker.{Walker, place_of}
+use Rattle.auto_bool.specs.declared.connective.Connective.{Connective}
+use Rattle.auto_bool.specs.declared.connective.Connective.TheVariants.{And, Or, AndNot}
+use Rattle.auto_bool.specs.Both.{place_of_pair, final_pair, both_walker}
+
+-- the flag of the left side at which the right side does not matter
+abbrev pub left_deciding : Connective → Bool
+left_deciding And = false
+left_deciding Or = true
+left_deciding AndNot = false
+
+-- the flag of the right side at which the left side does not matter
+abbrev pub right_deciding : Connective → Bool
+right_deciding And = false
+right_deciding Or = true
+right_deciding AndNot = true
+
+-- a state of this flag that leads to itself by each letter
+pub record IsSink (a : Automaton) (flag : Bool) (state : ℕ) : Type 0 where
+  pub known : state < length a.accept
+  pub accepts : is_final a state ≡ flag
+  pub stays : (letter : ℕ) → letter < width a → next_state a state letter ≡ state
+
+-- the absorbing values are states of either side that decide for good what the connective gives
+pub record AreSinks (a b : Automaton) (connective : Connective) (absorbing : Absorbing) : Type 0 where
+  pub left : (state : ℕ) → absorbing.left ≡ Some state → IsSink a (left_deciding connective) state
+  pub right : (state : ℕ) → absorbing.right ≡ Some state → IsSink b (right_deciding connective) state
+
+-- the pair of states that stands for the pair after a further letter
+abbrev pub next_absorbed : Absorbing → Automaton → Automaton → List Var → List ℕ → ℕ → List ℕ
+next_absorbed absorbing a b tracks (left ∷ right ∷ []) letter =
+    place_of_pair
+    (absorbed absorbing (next_state a left (restrict tracks a.tracks letter))
+    (next_state b right (restrict tracks b.tracks letter)))
+next_absorbed absorbing a b tracks _ letter = []
+
+-- over given tracks, with one pair for all pairs in which an absorbing state stands
+abbrev pub absorbing_walker : Absorbing → List Var → Automaton → Automaton → Connective → Walker
+absorbing_walker absorbing tracks a b connective = record {
+  tracks = tracks;
+  first =
+      λ letter. place_of_pair
+      (absorbed absorbing (first_state a (restrict tracks a.tracks letter))
+      (first_state b (restrict tracks b.tracks letter)));
+  next = next_absorbed absorbing a b tracks;
+  final = final_pair a b connective;
+}
+
+-- an automaton of reached states that accepts the words at whose pair of states the connective gives true
+pub record IsProduct (a b : Automaton) (connective : Connective) (m : Automaton) : Type 0 where
+  pub tracks : m.tracks ≡ with_vars a.tracks b.tracks
+  pub words : (word : List ℕ) → IsWord (length (with_vars a.tracks b.tracks)) word
+      → Accepts m word ↔ IsTrue ((both_walker a b connective).final (place_of (both_walker a b connective) word))
+  pub reached : (state : ℕ) → state < length m.accept → IsReachedState m state
