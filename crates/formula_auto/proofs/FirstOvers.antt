@@ -1,5 +1,5 @@
 -- The first step past the budget of two lists of steps. Other crates cite these lemmas.
-use Rattle.std.proofs.Common.{◌≡◌, ℕ, ◌+◌, arith, subst, length, add-zero, List, [], ◌∷◌, ◌++◌, Option, Some, None, sym, inl, inr}
+use Rattle.std.proofs.Common.{◌≡◌, ℕ, ◌+◌, arith, subst, length, add-zero, List, [], ◌∷◌, ◌++◌, Option, Some, None, refl, sym, inl, inr}
 use Rattle.lin_formula.specs.Tree.{Tree}
 use Rattle.lin_formula.specs.Holds.{Sets}
 use Rattle.formula_auto.specs.Step.{FirstOver}
@@ -26,4 +26,13 @@ FirstOver-over (x ∷ xs) ys e budget from k h =
     elim h [
       | inl w ↦ inl w
       | inr (within, rest) ↦ inr (within, FirstOver-over xs ys e budget (from + 1) k rest)
+    ]
+
+-- where none is over, none is under other numbers
+pub FirstOver-from : (xs : List Tree) (e : Sets) (budget from other : ℕ) → FirstOver xs e budget from None → FirstOver xs e budget other None
+FirstOver-from [] e budget from other h = refl
+FirstOver-from (x ∷ xs) e budget from other h =
+    elim h [
+      | inl (over, is) ↦ none_some (sym is)
+      | inr (within, rest) ↦ inr (within, FirstOver-from xs e budget (from + 1) (other + 1) rest)
     ]

@@ -15,6 +15,10 @@ pub mod Stable
 pub mod NoSets
 pub mod PlainLemmas
 pub mod Connections
+pub mod Entries
+pub mod LevelLemmas
+pub mod Accessible
 pub mod MemoLemmas
 pub mod WithMemo
 pub mod PartLemmas
+pub mod Pairs

@@ -1,14 +1,12 @@
 -- What compiling does to a memo.
-use Rattle.std.proofs.Common.{◌≡◌, ◌≢◌, ℕ, ◌+◌, ◌-◌, ◌≤◌, ◌<◌, ◌^◌, Bool, true, false, ◌&&◌, nat_eq, nat_lt, if◌then◌else◌, List, [], ◌∷◌, ◌++◌, map, take, get_or, length, Some, refl, sym, ap, ◌∙◌, subst, inl, inr, arith, length-append, append-nil}
-use Rattle.std.specs.List.{Contains, All, slice_get}
-use Rattle.std.specs.Option.{option_map}
-use Rattle.std.proofs.lemmas.Option.{slice_get-map, slice_get_read, slice_get_within, slice_get-get_or, get_or_from_slice_get}
-use Rattle.std.proofs.Math.Seq.{get_or-append_seam}
-use Rattle.std.proofs.lemmas.List.Elements.{All-append, All-cons, All-map, All-contains}
+use Rattle.std.proofs.Common.{◌≡◌, ℕ, ◌+◌, ◌-◌, ◌≤◌, ◌<◌, ◌^◌, Bool, true, false, ◌&&◌, nat_eq, nat_lt, if◌then◌else◌, List, [], ◌∷◌, ◌++◌, map, get_or, length, None, Some, refl, sym, ap, ◌∙◌, subst, inl, inr, arith, length-append, append-nil}
+use Rattle.std.specs.List.{Contains, slice_get}
+use Rattle.std.specs.Prelude.{Option, IfNone, IfSome, MatchOption}
+use Rattle.std.proofs.lemmas.Option.{slice_get_within, get_or_from_slice_get}
 use Rattle.lin_formula.specs.TreeOf.{tree_of}
-use Rattle.formula_auto.specs.declared.memo.Entry.{Entry}
-use Rattle.formula_auto.specs.MemoEntries.{entry_of}
-use Rattle.std.proofs.lemmas.List.{map-append, length-map, take_all}
+use Rattle.formula_auto.specs.declared.entry.Entry.{Entry}
+use Rattle.formula_auto.specs.EntryOf.{entry_of, IsPlaceOf}
+use Rattle.std.proofs.lemmas.List.{map-append, length-map}
 use Rattle.std.proofs.Math.ListN.{get_or-map}
 use Rattle.auto_core.specs.Automaton.{Automaton}
 use Rattle.auto_core.specs.Reduced.{IsReduced}
@@ -26,6 +24,7 @@ use Rattle.formula_auto.specs.declared.course.Recall.TheVariants.{Plain, Nothing
 use Rattle.formula_auto.specs.declared.errors.CompileError.{CompileError}
 use Rattle.formula_auto.specs.declared.errors.CompileError.TheVariants.{Over, Memory}
 use Rattle.formula_auto.proofs.NoSets.{Decides-no_set, steps-no_set, FirstOver-no_set, FirstOver-number}
+use Rattle.formula_auto.proofs.Entries.{tree_in, None_of, not_known, mapped_there, mapped_all, entries_is, all_pushed, last_pushed}
 use Rattle.formula_auto.proofs.PlainLemmas.{plain_later, plain_whole, within-zero, within-all, recalled-zero}
 
 and_left : (a b : Bool) → (a && b) ≡ true → a ≡ true
@@ -65,10 +64,11 @@ stepless f n none =
 
 module _ (f : Tree) (e : ℕ → SetOf) (before budget : ℕ) (a : Automaton) where
   -- what is made of a plain formula may be entered, once it is reduced
-  pub entry_of-made : is_plain f ≡ true → IsReduced a → IsMade f e before budget a → IsEntry budget f a
-  entry_of-made plain reduced made = record {
+  pub entry_of-made : is_plain f ≡ true → IsReduced a → length a.accept ≤ budget → IsMade f e before budget a → IsEntry budget f a
+  entry_of-made plain reduced few made = record {
     plain = plain;
     reduced = reduced;
+    few = few;
     decides = λ d. Decides-no_set f (members e) (members d) a (plain-no_set f plain) made.decides;
     within = λ d. FirstOver-no_set (steps f) (members e) (members d) budget (before + 1) 1 (steps-no_set f (plain-no_set f plain)) made.within;
   }
@@ -131,9 +131,6 @@ after-known m f there = record {
   passes = inl (there, (refl, refl));
 }
 
-abbrev pub tree_in : Formula × Automaton → Tree
-tree_in entry = tree_of entry.0
-
 map-chosen : (b : Bool) (entries : List (Formula × Automaton)) (entry : Formula × Automaton)
     → map tree_in (if b then entries ++ entry ∷ [] else entries) ≡ (if b then map tree_in entries ++ tree_in entry ∷ [] else map tree_in entries)
 map-chosen true entries entry = map-append tree_in entries (entry ∷ [])
@@ -157,18 +154,6 @@ after-with_entry m f a unknown = record {
   passes = inr (unknown, (map-with_entry m.entries (f, a), refl));
 }
 
--- where no entry has the formula, it is not known
-pub not_known : (items : List Entry) (f : Tree) → All (λ en. tree_of en.formula ≢ f) items → Contains (map tree_in (map entry_of items)) f → ⊥
-not_known items f none there =
-    let trees : All (λ t. t ≢ f) (map tree_in (map entry_of items)) =
-    All-map (λ t. t ≢ f) tree_in (map entry_of items) (All-map (λ (en : Formula × Automaton). tree_in en ≢ f) entry_of items none) in
-    All-contains (λ t. t ≢ f) (map tree_in (map entry_of items)) f trees there refl
-
-get-last : {X : Type 0} (xs : List X) (x : X) (place : ℕ) → length xs ≡ place → slice_get (xs ++ x ∷ []) place ≡ Some x
-get-last {X = X} xs x place size =
-    slice_get-get_or (xs ++ x ∷ []) place x (let longer = length-append xs (x ∷ []) in omega (arith, size, longer))
-    ∙ ap (λ (y : X). Some y) (subst (λ k. get_or (xs ++ x ∷ []) k x ≡ x) size (get_or-append_seam xs x [] x))
-
 -- a formula is known where it has an entry
 pub known-at : (m : MemoState) (f : Tree) (place : ℕ) → IsEntryAt m f place → Contains (known m) f
 known-at m f place at =
@@ -186,32 +171,27 @@ module _ (budget found : ℕ) (items fields : List Entry) (m : MemoState) (same_
   view : state_of budget items found ≡ m
   view = subst (λ l. state_of budget l found ≡ m) (sym same_items) view_is
 
-  place_there : (k : ℕ) (en : Entry) → k < length items → en ≡ get_or items k en → slice_get (map entry_of items) k ≡ Some (entry_of en)
-  place_there k en within is = slice_get-map entry_of items k ∙ ap (option_map entry_of) (slice_get_read items (length items) k en refl within is)
-
-  pub none_found : (f : Tree) (index : ℕ) → length items ≤ index → All (λ en. tree_of en.formula ≢ f) (take index items) → Contains (known m) f → ⊥
-  none_found f index past none there =
-      not_known items f (subst (All (λ (en : Entry). tree_of en.formula ≢ f)) (take_all index items past) none) (subst (λ n. Contains (known n) f) (sym view) there)
-
-  pub one_found : (f : Tree) (k : ℕ) (en : Entry) → IsMemo (state_of budget fields found) → k < length items → en ≡ get_or items k en → tree_of en.formula ≡ f → IsEntryAt m f k
-  one_found f k en memo_fields within is same =
+  one_found : (f : Tree) (k : ℕ) → IsMemo (state_of budget fields found) → IsPlaceOf items f k → IsEntryAt m f k
+  one_found f k memo_fields at =
       let memo : IsMemo (state_of budget items found) = subst (λ l. IsMemo (state_of budget l found)) (sym same_items) memo_fields in
-      let P : Formula × Automaton → Type 0 = λ entry. IsEntry budget (tree_of entry.0) entry.1 in
-      let size : length (map entry_of items) ≡ length items = length-map items entry_of in
-      let at : get_or (map entry_of items) k (entry_of en) ≡ entry_of en = get_or-map entry_of items k en ∙ ap entry_of (sym is) in
-      let here : IsEntryAt (state_of budget items found) (tree_of en.formula) k = record {
-        formula = en.formula;
-        auto = en.auto;
-        there = place_there k en within is;
+      let here : IsEntryAt (state_of budget items found) (tree_of at.entry.formula) k = record {
+        formula = at.entry.formula;
+        auto = at.entry.auto;
+        there = mapped_there at;
         same = refl;
-        entry = subst P at (memo.entries k (entry_of en) (omega (arith, size, within)));
+        entry = mapped_all at (λ entry. IsEntry budget (tree_of entry.0) entry.1) memo.entries;
       } in
-      subst (λ t. IsEntryAt m t k) same (subst (λ n. IsEntryAt n (tree_of en.formula) k) view here)
+      subst (λ t. IsEntryAt m t k) at.same (subst (λ n. IsEntryAt n (tree_of at.entry.formula) k) view here)
+
+  pub found_or_not : (f : Tree) (place : Option ℕ) → IsMemo (state_of budget fields found) → IfNone place (None_of f items) → IfSome place (IsPlaceOf items f)
+      → MatchOption place (Contains (known m) f → ⊥) (IsEntryAt m f)
+  found_or_not f None memo none some = λ there. not_known items f none (subst (λ n. Contains (known n) f) (sym view) there)
+  found_or_not f (Some k) memo none some = one_found f k memo some
 
 module _ (budget found : ℕ) (items longer : List Entry) (m : MemoState) (en : Entry) (f : Tree) (view : state_of budget items found ≡ m) (pushed : longer ≡ items ++ en ∷ [])
     (some_room : length m.entries < 2 ^ 32 - 1) (tree : tree_of en.formula ≡ f) where
-  entries_is : map entry_of longer ≡ map entry_of items ++ entry_of en ∷ []
-  entries_is = ap (map entry_of) pushed ∙ map-append entry_of items (en ∷ [])
+  entries_are : map entry_of longer ≡ map entry_of items ++ entry_of en ∷ []
+  entries_are = entries_is items longer en pushed
 
   room : length (map entry_of items) < 2 ^ 32 - 1
   room = subst (λ n. length n.entries < 2 ^ 32 - 1) (sym view) some_room
@@ -222,19 +202,19 @@ module _ (budget found : ℕ) (items longer : List Entry) (m : MemoState) (en : 
       let P : Formula × Automaton → Type 0 = λ e. IsEntry budget (tree_of e.0) e.1 in
       let here : IsEntry budget f en.auto = subst (λ n. IsEntry n.budget f en.auto) (sym view) entry in
       let there : P (entry_of en) = subst (λ t. IsEntry budget t en.auto) (sym tree) here in
-      let size : length (map entry_of longer) ≡ length (map entry_of items) + 1 = ap length entries_is ∙ length-append (map entry_of items) (entry_of en ∷ []) in
+      let size : length (map entry_of longer) ≡ length (map entry_of items) + 1 = ap length entries_are ∙ length-append (map entry_of items) (entry_of en ∷ []) in
       record {
         least = memo.least;
         most = memo.most;
         few = omega (arith, size, room);
-        entries = subst (All P) (sym entries_is) (All-append P (map entry_of items) (entry_of en ∷ []) memo.entries (All-cons P (entry_of en) [] there (λ k d within. absurd (omega arith))));
+        entries = all_pushed items longer en pushed P memo.entries there;
       }
 
   -- at its end is the new entry
   pub last-entered : (place : ℕ) → place ≡ length m.entries → (f : Formula) × (slice_get (map entry_of longer) place ≡ Some (f, en.auto))
   last-entered place here =
       let size : length (map entry_of items) ≡ place = ap (λ n. length n.entries) view ∙ sym here in
-      (en.formula, subst (λ es. slice_get es place ≡ Some (entry_of en)) (sym entries_is) (get-last (map entry_of items) (entry_of en) place size))
+      last_pushed items longer en pushed place size
 
   -- and the formula has passed
   pub after-entered : (Contains (known m) f → ⊥) → IsMemoAfter m (state_of budget longer found) (f ∷ [])
@@ -242,7 +222,7 @@ module _ (budget found : ℕ) (items longer : List Entry) (m : MemoState) (en : 
       let old : MemoState = state_of budget items found in
       let new_to : Contains (known old) (tree_of en.formula) → ⊥ = subst (λ t. Contains (known old) t → ⊥) (sym tree) (subst (λ n. Contains (known n) f → ⊥) (sym view) unknown) in
       let yes : nat_lt (length (map entry_of items)) (2 ^ 32 - 1) ≡ true = (let fits = room in grind (arith, fits)) in
-      let entered : with_entry (map entry_of items) (entry_of en) ≡ map entry_of longer = ap (λ b. if b then map entry_of items ++ entry_of en ∷ [] else map entry_of items) yes ∙ sym entries_is in
+      let entered : with_entry (map entry_of items) (entry_of en) ≡ map entry_of longer = ap (λ b. if b then map entry_of items ++ entry_of en ∷ [] else map entry_of items) yes ∙ sym entries_are in
       let after : IsMemoAfter old (record { budget = budget; entries = with_entry (map entry_of items) (entry_of en); found = found }) (tree_of en.formula ∷ []) =
       after-with_entry old en.formula en.auto new_to in
       let whole : IsMemoAfter old (state_of budget longer found) (tree_of en.formula ∷ []) =

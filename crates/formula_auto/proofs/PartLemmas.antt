@@ -1,21 +1,30 @@
 -- What a part of a formula has, also when the memo has grown since.
-use Rattle.std.proofs.Common.{◌≡◌, ℕ, ◌+◌, List, [], ◌∷◌, ◌++◌, length, Some, refl, sym, ap, ◌∙◌, subst, zero, suc, true}
+use Rattle.std.proofs.Common.{◌≡◌, ℕ, ◌+◌, ◌<◌, ◌≤◌, arith, List, [], ◌∷◌, ◌++◌, length, Some, refl, sym, ap, ◌∙◌, subst, zero, suc, true, inl, inr}
 use Rattle.std.specs.List.{slice_get}
+use Rattle.std.proofs.lemmas.Bool.{cases_lt}
 use Rattle.std.proofs.lemmas.Option.{none-some, same_Some}
 use Rattle.auto_core.specs.Automaton.{Automaton}
+use Rattle.auto_core.specs.Reduced.{IsReduced}
 use Rattle.lin_formula.specs.Tree.{Tree, steps}
 use Rattle.lin_formula.specs.declared.formula.Formula.{Formula}
-use Rattle.lin_formula.specs.SetOf.{SetOf}
+use Rattle.lin_formula.specs.SetOf.{SetOf, members}
+use Rattle.formula_auto.specs.Decides.{Decides}
+use Rattle.formula_auto.specs.PlainParts.{is_plain}
+use Rattle.formula_auto.specs.Compiled.{IsAccessible, IsCompiledOn}
+use Rattle.formula_auto.specs.Nodes.{AcceptSame}
+use Rattle.formula_auto.specs.LevelState.{LevelState, LevelGrows}
 use Rattle.formula_auto.specs.MemoState.{MemoState, IsEntryAt, IsMemoAfter, counted}
-use Rattle.formula_auto.specs.Recalled.{is_recalled}
+use Rattle.formula_auto.specs.Recalled.{is_recalled, start}
+use Rattle.formula_auto.specs.declared.course.Recall.{Recall}
 use Rattle.formula_auto.specs.Remembered.{IsRemembered}
 use Rattle.formula_auto.specs.PartOf.{IsPart, IsRememberedPart}
 use Rattle.formula_auto.specs.declared.course.Course.{Course}
 use Rattle.formula_auto.specs.declared.part.Part.{Part}
-use Rattle.formula_auto.specs.declared.part.Part.TheVariants.{Fresh, Kept}
+use Rattle.formula_auto.specs.declared.part.Part.TheVariants.{Fresh, Kept, Paired}
 use Rattle.formula_auto.specs.declared.part.Remembered.{Remembered}
 use Rattle.formula_auto.proofs.MemoLemmas.{known-at}
-use Rattle.formula_auto.proofs.WithMemo.{remembered_found}
+use Rattle.formula_auto.proofs.PlainLemmas.{some_step}
+use Rattle.formula_auto.proofs.WithMemo.{remembered_found, remembered_leaf, made_same}
 
 get-append : {X : Type 0} (xs ys : List X) (k : ℕ) (x : X) → slice_get xs k ≡ Some x → slice_get (xs ++ ys) k ≡ Some x
 get-append [] ys k x there = absurd (none-some x there)
@@ -23,40 +32,77 @@ get-append (y ∷ xs) ys zero x there = there
 get-append (y ∷ xs) ys (suc k) x there = get-append xs ys k x there
 
 -- a part has one automaton
-pub one_automaton : (m : MemoState) (part : Part) (a b : Automaton) → IsPart m part a → IsPart m part b → a ≡ b
-one_automaton m (Fresh c) a b left right = sym left ∙ right
-one_automaton m (Kept place) a b left right =
+pub one_automaton : (m : MemoState) (l : LevelState) (part : Part) (a b : Automaton) → IsPart m l part a → IsPart m l part b → a ≡ b
+one_automaton m l (Fresh c) a b left right = sym left ∙ right
+one_automaton m l (Kept place) a b left right =
+    ap (λ (entry : Formula × Automaton). entry.1) (same_Some (left.0, a) (right.0, b) (sym left.1 ∙ right.1))
+one_automaton m l (Paired place) a b left right =
     ap (λ (entry : Formula × Automaton). entry.1) (same_Some (left.0, a) (right.0, b) (sym left.1 ∙ right.1))
 
 -- entries are only added
-pub part-after : (old new : MemoState) (fs : List Tree) (part : Part) (a : Automaton) → IsPart old part a → IsMemoAfter old new fs → IsPart new part a
-part-after old new fs (Fresh c) a has after = has
-part-after old new fs (Kept place) a has after = (
+pub part-after : (old new : MemoState) (fs : List Tree) (l k : LevelState) (part : Part) (a : Automaton) → IsPart old l part a → IsMemoAfter old new fs → LevelGrows l k → IsPart new k part a
+part-after old new fs l k (Fresh c) a has after grows = has
+part-after old new fs l k (Kept place) a has after grows = (
   has.0,
   subst (λ entries. slice_get entries place ≡ Some (has.0, a)) (sym after.entries) (get-append old.entries after.added place (has.0, a) has.1),
 )
+part-after old new fs l k (Paired place) a has after grows = (
+  has.0,
+  subst (λ pairs. slice_get pairs place ≡ Some (has.0, a)) (sym grows.pairs) (get-append l.pairs grows.added place (has.0, a) has.1),
+)
 
-module _ {f : Tree} {e : ℕ → SetOf} {course : Course} where
+pub same_accessible : {n m : ℕ} {a : Automaton} → n ≡ m → IsAccessible n a → IsAccessible m a
+same_accessible {a = a} same = subst (λ n. IsAccessible n a) same
+
+module _ {f : Tree} {e : ℕ → SetOf} {course : Course} {l : LevelState} where
   pub part-fresh : {old new : MemoState} {a : Automaton} {last : ℕ} {made : Remembered} → made ≡ record { part = Fresh a; done = last }
-      → IsRemembered f e course old new a last → IsRememberedPart f e course old new made
-  part-fresh {old = old} {new = new} {a = a} is remembered =
-      subst (IsRememberedPart f e course old new) (sym is) (record { auto = a; has = refl; remembered = remembered })
+      → (0 < length (steps f) → IsAccessible old.budget a) → IsRemembered f e course old new a last → IsRememberedPart f e course old new l made
+  part-fresh {old = old} {new = new} {a = a} is accessible remembered =
+      subst (IsRememberedPart f e course old new l) (sym is) (record { auto = a; has = refl; accessible = accessible; remembered = remembered })
+
+  pub part-leaf : {m : MemoState} {a : Automaton} {made : Remembered} → made ≡ record { part = Fresh a; done = course.before } → steps f ≡ [] → Decides a f (members e)
+      → IsRememberedPart f e course m m l made
+  part-leaf is none decides = part-fresh is (λ some. absurd (let size : length (steps f) ≡ 0 = ap length none in omega (arith, size, some))) (remembered_leaf none decides)
 
   pub part-found : {m : MemoState} {place last : ℕ} → is_recalled course.recall f ≡ true → last ≡ course.before + length (steps f) → IsEntryAt m f place
-      → IsRememberedPart f e course m (record m { found = counted m.found }) (record { part = Kept place; done = last })
+      → IsRememberedPart f e course m (record m { found = counted m.found }) l (record { part = Kept place; done = last })
   part-found {m = m} {place = place} recalled counts at = record {
     auto = at.auto;
     has = (at.formula, at.there);
+    accessible = λ some. record { reached = at.entry.reduced.reached; few = at.entry.few };
     remembered = remembered_found recalled counts (known-at m f place at) at.entry;
   }
 
-  module _ {old new : MemoState} {made : Remembered} (part : IsRememberedPart f e course old new made) where
-    -- the memo has its automaton, and it is no other
-    pub lent : {a : Automaton} → IsPart new made.part a → IsRemembered f e course old new a made.done
-    lent {a = a} has = subst (λ b. IsRemembered f e course old new b made.done) (one_automaton new made.part part.auto a part.has has) part.remembered
+  module _ {old new : MemoState} {made : Remembered} (part : IsRememberedPart f e course old new l made) where
+    -- the memo and the level have its automaton, and it is no other
+    pub lent : {a : Automaton} → IsPart new l made.part a → IsRemembered f e course old new a made.done
+    lent {a = a} has = subst (λ b. IsRemembered f e course old new b made.done) (one_automaton new l made.part part.auto a part.has has) part.remembered
 
-    -- also when it has grown since
-    pub lent-later : {later : MemoState} {fs : List Tree} {a : Automaton} → IsMemoAfter new later fs → IsPart later made.part a → IsRemembered f e course old new a made.done
-    lent-later {later = later} {fs = fs} {a = a} after has =
-        let still = part-after new later fs made.part part.auto part.has after in
-        subst (λ b. IsRemembered f e course old new b made.done) (one_automaton later made.part part.auto a still has) part.remembered
+    pub lent-accessible : {a : Automaton} → IsPart new l made.part a → 0 < length (steps f) → IsAccessible old.budget a
+    lent-accessible {a = a} has some = subst (IsAccessible old.budget) (one_automaton new l made.part part.auto a part.has has) (part.accessible some)
+
+    -- an automaton with as many states at most, that may be kept
+    pub few_kept : (c : Automaton) → is_plain f ≡ true → length c.accept ≤ length part.auto.accept → length c.accept ≤ old.budget
+    few_kept c plain fewer =
+        let some = some_step f plain in
+        let few = (part.accessible some).few in
+        omega (arith, fewer, few)
+
+    -- also when they have grown since
+    pub lent-later : {later : MemoState} {fs : List Tree} {k : LevelState} {a : Automaton} → IsMemoAfter new later fs → LevelGrows l k → IsPart later k made.part a
+        → IsRemembered f e course old new a made.done
+    lent-later {later = later} {fs = fs} {k = k} {a = a} after grows has =
+        let still = part-after new later fs l k made.part part.auto part.has after grows in
+        subst (λ b. IsRemembered f e course old new b made.done) (one_automaton later k made.part part.auto a still has) part.remembered
+
+-- made of a whole formula: as its last step made it, or reduced
+pub compiled_on : {f : Tree} {e : ℕ → SetOf} {r : Recall} {old new : MemoState} {l : LevelState} {made : Remembered} {a : Automaton} → IsRememberedPart f e (start r) old new l made
+    → ((b : Automaton) → IsPart new l made.part b → AcceptSame b a) → (0 < length (steps f) → IsPart new l made.part a) → (length (steps f) ≤ 0 → IsReduced a) → IsCompiledOn f e 0 old.budget a
+compiled_on {f = f} {l = l} {a = a} part same as_it_is reduced = record {
+  made = made_same (same part.auto part.has) part.remembered.made;
+  reached = elim (cases_lt 0 (length (steps f))) [
+    | inl some ↦ (lent-accessible part (as_it_is some) some).reached
+    | inr none ↦ (reduced none).reached
+  ];
+  few = λ some. (lent-accessible part (as_it_is some) some).few;
+}

@@ -70,6 +70,17 @@ module _ (e : Sets) (f g : Tree) (a b m : Automaton) (left : Decides a f e) (rig
         (λ h. elim (w.0 h) [ inl p ↦ inl (l.0 p) | inr p ↦ inr (r.0 p) ], λ h. w.1 (elim h [ inl p ↦ inl (l.1 p) | inr p ↦ inr (r.1 p) ]));
   }
 
+  pub Decides-AndNot : ((word : List ℕ) → IsWord (length m.tracks) word
+      → Accepts m word ↔ (Accepts a (part_of m.tracks a.tracks word) × (¬ Accepts b (part_of m.tracks b.tracks word)))) → Decides m (And f (Not g)) e
+  Decides-AndNot words = record {
+    tracks = tracks_is;
+    words = λ word is.
+        let w = words word (over_tracks word is) in
+        let l = left_part word is in
+        let r = right_part word is in
+        (λ h. let p = w.0 h in (l.0 p.0, λ holds. p.1 (r.1 holds)), λ h. w.1 (l.1 h.0, λ accepts. h.1 (r.0 accepts)));
+  }
+
 pub Decides-Not : (e : Sets) (f : Tree) (a n : Automaton) → Decides a f e → n.tracks ≡ a.tracks
     → ((word : List ℕ) → IsWord (length a.tracks) word → Accepts n word ↔ (¬ Accepts a word)) → Decides n (Not f) e
 Decides-Not e f a n decides tracks words = record {

@@ -2,7 +2,7 @@
 use Rattle.std.proofs.Common.{◌≡◌, ℕ, ◌+◌, ◌-◌, ◌≤◌, ◌<◌, Bool, true, false, ◌&&◌, nat_eq, nat_lt, nat_le, List, [], ◌∷◌, ◌++◌, length, refl, sym, ap, ◌∙◌, subst, inl, inr, arith, length-append, append_assoc, append-nil}
 use Rattle.lin_formula.specs.Tree.{Tree, Lin, Value, Among, Not, And, Or, Ex, symbols, steps}
 use Rattle.formula_auto.specs.PlainParts.{is_plain, plain_or, plain_within}
-use Rattle.formula_auto.specs.Recalled.{is_recalled, recalled_within, recalled_parts}
+use Rattle.formula_auto.specs.Recalled.{is_recalled, recalled_within, recalled_parts, MayBeOneStep}
 use Rattle.formula_auto.specs.MemoState.{MemoState, known, counted, with_entry, Passes, IsMemoAfter}
 use Rattle.formula_auto.specs.Remembered.{IsStopped}
 use Rattle.formula_auto.specs.Connected.{connect}
@@ -19,7 +19,7 @@ and_right : (a b : Bool) → (a && b) ≡ true → b ≡ true
 and_right true b h = h
 and_right false b h = cc
 
-some_step : (f : Tree) → is_plain f ≡ true → 0 < length (steps f)
+pub some_step : (f : Tree) → is_plain f ≡ true → 0 < length (steps f)
 some_step f h = let k = and_right (nat_eq (length (symbols f)) 0) (nat_lt 0 (length (steps f))) h in grind (arith, k)
 
 -- a plain formula that ends later is not among them
@@ -124,17 +124,6 @@ pub recalled-all : (r : Recall) (f : Tree) (n m : ℕ) → length (steps f) ≤ 
 recalled-all recall.Plain f n m fits also = within-all f n m fits also
 recalled-all recall.Nothing f n m fits also = refl
 
--- of a formula of two parts, not looked up itself, what is looked up of these
-pub record IsOfTwo (r : Recall) (h f g : Tree) : Type 0 where
-  pub parts : (n : ℕ) → recalled_within r h n ≡ recalled_within r f n ++ recalled_within r g (n - length (steps f))
-  pub size : length (steps h) ≡ length (steps f) + length (steps g) + 1
-
-pub of_two : (r : Recall) (connective : Connective) (f g : Tree) → is_recalled r (connect connective f g) ≡ false → IsOfTwo r (connect connective f g) f g
-of_two recall.Plain connective.And f g h = record { parts = λ n. not_plain (And f g) n (plain_within f n ++ plain_within g (n - length (steps f))) h; size = both_fit f g (And f g) }
-of_two recall.Plain connective.Or f g h = record { parts = λ n. not_plain (Or f g) n (plain_within f n ++ plain_within g (n - length (steps f))) h; size = both_fit f g (Or f g) }
-of_two recall.Nothing connective.And f g h = record { parts = λ n. refl; size = both_fit f g (And f g) }
-of_two recall.Nothing connective.Or f g h = record { parts = λ n. refl; size = both_fit f g (Or f g) }
-
 -- of a formula of one part
 pub record IsOfOne (r : Recall) (h f : Tree) : Type 0 where
   pub parts : (n : ℕ) → recalled_within r h n ≡ recalled_within r f n
@@ -147,6 +136,24 @@ of_one-not recall.Nothing f h = record { parts = λ n. refl; size = omega arith 
 pub of_one-ex : (r : Recall) (x : Var) (f : Tree) → is_recalled r (Ex x f) ≡ false → IsOfOne r (Ex x f) f
 of_one-ex recall.Plain x f h = record { parts = λ n. not_plain (Ex x f) n (plain_within f n) h; size = omega (arith, length-append (steps f) (Ex x f ∷ [])) }
 of_one-ex recall.Nothing x f h = record { parts = λ n. refl; size = omega (arith, length-append (steps f) (Ex x f ∷ [])) }
+
+-- of a formula of two parts, not looked up itself, what is looked up of these
+pub record IsOfTwo (r : Recall) (h f g : Tree) : Type 0 where
+  pub parts : (n : ℕ) → recalled_within r h n ≡ recalled_within r f n ++ recalled_within r g (n - length (steps f))
+  pub size : length (steps h) ≡ length (steps f) + length (steps g) + 1
+
+pub of_two : (r : Recall) (connective : Connective) (f g : Tree) → is_recalled r (connect connective f g) ≡ false → MayBeOneStep r connective g → IsOfTwo r (connect connective f g) f g
+of_two recall.Plain connective.And f g h one = record { parts = λ n. not_plain (And f g) n (plain_within f n ++ plain_within g (n - length (steps f))) h; size = both_fit f g (And f g) }
+of_two recall.Plain connective.Or f g h one = record { parts = λ n. not_plain (Or f g) n (plain_within f n ++ plain_within g (n - length (steps f))) h; size = both_fit f g (Or f g) }
+of_two recall.Plain connective.AndNot f g h one = record {
+  parts = λ n.
+      not_plain (And f (Not g)) n (plain_within f n ++ plain_within (Not g) (n - length (steps f))) h
+      ∙ ap (λ ys. plain_within f n ++ ys) ((of_one-not recall.Plain g one).parts (n - length (steps f)));
+  size = both_fit f g (And f (Not g));
+}
+of_two recall.Nothing connective.And f g h one = record { parts = λ n. refl; size = both_fit f g (And f g) }
+of_two recall.Nothing connective.Or f g h one = record { parts = λ n. refl; size = both_fit f g (Or f g) }
+of_two recall.Nothing connective.AndNot f g h one = record { parts = λ n. refl; size = both_fit f g (And f (Not g)) }
 
 module _ {course : Course} {h f : Tree} {a b : MemoState} {why : CompileError} (one : IsOfOne course.recall h f) where
   pub stopped_one : IsStopped f course a b why → IsStopped h course a b why

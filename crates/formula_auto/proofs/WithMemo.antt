@@ -1,5 +1,5 @@
 -- What compiling makes of a formula, from what it made of its parts.
-use Rattle.std.proofs.Common.{◌≡◌, ℕ, ◌+◌, ◌-◌, true, false, [], ◌∷◌, length, None, refl, sym, ap, ◌∙◌, subst, arith, length-append}
+use Rattle.std.proofs.Common.{◌≡◌, ℕ, ◌+◌, ◌-◌, ◌≤◌, true, false, [], ◌∷◌, length, None, refl, sym, ap, ◌∙◌, subst, arith, length-append}
 use Rattle.std.specs.List.{Contains}
 use Rattle.track_word.specs.declared.tracks.Var.{Var}
 use Rattle.auto_core.specs.Automaton.{Automaton}
@@ -15,7 +15,7 @@ use Rattle.formula_auto.specs.Compiled.{IsMade, IsCompileError}
 use Rattle.formula_auto.specs.StepError.{step_error}
 use Rattle.formula_auto.specs.Nodes.{AcceptSame, DecidesNot, DecidesEx, DecidesBoth, BothExceed, ExExceeds}
 use Rattle.formula_auto.specs.PlainParts.{plain_within}
-use Rattle.formula_auto.specs.Recalled.{is_recalled, start}
+use Rattle.formula_auto.specs.Recalled.{is_recalled, start, MayBeOneStep}
 use Rattle.formula_auto.specs.Step.{FirstOver}
 use Rattle.formula_auto.specs.MemoState.{MemoState, IsEntry, known, counted, IsMemoAfter, IsMemoStopped}
 use Rattle.formula_auto.specs.Remembered.{IsRemembered, IsStopped, IsInterrupted}
@@ -81,7 +81,7 @@ module _ {e : ℕ → SetOf} {course : Course} {f : Tree} {m0 m1 : MemoState} wh
       }
 
 -- another automaton of the same words serves as well
-made_same : {f : Tree} {e : ℕ → SetOf} {before budget : ℕ} {a c : Automaton} → AcceptSame a c → IsMade f e before budget a → IsMade f e before budget c
+pub made_same : {f : Tree} {e : ℕ → SetOf} {before budget : ℕ} {a c : Automaton} → AcceptSame a c → IsMade f e before budget a → IsMade f e before budget c
 made_same same made = record { decides = still_decides same made.decides; within = made.within }
 
 abbrev left_of : Pair → Tree
@@ -90,14 +90,15 @@ left_of pair = tree_of pair.left.now
 abbrev right_of : Pair → Tree
 right_of pair = tree_of pair.right.now
 
-of_pair : (r : Recall) (pair : Pair) → is_recalled r (connected pair) ≡ false → IsOfTwo r (connected pair) (left_of pair) (right_of pair)
-of_pair r pair outside = of_two r pair.connective (left_of pair) (right_of pair) outside
+of_pair : (r : Recall) (pair : Pair) → is_recalled r (connected pair) ≡ false → MayBeOneStep r pair.connective (right_of pair) → IsOfTwo r (connected pair) (left_of pair) (right_of pair)
+of_pair r pair outside one = of_two r pair.connective (left_of pair) (right_of pair) outside one
 
-module _ (pair : Pair) {e : ℕ → SetOf} {course : Course} {m0 m1 : MemoState} (outside : is_recalled course.recall (connected pair) ≡ false) where
+module _ (pair : Pair) {e : ℕ → SetOf} {course : Course} {m0 m1 : MemoState} (outside : is_recalled course.recall (connected pair) ≡ false)
+    (one : MayBeOneStep course.recall pair.connective (right_of pair)) where
   pub interrupted_left : {why : CompileError} → IsInterrupted (left_of pair) e course m0 m1 why → IsInterrupted (connected pair) e course m0 m1 why
   interrupted_left {why = why} part = record {
     error = error_left e m0.budget course.before pair.connective (left_of pair) (right_of pair) why part.error;
-    stopped = stopped_left (of_pair course.recall pair outside) part.stopped;
+    stopped = stopped_left (of_pair course.recall pair outside one) part.stopped;
   }
 
   module _ {m2 : MemoState} {a : Automaton} {last : ℕ} (left : IsRemembered (left_of pair) e course m0 m1 a last) where
@@ -105,7 +106,7 @@ module _ (pair : Pair) {e : ℕ → SetOf} {course : Course} {m0 m1 : MemoState}
     interrupted_right {why = why} part = record {
       error = error_right e m0.budget course.before pair.connective (left_of pair) (right_of pair) a last left.counts left.made why
           (subst (λ b. IsCompileError (right_of pair) e last b why) left.after.budget part.error);
-      stopped = stopped_right (of_pair course.recall pair outside) left.after left.counts part.stopped;
+      stopped = stopped_right (of_pair course.recall pair outside one) left.after left.counts part.stopped;
     }
 
     module _ {b : Automaton} {end : ℕ} (right : IsRemembered (right_of pair) e (record course { before = last }) m1 m2 b end) where
@@ -120,14 +121,14 @@ module _ (pair : Pair) {e : ℕ → SetOf} {course : Course} {m0 m1 : MemoState}
         counts = omega (arith, left.counts, right.counts, size-connect pair.connective (left_of pair) (right_of pair));
         made = made_both e m0.budget course.before pair.connective (left_of pair) (right_of pair) a last left.counts left.made b end right.counts right_made c
             (decides (left_of pair) (right_of pair) e left.made.decides right.made.decides) (subst (λ n. BothExceed a b n → ⊥) same_budget none);
-        after = after_two (of_pair course.recall pair outside) left.after right.after;
+        after = after_two (of_pair course.recall pair outside one) left.after right.after;
       }
 
       pub interrupted_at_both : (why : Grown) → (why ≡ grown.Over → BothExceed a b m2.budget) → IsInterrupted (connected pair) e course m0 m2 (step_error (end + 1) why)
       interrupted_at_both why over = record {
         error = step_both e m0.budget course.before pair.connective (left_of pair) (right_of pair) a last left.counts left.made b end right.counts right_made why
             (subst (λ n. why ≡ grown.Over → BothExceed a b n) same_budget over);
-        stopped = stopped_at_two (of_pair course.recall pair outside) left.after right.after
+        stopped = stopped_at_two (of_pair course.recall pair outside one) left.after right.after
             (λ step is. let at = number_of (end + 1) why step is in omega (arith, at, left.counts, right.counts));
       }
 
@@ -170,10 +171,10 @@ module _ (course : Course) {e : ℕ → SetOf} {f : Tree} {m m1 : MemoState} (re
       after = subst (IsMemoAfter m new) (sym (recalled-itself course.recall f recalled)) (after-append m m1 new [] (f ∷ []) made.after entered);
     }
 
-    pub may_enter : {c : Automaton} → AcceptSame a c → IsReduced c → IsEntry m1.budget f c
-    may_enter {c = c} same reduced =
+    pub may_enter : {c : Automaton} → AcceptSame a c → IsReduced c → length c.accept ≤ m.budget → IsEntry m1.budget f c
+    may_enter {c = c} same reduced few =
         subst (λ b. IsEntry b f c) (sym made.after.budget)
-        (entry_of-made f e course.before m.budget c (recalled-plain course.recall f recalled) reduced (made_same same made.made))
+        (entry_of-made f e course.before m.budget c (recalled-plain course.recall f recalled) reduced few (made_same same made.made))
 
     pub unknown_still : (Contains (known m) f → ⊥) → Contains (known m1) f → ⊥
     unknown_still unknown there = unknown (subst (λ fs. Contains fs f) made.after.passes.0 there)

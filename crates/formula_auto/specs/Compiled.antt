@@ -1,8 +1,8 @@
 -- What a formula asks of the table of sets, and what compiling it answers.
-use Rattle.std.specs.Prelude.{◌≡◌, ℕ, ◌+◌, ◌≤◌, List, length, All, Result, Ok, Err, Some, None, slice_get}
+use Rattle.std.specs.Prelude.{◌≡◌, ℕ, ◌+◌, ◌<◌, ◌≤◌, List, length, All, Result, Ok, Err, Some, None, slice_get}
 use Rattle.limits.specs.declared.numbers.TheConstants.{MOST_TRACKS}
 use Rattle.auto_core.specs.Automaton.{Automaton}
-use Rattle.auto_core.specs.Reduced.{IsReduced}
+use Rattle.auto_core.specs.Reduced.{IsReduced, IsReachedState}
 use Rattle.auto_core.specs.Integers.{DecidesIntegers}
 use Rattle.lin_formula.specs.Tree.{Tree, IsWellMade, vars_of, steps, memberships}
 use Rattle.lin_formula.specs.SetOf.{SetOf, members}
@@ -29,6 +29,11 @@ pub record IsCompilable (f : Tree) (sets : List Automaton) : Type 0 where
   pub few_vars : length (vars_of f) ≤ MOST_TRACKS
   pub has_sets : HasSets sets f
 
+-- words lead to each state, and there are no more states than the budget
+pub record IsAccessible (budget : ℕ) (a : Automaton) : Type 0 where
+  pub reached : (state : ℕ) → state < length a.accept → IsReachedState a state
+  pub few : length a.accept ≤ budget
+
 -- decides the formula, and no step exceeds the budget
 pub record IsMade (f : Tree) (e : ℕ → SetOf) (before budget : ℕ) (a : Automaton) : Type 0 where
   pub decides : Decides a f (members e)
@@ -39,6 +44,12 @@ pub record IsCompiled (f : Tree) (e : ℕ → SetOf) (before budget : ℕ) (a : 
   pub reduced : IsReduced a
   pub decides : Decides a f (members e)
   pub within : FirstOver (steps f) (members e) budget (before + 1) None
+
+-- decides the formula; words lead to each state, and where there is a step, there are no more states than the budget
+pub record IsCompiledOn (f : Tree) (e : ℕ → SetOf) (before budget : ℕ) (a : Automaton) : Type 0 where
+  pub made : IsMade f e before budget a
+  pub reached : (state : ℕ) → state < length a.accept → IsReachedState a state
+  pub few : 0 < length (steps f) → length a.accept ≤ budget
 
 -- the step, counted on from the steps before, is the first that exceeds the budget
 abbrev pub IsCompileError : Tree → (ℕ → SetOf) → ℕ → ℕ → CompileError → Type 0

@@ -3,13 +3,14 @@ use Rattle.lin_formula.specs.Tree as tree
 use Rattle.lin_formula.specs.Tree.{Tree}
 use Rattle.lin_formula.specs.TreeOf.{tree_of}
 use Rattle.formula_auto.specs.declared.connective.Connective.{Connective}
-use Rattle.formula_auto.specs.declared.connective.Connective.TheVariants.{And, Or}
+use Rattle.formula_auto.specs.declared.connective.Connective.TheVariants.{And, Or, AndNot}
 use Rattle.formula_auto.specs.declared.connective.Pair.{Pair}
 
--- And or Or of them
+-- And or Or of them, or And of the first and Not of the second
 abbrev pub connect : Connective → Tree → Tree → Tree
 connect And f g = tree.And f g
 connect Or f g = tree.Or f g
+connect AndNot f g = tree.And f (tree.Not g)
 
 abbrev pub connected : Pair → Tree
 connected pair = connect pair.connective (tree_of pair.left.now) (tree_of pair.right.now)

@@ -23,5 +23,6 @@ pub mod Recalled
 pub mod MemoState
 pub mod Remembered
 pub mod PartOf
-pub mod MemoEntries
+pub mod EntryOf
+pub mod LevelState
 pub mod Codes

@@ -20,10 +20,11 @@ pub record MemoState : Type 0 where
   pub found : ℕ
 
 -- a plain formula whose steps are all within the budget, and a reduced automaton that decides it, whatever sets there
--- are
+-- are, with no more states than the budget
 pub record IsEntry (budget : ℕ) (f : Tree) (a : Automaton) : Type 0 where
   pub plain : IsTrue (is_plain f)
   pub reduced : IsReduced a
+  pub few : length a.accept ≤ budget
   pub decides : (e : ℕ → SetOf) → Decides a f (members e)
   pub within : (e : ℕ → SetOf) → FirstOver (steps f) (members e) budget 1 None
 

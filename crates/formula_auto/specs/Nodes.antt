@@ -28,13 +28,14 @@ DecidesNot a c = (f : Tree) (e : ℕ → SetOf) → Decides a f (members e) → 
 abbrev pub DecidesEx : Var → Automaton → Automaton → Type 0
 DecidesEx x a c = (f : Tree) (e : ℕ → SetOf) → Decides a f (members e) → Decides c (Ex x f) (members e)
 
--- the third automaton decides And or Or of each formula that the first one decides and each that the second one does
+-- the third automaton decides what the connective makes of a formula that the first one decides and one that the second
+-- one does
 abbrev pub DecidesBoth : Connective → Automaton → Automaton → Automaton → Type 0
 DecidesBoth connective a b c =
     (f g : Tree) (e : ℕ → SetOf) → Decides a f (members e) → Decides b g (members e)
     → Decides c (connect connective f g) (members e)
 
--- And or Or of what two automata decide has to tell apart more words than the budget
+-- a step that puts together what two automata decide has to tell apart more words than the budget
 abbrev pub BothExceed : Automaton → Automaton → ℕ → Type 0
 BothExceed a b budget = BothSpreadExceeds a.tracks b.tracks (Accepts a) (Accepts b) budget
 

@@ -1,15 +1,23 @@
 -- What of a formula is looked up in a memo.
-use Rattle.std.specs.Prelude.{ℕ, Bool, false, List, [], length}
-use Rattle.lin_formula.specs.Tree.{Tree, steps}
+use Rattle.std.specs.Prelude.{◌≡◌, ℕ, Bool, false, List, [], length}
+use Rattle.lin_formula.specs.Tree.{Tree, Not, steps}
 use Rattle.formula_auto.specs.PlainParts.{is_plain, plain_within}
 use Rattle.formula_auto.specs.declared.course.Recall.{Recall}
 use Rattle.formula_auto.specs.declared.course.Recall.TheVariants.{Plain, Nothing}
 use Rattle.formula_auto.specs.declared.course.Course.{Course}
+use Rattle.formula_auto.specs.declared.connective.Connective.{Connective}
+use Rattle.formula_auto.specs.declared.connective.Connective.TheVariants.{And, Or, AndNot}
 
 -- the formula itself is
 abbrev pub is_recalled : Recall → Tree → Bool
 is_recalled Plain f = is_plain f
 is_recalled Nothing f = false
+
+-- where And and Not are one step, Not of the second formula is not looked up itself
+abbrev pub MayBeOneStep : Recall → Connective → Tree → Type 0
+MayBeOneStep recall And g = Unit {0}
+MayBeOneStep recall Or g = Unit {0}
+MayBeOneStep recall AndNot g = is_recalled recall (Not g) ≡ false
 
 -- the subformulas that are, of those that end within the first so many steps
 abbrev pub recalled_within : Recall → Tree → ℕ → List Tree

@@ -1,33 +1,40 @@
-//! The way down a formula and up again, a step at a time. What was made of a plain formula once is taken from the memo.
-ghost use Rattle.std.specs.Prelude.{◌≡◌, ◌+◌, ◌<◌, ◌≤◌, ◌^◌, length, Contains, IfOk, IfErr, OnOk, None, true, false};
+//! The way down a formula and up again, a step at a time. What was made of a plain formula once is taken from the memo, and what was
+//! made of And of two sets from the level.
+ghost use Rattle.std.specs.Prelude.{◌≡◌, ◌+◌, ◌<◌, ◌≤◌, ◌^◌, ℕ, length, Contains, IfOk, IfErr, OnOk, None, true, false};
+ghost use Rattle.auto_core.specs.Automaton.{Automaton};
 ghost use Rattle.auto_core.specs.Integers.{DecidesIntegers};
-ghost use Rattle.auto_core.specs.Reduced.{IsReduced};
+ghost use Rattle.auto_core.specs.Reduced.{IsReduced, IsReachedState};
+ghost use Rattle.lin_formula.specs.Tree as tree;
 ghost use Rattle.lin_formula.specs.Tree.{steps};
 ghost use Rattle.lin_formula.specs.TreeOf.{tree_of};
 ghost use Rattle.lin_formula.specs.SetOf.{tables, members};
 ghost use Rattle.formula_auto.specs.Step.{FirstOver};
 ghost use Rattle.formula_auto.specs.Decides.{Decides};
+ghost use Rattle.formula_auto.specs.Nodes.{AcceptSame};
 ghost use Rattle.formula_auto.specs.Connected.{connected};
-ghost use Rattle.formula_auto.specs.Compiled.{IsCompilable, IsCompiled, IsCompileError};
+ghost use Rattle.formula_auto.specs.Compiled.{IsAccessible, IsCompilable, IsCompiled, IsCompiledOn, IsCompileError};
 ghost use Rattle.formula_auto.specs.Ready.{IsReady};
 ghost use Rattle.formula_auto.specs.PlainParts.{plain_parts};
-ghost use Rattle.formula_auto.specs.Recalled.{is_recalled, recalled_parts, start};
+ghost use Rattle.formula_auto.specs.Recalled.{is_recalled, recalled_parts, start, MayBeOneStep};
+ghost use Rattle.formula_auto.specs.LevelState.{LevelGrows};
+ghost use Rattle.formula_auto.specs.LevelState as level_state;
 ghost use Rattle.formula_auto.specs.MemoState.{IsMemoAfter, IsMemoStopped, known};
 ghost use Rattle.formula_auto.specs.Remembered.{IsInterrupted};
-ghost use Rattle.formula_auto.specs.PartOf.{IsRememberedPart};
+ghost use Rattle.formula_auto.specs.PartOf.{IsPart, IsRememberedPart};
 
 use crate::connective::{Connective, Pair};
 use crate::course::{Course, Recall};
 use crate::errors::CompileError;
+use crate::level::Level;
 use crate::memo::Memo;
 use crate::part::{Part, Remembered};
-use crate::plain::{is_plain, steps_of};
+use crate::plain::{has_step, is_pair, is_plain, steps_of};
 use crate::steps::{comparison, complement, joined, membership, projection, value_of};
 use crate::table::SetTable;
 use auto_core::Auto;
 use limits::Budget;
 use lin_formula::Formula;
-use std::alloc::Global;
+use std::alloc::{AllocError, Global};
 
 /// The automaton of a formula: reduced, with the free variables as tracks.
 /// Each And, Or and Ex is a step, numbered from 1 in post-order, and stops where it needs more states than the budget.
@@ -47,7 +54,8 @@ pub fn compile(
     ensures over { IfErr result (IsCompileError (tree_of f.now) (tables sets.now) 0 budget) }
 {
     let mut memo = Memo::new(alloc, budget);
-    memo.whole(alloc, f, sets, Recall::Nothing)
+    let mut level = memo.level(alloc, sets);
+    memo.whole(alloc, f, &mut level, Recall::Nothing)
 }
 
 /// Whether the formula itself is to be looked up.
@@ -57,6 +65,22 @@ fn is_looked_up(f: &Formula, recall: Recall) -> bool
     match recall {
         Recall::Plain => is_plain(f),
         Recall::Nothing => false,
+    }
+}
+
+/// And of two formulas. Where the second is Not of a formula, and is not looked up itself, both are one step.
+fn conjunction<'a>(left: &'a Formula, right: &'a Formula, recall: Recall) -> Pair<'a>
+    ensures connected { connected result ≡ tree.And (tree_of left.now) (tree_of right.now) }
+    ensures one_step { MayBeOneStep recall result.connective (tree_of result.right.now) }
+{
+    match right {
+        Formula::Not(inner) => {
+            if is_looked_up(right, recall) {
+                return Pair::new(Connective::And, left, right);
+            }
+            Pair::new(Connective::AndNot, left, inner)
+        }
+        _ => Pair::new(Connective::And, left, right),
     }
 }
 
@@ -81,7 +105,36 @@ impl Memo {
         ensures after { OnOk result (IsMemoAfter self.old self.new (plain_parts (tree_of f.now))) }
         ensures stopped { IfErr result (IsMemoStopped self.old self.new (tree_of f.now)) }
     {
-        self.whole(alloc, f, sets, Recall::Plain)
+        let mut level = self.level(alloc, sets);
+        self.whole(alloc, f, &mut level, Recall::Plain)
+    }
+
+    /// As `Memo::compile` over the table of the level, for those who go on with the automaton: what the last step made is not reduced.
+    /// And of two sets is made once for all formulas that are compiled on the level.
+    pub fn compile_on(
+        &mut self,
+        alloc: Global,
+        f: &Formula,
+        level: &mut Level,
+    ) -> Result<Auto, CompileError>
+        requires compilable { IsCompilable (tree_of f.now) level.old.sets }
+        requires few_steps { length (steps (tree_of f.now)) < 2 ^ 31 }
+        requires same_budget { level.old.budget ≡ self.old.budget }
+        ensures reached { IfOk result (λ a. (state : ℕ) → state < length a.accept → IsReachedState a state) }
+        ensures few { IfOk result
+            (λ a. 0 < length (steps (tree_of f.now)) → length a.accept ≤ self.old.budget) }
+        ensures decides { IfOk result (λ a. Decides a (tree_of f.now) (members (tables level.old.sets))) }
+        ensures integers { IfOk result DecidesIntegers }
+        ensures within { OnOk result
+            (FirstOver (steps (tree_of f.now)) (members (tables level.old.sets)) self.old.budget 1 None) }
+        ensures over { IfErr result (IsCompileError (tree_of f.now) (tables level.old.sets) 0 self.old.budget) }
+        ensures budget { self.new.budget ≡ self.old.budget }
+        ensures after { OnOk result (IsMemoAfter self.old self.new (plain_parts (tree_of f.now))) }
+        ensures stopped { IfErr result (IsMemoStopped self.old self.new (tree_of f.now)) }
+        ensures same_sets { level.new.sets ≡ level.old.sets }
+        ensures level_budget { level.new.budget ≡ level.old.budget }
+    {
+        self.whole_on(alloc, f, level)
     }
 
     /// The automaton of a whole formula, reduced, to keep.
@@ -89,17 +142,63 @@ impl Memo {
         &mut self,
         alloc: Global,
         f: &Formula,
-        sets: &SetTable,
+        level: &mut Level,
         recall: Recall,
     ) -> Result<Auto, CompileError>
-        requires compilable { IsCompilable (tree_of f.now) sets.now }
+        requires compilable { IsCompilable (tree_of f.now) level.old.sets }
         requires few_steps { length (steps (tree_of f.now)) < 2 ^ 31 }
-        ensures compiled { IfOk result (IsCompiled (tree_of f.now) (tables sets.now) 0 self.old.budget) }
+        requires same_budget { level.old.budget ≡ self.old.budget }
+        ensures compiled { IfOk result (IsCompiled (tree_of f.now) (tables level.old.sets) 0 self.old.budget) }
         ensures after { OnOk result (IsMemoAfter self.old self.new (recalled_parts recall (tree_of f.now))) }
-        ensures err { IfErr result (IsInterrupted (tree_of f.now) (tables sets.now) (start recall) self.old self.new) }
+        ensures err { IfErr result
+            (IsInterrupted (tree_of f.now) (tables level.old.sets) (start recall) self.old self.new) }
     {
-        let made = self.compiled(alloc, f, sets, Course { before: 0, recall })?;
-        Ok(self.taken(alloc, made.part)?)
+        let made = self.compiled(alloc, f, level, Course { before: 0, recall })?;
+        Ok(self.taken(alloc, level, made.part)?)
+    }
+
+    /// The automaton of a whole formula, to keep.
+    fn whole_on(
+        &mut self,
+        alloc: Global,
+        f: &Formula,
+        level: &mut Level,
+    ) -> Result<Auto, CompileError>
+        requires compilable { IsCompilable (tree_of f.now) level.old.sets }
+        requires few_steps { length (steps (tree_of f.now)) < 2 ^ 31 }
+        requires same_budget { level.old.budget ≡ self.old.budget }
+        ensures compiled { IfOk result (IsCompiledOn (tree_of f.now) (tables level.old.sets) 0 self.old.budget) }
+        ensures after { OnOk result (IsMemoAfter self.old self.new (plain_parts (tree_of f.now))) }
+        ensures err { IfErr result
+            (IsInterrupted (tree_of f.now) (tables level.old.sets) (start Recall.Plain) self.old self.new) }
+        ensures grows { LevelGrows level.old level.new }
+    {
+        let course = Course {
+            before: 0,
+            recall: Recall::Plain,
+        };
+        let made = self.compiled(alloc, f, level, course)?;
+        Ok(self.finished(alloc, f, level, made.part)?)
+    }
+
+    /// The automaton of a part that is a whole formula. One that no step made is reduced.
+    fn finished(
+        &self,
+        alloc: Global,
+        f: &Formula,
+        level: &Level,
+        part: Part,
+    ) -> Result<Auto, AllocError>
+        requires { (a : Automaton) × IsPart self.now level.now part a }
+        ensures same { IfOk result (λ made. (a : Automaton) → IsPart self.now level.now part a → AcceptSame a made) }
+        ensures as_it_is { IfOk result
+            (λ made. 0 < length (steps (tree_of f.now)) → IsPart self.now level.now part made) }
+        ensures reduced { IfOk result (λ made. length (steps (tree_of f.now)) ≤ 0 → IsReduced made) }
+    {
+        if has_step(f) {
+            return self.given(level, part);
+        }
+        self.taken(alloc, level, part)
     }
 
     /// An automaton of a part of a formula. Only that of a memo's entry is reduced.
@@ -108,18 +207,24 @@ impl Memo {
         &mut self,
         alloc: Global,
         f: &Formula,
-        sets: &SetTable,
+        level: &mut Level,
         course: Course,
     ) -> Result<Remembered, CompileError>
-        requires ready { IsReady (tree_of f.now) sets.now }
+        requires same_budget { level.old.budget ≡ self.old.budget }
+        requires ready { IsReady (tree_of f.now) level.old.sets }
         requires room { course.before + length (steps (tree_of f.now)) < 2 ^ 32 }
-        ensures ok { IfOk result (IsRememberedPart (tree_of f.now) (tables sets.now) course self.old self.new) }
-        ensures err { IfErr result (IsInterrupted (tree_of f.now) (tables sets.now) course self.old self.new) }
+        ensures ok { IfOk result
+            (IsRememberedPart (tree_of f.now) (tables level.old.sets) course self.old self.new level.new) }
+        ensures err { IfErr result (IsInterrupted (tree_of f.now) (tables level.old.sets) course self.old self.new) }
+        ensures grows { LevelGrows level.old level.new }
     {
         if is_looked_up(f, course.recall) {
-            return self.recalled(alloc, f, sets, course);
+            return self.recalled(alloc, f, level, course);
         }
-        self.from_parts(alloc, f, sets, course)
+        if is_pair(f) {
+            return self.paired(alloc, f, level, course);
+        }
+        self.from_parts(alloc, f, level, course)
     }
 
     /// The automaton of a plain formula: lent by the table, or made and entered.
@@ -128,14 +233,17 @@ impl Memo {
         &mut self,
         alloc: Global,
         f: &Formula,
-        sets: &SetTable,
+        level: &mut Level,
         course: Course,
     ) -> Result<Remembered, CompileError>
         requires recalled { is_recalled course.recall (tree_of f.now) ≡ true }
-        requires ready { IsReady (tree_of f.now) sets.now }
+        requires same_budget { level.old.budget ≡ self.old.budget }
+        requires ready { IsReady (tree_of f.now) level.old.sets }
         requires room { course.before + length (steps (tree_of f.now)) < 2 ^ 32 }
-        ensures ok { IfOk result (IsRememberedPart (tree_of f.now) (tables sets.now) course self.old self.new) }
-        ensures err { IfErr result (IsInterrupted (tree_of f.now) (tables sets.now) course self.old self.new) }
+        ensures ok { IfOk result
+            (IsRememberedPart (tree_of f.now) (tables level.old.sets) course self.old self.new level.new) }
+        ensures err { IfErr result (IsInterrupted (tree_of f.now) (tables level.old.sets) course self.old self.new) }
+        ensures grows { LevelGrows level.old level.new }
     {
         match self.find(f) {
             Some(place) => {
@@ -145,7 +253,7 @@ impl Memo {
                     done: course.before + steps_of(f),
                 })
             }
-            None => self.entered(alloc, f, sets, course),
+            None => self.entered(alloc, f, level, course),
         }
     }
 
@@ -155,25 +263,61 @@ impl Memo {
         &mut self,
         alloc: Global,
         f: &Formula,
-        sets: &SetTable,
+        level: &mut Level,
         course: Course,
     ) -> Result<Remembered, CompileError>
         requires recalled { is_recalled course.recall (tree_of f.now) ≡ true }
         requires unknown { ¬ Contains (known self.old) (tree_of f.now) }
-        requires ready { IsReady (tree_of f.now) sets.now }
+        requires same_budget { level.old.budget ≡ self.old.budget }
+        requires ready { IsReady (tree_of f.now) level.old.sets }
         requires room { course.before + length (steps (tree_of f.now)) < 2 ^ 32 }
-        ensures ok { IfOk result (IsRememberedPart (tree_of f.now) (tables sets.now) course self.old self.new) }
-        ensures err { IfErr result (IsInterrupted (tree_of f.now) (tables sets.now) course self.old self.new) }
+        ensures ok { IfOk result
+            (IsRememberedPart (tree_of f.now) (tables level.old.sets) course self.old self.new level.new) }
+        ensures err { IfErr result (IsInterrupted (tree_of f.now) (tables level.old.sets) course self.old self.new) }
+        ensures grows { LevelGrows level.old level.new }
     {
         let alone = Course {
             recall: Recall::Nothing,
             ..course
         };
-        let made = self.from_parts(alloc, f, sets, alone)?;
-        let auto = self.taken(alloc, made.part)?;
+        let made = self.from_parts(alloc, f, level, alone)?;
+        let auto = self.taken(alloc, level, made.part)?;
         let part = self.enter(alloc, f, auto)?;
         Ok(Remembered {
             part,
+            done: made.done,
+        })
+    }
+
+    /// The automaton of And of two sets: lent by the level, or made and remembered there. No memo has it, since it names sets.
+    #[cycle(compiled)]
+    fn paired(
+        &mut self,
+        alloc: Global,
+        f: &Formula,
+        level: &mut Level,
+        course: Course,
+    ) -> Result<Remembered, CompileError>
+        requires pair { level_state.is_pair (tree_of f.now) ≡ true }
+        requires same_budget { level.old.budget ≡ self.old.budget }
+        requires ready { IsReady (tree_of f.now) level.old.sets }
+        requires room { course.before + length (steps (tree_of f.now)) < 2 ^ 32 }
+        ensures ok { IfOk result
+            (IsRememberedPart (tree_of f.now) (tables level.old.sets) course self.old self.new level.new) }
+        ensures err { IfErr result (IsInterrupted (tree_of f.now) (tables level.old.sets) course self.old self.new) }
+        ensures grows { LevelGrows level.old level.new }
+    {
+        if let Some(place) = level.find(f) {
+            return Ok(Remembered {
+                part: Part::Paired(place),
+                done: course.before + 1,
+            });
+        }
+        let made = self.from_parts(alloc, f, level, course)?;
+        let auto = self.given(level, made.part)?;
+        let place = level.remember(alloc, f, auto)?;
+        Ok(Remembered {
+            part: Part::Paired(place),
             done: made.done,
         })
     }
@@ -184,14 +328,17 @@ impl Memo {
         &mut self,
         alloc: Global,
         f: &Formula,
-        sets: &SetTable,
+        level: &mut Level,
         course: Course,
     ) -> Result<Remembered, CompileError>
         requires not_recalled { is_recalled course.recall (tree_of f.now) ≡ false }
-        requires ready { IsReady (tree_of f.now) sets.now }
+        requires same_budget { level.old.budget ≡ self.old.budget }
+        requires ready { IsReady (tree_of f.now) level.old.sets }
         requires room { course.before + length (steps (tree_of f.now)) < 2 ^ 32 }
-        ensures ok { IfOk result (IsRememberedPart (tree_of f.now) (tables sets.now) course self.old self.new) }
-        ensures err { IfErr result (IsInterrupted (tree_of f.now) (tables sets.now) course self.old self.new) }
+        ensures ok { IfOk result
+            (IsRememberedPart (tree_of f.now) (tables level.old.sets) course self.old self.new level.new) }
+        ensures err { IfErr result (IsInterrupted (tree_of f.now) (tables level.old.sets) course self.old self.new) }
+        ensures grows { LevelGrows level.old level.new }
     {
         match f {
             Formula::Lin { terms, rel, bound } => {
@@ -202,7 +349,7 @@ impl Memo {
                 let auto = value_of(alloc, *var, *value)?;
                 Ok(Remembered::fresh(auto, course.before))
             }
-            Formula::Among { set, vars } => match sets.get(*set) {
+            Formula::Among { set, vars } => match level.sets().get(*set) {
                 Some(set) => {
                     let auto = membership(alloc, set, vars.as_slice())?;
                     Ok(Remembered::fresh(auto, course.before))
@@ -210,18 +357,13 @@ impl Memo {
                 None => unreachable!(),
             },
             Formula::Not(g) => {
-                let inner = self.compiled(alloc, g, sets, course)?;
-                let auto = complement(alloc, self.automaton(&inner.part))?;
+                let inner = self.compiled(alloc, g, level, course)?;
+                let auto = complement(alloc, self.automaton(level, &inner.part))?;
                 Ok(Remembered::fresh(auto, inner.done))
             }
             Formula::And(left, right) => {
-                let connective = Connective::And;
-                let pair = Pair {
-                    connective,
-                    left,
-                    right,
-                };
-                self.both(alloc, pair, sets, course)
+                let pair = conjunction(left, right, course.recall);
+                self.both(alloc, pair, level, course)
             }
             Formula::Or(left, right) => {
                 let connective = Connective::Or;
@@ -230,12 +372,12 @@ impl Memo {
                     left,
                     right,
                 };
-                self.both(alloc, pair, sets, course)
+                self.both(alloc, pair, level, course)
             }
             Formula::Ex { var, body } => {
-                let inner = self.compiled(alloc, body, sets, course)?;
+                let inner = self.compiled(alloc, body, level, course)?;
                 let step = inner.done + 1;
-                let auto = self.automaton(&inner.part);
+                let auto = self.automaton(level, &inner.part);
                 match projection(alloc, *var, auto, self.budget()) {
                     Ok(auto) => Ok(Remembered::fresh(auto, step)),
                     Err(why) => Err(CompileError::at(step, why)),
@@ -250,23 +392,28 @@ impl Memo {
         &mut self,
         alloc: Global,
         pair: Pair,
-        sets: &SetTable,
+        level: &mut Level,
         course: Course,
     ) -> Result<Remembered, CompileError>
         requires not_recalled { is_recalled course.recall (connected pair) ≡ false }
-        requires ready { IsReady (connected pair) sets.now }
+        requires one_step { MayBeOneStep course.recall pair.connective (tree_of pair.right.now) }
+        requires same_budget { level.old.budget ≡ self.old.budget }
+        requires ready { IsReady (connected pair) level.old.sets }
         requires room { course.before + length (steps (connected pair)) < 2 ^ 32 }
-        ensures ok { IfOk result (IsRememberedPart (connected pair.entry) (tables sets.now) course self.old self.new) }
-        ensures err { IfErr result (IsInterrupted (connected pair.entry) (tables sets.now) course self.old self.new) }
+        ensures ok { IfOk result
+            (IsRememberedPart (connected pair.entry) (tables level.old.sets) course self.old self.new level.new) }
+        ensures err { IfErr result
+            (IsInterrupted (connected pair.entry) (tables level.old.sets) course self.old self.new) }
+        ensures grows { LevelGrows level.old level.new }
     {
-        let left = self.compiled(alloc, pair.left, sets, course)?;
+        let left = self.compiled(alloc, pair.left, level, course)?;
         let after_left = Course {
             before: left.done,
             ..course
         };
-        let right = self.compiled(alloc, pair.right, sets, after_left)?;
+        let right = self.compiled(alloc, pair.right, level, after_left)?;
         let step = right.done + 1;
-        let (a, b) = self.automata(&left.part, &right.part);
+        let (a, b) = self.automata(level, &left.part, &right.part);
         match joined(alloc, pair.connective, a, b, self.budget()) {
             Ok(auto) => Ok(Remembered::fresh(auto, step)),
             Err(why) => Err(CompileError::at(step, why)),

@@ -1,11 +1,14 @@
-//! And and Or.
+//! What two formulas are put together by.
+ghost use Rattle.std.specs.Prelude.{◌≡◌};
+
 use lin_formula::Formula;
 
-/// What two formulas are put together by.
 #[derive(Clone, Copy)]
 pub enum Connective {
     And,
     Or,
+    /// And of the first and Not of the second.
+    AndNot,
 }
 
 /// Two formulas to be put together.
@@ -14,4 +17,18 @@ pub struct Pair<'a> {
     pub connective: Connective,
     pub left: &'a Formula,
     pub right: &'a Formula,
+}
+
+impl<'a> Pair<'a> {
+    pub fn new(connective: Connective, left: &'a Formula, right: &'a Formula) -> Pair<'a>
+        ensures connective { result.connective ≡ connective }
+        ensures left { result.left.now ≡ left.now }
+        ensures right { result.right.now ≡ right.now }
+    {
+        Pair {
+            connective,
+            left,
+            right,
+        }
+    }
 }

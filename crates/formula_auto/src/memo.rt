@@ -4,23 +4,20 @@ ghost use Rattle.auto_core.specs.Automaton.{Automaton};
 ghost use Rattle.auto_core.specs.Reduced.{IsReduced};
 ghost use Rattle.lin_formula.specs.TreeOf.{tree_of};
 ghost use Rattle.formula_auto.specs.MemoState.{IsMemo, IsMemoAfter, IsEntry, IsEntryAt, known, counted};
+ghost use Rattle.formula_auto.specs.LevelState.{LevelState};
 ghost use Rattle.formula_auto.specs.PartOf.{IsPart};
 ghost use Rattle.formula_auto.specs.Nodes.{AcceptSame};
 
+use crate::entry::{Entry, place_of};
+use crate::level::Level;
 use crate::part::Part;
 use crate::steps::reduced;
+use crate::table::SetTable;
 use auto_core::Auto;
 use limits::Budget;
-use lin_formula::{Formula, copy, same};
+use lin_formula::{Formula, copy};
 use std::alloc::{AllocError, Global};
 use std::marker::Model;
-
-/// A formula and its automaton.
-#[derive(Drop)]
-pub struct Entry {
-    formula: Formula,
-    auto: Auto,
-}
 
 /// A table of plain formulas, which name no set and have a step, and of their automata, for one budget.
 /// It is searched from its start, formula by formula.
@@ -35,12 +32,11 @@ impl Model for Memo {
     ghost use Rattle.std.specs.Prelude.{map};
     ghost use Rattle.formula_auto.specs.MemoState.{MemoState, IsMemo};
     ghost use Rattle.formula_auto.specs.Codes.{coded_state};
+    ghost use Rattle.formula_auto.specs.EntryOf.{entry_of};
 
     ghost Value = { MemoState };
 
     ghost coded = { coded_state };
-
-    ghost use Rattle.formula_auto.specs.MemoEntries.{entry_of};
 
     ghost view = { λ m. record { budget = m.budget; entries = map entry_of m.entries.items; found = m.found } };
 
@@ -85,49 +81,74 @@ impl Memo {
         self.budget
     }
 
+    /// A table of sets, lent, for what is compiled over it one formula after another.
+    pub fn level<'a>(&self, alloc: Global, sets: &'a SetTable) -> Level<'a>
+        ensures sets { result.sets ≡ sets.now }
+        ensures budget { result.budget ≡ self.now.budget }
+    {
+        Level::new(alloc, sets, self.budget)
+    }
+
     /// The place of the entry of a formula.
     pub(crate) fn find(&self, f: &Formula) -> Option<usize>
         ensures { MatchOption result
             (¬ Contains (known self.now) (tree_of f.now)) (IsEntryAt self.now (tree_of f.now)) }
     {
-        for (place, entry) in self.entries.iter().enumerate() {
-            if same(&entry.formula, f) {
-                return Some(place);
-            }
-        }
-        None
+        let place = place_of(self.entries.as_slice(), f);
+        place
     }
 
     /// The automaton of a part, lent.
-    pub(crate) fn automaton<'a>(&'a self, part: &'a Part) -> &'a Auto
-        requires { (a : Automaton) × IsPart self.now part.now a }
-        ensures { IsPart self.now part.now result.now }
+    pub(crate) fn automaton<'a>(&'a self, level: &'a Level, part: &'a Part) -> &'a Auto
+        requires { (a : Automaton) × IsPart self.now level.now part.now a }
+        ensures { IsPart self.now level.now part.now result.now }
     {
         match part {
             Part::Fresh(auto) => auto,
             Part::Kept(place) => &self.entries[*place].auto,
+            Part::Paired(place) => level.automaton(*place),
         }
     }
 
     /// The automata of two parts, lent.
-    pub(crate) fn automata<'a>(&'a self, left: &'a Part, right: &'a Part) -> (&'a Auto, &'a Auto)
-        requires left { (a : Automaton) × IsPart self.now left.now a }
-        requires right { (a : Automaton) × IsPart self.now right.now a }
-        ensures left { IsPart self.now left.now result.0.now }
-        ensures right { IsPart self.now right.now result.1.now }
+    pub(crate) fn automata<'a>(
+        &'a self,
+        level: &'a Level,
+        left: &'a Part,
+        right: &'a Part,
+    ) -> (&'a Auto, &'a Auto)
+        requires left { (a : Automaton) × IsPart self.now level.now left.now a }
+        requires right { (a : Automaton) × IsPart self.now level.now right.now a }
+        ensures left { IsPart self.now level.now left.now result.0.now }
+        ensures right { IsPart self.now level.now right.now result.1.now }
     {
-        (self.automaton(left), self.automaton(right))
+        (self.automaton(level, left), self.automaton(level, right))
+    }
+
+    /// The automaton of a part as it is, to keep.
+    pub(crate) fn given(&self, level: &Level, part: Part) -> Result<Auto, AllocError>
+        requires { (a : Automaton) × IsPart self.now level.now part a }
+        ensures { IfOk result (IsPart self.now level.now part) }
+    {
+        match part {
+            Part::Fresh(auto) => Ok(auto),
+            Part::Kept(place) => self.entries[place].auto.copy(),
+            Part::Paired(place) => level.automaton(place).copy(),
+        }
     }
 
     /// The automaton of a part, reduced, to keep. That of an entry is reduced already.
-    pub(crate) fn taken(&self, alloc: Global, part: Part) -> Result<Auto, AllocError>
-        requires { (a : Automaton) × IsPart self.now part a }
+    pub(crate) fn taken(&self, alloc: Global, level: &Level, part: Part) -> Result<Auto, AllocError>
+        requires { (a : Automaton) × IsPart self.now level.now part a }
         ensures reduced { IfOk result IsReduced }
-        ensures same { IfOk result (λ taken. (a : Automaton) → IsPart self.now part a → AcceptSame a taken) }
+        ensures same { IfOk result (λ taken. (a : Automaton) → IsPart self.now level.now part a → AcceptSame a taken) }
+        ensures fewer { IfOk result
+            (λ taken. (a : Automaton) → IsPart self.now level.now part a → length taken.accept ≤ length a.accept) }
     {
         match part {
             Part::Fresh(auto) => reduced(alloc, &auto),
             Part::Kept(place) => self.entries[place].auto.copy(),
+            Part::Paired(place) => reduced(alloc, level.automaton(place)),
         }
     }
 
@@ -148,7 +169,7 @@ impl Memo {
         requires entry { IsEntry self.old.budget (tree_of f.now) auto }
         requires unknown { ¬ Contains (known self.old) (tree_of f.now) }
         ensures ok { OnOk result (IsMemoAfter self.old self.new (tree_of f.now ∷ [])) }
-        ensures part { IfOk result (λ part. IsPart self.new part auto) }
+        ensures part { IfOk result (λ part. (level : LevelState) → IsPart self.new level part auto) }
         ensures err { OnErr result (self.new ≡ self.old) }
     {
         let kept = self.kept();

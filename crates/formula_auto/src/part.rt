@@ -10,6 +10,8 @@ pub enum Part {
     Fresh(Auto),
     /// The memo's entry at this place has it.
     Kept(usize),
+    /// It is of And of two sets, and the level has it at this place.
+    Paired(usize),
 }
 
 /// A part's automaton, and how many steps were taken up to it.

@@ -1,8 +1,10 @@
-//! Which formulas are plain: these name no set and have a step, so that what was made of one serves again.
+//! Which formulas are plain: these name no set and have a step, so that what was made of one serves again. And which are And of two
+//! sets: what was made of one serves again over the same table.
 ghost use Rattle.std.specs.Prelude.{◌≡◌, ◌<◌, ◌^◌, nat_lt, length};
 ghost use Rattle.lin_formula.specs.Tree.{steps, symbols};
 ghost use Rattle.lin_formula.specs.TreeOf.{tree_of};
 ghost use Rattle.formula_auto.specs.PlainParts as plain_parts;
+ghost use Rattle.formula_auto.specs.LevelState as level_state;
 
 use lin_formula::Formula;
 
@@ -43,7 +45,8 @@ fn names_set(f: &Formula) -> bool
     }
 }
 
-fn has_step(f: &Formula) -> bool
+/// Whether a formula has a step.
+pub fn has_step(f: &Formula) -> bool
     ensures { result ≡ nat_lt 0 (length (steps (tree_of f.now))) }
 {
     match f {
@@ -55,4 +58,20 @@ fn has_step(f: &Formula) -> bool
         Formula::Or(_, _) => true,
         Formula::Ex { .. } => true,
     }
+}
+
+/// Whether a formula is And of two sets.
+pub fn is_pair(f: &Formula) -> bool
+    ensures { result ≡ level_state.is_pair (tree_of f.now) }
+{
+    match f {
+        Formula::And(g, h) => is_among(g) && is_among(h),
+        _ => false,
+    }
+}
+
+fn is_among(f: &Formula) -> bool
+    ensures { result ≡ level_state.is_among (tree_of f.now) }
+{
+    matches!(f, Formula::Among { .. })
 }

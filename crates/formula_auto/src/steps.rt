@@ -8,13 +8,14 @@ ghost use Rattle.auto_core.specs.Reduced.{IsReduced};
 ghost use Rattle.lin_formula.specs.Tree as tree;
 ghost use Rattle.lin_formula.specs.SetOf.{SetOf, members};
 ghost use Rattle.formula_auto.specs.Decides.{Decides};
+ghost use Rattle.formula_auto.specs.Compiled.{IsAccessible};
 ghost use Rattle.formula_auto.specs.Nodes.{AcceptSame, DecidesAmong, DecidesNot, DecidesEx, DecidesBoth, BothExceed, ExExceeds};
 
 use crate::connective::Connective;
-use auto_bool::{join, join_within, meet, meet_within, not};
+use auto_bool::{difference_within, join_within, meet_within, not};
 use auto_core::Auto;
 use auto_merge::merge;
-use auto_project::{forget, forget_within};
+use auto_project::forget_within;
 use auto_reduce::reduce;
 use auto_walk::Grown;
 use limits::{Budget, MOST_TRACKS};
@@ -52,7 +53,7 @@ pub fn membership(alloc: Global, set: &Auto, vars: &[Var]) -> Result<Auto, Alloc
     Ok(a)
 }
 
-/// And or Or.
+/// Two formulas put together.
 pub fn joined(
     alloc: Global,
     connective: Connective,
@@ -62,6 +63,7 @@ pub fn joined(
 ) -> Result<Auto, Grown>
     requires { length (with_vars a.now.tracks b.now.tracks) ≤ MOST_TRACKS }
     ensures decides { IfOk result (DecidesBoth connective a.now b.now) }
+    ensures accessible { IfOk result (IsAccessible budget) }
     ensures within { OnOk result (¬ BothExceed a.now b.now budget) }
     ensures over { result ≡ Err Grown.Over → BothExceed a.now b.now budget }
 {
@@ -79,6 +81,7 @@ fn product(
 ) -> Result<Auto, Grown>
     requires { length (with_vars a.now.tracks b.now.tracks) ≤ MOST_TRACKS }
     ensures decides { IfOk result (DecidesBoth connective a.now b.now) }
+    ensures accessible { IfOk result (IsAccessible budget) }
     ensures within { OnOk result (¬ BothExceed a.now b.now budget) }
     ensures over { result ≡ Err Grown.Over → BothExceed a.now b.now budget }
 {
@@ -89,7 +92,7 @@ fn product(
     }
 }
 
-/// `Over` says nothing of the spread.
+/// Only of reduced automata does `Over` say something of the spread.
 fn product_within(
     alloc: Global,
     connective: Connective,
@@ -99,11 +102,16 @@ fn product_within(
 ) -> Result<Auto, Grown>
     requires { length (with_vars a.now.tracks b.now.tracks) ≤ MOST_TRACKS }
     ensures decides { IfOk result (DecidesBoth connective a.now b.now) }
+    ensures accessible { IfOk result (IsAccessible budget) }
     ensures within { OnOk result (¬ BothExceed a.now b.now budget) }
+    ensures over { IsReduced a.now → IsReduced b.now → result ≡ Err Grown.Over → BothExceed a.now b.now budget }
 {
+    let _ = a.states(); // for its invariant
+    let _ = b.states(); // for its invariant
     match connective {
         Connective::And => meet_within(alloc, a, b, budget),
         Connective::Or => join_within(alloc, a, b, budget),
+        Connective::AndNot => difference_within(alloc, a, b, budget),
     }
 }
 
@@ -116,37 +124,19 @@ fn reduced_product(
 ) -> Result<Auto, Grown>
     requires { length (with_vars a.now.tracks b.now.tracks) ≤ MOST_TRACKS }
     ensures decides { IfOk result (DecidesBoth connective a.now b.now) }
+    ensures accessible { IfOk result (IsAccessible budget) }
     ensures within { OnOk result (¬ BothExceed a.now b.now budget) }
     ensures over { result ≡ Err Grown.Over → BothExceed a.now b.now budget }
 {
     let left = reduced(alloc, a)?;
     let right = reduced(alloc, b)?;
-    exact_product(alloc, connective, &left, &right, budget)
-}
-
-fn exact_product(
-    alloc: Global,
-    connective: Connective,
-    a: &Auto,
-    b: &Auto,
-    budget: Budget,
-) -> Result<Auto, Grown>
-    requires a_reduced { IsReduced a.now }
-    requires b_reduced { IsReduced b.now }
-    requires tracks { length (with_vars a.now.tracks b.now.tracks) ≤ MOST_TRACKS }
-    ensures decides { IfOk result (DecidesBoth connective a.now b.now) }
-    ensures within { OnOk result (¬ BothExceed a.now b.now budget) }
-    ensures over { result ≡ Err Grown.Over → BothExceed a.now b.now budget }
-{
-    match connective {
-        Connective::And => meet(alloc, a, b, budget),
-        Connective::Or => join(alloc, a, b, budget),
-    }
+    product_within(alloc, connective, &left, &right, budget)
 }
 
 /// Ex.
 pub fn projection(alloc: Global, var: Var, a: &Auto, budget: Budget) -> Result<Auto, Grown>
     ensures decides { IfOk result (DecidesEx var a.now) }
+    ensures accessible { IfOk result (IsAccessible budget) }
     ensures within { OnOk result (¬ ExExceeds var a.now budget) }
     ensures over { result ≡ Err Grown.Over → ExExceeds var a.now budget }
 {
@@ -157,28 +147,42 @@ pub fn projection(alloc: Global, var: Var, a: &Auto, budget: Budget) -> Result<A
 /// The projection of the automaton as it is, or else of the reduced one.
 fn forgotten(alloc: Global, var: Var, a: &Auto, budget: Budget) -> Result<Auto, Grown>
     ensures decides { IfOk result (DecidesEx var a.now) }
+    ensures accessible { IfOk result (IsAccessible budget) }
     ensures within { OnOk result (¬ ExExceeds var a.now budget) }
     ensures over { result ≡ Err Grown.Over → ExExceeds var a.now budget }
 {
-    match forget_within(alloc, a, var, budget) {
+    match forgotten_within(alloc, var, a, budget) {
         Ok(c) => Ok(c),
         Err(Grown::Memory) => Err(Grown::Memory),
         Err(Grown::Over) => reduced_forgotten(alloc, var, a, budget),
     }
 }
 
+/// Only of a reduced automaton does `Over` say something of the spread.
+fn forgotten_within(alloc: Global, var: Var, a: &Auto, budget: Budget) -> Result<Auto, Grown>
+    ensures decides { IfOk result (DecidesEx var a.now) }
+    ensures accessible { IfOk result (IsAccessible budget) }
+    ensures within { OnOk result (¬ ExExceeds var a.now budget) }
+    ensures over { IsReduced a.now → result ≡ Err Grown.Over → ExExceeds var a.now budget }
+{
+    let _ = a.states(); // for its invariant
+    forget_within(alloc, a, var, budget)
+}
+
 fn reduced_forgotten(alloc: Global, var: Var, a: &Auto, budget: Budget) -> Result<Auto, Grown>
     ensures decides { IfOk result (DecidesEx var a.now) }
+    ensures accessible { IfOk result (IsAccessible budget) }
     ensures within { OnOk result (¬ ExExceeds var a.now budget) }
     ensures over { result ≡ Err Grown.Over → ExExceeds var a.now budget }
 {
     let inner = reduced(alloc, a)?;
-    forget(alloc, &inner, var, budget)
+    forgotten_within(alloc, var, &inner, budget)
 }
 
 /// Not.
 pub fn complement(alloc: Global, a: &Auto) -> Result<Auto, AllocError>
-    ensures { IfOk result (DecidesNot a.now) }
+    ensures decides { IfOk result (DecidesNot a.now) }
+    ensures accessible { IfOk result (λ n. (budget : ℕ) → IsAccessible budget a.now → IsAccessible budget n) }
 {
     not(alloc, a)
 }
@@ -187,13 +191,15 @@ pub fn complement(alloc: Global, a: &Auto) -> Result<Auto, AllocError>
 pub fn reduced(alloc: Global, a: &Auto) -> Result<Auto, AllocError>
     ensures reduced { IfOk result IsReduced }
     ensures same { IfOk result (AcceptSame a.now) }
+    ensures fewer { IfOk result (λ m. length m.accept ≤ length a.now.accept) }
 {
     reduce(alloc, a)
 }
 
 /// The same words, with the states merged that one pass finds to be alike.
 fn merged(alloc: Global, a: &Auto) -> Result<Auto, AllocError>
-    ensures { IfOk result (AcceptSame a.now) }
+    ensures same { IfOk result (AcceptSame a.now) }
+    ensures accessible { IfOk result (λ m. (budget : ℕ) → IsAccessible budget a.now → IsAccessible budget m) }
 {
     merge(alloc, a)
 }

@@ -11,4 +11,4 @@ returns c =
     let said = simp (to_z-of_z w32 c.args.bound c.ranges.bound) at c.in_ok-a.ensures.words in
     IfOk-weaker c.merged.result _ _
     (λ made same e. still_decides same (Decides-Lin (members e) c.in_ok-a.a c.args.terms.now c.args.rel c.args.bound c.in_ok-a.ensures.tracks said))
-    c.merged.ensures
+    c.merged.ensures.same

@@ -1,8 +1,12 @@
 use Rattle.lin_formula.specs.SetOf.{members}
+use Rattle.formula_auto.proofs.Accessible.{accessible-turned}
 use Rattle.formula_auto.proofs.BothOk.{both_ok}
 use Rattle.formula_auto.proofs.Parts.{Decides-Not}
 use Rattle.formula_auto.proofs.steps.complement.Goals as goal
 
-pub returns : goal.returns
-returns c =
+pub returns-clause-decides : goal.returns-clause-decides
+returns-clause-decides c =
     both_ok c.not.result _ _ _ (λ made tracks words f e part. Decides-Not (members e) f c.args.a.now made part tracks words) c.not.ensures.tracks c.not.ensures.words
+
+pub returns-clause-accessible : goal.returns-clause-accessible
+returns-clause-accessible c = accessible-turned c.not.result c.args.a.now c.not.ensures.tracks c.not.ensures.first c.not.ensures.next c.not.ensures.accept

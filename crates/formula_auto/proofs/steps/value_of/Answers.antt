@@ -11,4 +11,4 @@ returns c =
     let said = simp (to_z-of_z w64 c.args.value c.ranges.value) at c.in_ok-a.ensures.words in
     IfOk-weaker c.merged.result _ _
     (λ made same e. still_decides same (Decides-Value (members e) c.in_ok-a.a c.args.var c.args.value c.in_ok-a.ensures.tracks said))
-    c.merged.ensures
+    c.merged.ensures.same

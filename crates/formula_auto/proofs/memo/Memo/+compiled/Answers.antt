@@ -1,4 +1,4 @@
-use Rattle.std.proofs.Common.{◌+◌, ◌∷◌, [], length, Err, refl, ap, ◌∙◌, arith, rules, length-append}
+use Rattle.std.proofs.Common.{◌+◌, ◌∷◌, [], length, Err, refl, sym, ap, ◌∙◌, arith, rules, length-append}
 use Rattle.std.proofs.lemmas.Int.{to_z-of_z, ints}
 use Rattle.std.proofs.lemmas.Result.{err_from_is_err_and}
 use Rattle.lin_formula.specs.Tree as tree
@@ -7,9 +7,11 @@ use Rattle.lin_formula.specs.TreeOf.{tree_of}
 use Rattle.lin_formula.specs.SetOf.{tables, members, as_set}
 use Rattle.formula_auto.specs.Decides.{Decides}
 use Rattle.formula_auto.proofs.Rooms.{set_fits, set_there}
-use Rattle.formula_auto.proofs.WithMemo.{remembered_not, interrupted_not, interrupted_at_not, remembered_ex, interrupted_ex, interrupted_at_ex, remembered_both, interrupted_left, interrupted_right, interrupted_at_both, remembered_leaf, interrupted_memory, interrupted_last, remembered_entered, interrupted_inside, may_enter, unknown_still}
+use Rattle.formula_auto.proofs.WithMemo.{remembered_not, interrupted_not, interrupted_at_not, remembered_ex, interrupted_ex, interrupted_at_ex, remembered_both, interrupted_left, interrupted_right, interrupted_at_both, interrupted_memory, interrupted_last, remembered_entered, interrupted_inside, may_enter, unknown_still}
 use Rattle.formula_auto.proofs.Connections.{size-connect, ready-connect}
-use Rattle.formula_auto.proofs.PartLemmas.{part-fresh, part-found, part-after, lent, lent-later}
+use Rattle.formula_auto.proofs.PartLemmas.{same_accessible, part-fresh, part-leaf, part-found, part-after, lent, lent-accessible, few_kept, lent-later}
+use Rattle.formula_auto.proofs.MemoLemmas.{recalled-plain}
+use Rattle.formula_auto.proofs.Pairs.{pair_outside, pair_size, part-paired, may_remember, part-remembered}
 use Rattle.formula_auto.proofs.memo.Memo.+compiled.Goals as goal
 
 pub recalled-steps_of-requires : goal.recalled-steps_of-requires
@@ -39,6 +41,7 @@ pub entered-enter-requires-clause-entry : goal.entered-enter-requires-clause-ent
 entered-enter-requires-clause-entry t c =
     let made = c.in_ok-made.ensures.ok in
     may_enter c.args.course c.requires.recalled made.remembered (c.in_ok-auto.ensures.same made.auto made.has) c.in_ok-auto.ensures.reduced
+    (few_kept made c.in_ok-auto.auto (recalled-plain c.args.course.recall (tree_of c.args.f.now) c.requires.recalled) (c.in_ok-auto.ensures.fewer made.auto made.has))
 
 pub entered-enter-requires-clause-unknown : goal.entered-enter-requires-clause-unknown
 entered-enter-requires-clause-unknown t c = unknown_still c.args.course c.requires.recalled c.in_ok-made.ensures.ok.remembered c.requires.unknown
@@ -51,9 +54,14 @@ entered-returns-in_err-part-clause-err t c =
 pub entered-returns-clause-ok : goal.entered-returns-clause-ok
 entered-returns-clause-ok t c =
     let made = c.in_ok-made.ensures.ok in
+    let plain = recalled-plain c.args.course.recall (tree_of c.args.f.now) c.requires.recalled in
     record {
       auto = c.in_ok-auto.auto;
-      has = c.in_ok-part.ensures.part;
+      has = c.in_ok-part.ensures.part c.from_parts.new.level;
+      accessible = λ some. record {
+        reached = c.in_ok-auto.ensures.reduced.reached;
+        few = few_kept made c.in_ok-auto.auto plain (c.in_ok-auto.ensures.fewer made.auto made.has);
+      };
       remembered = remembered_entered c.args.course c.requires.recalled made.remembered (c.in_ok-auto.ensures.same made.auto made.has) c.in_ok-part.ensures.ok;
     }
 
@@ -64,37 +72,37 @@ from_parts-returns-in_err-auto-in-Lin-clause-err t c =
 
 pub from_parts-returns-in-Lin-clause-ok : goal.from_parts-returns-in-Lin-clause-ok
 from_parts-returns-in-Lin-clause-ok t c =
-    let said = rw c.as_slice.ensures.items at (c.in_ok-auto-in-Lin.ensures (tables c.args.sets.now)) in
-    let decides : Decides c.in_ok-auto-in-Lin.auto (tree.Lin c.in-Lin.terms c.in-Lin.rel c.in-Lin.bound) (members (tables c.args.sets.now)) =
+    let said = rw c.as_slice.ensures.items at (c.in_ok-auto-in-Lin.ensures (tables c.args.level.now.sets)) in
+    let decides : Decides c.in_ok-auto-in-Lin.auto (tree.Lin c.in-Lin.terms c.in-Lin.rel c.in-Lin.bound) (members (tables c.args.level.now.sets)) =
     first_of (grind (arith, to_z-of_z, said), search (rules, ints, to_z-of_z, said)) in
-    rw c.in-Lin.is (part-fresh c.fresh.ensures (remembered_leaf refl decides))
+    rw c.in-Lin.is (part-leaf c.fresh.ensures refl decides)
 
 pub from_parts-returns-in-Value-clause-ok : goal.from_parts-returns-in-Value-clause-ok
 from_parts-returns-in-Value-clause-ok t c =
-    let said = c.in_ok-auto-in-Value.ensures (tables c.args.sets.now) in
-    let decides : Decides c.in_ok-auto-in-Value.auto (tree.Value c.in-Value.var c.in-Value.value) (members (tables c.args.sets.now)) =
+    let said = c.in_ok-auto-in-Value.ensures (tables c.args.level.now.sets) in
+    let decides : Decides c.in_ok-auto-in-Value.auto (tree.Value c.in-Value.var c.in-Value.value) (members (tables c.args.level.now.sets)) =
     first_of (grind (arith, to_z-of_z, said), search (rules, ints, to_z-of_z, said)) in
-    rw c.in-Value.is (part-fresh c.fresh-in-Value.ensures (remembered_leaf refl decides))
+    rw c.in-Value.is (part-leaf c.fresh-in-Value.ensures refl decides)
 
 pub from_parts-membership-requires-clause-size : goal.from_parts-membership-requires-clause-size
 from_parts-membership-requires-clause-size t c =
     let ready = rw c.in-Among.is at c.requires.ready in
-    ap length c.as_slice-in-Some.ensures ∙ (set_fits c.args.sets.now c.in-Among.set.0 c.in-Among.vars ready c.in-Some.set.now c.in-Some.ensures).0
+    ap length c.as_slice-in-Some.ensures ∙ (set_fits c.args.level.now.sets c.in-Among.set.0 c.in-Among.vars ready c.in-Some.set.now (rw c.sets.ensures at c.in-Some.ensures)).0
 
 pub from_parts-membership-requires-clause-integers : goal.from_parts-membership-requires-clause-integers
 from_parts-membership-requires-clause-integers t c =
     let ready = rw c.in-Among.is at c.requires.ready in
-    (set_fits c.args.sets.now c.in-Among.set.0 c.in-Among.vars ready c.in-Some.set.now c.in-Some.ensures).1
+    (set_fits c.args.level.now.sets c.in-Among.set.0 c.in-Among.vars ready c.in-Some.set.now (rw c.sets.ensures at c.in-Some.ensures)).1
 
 pub from_parts-returns-in-Some-clause-ok : goal.from_parts-returns-in-Some-clause-ok
 from_parts-returns-in-Some-clause-ok t c =
-    let decides = rw c.as_slice-in-Some.ensures at c.in_ok-auto-in-Some.ensures (tables c.args.sets.now) c.in-Among.set.0 (ap as_set c.in-Some.ensures) in
-    rw c.in-Among.is (part-fresh c.fresh-in-Some.ensures (remembered_leaf refl decides))
+    let decides = rw c.as_slice-in-Some.ensures at c.in_ok-auto-in-Some.ensures (tables c.args.level.now.sets) c.in-Among.set.0 (ap as_set (rw c.sets.ensures at c.in-Some.ensures)) in
+    rw c.in-Among.is (part-leaf c.fresh-in-Some.ensures refl decides)
 
 pub from_parts-unreachable-requires : goal.from_parts-unreachable-requires
 from_parts-unreachable-requires t c =
     let ready = rw c.in-Among.is at c.requires.ready in
-    set_there c.args.sets.now c.in-Among.set.0 c.in-Among.vars ready c.in-None.ensures
+    set_there c.args.level.now.sets c.in-Among.set.0 c.in-Among.vars ready (rw c.sets.ensures at c.in-None.ensures)
 
 pub from_parts-returns-in_err-inner-in-Not-clause-err : goal.from_parts-returns-in_err-inner-in-Not-clause-err
 from_parts-returns-in_err-inner-in-Not-clause-err t c =
@@ -114,7 +122,8 @@ pub from_parts-returns-in-Not-clause-ok : goal.from_parts-returns-in-Not-clause-
 from_parts-returns-in-Not-clause-ok t c =
     let outside = rw c.in-Not.is at c.requires.not_recalled in
     let part = rw c.deref.ensures at c.in_ok-inner-in-Not.ensures.ok in
-    rw c.in-Not.is (part-fresh c.fresh-in-Not.ensures (remembered_not outside (lent part c.automaton.ensures) c.in_ok-auto-in-Not.ensures))
+    rw c.in-Not.is (part-fresh c.fresh-in-Not.ensures (λ some. c.in_ok-auto-in-Not.ensures.accessible c.args.self.now.budget (lent-accessible part c.automaton.ensures some))
+    (remembered_not outside (lent part c.automaton.ensures) c.in_ok-auto-in-Not.ensures.decides))
 
 pub from_parts-returns-in_err-inner-in-Ex-clause-err : goal.from_parts-returns-in_err-inner-in-Ex-clause-err
 from_parts-returns-in_err-inner-in-Ex-clause-err t c =
@@ -134,7 +143,8 @@ from_parts-returns-in-Ok-clause-ok t c =
     let outside = rw c.in-Ex.is at c.requires.not_recalled in
     let part = rw c.deref-in-Ex.ensures at c.in_ok-inner-in-Ex.ensures.ok in
     let within = rw c.budget.ensures.is at c.in-Ok.ensures.within in
-    rw c.in-Ex.is (part-fresh c.fresh-in-Ok.ensures (remembered_ex outside (lent part c.automaton-auto.ensures) c.in-Ok.ensures.decides within))
+    rw c.in-Ex.is (part-fresh c.fresh-in-Ok.ensures (λ some. same_accessible (c.budget.ensures.is ∙ part.remembered.after.budget) c.in-Ok.ensures.accessible)
+    (remembered_ex outside (lent part c.automaton-auto.ensures) c.in-Ok.ensures.decides within))
 
 pub from_parts-returns-clause-err : goal.from_parts-returns-clause-err
 from_parts-returns-clause-err t c =
@@ -145,19 +155,21 @@ from_parts-returns-clause-err t c =
 pub both-returns-in_err-left-clause-err : goal.both-returns-in_err-left-clause-err
 both-returns-in_err-left-clause-err t c =
     let p = err_from_is_err_and c.from_residual.result c.from_residual.ensures.1 in
-    rw (p.1, p.2) (interrupted_left c.args.pair c.requires.not_recalled c.in_err-left.ensures.err)
+    rw (p.1, p.2) (interrupted_left c.args.pair c.requires.not_recalled c.requires.one_step c.in_err-left.ensures.err)
 
 pub both-compiled-requires-2 : goal.both-compiled-requires-2
 both-compiled-requires-2 t c =
     let left = c.in_ok-left.ensures.ok.remembered.counts in
     let size = size-connect c.args.pair.connective (tree_of c.args.pair.left.now) (tree_of c.args.pair.right.now) in
-    let ready = ready-connect c.args.pair.connective (tree_of c.args.pair.left.now) (tree_of c.args.pair.right.now) c.args.sets.now c.requires.ready in
-    (search rules, (ready.2, omega (arith, c.requires.room, left, size)))
+    let ready = ready-connect c.args.pair.connective (tree_of c.args.pair.left.now) (tree_of c.args.pair.right.now) c.args.level.now.sets c.requires.ready in
+    let grows = c.compiled.ensures.grows in
+    let same = grows.budget ∙ (c.requires.same_budget ∙ sym c.in_ok-left.ensures.ok.remembered.after.budget) in
+    (search rules, (same, (rw grows.sets ready.2, omega (arith, c.requires.room, left, size))))
 
 pub both-returns-in_err-right-clause-err : goal.both-returns-in_err-right-clause-err
 both-returns-in_err-right-clause-err t c =
     let p = err_from_is_err_and c.from_residual-in_err-right.result c.from_residual-in_err-right.ensures.1 in
-    rw (p.1, p.2) (interrupted_right c.args.pair c.requires.not_recalled c.in_ok-left.ensures.ok.remembered c.in_err-right.ensures.err)
+    rw (p.1, p.2) (interrupted_right c.args.pair c.requires.not_recalled c.requires.one_step c.in_ok-left.ensures.ok.remembered (rw c.compiled.ensures.grows.sets at c.in_err-right.ensures.err))
 
 pub both-overflow_add-step : goal.both-overflow_add-step
 both-overflow_add-step t c =
@@ -169,27 +181,61 @@ both-overflow_add-step t c =
 pub both-automata-requires-clause-left : goal.both-automata-requires-clause-left
 both-automata-requires-clause-left t c =
     let left = c.in_ok-left.ensures.ok in
-    (left.auto, part-after _ _ _ c.in_ok-left.left.part left.auto left.has c.in_ok-right.ensures.ok.remembered.after)
+    (left.auto, part-after _ _ _ _ _ c.in_ok-left.left.part left.auto left.has c.in_ok-right.ensures.ok.remembered.after c.compiled-2.ensures.grows)
 
 pub both-automata-requires-clause-right : goal.both-automata-requires-clause-right
 both-automata-requires-clause-right t c = (c.in_ok-right.ensures.ok.auto, c.in_ok-right.ensures.ok.has)
 
 pub both-joined-requires : goal.both-joined-requires
 both-joined-requires t c =
-    let left = lent-later c.in_ok-left.ensures.ok c.in_ok-right.ensures.ok.remembered.after c.automata.ensures.left in
-    let right = lent c.in_ok-right.ensures.ok c.automata.ensures.right in
+    let left = lent-later c.in_ok-left.ensures.ok c.in_ok-right.ensures.ok.remembered.after c.compiled-2.ensures.grows c.automata.ensures.left in
+    let right = lent (rw c.compiled.ensures.grows.sets at c.in_ok-right.ensures.ok) c.automata.ensures.right in
     rw (left.made.decides.tracks, right.made.decides.tracks)
-    (ready-connect c.args.pair.connective (tree_of c.args.pair.left.now) (tree_of c.args.pair.right.now) c.args.sets.now c.requires.ready).0
+    (ready-connect c.args.pair.connective (tree_of c.args.pair.left.now) (tree_of c.args.pair.right.now) c.args.level.now.sets c.requires.ready).0
 
 pub both-returns-in-Ok-clause-ok : goal.both-returns-in-Ok-clause-ok
 both-returns-in-Ok-clause-ok t c =
-    let left = lent-later c.in_ok-left.ensures.ok c.in_ok-right.ensures.ok.remembered.after c.automata.ensures.left in
-    let right = lent c.in_ok-right.ensures.ok c.automata.ensures.right in
+    let left = lent-later c.in_ok-left.ensures.ok c.in_ok-right.ensures.ok.remembered.after c.compiled-2.ensures.grows c.automata.ensures.left in
+    let right = lent (rw c.compiled.ensures.grows.sets at c.in_ok-right.ensures.ok) c.automata.ensures.right in
     let within = rw c.budget.ensures.is at c.in-Ok.ensures.within in
-    part-fresh c.fresh.ensures (remembered_both c.args.pair c.requires.not_recalled left right c.in-Ok.ensures.decides within)
+    part-fresh c.fresh.ensures (λ some. same_accessible (c.budget.ensures.is ∙ (right.after.budget ∙ left.after.budget)) c.in-Ok.ensures.accessible)
+    (remembered_both c.args.pair c.requires.not_recalled c.requires.one_step left right c.in-Ok.ensures.decides within)
 
 pub both-returns-clause-err : goal.both-returns-clause-err
 both-returns-clause-err t c =
-    let left = lent-later c.in_ok-left.ensures.ok c.in_ok-right.ensures.ok.remembered.after c.automata.ensures.left in
-    let right = lent c.in_ok-right.ensures.ok c.automata.ensures.right in
-    rw c.at.ensures (interrupted_at_both c.args.pair c.requires.not_recalled left right c.in-Err.why (λ over. rw c.budget.ensures.is at (c.in-Err.ensures.over (ap Err over))))
+    let left = lent-later c.in_ok-left.ensures.ok c.in_ok-right.ensures.ok.remembered.after c.compiled-2.ensures.grows c.automata.ensures.left in
+    let right = lent (rw c.compiled.ensures.grows.sets at c.in_ok-right.ensures.ok) c.automata.ensures.right in
+    rw c.at.ensures (interrupted_at_both c.args.pair c.requires.not_recalled c.requires.one_step left right c.in-Err.why (λ over. rw c.budget.ensures.is at (c.in-Err.ensures.over (ap Err over))))
+
+pub paired-overflow_add-result : goal.paired-overflow_add-result
+paired-overflow_add-result t c = record { fits = omega (arith, c.requires.room, pair_size (tree_of c.args.f.now) c.requires.pair) }
+
+pub paired-returns-in-Some-clause-ok : goal.paired-returns-in-Some-clause-ok
+paired-returns-in-Some-clause-ok t c = part-paired (tree_of c.args.f.now) c.requires.pair c.args.course c.args.self.now c.args.level.now c.requires.same_budget c.in-Some.ensures
+
+pub paired-from_parts-requires : goal.paired-from_parts-requires
+paired-from_parts-requires t c = (search rules, (pair_outside (tree_of c.args.f.now) c.requires.pair c.args.course.recall, (c.requires.same_budget, (c.requires.ready, c.requires.room))))
+
+pub paired-given-requires : goal.paired-given-requires
+paired-given-requires t c = (c.in_ok-made.ensures.ok.auto, c.in_ok-made.ensures.ok.has)
+
+pub paired-remember-requires : goal.paired-remember-requires
+paired-remember-requires t c = may_remember (tree_of c.args.f.now) c.requires.pair c.in_ok-made.ensures.ok c.requires.same_budget c.from_parts.ensures.grows c.in_ok-auto.ensures
+
+pub paired-returns-in_err-made-clause-err : goal.paired-returns-in_err-made-clause-err
+paired-returns-in_err-made-clause-err t c =
+    let p = err_from_is_err_and c.from_residual.result c.from_residual.ensures.1 in
+    rw (p.1, p.2) c.in_err-made.ensures.err
+
+pub paired-returns-in_err-auto-clause-err : goal.paired-returns-in_err-auto-clause-err
+paired-returns-in_err-auto-clause-err t c =
+    let p = err_from_is_err_and c.from_residual-in_err-auto.result c.from_residual-in_err-auto.ensures.1 in
+    rw p.1 (interrupted_last c.in_ok-made.ensures.ok.remembered p.2)
+
+pub paired-returns-in_err-place-clause-err : goal.paired-returns-in_err-place-clause-err
+paired-returns-in_err-place-clause-err t c =
+    let p = err_from_is_err_and c.from_residual-in_err-place.result c.from_residual-in_err-place.ensures.1 in
+    rw p.1 (interrupted_last c.in_ok-made.ensures.ok.remembered p.2)
+
+pub paired-returns-clause-ok : goal.paired-returns-clause-ok
+paired-returns-clause-ok t c = part-remembered (tree_of c.args.f.now) c.requires.pair c.in_ok-made.ensures.ok c.in_ok-auto.ensures c.in_ok-place.ensures.there

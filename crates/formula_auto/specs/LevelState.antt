@@ -1,0 +1,47 @@
+-- What was made over one table of sets, and how that grows.
+use Rattle.std.specs.Prelude.{◌≡◌, ℕ, Bool, true, false, ◌&&◌, IsTrue, List, ◌++◌, All, Some, slice_get}
+use Rattle.auto_core.specs.Automaton.{Automaton}
+use Rattle.lin_formula.specs.Tree.{Tree, Among, And}
+use Rattle.lin_formula.specs.TreeOf.{tree_of}
+use Rattle.lin_formula.specs.declared.formula.Formula.{Formula}
+use Rattle.lin_formula.specs.SetOf.{tables}
+use Rattle.formula_auto.specs.Compiled.{IsMade, IsAccessible}
+
+-- a table of sets, a budget, and formulas with their automata in the order in which they came
+pub record LevelState : Type 0 where
+  pub sets : List Automaton
+  pub budget : ℕ
+  pub pairs : List (Formula × Automaton)
+
+abbrev pub is_among : Tree → Bool
+is_among (Among set vars) = true
+is_among _ = false
+
+-- And of two sets
+abbrev pub is_pair : Tree → Bool
+is_pair (And f g) = is_among f && is_among g
+is_pair _ = false
+
+-- And of two sets whose step is within the budget, and an automaton that decides it over the table, words lead to each
+-- state of which
+pub record IsPair (sets : List Automaton) (budget : ℕ) (f : Tree) (a : Automaton) : Type 0 where
+  pub pair : IsTrue (is_pair f)
+  pub made : IsMade f (tables sets) 0 budget a
+  pub accessible : IsAccessible budget a
+
+pub record IsLevel (l : LevelState) : Type 0 where
+  pub pairs : All (λ pair. IsPair l.sets l.budget (tree_of pair.0) pair.1) l.pairs
+
+-- at this place stands what was made of the formula
+pub record IsPairAt (l : LevelState) (f : Tree) (place : ℕ) : Type 0 where
+  pub formula : Formula
+  pub auto : Automaton
+  pub there : slice_get l.pairs place ≡ Some (formula, auto)
+  pub pair : IsPair l.sets l.budget f auto
+
+-- the same table and budget, the old pairs and more after them
+pub record LevelGrows (old new : LevelState) : Type 0 where
+  pub sets : new.sets ≡ old.sets
+  pub budget : new.budget ≡ old.budget
+  pub added : List (Formula × Automaton)
+  pub pairs : new.pairs ≡ old.pairs ++ added

@@ -1,0 +1,27 @@
+//! Formulas with their automata, in the order in which they came.
+ghost use Rattle.std.specs.Prelude.{◌≢◌, All, IfSome, IfNone};
+ghost use Rattle.lin_formula.specs.TreeOf.{tree_of};
+ghost use Rattle.formula_auto.specs.EntryOf.{IsPlaceOf};
+
+use auto_core::Auto;
+use lin_formula::{Formula, same};
+
+/// A formula and its automaton.
+#[derive(Drop)]
+pub struct Entry {
+    pub formula: Formula,
+    pub auto: Auto,
+}
+
+/// The place of the first entry of a formula. Goes over the entries from their start.
+pub fn place_of(entries: &[Entry], f: &Formula) -> Option<usize>
+    ensures none { IfNone result (All (λ entry. tree_of entry.formula ≢ tree_of f.now) entries.now) }
+    ensures some { IfSome result (IsPlaceOf entries.now (tree_of f.now)) }
+{
+    for (place, entry) in entries.iter().enumerate() {
+        if same(&entry.formula, f) {
+            return Some(place);
+        }
+    }
+    None
+}
