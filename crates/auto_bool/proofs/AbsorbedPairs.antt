@@ -80,7 +80,9 @@ module _ (g : Absorbing) (tracks : List Var) (a b : Automaton) (connective : Con
   stays p q letter (inr e) = inr (e ∙ ap Some (sym ((sinks.right q e).stays (restrict tracks b.tracks letter) (restrict-below tracks b.tracks letter))))
 
   stands-on : (x y x' y' : ℕ) → StandsFor g x' y' x y → StandsFor g (absorbed g x' y').0 (absorbed g x' y').1 x y
-  stands-on x y x' y' (inl (e, f)) = subst (λ n. StandsFor g (absorbed g n y').0 (absorbed g n y').1 x y) (sym e) (subst (λ n. StandsFor g (absorbed g x n).0 (absorbed g x n).1 x y) (sym f) (absorbed-stands g x y))
+  stands-on x y x' y' (inl (e, f)) =
+      subst (λ n. StandsFor g (absorbed g n y').0 (absorbed g n y').1 x y) (sym e)
+      (subst (λ n. StandsFor g (absorbed g x n).0 (absorbed g x n).1 x y) (sym f) (absorbed-stands g x y))
   stands-on x y x' y' (inr (here, there)) = elim (absorbed-stands g x' y') [
     | inl same ↦ inr (here, subst (λ n. Absorbs g n (absorbed g x' y').1) (sym same.0) (subst (λ n. Absorbs g x' n) (sym same.1) there))
     | inr both ↦ inr (here, both.1)
@@ -135,7 +137,8 @@ module _ (g : Absorbing) (tracks : List Var) (a b : Automaton) (connective : Con
   fold-pair_of [] p q left right = record { left = p; right = q; left_known = left; right_known = right; is = refl }
   fold-pair_of (letter ∷ letters) p q left right =
       let known =
-      absorbed-known (next_state a p (restrict tracks a.tracks letter)) (next_state b q (restrict tracks b.tracks letter)) (entry_within (length a.accept) a.next _ a_valid.some_state a_valid.next_within)
+      absorbed-known (next_state a p (restrict tracks a.tracks letter)) (next_state b q (restrict tracks b.tracks letter))
+      (entry_within (length a.accept) a.next _ a_valid.some_state a_valid.next_within)
       (entry_within (length b.accept) b.next _ b_valid.some_state b_valid.next_within) in
       fold-pair_of letters _ _ known.0 known.1
 
@@ -143,7 +146,8 @@ module _ (g : Absorbing) (tracks : List Var) (a b : Automaton) (connective : Con
   place-pair_of [] nonempty = absurd (nonempty refl)
   place-pair_of (sign ∷ letters) nonempty =
       let known =
-      absorbed-known (first_state a (restrict tracks a.tracks sign)) (first_state b (restrict tracks b.tracks sign)) (entry_within (length a.accept) a.first _ a_valid.some_state a_valid.first_within)
+      absorbed-known (first_state a (restrict tracks a.tracks sign)) (first_state b (restrict tracks b.tracks sign))
+      (entry_within (length a.accept) a.first _ a_valid.some_state a_valid.first_within)
       (entry_within (length b.accept) b.first _ b_valid.some_state b_valid.first_within) in
       fold-pair_of letters _ _ known.0 known.1
 
@@ -170,7 +174,8 @@ module _ (g : Absorbing) (left : g.left ≡ None) (right : g.right ≡ None) (tr
       some_none state e = cc
 
 -- the automaton of a walk over pairs is that of the product
-pub IsProduct-walked : (g : Absorbing) (a b m : Automaton) (connective : Connective) → AreSinks a b connective g → IsWalked (absorbing_walker g (with_vars a.tracks b.tracks) a b connective) m → IsProduct a b connective m
+pub IsProduct-walked : (g : Absorbing) (a b m : Automaton) (connective : Connective) → AreSinks a b connective g
+    → IsWalked (absorbing_walker g (with_vars a.tracks b.tracks) a b connective) m → IsProduct a b connective m
 IsProduct-walked g a b m connective sinks walked = record {
   tracks = walked.tracks;
   words = λ word is.

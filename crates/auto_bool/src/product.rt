@@ -55,7 +55,7 @@ fn pairs_fit(a: &Auto, b: &Auto, budget: Budget) -> bool
     u64::from(a.states()) * u64::from(b.states()) <= u64::from(budget.states())
 }
 
-/// With one state for all pairs in which one side decides for good. It says nothing of the pairs that words lead to.
+/// With one state for all pairs in which one side decides for good: how many pairs words lead to is not seen.
 fn absorbed_product(
     alloc: Global,
     a: &Auto,
@@ -94,9 +94,9 @@ fn exact_product(
 }
 
 /// The automaton of the words over the tracks of both that both accept, each word read on the argument's own tracks.
-/// Its states are the pairs of states that words lead to (Rabin and Scott 1959), or fewer where the budget has room for all pairs:
-/// those in which a side rejects for good are one then. Some states may accept the same suffixes. `Over` where the pairs are more
-/// than the budget. Costs the pairs of nodes that are met over all rows together.
+/// Its states are the pairs of states that words lead to (Rabin and Scott 1959). Where the budget has room for all pairs of states,
+/// those in which a side decides for good are one. Some states may accept the same suffixes. `Over` where the pairs that words
+/// lead to are more than the budget. Costs the pairs of nodes that are met over all rows together.
 pub fn meet(alloc: Global, a: &Auto, b: &Auto, budget: Budget) -> Result<Auto, Grown>
     requires a_reduced { IsReduced a.now }
     requires b_reduced { IsReduced b.now }
