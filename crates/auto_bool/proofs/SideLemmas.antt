@@ -10,7 +10,7 @@ use Rattle.letter_diagram.specs.Carried.{IsCarried}
 use Rattle.letter_diagram.specs.Listed.{EachAnswers}
 use Rattle.auto_core.specs.Automaton.{Automaton, IsAutomaton, width, first_state, next_state}
 use Rattle.auto_core.specs.Rows.{IsOverNodes}
-use Rattle.auto_core.proofs.RowLemmas.{get_or-row_of, get_or-rows_of}
+use Rattle.auto_core.proofs.NodeMaps.{first-map, row-map}
 use Rattle.auto_bool.specs.Sides.{Reads, IsSide, AreAmong}
 use Rattle.auto_core.proofs.Restricted.{relabelled-places, restrict-below}
 use Rattle.auto_bool.proofs.TrackLemmas.{restrict-same}
@@ -31,12 +31,6 @@ IsSide-kept old new all a nodes grows s = record {
 }
 
 module _ (a : Automaton) (valid : IsAutomaton a) (over : IsOverNodes a) where
-  first-map : (letter : ℕ) → letter < width a → map_at a.shapes a.first_node letter ≡ first_state a letter
-  first-map letter below = sym (ap (λ l. get_or l letter 0) over.first ∙ get_or-row_of a.shapes (2 ^ length a.tracks) a.first_node letter below)
-
-  row-map : (state letter : ℕ) → state < length a.row_nodes → letter < width a → map_at a.shapes (get_or a.row_nodes state 0) letter ≡ next_state a state letter
-  row-map state letter known below = sym (ap (λ l. get_or l (state * width a + letter) 0) over.next ∙ get_or-rows_of a.shapes (2 ^ length a.tracks) a.row_nodes state letter 0 known below)
-
   module _ (all : List Var) (shapes : List Shape) (nodes : List ℕ) (among : AreAmong all a.tracks)
       (brought : EachAnswers (IsCarried a.shapes shapes (relabelled (map (place all) a.tracks)) (λ value. value)) (a.first_node ∷ a.row_nodes)
       nodes) where
@@ -63,13 +57,13 @@ module _ (a : Automaton) (valid : IsAutomaton a) (over : IsOverNodes a) where
         record {
           valid = valid;
           size = omega (arith, rows_size, size);
-          first = λ node at. reads-at 0 node (first_state a) at first-map;
+          first = λ node at. reads-at 0 node (first_state a) at (first-map a over);
           rows = λ state node at.
               let within = slice_get_within nodes (state + 1) node at in
               let known : state < length a.row_nodes = omega (arith, size, within) in
               let e : state + 1 ≡ suc state = omega arith in
               reads-at (state + 1) node (next_state a state) at (λ letter below.
-              ap (λ i. map_at a.shapes (get_or (a.first_node ∷ a.row_nodes) i 0) letter) e ∙ row-map state letter known below);
+              ap (λ i. map_at a.shapes (get_or (a.first_node ∷ a.row_nodes) i 0) letter) e ∙ row-map a over state letter known below);
         }
 
 -- nodes that are read from a side

@@ -1,18 +1,8 @@
 -- Nodes that were known, as nodes are added in steps.
-use Rattle.std.proofs.Common.{◌≡◌, ℕ, ◌<◌, List, length, nat_eq, if◌then◌else◌, arith, ◌∙◌, ap, sym}
+use Rattle.std.proofs.Common.{◌≡◌, ℕ, ◌<◌, List, length, nat_eq, if◌then◌else◌, ◌∙◌, ap, sym}
 use Rattle.std.specs.Int.{bit_at}
 use Rattle.letter_diagram.specs.declared.diagrams.Shape.{Shape}
 use Rattle.letter_diagram.specs.Diagram.{map_at, chosen, Grows}
-
-pub Grows-trans : (a b c : List Shape) → Grows a b → Grows b c → Grows a c
-Grows-trans a b c p q =
-    let l = p.longer in
-    let m = q.longer in
-    record {
-      longer = omega (arith, l, m);
-      map = λ node letter h. q.map node letter (omega (arith, l, h)) ∙ p.map node letter h;
-      top = λ node h. q.top node (omega (arith, l, h)) ∙ p.top node h;
-    }
 
 pub chosen-grows : (old new : List Shape) (track low high letter : ℕ) → low < length old → high < length old → Grows old new → chosen old track low high letter ≡ chosen new track low high letter
 chosen-grows old new track low high letter kl kh grows =

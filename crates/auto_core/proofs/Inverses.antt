@@ -58,8 +58,8 @@ covered places tracks letter different below small =
           ∙ ap (bit_at letter) (get_or-map-range_with_len (index_of places) 0 tracks track track 0 within (omega arith) ∙ index_of-place places i different h)),
     )
 
--- the variable at the place of a variable
-place-has : (tracks : List Var) (v d : Var) → place tracks v < length tracks → (get_or tracks (place tracks v) d).0 ≡ v.0
+-- the variable at the place of a variable; auto_project cites this
+pub place-has : (tracks : List Var) (v d : Var) → place tracks v < length tracks → (get_or tracks (place tracks v) d).0 ≡ v.0
 place-has tracks v d within = number-is (get_or tracks (place tracks v) d).0 v.0 (passes_at_first (λ other. nat_eq other.0 v.0) tracks d within)
 
 same-place : (tracks : List Var) (v w : Var) → place tracks v < length tracks → place tracks v ≡ place tracks w → v ≡ w

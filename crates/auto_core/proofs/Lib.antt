@@ -1,4 +1,5 @@
 pub mod RowLemmas
+pub mod NodeMaps
 pub mod States
 pub mod Places
 pub mod Denses

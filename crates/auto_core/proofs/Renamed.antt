@@ -17,7 +17,7 @@ use Rattle.auto_core.specs.Automaton.{Automaton, width, first_state, next_state,
 use Rattle.auto_core.specs.Integers.{DecidesIntegers}
 use Rattle.auto_core.specs.Reduced.{IsReduced}
 use Rattle.auto_core.specs.Rows.{AreRows, IsOverNodes}
-use Rattle.auto_core.proofs.RowLemmas.{get_or-row_of, get_or-rows_of}
+use Rattle.auto_core.proofs.NodeMaps.{first-map, row-map}
 use Rattle.auto_core.proofs.Restricted.{relabelled-places}
 
 relabelled-same : (places : List ℕ) (bound a b : ℕ) → All (λ p. p < bound) places → ((k : ℕ) → k < bound → bit_at a k ≡ bit_at b k) → relabelled places a ≡ relabelled places b
@@ -108,13 +108,6 @@ AreRows-renamed a tracks shapes places first rows accept over up few same below 
           (λ letter. rw (are.rows_are i letter (inside i h), size) (old.rows_within i 0 (inside i h) (relabelled places letter)));
     }
 
-first_state-over : (a : Automaton) → IsOverNodes a → (letter : ℕ) → letter < width a → first_state a letter ≡ map_at a.shapes a.first_node letter
-first_state-over a over letter h = ap (λ l. slice_index l letter) over.first ∙ get_or-row_of a.shapes (width a) a.first_node letter h
-
-next_state-over : (a : Automaton) → IsOverNodes a → (state letter : ℕ) → state < length a.row_nodes → letter < width a
-    → next_state a state letter ≡ map_at a.shapes (slice_index a.row_nodes state) letter
-next_state-over a over state letter k h = ap (λ l. slice_index l (state * width a + letter)) over.next ∙ get_or-rows_of a.shapes (width a) a.row_nodes state letter 0 k h
-
 -- the word of the bits at the places is one of as many tracks
 IsWord-map : (places : List ℕ) (tracks count : ℕ) (word : List ℕ) → length places ≡ count → IsWord tracks word → IsWord count (map (relabelled places) word)
 IsWord-map places tracks count word size is = record { nonempty = some word is.nonempty; letters = letters word }
@@ -138,20 +131,20 @@ module _ (a new : Automaton) (places : List ℕ) (over : IsOverNodes a) (made : 
   inside letter = rw (← count) (relabelled-below places letter)
 
   first-is : (letter : ℕ) → letter < width new → first_state new letter ≡ first_state a (relabelled places letter)
-  first-is letter h = first_state-over new made letter h ∙ are.first_is letter ∙ sym (first_state-over a over (relabelled places letter) (inside letter))
+  first-is letter h = sym (first-map new made letter h) ∙ are.first_is letter ∙ first-map a over (relabelled places letter) (inside letter)
 
   next-is : (state letter : ℕ) → state < length a.accept → letter < width new → next_state new state letter ≡ next_state a state (relabelled places letter)
   next-is state letter k h =
       let size = over.nodes.rows_size in
       let rows = are.count in
       let here : state < length a.row_nodes = omega (arith, k, size) in
-      next_state-over new made state letter (omega (arith, here, rows)) h ∙ are.rows_are state letter here ∙ sym (next_state-over a over state (relabelled places letter) here (inside letter))
+      sym (row-map new made state letter (omega (arith, here, rows)) h) ∙ are.rows_are state letter here ∙ row-map a over state (relabelled places letter) here (inside letter)
 
   next-within : (state letter : ℕ) → state < length a.accept → next_state a state (relabelled places letter) < length a.accept
   next-within state letter k =
       let size = over.nodes.rows_size in
       let here : state < length a.row_nodes = omega (arith, k, size) in
-      rw (next_state-over a over state (relabelled places letter) here (inside letter)) (over.nodes.rows_within state 0 here (relabelled places letter))
+      rw (← row-map a over state (relabelled places letter) here (inside letter)) (over.nodes.rows_within state 0 here (relabelled places letter))
 
   run-is : (letters : List ℕ) (s t : ℕ) → s ≡ t → t < length a.accept → All (λ letter. letter < width new) letters → run new s letters ≡ run a t (map (relabelled places) letters)
   run-is [] s t e k all = e
@@ -163,7 +156,7 @@ module _ (a new : Automaton) (places : List ℕ) (over : IsOverNodes a) (made : 
   state-is [] all = refl
   state-is (l ∷ ls) all =
       run-is ls (first_state new l) (first_state a (relabelled places l)) (first-is l (all 0 0 (omega arith)))
-      (rw (first_state-over a over (relabelled places l) (inside l)) (over.nodes.first_within (relabelled places l))) (λ i d h. all (suc i) d (omega (arith, h)))
+      (rw (← first-map a over (relabelled places l) (inside l)) (over.nodes.first_within (relabelled places l))) (λ i d h. all (suc i) d (omega (arith, h)))
 
   all-cons : (letter : ℕ) (letters : List ℕ) → letter < width new → All (λ l. l < width new) letters → All (λ l. l < width new) (letter ∷ letters)
   all-cons letter letters here all zero d h = here

@@ -6,17 +6,13 @@ use Rattle.letter_diagram.specs.declared.diagrams.Shape.{Shape}
 use Rattle.letter_diagram.specs.declared.diagrams.Shape.TheVariants.{Leaf, Test}
 use Rattle.letter_diagram.specs.Diagram.{map_at, top_track, chosen, IsAt, IsTest, Grows}
 use Rattle.letter_diagram.specs.NodeMemo.{answer_of}
-use Rattle.letter_diagram.specs.Carried.{Carrier, RemembersCarried}
+use Rattle.letter_diagram.specs.Carried.{RemembersCarried}
 use Rattle.letter_diagram.proofs.Maps.{Grows-refl}
 use Rattle.letter_diagram.proofs.Carryings.{IsCarried-grows, Carries-leaf, Carries-test}
-use Rattle.auto_refine.specs.Leading.{IsLedFrom}
+use Rattle.auto_refine.specs.Leading.{IsLedFrom, by_table}
 use Rattle.auto_merge.specs.declared.keys.TheConstants.{NO_CLASS}
 use Rattle.auto_merge.specs.declared.keys.Key.{Key}
 use Rattle.auto_merge.specs.Keys.{IsKey, IsGiven, IsOwn, Adds, RemembersGiven, RemembersOwn}
-
--- nodes of other shapes are carried to the entries of a table
-abbrev pub by_table : List Shape → List ℕ → Carrier
-by_table from table = record { from = Some from; letters = λ letter. letter; values = λ value. get_or table value 0; tracks = MOST_TRACKS }
 
 pub IsLedFrom-grows : (from old new : List Shape) (table : List ℕ) (a r : ℕ) → Grows old new → IsLedFrom from old table a r → IsLedFrom from new table a r
 IsLedFrom-grows from old new table a r grows led = IsCarried-grows from from old new (λ letter. letter) (λ value. get_or table value 0) a r (Grows-refl from) grows led

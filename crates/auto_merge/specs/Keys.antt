@@ -3,8 +3,7 @@ use Rattle.std.specs.Prelude.{◌≡◌, ◌≢◌, ◌<◌, ◌⊎◌, ℕ, Boo
 use Rattle.letter_diagram.specs.declared.diagrams.Shape.{Shape}
 use Rattle.letter_diagram.specs.Diagram.{map_at}
 use Rattle.letter_diagram.specs.NodeMemo.{answer_of}
-use Rattle.auto_refine.specs.Leading.{IsLedFrom}
-use Rattle.auto_reduce.specs.Unmet.{entry_at}
+use Rattle.auto_refine.specs.Leading.{entry_at, IsLedFrom}
 use Rattle.auto_merge.specs.declared.keys.TheConstants.{NO_CLASS}
 use Rattle.auto_merge.specs.declared.keys.Key.{Key}
 use Rattle.auto_merge.specs.declared.keys.NoKey.{NoKey}

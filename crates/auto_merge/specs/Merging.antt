@@ -99,6 +99,12 @@ pub record KeepsClasses (old new : List ℕ) (state : ℕ) : Type 0 where
   pub has : slice_index new state ≢ NO_CLASS
   pub kept : (other : ℕ) → slice_index old other ≢ NO_CLASS → slice_index new other ≡ slice_index old other
 
+-- a letter at which a node's value is a class
+pub record LeadsToClass (shapes : List Shape) (key class : ℕ) : Type 0 where
+  pub letter : ℕ
+  pub leads : map_at shapes key letter ≡ class
+  pub is_class : class ≢ NO_CLASS
+
 -- a map is another one, but where it is NO_CLASS the other one is a class
 pub record AgreesWith (shapes : List Shape) (key row class : ℕ) : Type 0 where
   pub at : (letter : ℕ)

@@ -3,28 +3,15 @@ ghost use Rattle.std.specs.Prelude.{◌≡◌, ◌≤◌, ◌<◌, ◌↔◌, Li
 ghost use Rattle.track_word.specs.Word.{IsWord};
 ghost use Rattle.auto_core.specs.Automaton.{Accepts, IsAutomaton};
 ghost use Rattle.auto_core.specs.Reduced.{IsReachedState};
-ghost use Rattle.auto_reduce.specs.Quotient.{AreFlags};
 ghost use Rattle.auto_merge.specs.Merged.{IsMerging, HaveClasses, IsMergedBy, IsMerged};
 
-use crate::leading::{ToClasses, lead_rows};
+use crate::leading::lead_rows;
 use crate::merging::{Merging, has_own_classes};
 use crate::walk::all_classes;
 use auto_core::Auto;
 use auto_reduce::reduce;
-use auto_refine::picked;
+use auto_refine::{ByTable, flags, picked};
 use std::alloc::{AllocError, Global};
-
-/// The flags of some states, in their order.
-fn flags(alloc: Global, a: &Auto, states: &[u32]) -> Result<Vec<bool>, AllocError>
-    requires { All (λ state. state < length a.now.accept) states.now }
-    ensures { IfOk result (λ flags. AreFlags a.now states.now flags.items) }
-{
-    let mut flags = Vec::with_capacity(alloc, states.len())?;
-    for state in states {
-        flags.push(a.accept_of(*state))?;
-    }
-    Ok(flags)
-}
 
 /// The automaton whose states are the classes of the states of another, of which each has one.
 fn over_classes(alloc: Global, a: &Auto, mut merging: Merging) -> Result<Auto, AllocError>
@@ -36,7 +23,7 @@ fn over_classes(alloc: Global, a: &Auto, mut merging: Merging) -> Result<Auto, A
     let accept = flags(alloc, a, merging.owners.as_slice())?;
     let tracks = a.tracks().to_vec(alloc)?;
     let rows = picked(alloc, a.row_nodes(), merging.owners.as_slice())?;
-    let classes = ToClasses {
+    let classes = ByTable {
         from,
         table: merging.table.as_slice(),
     };

@@ -1,6 +1,8 @@
 //! Whether a state may get the class of a state to which its row leads.
-ghost use Rattle.std.specs.Prelude.{◌<◌, ◌≤◌, length, IsTrue};
-ghost use Rattle.auto_merge.specs.Merging.{AgreesWith};
+ghost use Rattle.std.specs.Prelude.{◌≡◌, ◌<◌, ◌≤◌, ℕ, None, length, IsTrue, IfSome};
+ghost use Rattle.letter_diagram.specs.Diagram.{map_at};
+ghost use Rattle.auto_merge.specs.declared.keys.TheConstants.{NO_CLASS};
+ghost use Rattle.auto_merge.specs.Merging.{AgreesWith, LeadsToClass};
 
 use crate::keys::NO_CLASS;
 use letter_diagram::{Diagrams, Node, Shape};
@@ -36,6 +38,8 @@ pub fn agrees(shapes: &Diagrams, key: Node, row: Node, class: u32, steps: &mut u
 /// A class to which a key leads, where there is one.
 pub fn first_class(shapes: &Diagrams, key: Node) -> Option<u32>
     requires { key < length shapes.now }
+    ensures some { IfSome result (LeadsToClass shapes.now key) }
+    ensures none { result ≡ None → (letter : ℕ) → map_at shapes.now key letter ≡ NO_CLASS }
 {
     match shapes.shape(key) {
         Shape::Leaf(class) => { if class == NO_CLASS { None } else { Some(class) } }

@@ -47,7 +47,8 @@ pub fn no_classes(alloc: Global, a: &Auto) -> Result<Merging, AllocError>
     })
 }
 
-/// Whether some state got a class of its own without a key.
+/// Whether some state got a class of its own without a key. What is said of the classes holds whatever this answers: where it answers no
+/// for yes, states that are alike may stay apart, and where it answers yes for no, a reduction is made for nothing.
 pub fn has_own_classes(merging: &Merging) -> bool {
     merging.keyed.len() < merging.owners.len()
 }
@@ -170,6 +171,7 @@ fn can_join(
 ) -> Result<bool, AllocError>
     requires merging { IsMerging a.now merging.old }
     requires within { state < length a.now.accept }
+    requires known { class < length merging.old.owners.items }
     requires key { IsKeyOf a.now merging.old.table.items merging.old.to state key }
     ensures can { IfOk result
         (λ can. IsTrue can → CanJoin a.now merging.old.table.items merging.old.owners.items state class) }
@@ -178,9 +180,6 @@ fn can_join(
     ensures owners { merging.new.owners ≡ merging.old.owners }
     ensures grows { Grows merging.old.to merging.new.to }
 {
-    if class as usize >= merging.owners.len() {
-        return Ok(false);
-    }
     let owner = merging.owners[class as usize];
     if a.accept_of(owner) != a.accept_of(state) {
         return Ok(false);
@@ -216,6 +215,7 @@ pub fn give_any(a: &Auto, state: u32, key: Node, merging: &mut Merging) -> Resul
     ensures merging { OnOk result (IsMerging a.now merging.new) }
     ensures given { OnOk result (KeepsClasses merging.old.table.items merging.new.table.items state) }
 {
+    let _ = a.diagrams(); // for its invariant
     if let Some(class) = first_class(&merging.to, key) {
         if can_join(a, state, key, class, merging)? {
             give_shared(a, state, class, merging);

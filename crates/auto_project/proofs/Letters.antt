@@ -4,15 +4,15 @@ use Rattle.std.specs.Int.{bit_at}
 use Rattle.std.specs.List.{All, filter, position_or_len}
 use Rattle.std.specs.List.Sorted.{IsStrictlyIncreasing}
 use Rattle.std.proofs.lemmas.Bool.{cases_eq, cases_lt, ne_eqb, eq-eqb}
-use Rattle.std.proofs.lemmas.Bool.Decides.{Decides-eqb}
 use Rattle.std.proofs.lemmas.List.Elements.{Contains-get_or}
 use Rattle.std.proofs.lemmas.List.Kept.{IsStrictlyIncreasing-filter}
-use Rattle.std.proofs.lemmas.List.Sums.{position_or_len_is, fails_before_first, passes_at_first}
+use Rattle.std.proofs.lemmas.List.Sums.{position_or_len_is, fails_before_first}
 use Rattle.std.proofs.lemmas.Nat.Bits.{bit_at-lt, bit_at-suc, bit_at_lowest, bit_at_above, bit_at_cat_low, bit_at_cat_high, same_from_bits_below}
 use Rattle.track_word.specs.declared.tracks.Var.{Var}
 use Rattle.track_word.specs.Tracks.{IsAscending, without_var, place, restrict}
 use Rattle.track_word.proofs.LetterBits.{bit_cases, half, lowest}
 use Rattle.letter_diagram.specs.Merged.{IsWithBit}
+use Rattle.auto_core.proofs.Inverses.{place-has}
 use Rattle.auto_core.proofs.Ascents.{place-at}
 use Rattle.auto_core.proofs.Restricted.{restrict-below}
 use Rattle.auto_project.specs.Lifted.{ReadsAs}
@@ -36,9 +36,6 @@ restrict-agree all (v ∷ vs) bound x y within agree =
     λ i. bit i + 2 * more i
 
 -- where a track stands
-pub name_is : (all : List Var) (v d : Var) → place all v < length all → (get_or all (place all v) d).0 ≡ v.0
-name_is all v d h = (Decides-eqb (get_or all (place all v) d).0 v.0).0 (passes_at_first (λ other. nat_eq other.0 v.0) all d h)
-
 pub place-below : (all : List Var) (v d : Var) (i : ℕ) → i < length all → (get_or all i d).0 ≡ v.0 → place all v < length all
 place-below all v d i h e = elim (cases_lt (place all v) (length all)) [
   | inl less ↦ less
@@ -149,7 +146,7 @@ module _ (all : List Var) (x : Var) (up : IsAscending all) where
         let v = get_or (without_var x all) i x in
         let c = (left-is i x below).0 in
         let there = place-below all (get_or (without_var x all) i x) (get_or (without_var x all) i x) c.0 c.1 (ap (λ (u : Var). u.0) c.2) in
-        let name = name_is all (get_or (without_var x all) i x) x there in
+        let name = place-has all (get_or (without_var x all) i x) x there in
         bit_at-restrict all (without_var x all) (lengthened all (without_var x all) bit letter) i x below
         ∙ bit_at-restrict (without_var x all) all (letter + bit * 2 ^ length (without_var x all)) (place all (get_or (without_var x all) i x)) x there
         ∙ ap (bit_at (letter + bit * 2 ^ length (without_var x all)))
@@ -175,7 +172,7 @@ module _ (all : List Var) (x : Var) (up : IsAscending all) where
             ∙ lost_bit letter (bit_at longer (place all x)) small (bit_at-lt longer (place all x)))
         | inr ne ↦
             let i_below = is-left j x below ne in
-            let name = name_is (without_var x all) (get_or all j x) x i_below in
+            let name = place-has (without_var x all) (get_or all j x) x i_below in
             let i = place (without_var x all) (get_or all j x) in
             sym (read ∙ low_bit letter (bit_at longer (place all x)) (place (without_var x all) (get_or all j x)) i_below
             ∙ ap (λ n. bit_at n (place (without_var x all) (get_or all j x))) (sym is.reads)

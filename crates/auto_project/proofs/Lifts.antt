@@ -2,7 +2,7 @@
 use Rattle.std.proofs.Common.{◌≡◌, ◌≢◌, ◌⊎◌, ◌↔◌, ℕ, zero, suc, ◌<◌, ◌^◌, Bool, true, false, true≢false, ◌||◌, nat_eq, List, [], ◌∷◌, ◌++◌, length, slice_index, replicate, Contains, arith, refl, sym, ap, ◌∙◌, subst, inl, inr}
 use Rattle.std.specs.List.{All, fold, AllZip, list_any}
 use Rattle.std.specs.List.Sorted.{IsStrictlyIncreasing}
-use Rattle.std.proofs.lemmas.Bool.{cases_lt}
+use Rattle.std.proofs.lemmas.Bool.{cases_lt, or_cases, or_left, or_right}
 use Rattle.std.proofs.lemmas.Bool.Decides.{Decides-eqb}
 use Rattle.std.proofs.lemmas.List.{get_or_past}
 use Rattle.std.proofs.lemmas.List.Elements.{All-get_or, All-nil, All-cons, All-head, All-tail}
@@ -41,23 +41,11 @@ any-from p (x ∷ xs) h = by (p x) refl h (any-from p xs)
     by true e h later = (x, Contains-head x xs, e)
     by false e h later = let r = later h in (r.0, Contains-cons x xs r.0 r.1, r.2)
 
-or-right : (b c : Bool) → c ≡ true → (b || c) ≡ true
-or-right true c h = refl
-or-right false c h = h
-
-pub or-left : (b c : Bool) → b ≡ true → (b || c) ≡ true
-or-left true c h = refl
-or-left false c h = absurd (true≢false (sym h))
-
-or-cases : (b c : Bool) → (b || c) ≡ true → (b ≡ true) ⊎ (c ≡ true)
-or-cases true c h = inl refl
-or-cases false c h = inr h
-
 pub any-to : (p : ℕ → Bool) (xs : List ℕ) (t : ℕ) → Contains xs t → p t ≡ true → list_any p xs ≡ true
 any-to p [] t c h = let k = c.1 in absurd (omega arith)
 any-to p (x ∷ xs) t c h = elim (Contains-cases x xs t c) [
-  | inl e ↦ or-left (p x) (list_any p xs) (ap p e ∙ h)
-  | inr rest ↦ or-right (p x) (list_any p xs) (any-to p xs t rest h)
+  | inl e ↦ or_left (p x) (list_any p xs) (ap p e ∙ h)
+  | inr rest ↦ or_right (p x) (list_any p xs) (any-to p xs t rest h)
 ]
 
 module _ (all some : List Var) where
@@ -252,7 +240,7 @@ module _ (a : Automaton) (x : Var) (valid : IsAutomaton a) where
           set passes in (
             one.0,
             one.1,
-            elim (or-cases _ _ one.2) [
+            elim (or_cases _ _ one.2) [
               | inl e ↦ record { longer = lengthened a.tracks (without_var x a.tracks) 0 letter; is = ReadsAs-lengthened a.tracks x valid.ascending letter 0 below; leads = (Decides-eqb _ t).0 e }
               | inr e ↦ record { longer = lengthened a.tracks (without_var x a.tracks) 1 letter; is = ReadsAs-lengthened a.tracks x valid.ascending letter 1 below; leads = (Decides-eqb _ t).0 e }
             ],
@@ -266,8 +254,8 @@ module _ (a : Automaton) (x : Var) (valid : IsAutomaton a) where
           (next_state a s (lengthened a.tracks (without_var x a.tracks) 1 letter)) t)
           set s member
           (elim (lengthened-or a.tracks x valid.ascending letter f.longer f.is) [
-            | inl e ↦ or-left _ _ ((Decides-eqb (next_state a s (lengthened a.tracks (without_var x a.tracks) 0 letter)) t).1 (ap (next_state a s) (sym e) ∙ f.leads))
-            | inr e ↦ or-right _ _ ((Decides-eqb (next_state a s (lengthened a.tracks (without_var x a.tracks) 1 letter)) t).1 (ap (next_state a s) (sym e) ∙ f.leads))
+            | inl e ↦ or_left _ _ ((Decides-eqb (next_state a s (lengthened a.tracks (without_var x a.tracks) 0 letter)) t).1 (ap (next_state a s) (sym e) ∙ f.leads))
+            | inr e ↦ or_right _ _ ((Decides-eqb (next_state a s (lengthened a.tracks (without_var x a.tracks) 1 letter)) t).1 (ap (next_state a s) (sym e) ∙ f.leads))
           ]))
 
   pub increasing-next : (set : List ℕ) (letter : ℕ) → IsStrictlyIncreasing (next_set a (without_var x a.tracks) set letter)

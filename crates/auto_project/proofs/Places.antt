@@ -28,7 +28,8 @@ use Rattle.auto_project.specs.SetMaps.{set_of, IsSetRow, AreSetRows, HasSetRows,
 use Rattle.auto_project.specs.Placed.{IsPlaced, AddsSetsOf}
 use Rattle.auto_project.proofs.Lists.{same_sets, Contains-head, Contains-cases, Contains-filter, Contains-from_filter, Contains-from_range, Contains-range, increasing-range}
 use Rattle.auto_project.proofs.Letters.{ascending-without, length-without, ReadsAs-lengthened}
-use Rattle.auto_project.proofs.Lifts.{any-from, any-to, or-left, steps-next, increasing-next, LiftLeads-begins}
+use Rattle.std.proofs.lemmas.Bool.{or_left}
+use Rattle.auto_project.proofs.Lifts.{any-from, any-to, steps-next, increasing-next, LiftLeads-begins}
 use Rattle.auto_project.proofs.SetMapLemmas.{stays, had, AreSetRows-kept}
 
 set-ascends : (shapes : List Shape) (sets : List (List ℕ)) (node letter : ℕ) → HasSets shapes sets node → All IsStrictlyIncreasing sets → IsStrictlyIncreasing (set_of shapes sets node letter)
@@ -133,7 +134,7 @@ module _ (shapes : List Shape) (sets : List (List ℕ)) (a : Automaton) (some : 
             (any-to
             (λ from. nat_eq (next_state a from (lengthened a.tracks some 0 letter)) t || nat_eq
             (next_state a from (lengthened a.tracks some 1 letter)) t)
-            set s c (or-left _ _ ((Decides-eqb t t).1 refl))),
+            set s c (or_left _ _ ((Decides-eqb t t).1 refl))),
       )
 
   fold-some : (letters set : List ℕ) (s : ℕ) → Contains set s → s < length a.accept → (t : ℕ) × Contains (fold (next_set a some) set letters) t

@@ -18,7 +18,7 @@ use Rattle.letter_diagram.specs.Merged.{HasSets, IsMerged}
 use Rattle.letter_diagram.proofs.Canonical.{flip, bit_at-flip_same, bit_at-flip_other}
 use Rattle.auto_core.specs.Automaton.{Automaton, IsAutomaton, width, first_state, next_state}
 use Rattle.auto_core.specs.Rows.{IsOverNodes}
-use Rattle.auto_core.proofs.RowLemmas.{get_or-row_of, get_or-rows_of}
+use Rattle.auto_core.proofs.NodeMaps.{first-map, row-map}
 use Rattle.auto_core.proofs.Renamed.{AreRenamed}
 use Rattle.auto_core.proofs.Restricted.{relabelled-places, restrict-below}
 use Rattle.auto_project.specs.Lifted.{ReadsAs, Begins, Follows}
@@ -29,12 +29,6 @@ use Rattle.auto_project.proofs.Letters.{restrict-agree, places-left, ReadsAs-len
 
 -- the rows as they are relabelled
 module _ (a : Automaton) (valid : IsAutomaton a) (over : IsOverNodes a) (some : List Var) where
-  first-map : (letter : ℕ) → letter < width a → map_at a.shapes a.first_node letter ≡ first_state a letter
-  first-map letter below = sym (ap (λ l. get_or l letter 0) over.first ∙ get_or-row_of a.shapes (2 ^ length a.tracks) a.first_node letter below)
-
-  row-map : (state letter : ℕ) → state < length a.row_nodes → letter < width a → map_at a.shapes (get_or a.row_nodes state 0) letter ≡ next_state a state letter
-  row-map state letter known below = sym (ap (λ l. get_or l (state * width a + letter) 0) over.next ∙ get_or-rows_of a.shapes (2 ^ length a.tracks) a.row_nodes state letter 0 known below)
-
   pub IsWideRow-made : (shapes : List Shape) (source node : ℕ) (value : ℕ → ℕ) → node < length shapes → ((letter : ℕ) → map_at a.shapes source letter < length a.accept)
       → ((letter : ℕ) → letter < width a → map_at a.shapes source letter ≡ value letter)
       → ((letter : ℕ) → map_at shapes node letter ≡ map_at a.shapes source (relabelled (map (place some) a.tracks) letter)) → IsWideRow shapes a some node value
@@ -49,7 +43,7 @@ module _ (a : Automaton) (valid : IsAutomaton a) (over : IsOverNodes a) (some : 
   pub HasWideRows-renamed : (shapes : List Shape) (first : ℕ) (rows : List ℕ) → AreRenamed a shapes (map (place some) a.tracks) first rows → HasWideRows shapes a some first rows
   HasWideRows-renamed shapes first rows are = record {
     valid = valid;
-    first_row = IsWideRow-made shapes a.first_node first (first_state a) are.first_known over.nodes.first_within first-map are.first_is;
+    first_row = IsWideRow-made shapes a.first_node first (first_state a) are.first_known over.nodes.first_within (first-map a over) are.first_is;
     state_rows = record {
       size = are.count ∙ over.nodes.rows_size;
       each = λ state node at.
@@ -59,7 +53,7 @@ module _ (a : Automaton) (valid : IsAutomaton a) (over : IsOverNodes a) (some : 
           let here = get_or_from_slice_get rows state node 0 at in
           IsWideRow-made shapes (get_or a.row_nodes state 0) node (next_state a state)
           (subst (λ n. n < length shapes) here (are.rows_known state known)) (over.nodes.rows_within state 0 known)
-          (λ letter below. row-map state letter known below)
+          (λ letter below. row-map a over state letter known below)
           (λ letter. ap (λ n. map_at shapes n letter) (sym here) ∙ are.rows_are state letter known);
     };
   }

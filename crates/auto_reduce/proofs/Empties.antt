@@ -1,13 +1,13 @@
--- A reduced automaton accepts a word exactly where a flag is set.
+-- An automaton whose states are all reached accepts a word exactly where a flag is set.
 use Rattle.std.proofs.Common.{◌≡◌, ℕ, ◌<◌, true, false, true≢false, List, length, sym, ap, ◌∙◌}
 use Rattle.track_word.specs.Word.{IsWord}
 use Rattle.auto_core.specs.Automaton.{Automaton, IsAutomaton, is_final, state_of, Accepts}
-use Rattle.auto_core.specs.Reduced.{IsReduced}
+use Rattle.auto_core.specs.Reduced.{IsReachedState}
 use Rattle.auto_core.proofs.States.{state_within}
 
-pub some_word : (a : Automaton) → IsReduced a → (state : ℕ) → state < length a.accept → is_final a state ≡ true → ((word : List ℕ) → IsWord (length a.tracks) word → Accepts a word → ⊥) → ⊥
-some_word a reduced state within flag none =
-    let r = reduced.reached state within in
+pub some_word : (a : Automaton) → ((state : ℕ) → state < length a.accept → IsReachedState a state) → (state : ℕ) → state < length a.accept → is_final a state ≡ true → ((word : List ℕ) → IsWord (length a.tracks) word → Accepts a word → ⊥) → ⊥
+some_word a reached state within flag none =
+    let r = reached state within in
     none r.word r.is_word (ap (is_final a) r.leads ∙ flag)
 
 pub no_word : (a : Automaton) → IsAutomaton a → ((state : ℕ) → state < length a.accept → is_final a state ≡ false) → (word : List ℕ) → IsWord (length a.tracks) word → Accepts a word → ⊥

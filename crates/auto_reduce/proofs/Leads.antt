@@ -8,9 +8,11 @@ use Rattle.track_word.specs.Word.{IsWord}
 use Rattle.letter_diagram.specs.Diagram.{LooksBelow}
 use Rattle.auto_core.specs.Automaton.{Automaton, width, first_state, next_state, state_of}
 use Rattle.auto_core.specs.Rows.{IsOverNodes}
-use Rattle.auto_core.proofs.RowLemmas.{low_bits, get_or-row_of}
+use Rattle.auto_core.proofs.RowLemmas.{low_bits}
+use Rattle.auto_core.proofs.NodeMaps.{first-map}
 use Rattle.auto_reduce.specs.Quotient.{IsCanonical, IsMet, IsOrderTo}
-use Rattle.auto_reduce.specs.Unmet.{entry_at, AddsRow}
+use Rattle.auto_refine.specs.Leading.{entry_at}
+use Rattle.auto_reduce.specs.Unmet.{AddsRow}
 use Rattle.auto_refine.proofs.Counting.{length_le-below}
 use Rattle.auto_core.proofs.States.{state_of-append, state_within}
 use Rattle.auto_reduce.proofs.Orders.{Contains-on}
@@ -85,7 +87,7 @@ module _ (a : Automaton) (canon : List ℕ) (over : IsOverNodes a) where
   pub leads-first : LeadsTo a canon (entry_at canon a.shapes a.first_node) (first_state a)
   leads-first = record {
     narrow = λ x y agree. ap (λ v. get_or canon v 0) (over.nodes.first_narrow.same x y agree);
-    leads = λ letter below. ap (λ v. get_or canon v 0) (sym (ap (λ l. get_or l letter 0) over.first ∙ get_or-row_of a.shapes (width a) a.first_node letter below));
+    leads = λ letter below. ap (λ v. get_or canon v 0) (first-map a over letter below);
   }
 
   pub leads-row : (state : ℕ) → state < length a.accept → LeadsTo a canon (entry_at canon a.shapes (get_or a.row_nodes state 0)) (next_state a state)

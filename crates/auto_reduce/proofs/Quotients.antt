@@ -10,11 +10,10 @@ use Rattle.auto_core.specs.Automaton.{Automaton, width, first_state, next_state,
 use Rattle.auto_core.specs.Reduced.{IsReduced, ToldApart}
 use Rattle.auto_core.specs.Rows.{AreRows, IsOverNodes, dense}
 use Rattle.auto_core.proofs.RowLemmas.{get_or-row_of, next_state-dense, IsAutomaton-dense}
-use Rattle.auto_refine.specs.Led.{ArePicked}
-use Rattle.auto_refine.specs.Leading.{IsLedFrom}
-use Rattle.auto_reduce.specs.Quotient.{IsCanonical, IsMet, IsOrder, AreNumbers, AreClassNumbers, AreFlags, IsQuotientBy}
+use Rattle.auto_refine.specs.Picked.{ArePicked, AreFlags}
+use Rattle.auto_refine.specs.Leading.{entry_at, IsLedFrom}
+use Rattle.auto_reduce.specs.Quotient.{IsCanonical, IsMet, IsOrder, AreNumbers, AreClassNumbers, IsQuotientBy}
 use Rattle.auto_reduce.specs.Numbering.{IsQuotient}
-use Rattle.auto_reduce.specs.Unmet.{entry_at}
 use Rattle.auto_core.proofs.States.{state_within, run_within}
 use Rattle.auto_refine.proofs.States.{first_within, next_within}
 use Rattle.auto_reduce.proofs.Orders.{place_in}

@@ -10,7 +10,8 @@ use Rattle.letter_diagram.specs.Listed.{EachAnswers}
 use Rattle.letter_diagram.specs.Carried.{IsCarried}
 use Rattle.auto_core.specs.Automaton.{Automaton, IsAutomaton, width, first_state, next_state, run, state_of, is_final, Accepts}
 use Rattle.auto_core.specs.Rows.{IsOverNodes}
-use Rattle.auto_core.proofs.RowLemmas.{get_or-row_of, map_at-narrow}
+use Rattle.auto_core.proofs.RowLemmas.{map_at-narrow}
+use Rattle.auto_core.proofs.NodeMaps.{first-map}
 use Rattle.auto_reduce.specs.Tables.{AcceptSameWords, HaveEqualTables, HaveEqualMaps}
 use Rattle.auto_ways.proofs.RowNodes.{AreRowNodes-own}
 use Rattle.auto_reduce.proofs.SameTables.{next_ext}
@@ -80,7 +81,7 @@ module _ (a : Automaton) (over : IsOverNodes a) where
   nodes_narrow = All-cons (λ node. LooksBelow a.shapes node (length a.tracks)) a.first_node a.row_nodes over.nodes.first_narrow over.nodes.rows_narrow
 
   nodes_lead : (place letter : ℕ) → place < length (nodes_of a) → letter < width a → map_at a.shapes (get_or (nodes_of a) place 0) letter ≡ entry a place letter
-  nodes_lead zero letter within below = sym (ap (λ l. get_or l letter 0) over.first ∙ get_or-row_of a.shapes (width a) a.first_node letter below)
+  nodes_lead zero letter within below = first-map a over letter below
   nodes_lead (suc state) letter within below = (AreRowNodes-own a over).leads state letter (omega (arith, within, nodes_size)) below
 
 module _ (a b : Automaton) (is_a : IsAutomaton a) (is_b : IsAutomaton b) (over_a : IsOverNodes a) (over_b : IsOverNodes b) (tracks : a.tracks ≡ b.tracks) (flags : a.accept ≡ b.accept)

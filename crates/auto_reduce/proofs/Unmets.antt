@@ -10,7 +10,8 @@ use Rattle.letter_diagram.specs.Leaves.{AreLeaves}
 use Rattle.letter_diagram.specs.NodeMemo.{answer_of}
 use Rattle.letter_diagram.specs.Carried.{Learns}
 use Rattle.auto_reduce.specs.Quotient.{AddsAll}
-use Rattle.auto_reduce.specs.Unmet.{entry_at, AddsRow, IsMetLeaf, IsPruned, RemembersPruned, StandsFor, AreDone, IsFound, Finds, AreDoneWith, AreDoneBut}
+use Rattle.auto_refine.specs.Leading.{entry_at}
+use Rattle.auto_reduce.specs.Unmet.{AddsRow, IsMetLeaf, IsPruned, RemembersPruned, StandsFor, AreDone, IsFound, Finds, AreDoneWith, AreDoneBut}
 use Rattle.auto_reduce.specs.declared.unmet.Unmet.{Unmet}
 use Rattle.auto_reduce.specs.declared.unmet.Unmet.TheVariants.{Nothing, One, Several}
 use Rattle.std.proofs.lemmas.List.Elements.{Contains-push, Contains-append_left}

@@ -5,6 +5,7 @@ pub use Rattle.auto_core.specs.Reduced
 pub use Rattle.auto_core.specs.Integers
 pub use Rattle.auto_refine.specs.Coarsest
 pub use Rattle.auto_refine.specs.Leading
+pub use Rattle.auto_refine.specs.Picked
 pub mod Quotient
 pub mod Unmet
 pub mod Numbering

@@ -5,7 +5,7 @@ use Rattle.letter_diagram.specs.declared.diagrams.Shape.{Shape}
 use Rattle.auto_core.specs.Automaton.{Automaton, IsAutomaton, width, first_state, next_state, state_of, is_final}
 use Rattle.auto_core.specs.Reduced.{ToldApart}
 use Rattle.auto_core.specs.Rows.{AreRows, dense}
-use Rattle.auto_refine.specs.Led.{ArePicked}
+use Rattle.auto_refine.specs.Picked.{ArePicked, AreFlags}
 
 -- for each state one that nothing tells apart from it, the same for all of these
 pub record IsCanonical (a : Automaton) (canon : List ℕ) : Type 0 where
@@ -90,11 +90,6 @@ pub record AreFirstAndPicked (a : Automaton) (order nodes : List ℕ) : Type 0 w
   pub picked : List ℕ
   pub are_picked : ArePicked a.row_nodes order picked
   pub is : nodes ≡ a.first_node ∷ picked
-
--- the flags of the states of an order
-pub record AreFlags (a : Automaton) (order : List ℕ) (flags : List Bool) : Type 0 where
-  pub size : length flags ≡ length order
-  pub at : (place : ℕ) → place < length order → slice_index_or flags place false ≡ is_final a (slice_index order place)
 
 -- with the flags of an order's states, the first of some nodes and those behind it are the rows of an automaton
 pub record AreRowsOver (a : Automaton) (order : List ℕ) (shapes : List Shape) (rows : List ℕ) : Type 0 where

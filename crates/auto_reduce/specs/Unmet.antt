@@ -4,12 +4,9 @@ use Rattle.limits.specs.declared.numbers.TheConstants.{MOST_TRACKS}
 use Rattle.letter_diagram.specs.declared.diagrams.Shape.{Shape}
 use Rattle.letter_diagram.specs.Diagram.{map_at, top_track}
 use Rattle.letter_diagram.specs.NodeMemo.{answer_of}
+use Rattle.auto_refine.specs.Leading.{entry_at}
 use Rattle.auto_reduce.specs.declared.unmet.Unmet.{Unmet}
 use Rattle.auto_reduce.specs.declared.unmet.Unmet.TheVariants.{Nothing, One, Several}
-
--- the entry of a table at the value of a node's map
-abbrev pub entry_at : List ℕ → List Shape → ℕ → ℕ → ℕ
-entry_at table shapes node letter = slice_index table (map_at shapes node letter)
 
 -- an order goes on by the values of a row that it did not have, by the least letters that lead to them
 pub record AddsRow (row : ℕ → ℕ) (old new : List ℕ) : Type 0 where

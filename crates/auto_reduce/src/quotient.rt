@@ -3,14 +3,14 @@ ghost use Rattle.std.specs.Prelude.{◌≡◌, ◌≤◌, ◌<◌, ◌+◌, ◌^
 ghost use Rattle.track_word.specs.Word.{IsWord};
 ghost use Rattle.auto_core.specs.Automaton.{Accepts, IsAutomaton};
 ghost use Rattle.auto_core.specs.Reduced.{IsReduced};
-ghost use Rattle.auto_reduce.specs.Quotient.{IsCanonical, IsOrder, AreNumbers, AreClassNumbers, ArePlaces, AreFirstAndPicked, AreFlags, AreRowsOver, IsOverRows, IsQuotientBy};
+ghost use Rattle.auto_reduce.specs.Quotient.{IsCanonical, IsOrder, AreNumbers, AreClassNumbers, ArePlaces, AreFirstAndPicked, AreRowsOver, IsOverRows, IsQuotientBy};
 ghost use Rattle.auto_reduce.specs.Numbering.{IsNumberedTo, IsNumberedBreadthFirst, IsQuotient};
 
 use crate::canonical::canonical;
 use crate::order::Order;
 use crate::unmet::{Kept, Rows, add_row, first_met};
 use auto_core::Auto;
-use auto_refine::{RoundMemo, lead_nodes, picked};
+use auto_refine::{RoundMemo, flags, lead_nodes, picked};
 use letter_diagram::{Diagrams, Node};
 use std::alloc::{AllocError, Global};
 
@@ -150,18 +150,6 @@ fn class_numbers(alloc: Global, canon: &[u32], numbers: &[u32]) -> Result<Vec<u3
         table.push(numbers[*state as usize])?;
     }
     Ok(table)
-}
-
-/// The flags of some states, in their order.
-fn flags(alloc: Global, a: &Auto, order: &[u32]) -> Result<Vec<bool>, AllocError>
-    requires { All (λ state. state < length a.now.accept) order.now }
-    ensures { IfOk result (λ flags. AreFlags a.now order.now flags.items) }
-{
-    let mut flags = Vec::with_capacity(alloc, order.len())?;
-    for state in order {
-        flags.push(a.accept_of(*state))?;
-    }
-    Ok(flags)
 }
 
 /// The automaton of the same words with no state too many (Moore 1956), whose states are numbered in the order in which

@@ -1,7 +1,8 @@
 //! The canonical states to which a row leads and that were not met before it.
 ghost use Rattle.std.specs.Prelude.{[], ◌≡◌, ◌≢◌, ◌<◌, ℕ, true, false, length, slice_index_or, slice_set, IfOk, OnOk, Contains, AllPairs};
 ghost use Rattle.letter_diagram.specs.Diagram.{map_at, top_track, Grows};
-ghost use Rattle.auto_reduce.specs.Unmet.{entry_at, AddsRow, IsMetLeaf, IsPruned, RemembersPruned, StandsFor, AreDone, AreDoneWith, AreDoneBut, Finds};
+ghost use Rattle.auto_refine.specs.Leading.{entry_at};
+ghost use Rattle.auto_reduce.specs.Unmet.{AddsRow, IsMetLeaf, IsPruned, RemembersPruned, StandsFor, AreDone, AreDoneWith, AreDoneBut, Finds};
 
 use crate::order::Order;
 use auto_refine::{RoundMemo, lead_nodes};

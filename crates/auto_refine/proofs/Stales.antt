@@ -11,7 +11,8 @@ use Rattle.auto_refine.specs.Coarsest.{AreMembers}
 use Rattle.auto_refine.specs.Listing.{IsListing}
 use Rattle.auto_refine.specs.Moves.{AreSettled}
 use Rattle.auto_ways.specs.RowNodes.{AreRowNodes}
-use Rattle.auto_refine.specs.Led.{ArePicked, IsLed, IsShared, AreLedRows, AreLedAgain}
+use Rattle.auto_refine.specs.Picked.{ArePicked}
+use Rattle.auto_refine.specs.Led.{IsLed, IsShared, AreLedRows, AreLedAgain}
 use Rattle.auto_refine.specs.Put.{IsPut}
 use Rattle.auto_refine.specs.Leading.{IsLedFrom}
 use Rattle.auto_refine.proofs.Rounds.{IsLed-from}

@@ -1,13 +1,8 @@
--- The nodes of the rows, and nodes that lead the rows to the classes of a partition.
+-- Nodes that lead the rows to the classes of a partition.
 use Rattle.std.specs.Prelude.{◌≡◌, ◌≢◌, ℕ, ◌<◌, List, length, All, Contains, slice_index}
 use Rattle.letter_diagram.specs.declared.diagrams.Shape.{Shape}
 use Rattle.letter_diagram.specs.Diagram.{map_at, LooksBelow}
 use Rattle.auto_core.specs.Automaton.{Automaton, width, next_state}
-
--- the nodes of the states of an order
-pub record ArePicked (rows order picked : List ℕ) : Type 0 where
-  pub size : length picked ≡ length order
-  pub at : (place : ℕ) → place < length order → slice_index picked place ≡ slice_index rows (slice_index order place)
 
 -- another state has the class of a state
 pub record IsShared (classes : List ℕ) (state : ℕ) : Type 0 where

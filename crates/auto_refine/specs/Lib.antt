@@ -9,4 +9,5 @@ pub mod Led
 pub mod Put
 pub mod Refining
 pub mod Leading
+pub mod Picked
 pub mod RoundMemo

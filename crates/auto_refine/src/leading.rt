@@ -1,9 +1,8 @@
 //! Nodes of one `Diagrams` with the maps of nodes of another, led through a table.
-ghost use Rattle.std.specs.Prelude.{◌<◌, ℕ, All, Some, length, slice_index, IfOk};
-ghost use Rattle.limits.specs.declared.numbers.TheConstants.{MOST_TRACKS};
+ghost use Rattle.std.specs.Prelude.{◌<◌, ℕ, All, length, IfOk};
 ghost use Rattle.letter_diagram.specs.Diagram.{map_at, Grows};
 ghost use Rattle.letter_diagram.specs.Listed.{EachAnswers};
-ghost use Rattle.auto_refine.specs.Leading.{IsLedFrom};
+ghost use Rattle.auto_refine.specs.Leading.{IsLedFrom, by_table};
 
 use crate::round_memo::RoundMemo;
 use letter_diagram::{Carry, Diagrams, Node, Shape, carried_all};
@@ -11,19 +10,13 @@ use std::alloc::AllocError;
 
 /// Carries nodes of another `Diagrams` to the entries of a table at their values.
 #[derive(Drop)]
-struct ByTable<'a> {
-    from: &'a Diagrams,
-    table: &'a [u32],
+pub struct ByTable<'a> {
+    pub from: &'a Diagrams,
+    pub table: &'a [u32],
 }
 
 impl<'a> Carry for ByTable<'a> {
-    ghost carrier = { λ s.
-        record {
-          from = Some s.from.now;
-          letters = λ letter. letter;
-          values = slice_index s.table.now;
-          tracks = MOST_TRACKS;
-        } };
+    ghost carrier = { λ s. by_table s.from.now s.table.now };
 
     ghost can = { λ s value. value < length s.table.now };
 

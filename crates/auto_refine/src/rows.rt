@@ -1,7 +1,8 @@
-//! The rows of some states.
+//! The rows and the flags of some states.
 ghost use Rattle.std.specs.Prelude.{◌<◌, All, length, IfOk};
-ghost use Rattle.auto_refine.specs.Led.{ArePicked};
+ghost use Rattle.auto_refine.specs.Picked.{ArePicked, AreFlags};
 
+use auto_core::Auto;
 use letter_diagram::Node;
 use std::alloc::{AllocError, Global};
 
@@ -15,4 +16,16 @@ pub fn picked(alloc: Global, rows: &[Node], order: &[u32]) -> Result<Vec<Node>, 
         picked.push(rows[*state as usize])?;
     }
     Ok(picked)
+}
+
+/// The flags of some states, in their order.
+pub fn flags(alloc: Global, a: &Auto, order: &[u32]) -> Result<Vec<bool>, AllocError>
+    requires { All (λ state. state < length a.now.accept) order.now }
+    ensures { IfOk result (λ flags. AreFlags a.now order.now flags.items) }
+{
+    let mut flags = Vec::with_capacity(alloc, order.len())?;
+    for state in order {
+        flags.push(a.accept_of(*state))?;
+    }
+    Ok(flags)
 }

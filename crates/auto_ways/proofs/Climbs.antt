@@ -3,7 +3,7 @@ use Rattle.std.proofs.Common.{◌≡◌, ◌≢◌, ◌⊎◌, ℕ, ◌<◌, ◌
 use Rattle.smallvec.specs.SmallVec.{SmallVec}
 use Rattle.std.specs.Set.{is_member}
 use Rattle.std.proofs.lemmas.Bool.Decides.{Decides-eqb}
-use Rattle.std.proofs.lemmas.Bool.{cases_eq, cases_lt}
+use Rattle.std.proofs.lemmas.Bool.{cases_eq, cases_lt, or_cases}
 use Rattle.std.proofs.lemmas.List.{length-set, get_or_read, get_or-set_same, get_or-set_other, length_push}
 use Rattle.std.proofs.lemmas.List.Elements.{All-get_or, All-from_get_or, All-contains, All-push, Contains-get_or, Contains-push, Contains-push_cases, Contains-append_left, Contains-append_right}
 use Rattle.std.proofs.lemmas.Map.Made.{is_member-Decides}
@@ -173,11 +173,6 @@ AreClimbed-step above owners marks new waiting rest more found place next listed
     ]
   ];
 }
-
-or_cases : (a b : Bool) → (a || b) ≡ true → (a ≡ true) ⊎ (b ≡ true)
-or_cases true b on = inl refl
-or_cases false true on = inr refl
-or_cases false false on = cc
 
 -- what climbed up to the end is marked wherever it leads to the states
 AreMarks-climbed : (a : Automaton) (w : Ways) (states : List ℕ) (marks : List Bool) (found : List ℕ) (r : AreRowWays a w) → AreStarted states w.leaves.items marks

@@ -1,6 +1,6 @@
 use Rattle.std.proofs.Common.{arith, w32}
 use Rattle.std.proofs.lemmas.Int.{to_z-of_z}
-use Rattle.auto_core.proofs.Grown.{Grows-trans}
+use Rattle.letter_diagram.proofs.Maps.{Grows-trans}
 use Rattle.auto_core.proofs.Assembled.{SFits-near, AreSumRows-grows, AreSumRows-push, IsSumRow-doubled}
 use Rattle.auto_core.proofs.lin.state_rows.Goals as goal
 

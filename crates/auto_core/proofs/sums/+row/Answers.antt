@@ -3,7 +3,8 @@ use Rattle.std.proofs.lemmas.Int.{ints, to_z-of_z}
 use mir.Val.{SFits}
 use Rattle.auto_core.specs.Sums.{IsSumRow, IsNear, IsSmall, StandsFor, key_eq}
 use Rattle.std.specs.HashMap.{Updates}
-use Rattle.auto_core.proofs.Grown.{Grows-trans, chosen-grows}
+use Rattle.letter_diagram.proofs.Maps.{Grows-trans}
+use Rattle.auto_core.proofs.Grown.{chosen-grows}
 use Rattle.auto_core.proofs.SumRows.{IsSumRow-grows, RemembersSums-grows, RemembersSums-insert, IsSumRow-leaf, IsSumRow-test}
 use Rattle.auto_core.proofs.sums.+row.Goals as goal
 

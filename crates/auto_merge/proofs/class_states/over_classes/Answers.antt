@@ -1,7 +1,6 @@
 use Rattle.std.proofs.Common.{rules, ◌≡◌}
 use Rattle.auto_walk.proofs.WalkWords.{is_dense}
-use Rattle.auto_refine.specs.Led.{ArePicked}
-use Rattle.auto_reduce.specs.Quotient.{AreFlags}
+use Rattle.auto_refine.specs.Picked.{ArePicked, AreFlags}
 use Rattle.auto_merge.specs.Merged.{AreLed}
 use Rattle.auto_merge.proofs.ClassStates.{owners_rows, nodes_known, nodes_in_table, AreRows-classes, IsMergedBy-classes}
 use Rattle.auto_merge.proofs.class_states.over_classes.Goals as goal

@@ -1,7 +1,8 @@
 use Rattle.std.proofs.Common.{◌≡◌, ◌<◌, get_or, length, [], arith, ap, sym, refl, ◌+◌}
 use Rattle.std.proofs.lemmas.Option.{get_or_from_slice_get}
 use Rattle.auto_core.specs.Automaton.{first_state, next_state}
-use Rattle.auto_reduce.specs.Unmet.{entry_at, AddsRow}
+use Rattle.auto_refine.specs.Leading.{entry_at}
+use Rattle.auto_reduce.specs.Unmet.{AddsRow}
 use Rattle.auto_reduce.proofs.Leads.{leads-first, leads-row, order-first, order-next, order_known, order_few}
 use Rattle.auto_reduce.proofs.Numberings.{IsNumberedTo-row, IsNumberedTo-none, order-closed, led-next}
 use Rattle.auto_reduce.proofs.Unmets.{AreDone-none}

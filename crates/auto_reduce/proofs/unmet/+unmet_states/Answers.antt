@@ -1,5 +1,6 @@
 use Rattle.std.proofs.Common.{arith, ℕ}
-use Rattle.auto_reduce.specs.Unmet.{entry_at, Finds, AreDoneWith, AreDoneBut}
+use Rattle.auto_refine.specs.Leading.{entry_at}
+use Rattle.auto_reduce.specs.Unmet.{Finds, AreDoneWith, AreDoneBut}
 use Rattle.auto_reduce.proofs.Unmets.{Finds-leaf, Finds-test, AreDoneWith-kept, AreDoneWith-note, AreDoneBut-note}
 use Rattle.auto_reduce.proofs.unmet.+unmet_states.Goals as goal
 use Rattle.auto_reduce.proofs.unmet.+unmet_states.Goals.{in-Leaf, in-Test+in_ok-low-in-Test+in_ok-unmet-in-Test}

@@ -1,6 +1,7 @@
 use Rattle.std.proofs.Common.{subst}
 use Rattle.auto_reduce.specs.declared.unmet.Unmet.TheVariants.{Nothing}
-use Rattle.auto_reduce.specs.Unmet.{entry_at, Finds, AreDoneWith}
+use Rattle.auto_refine.specs.Leading.{entry_at}
+use Rattle.auto_reduce.specs.Unmet.{Finds, AreDoneWith}
 use Rattle.auto_reduce.proofs.Unmets.{AddsRow-none, AddsRow-one, AreDone-from_none, AreDone-from_one}
 use Rattle.auto_reduce.proofs.unmet.add_row.Goals as goal
 

@@ -1,6 +1,6 @@
 use Rattle.std.proofs.Common.{◌≡◌, get_or, Contains, sym, ap, ◌∙◌, subst}
 use Rattle.std.proofs.lemmas.List.Elements.{Contains-get_or}
-use Rattle.auto_reduce.specs.Unmet.{entry_at}
+use Rattle.auto_refine.specs.Leading.{entry_at}
 use Rattle.auto_reduce.proofs.Unmets.{AddsRow-pruned, AreDone-more}
 use Rattle.auto_reduce.proofs.unmet.add_several.Goals as goal
 

@@ -1,8 +1,7 @@
 use Rattle.std.proofs.Common.{arith, subst, get_or}
 use Rattle.std.proofs.lemmas.List.{get_or_read}
 use Rattle.letter_diagram.specs.Leaves.{AreLeaves}
-use Rattle.auto_refine.specs.Leading.{IsLedFrom}
-use Rattle.auto_reduce.specs.Unmet.{entry_at}
+use Rattle.auto_refine.specs.Leading.{entry_at, IsLedFrom}
 use Rattle.auto_reduce.proofs.Unmets.{AddsRow-first}
 use Rattle.auto_reduce.proofs.unmet.first_met.Goals as goal
 
