@@ -7,6 +7,7 @@ use Rattle.track_word.specs.declared.tracks.Var.{Var}
 use Rattle.track_word.specs.Word.{IsWord}
 use Rattle.track_word.specs.Tracks.{IsAscending, part_of, with_var, with_vars}
 use Rattle.auto_core.specs.Automaton.{Automaton, Accepts}
+use Rattle.auto_core.specs.Integers.{DecidesIntegers}
 use Rattle.auto_core.specs.Reduced.{IsReduced}
 use Rattle.auto_core.specs.Spread.{BothSpreadExceeds}
 use Rattle.lin_formula.specs.Tree.{Among, And, Not, Or}
@@ -15,12 +16,12 @@ use Rattle.lin_formula.specs.Free.{IsOneOf}
 use Rattle.lin_formula.proofs.FreeVars.{if_cases}
 use Rattle.formula_auto.specs.Step.{Exceeds}
 use Rattle.formula_auto.specs.Decides.{Decides}
-use Rattle.formula_auto.specs.declared.connective.Connective.TheVariants.{And as by_and, Or as by_or}
-use Rattle.formula_auto.proofs.Exceedings.{Exceeds-connect}
-use Rattle.formula_auto.proofs.Parts.{Decides-And, Decides-Or, Decides-Not, Decides-same}
+use Rattle.formula_auto.specs.declared.connective.Connective.TheVariants.{Or as by_or}
+use Rattle.formula_auto.proofs.Exceedings.{Exceeds-and_not, Exceeds-connect}
+use Rattle.formula_auto.proofs.Parts.{Decides-AndNot, Decides-Or, Decides-same}
 use Rattle.formula_auto.proofs.Projections.{above}
 use Rattle.set_plan.specs.Program.{IsSetOf}
-use Rattle.set_plan.specs.Sets.{IsSetOn}
+use Rattle.set_plan.specs.Sets.{DecidesOn, IsReached, IsReachedOn, IsSetOn}
 use Rattle.set_plan.specs.Unite.{difference, either, two}
 use Rattle.set_plan.proofs.Decided.{Decides-among, DecidesIntegers-decides, IsSetOf-decides, with_vars-ascending}
 use Rattle.set_plan.proofs.FewStates.{few_states}
@@ -48,7 +49,10 @@ with_vars-there (x ∷ xs) ys h there = ap (with_var x) (with_vars-there xs ys h
 pub with_vars-self : (tracks : List Var) → IsAscending tracks → with_vars tracks tracks ≡ tracks
 with_vars-self tracks h = with_vars-there tracks tracks (AllPairs-from_increasing (map (λ v. v.0) tracks) h) (λ x is. is)
 
-module _ (tracks : List Var) (a b : Automaton) (left : IsSetOn tracks a) (right : IsSetOn tracks b) (ascending : IsAscending a.tracks) where
+pub decides-on : (tracks : List Var) (a : Automaton) → IsSetOn tracks a → DecidesOn tracks a
+decides-on tracks a on = record { integers = on.integers; tracks_are = on.tracks_are; few = on.few }
+
+module _ (tracks : List Var) (a b : Automaton) (left : DecidesOn tracks a) (right : DecidesOn tracks b) (ascending : IsAscending a.tracks) where
   pub ordered : IsAscending tracks
   ordered = subst IsAscending left.tracks_are ascending
 
@@ -85,60 +89,54 @@ module _ (tracks : List Var) (a b : Automaton) (left : IsSetOn tracks a) (right 
   pub either-exceeds : (budget : ℕ) → BothSpreadExceeds a.tracks b.tracks (Accepts a) (Accepts b) budget ↔ Exceeds (Or (Among 0 tracks) (Among 1 tracks)) (members (two (Table a) (Table b))) budget
   either-exceeds budget = Exceeds-connect (members (two (Table a) (Table b))) (Among 0 tracks) (Among 1 tracks) a b budget first second by_or
 
-  pub either-set : (c r : Automaton) → c.tracks ≡ with_vars a.tracks b.tracks
-      → ((word : List ℕ) → IsWord (length c.tracks) word → Accepts c word ↔ (Accepts a (part_of c.tracks a.tracks word) ⊎ Accepts b (part_of c.tracks b.tracks word)))
+  module _ (c r : Automaton) (tracks_c : c.tracks ≡ with_vars a.tracks b.tracks)
+      (words_c : (word : List ℕ) → IsWord (length c.tracks) word → Accepts c word ↔ (Accepts a (part_of c.tracks a.tracks word) ⊎ Accepts b (part_of c.tracks b.tracks word)))
+      (tracks_r : r.tracks ≡ c.tracks) (words_r : (word : List ℕ) → IsWord (length c.tracks) word → Accepts r word ↔ Accepts c word) where
+    decided : Decides r (Or (Among 0 tracks) (Among 1 tracks)) (members (two (Table a) (Table b)))
+    decided = either-decides c r tracks_c words_c tracks_r words_r
+
+    either-integers : DecidesIntegers r
+    either-integers = DecidesIntegers-decides (Or (Among 0 tracks) (Among 1 tracks)) (two (Table a) (Table b)) r decided
+
+    pub either-set : IsReduced r → (budget : ℕ) → budget ≤ 200000 → (BothSpreadExceeds a.tracks b.tracks (Accepts a) (Accepts b) budget → ⊥) → IsSetOn tracks r
+    either-set reduced budget high within =
+        let states =
+        few_states (members (two (Table a) (Table b))) budget (Or (Among 0 tracks) (Among 1 tracks)) r 1 (omega arith) decided reduced
+        (inr (λ over. within ((either-exceeds budget).1 over), refl)) in
+        record { reduced = reduced; integers = either-integers; tracks_are = decided.tracks ∙ over-tracks; few = omega (arith, states, high) }
+
+    pub either-reached : IsReached r → length r.accept ≤ 200000 → IsReachedOn tracks r
+    either-reached reached few = record { reached = reached; decides = record { integers = either-integers; tracks_are = decided.tracks ∙ over-tracks; few = few } }
+
+  except-decides : (c r : Automaton) → c.tracks ≡ with_vars a.tracks b.tracks
+      → ((word : List ℕ) → IsWord (length c.tracks) word → Accepts c word ↔ (Accepts a (part_of c.tracks a.tracks word) × (¬ Accepts b (part_of c.tracks b.tracks word))))
+      → r.tracks ≡ c.tracks → ((word : List ℕ) → IsWord (length c.tracks) word → Accepts r word ↔ Accepts c word)
+      → Decides r (And (Among 0 tracks) (Not (Among 1 tracks))) (members (two (Table a) (Table b)))
+  except-decides c r tracks_c words_c tracks_r words_r =
+      let e = members (two (Table a) (Table b)) in
+      Decides-same e (And (Among 0 tracks) (Not (Among 1 tracks))) c r (Decides-AndNot e (Among 0 tracks) (Among 1 tracks) a b c first second tracks_c words_c) tracks_r words_r
+
+  pub except-is : (c r : Automaton) → c.tracks ≡ with_vars a.tracks b.tracks
+      → ((word : List ℕ) → IsWord (length c.tracks) word → Accepts c word ↔ (Accepts a (part_of c.tracks a.tracks word) × (¬ Accepts b (part_of c.tracks b.tracks word))))
+      → r.tracks ≡ c.tracks → ((word : List ℕ) → IsWord (length c.tracks) word → Accepts r word ↔ Accepts c word) → IsSetOf (difference tracks (Table a) (Table b)) (Table r)
+  except-is c r tracks_c words_c tracks_r words_r =
+      IsSetOf-decides (And (Among 0 tracks) (Not (Among 1 tracks))) (two (Table a) (Table b)) r (except-decides c r tracks_c words_c tracks_r words_r)
+
+  pub except-exceeds : (budget : ℕ) → BothSpreadExceeds a.tracks b.tracks (Accepts a) (Accepts b) budget ↔ Exceeds (And (Among 0 tracks) (Not (Among 1 tracks))) (members (two (Table a) (Table b))) budget
+  except-exceeds budget = Exceeds-and_not (members (two (Table a) (Table b))) (Among 0 tracks) (Among 1 tracks) a b budget first second
+
+  pub except-set : (c r : Automaton) → c.tracks ≡ with_vars a.tracks b.tracks
+      → ((word : List ℕ) → IsWord (length c.tracks) word → Accepts c word ↔ (Accepts a (part_of c.tracks a.tracks word) × (¬ Accepts b (part_of c.tracks b.tracks word))))
       → r.tracks ≡ c.tracks → ((word : List ℕ) → IsWord (length c.tracks) word → Accepts r word ↔ Accepts c word) → IsReduced r
       → (budget : ℕ) → budget ≤ 200000 → (BothSpreadExceeds a.tracks b.tracks (Accepts a) (Accepts b) budget → ⊥) → IsSetOn tracks r
-  either-set c r tracks_c words_c tracks_r words_r reduced budget high within =
-      let decides = either-decides c r tracks_c words_c tracks_r words_r in
+  except-set c r tracks_c words_c tracks_r words_r reduced budget high within =
+      let decides = except-decides c r tracks_c words_c tracks_r words_r in
       let states =
-      few_states (members (two (Table a) (Table b))) budget (Or (Among 0 tracks) (Among 1 tracks)) r 1 (omega arith) decides reduced
-      (inr (λ over. within ((either-exceeds budget).1 over), refl)) in
+      few_states (members (two (Table a) (Table b))) budget (And (Among 0 tracks) (Not (Among 1 tracks))) r 1 (omega arith) decides reduced
+      (inr (λ over. within ((except-exceeds budget).1 over), refl)) in
       record {
         reduced = reduced;
-        integers = DecidesIntegers-decides (Or (Among 0 tracks) (Among 1 tracks)) (two (Table a) (Table b)) r decides;
+        integers = DecidesIntegers-decides (And (Among 0 tracks) (Not (Among 1 tracks))) (two (Table a) (Table b)) r decides;
         tracks_are = decides.tracks ∙ over-tracks;
         few = omega (arith, states, high);
       }
-
-  module _ (n : Automaton) (tracks_n : n.tracks ≡ b.tracks) (words_n : (word : List ℕ) → IsWord (length b.tracks) word → Accepts n word ↔ (¬ Accepts b word)) where
-    not-second : Decides n (Not (Among 1 tracks)) (members (two (Table a) (Table b)))
-    not-second = Decides-Not (members (two (Table a) (Table b))) (Among 1 tracks) b n second tracks_n words_n
-
-    pub few-tracks_not : length a.tracks ≤ 20 → length (with_vars a.tracks n.tracks) ≤ 20
-    few-tracks_not few = subst (λ (t : List Var). length (with_vars a.tracks t) ≤ 20) (sym tracks_n) (few-tracks few)
-
-    except-decides : (c r : Automaton) → c.tracks ≡ with_vars a.tracks n.tracks
-        → ((word : List ℕ) → IsWord (length c.tracks) word → Accepts c word ↔ (Accepts a (part_of c.tracks a.tracks word) × Accepts n (part_of c.tracks n.tracks word)))
-        → r.tracks ≡ c.tracks → ((word : List ℕ) → IsWord (length c.tracks) word → Accepts r word ↔ Accepts c word)
-        → Decides r (And (Among 0 tracks) (Not (Among 1 tracks))) (members (two (Table a) (Table b)))
-    except-decides c r tracks_c words_c tracks_r words_r =
-        let e = members (two (Table a) (Table b)) in
-        Decides-same e (And (Among 0 tracks) (Not (Among 1 tracks))) c r (Decides-And e (Among 0 tracks) (Not (Among 1 tracks)) a n c first not-second tracks_c words_c) tracks_r words_r
-
-    pub except-is : (c r : Automaton) → c.tracks ≡ with_vars a.tracks n.tracks
-        → ((word : List ℕ) → IsWord (length c.tracks) word → Accepts c word ↔ (Accepts a (part_of c.tracks a.tracks word) × Accepts n (part_of c.tracks n.tracks word)))
-        → r.tracks ≡ c.tracks → ((word : List ℕ) → IsWord (length c.tracks) word → Accepts r word ↔ Accepts c word) → IsSetOf (difference tracks (Table a) (Table b)) (Table r)
-    except-is c r tracks_c words_c tracks_r words_r =
-        IsSetOf-decides (And (Among 0 tracks) (Not (Among 1 tracks))) (two (Table a) (Table b)) r (except-decides c r tracks_c words_c tracks_r words_r)
-
-    pub except-exceeds : (budget : ℕ)
-        → BothSpreadExceeds a.tracks n.tracks (Accepts a) (Accepts n) budget
-        ↔ Exceeds (And (Among 0 tracks) (Not (Among 1 tracks))) (members (two (Table a) (Table b))) budget
-    except-exceeds budget = Exceeds-connect (members (two (Table a) (Table b))) (Among 0 tracks) (Not (Among 1 tracks)) a n budget first not-second by_and
-
-    pub except-set : (c r : Automaton) → c.tracks ≡ with_vars a.tracks n.tracks
-        → ((word : List ℕ) → IsWord (length c.tracks) word → Accepts c word ↔ (Accepts a (part_of c.tracks a.tracks word) × Accepts n (part_of c.tracks n.tracks word)))
-        → r.tracks ≡ c.tracks → ((word : List ℕ) → IsWord (length c.tracks) word → Accepts r word ↔ Accepts c word) → IsReduced r
-        → (budget : ℕ) → budget ≤ 200000 → (BothSpreadExceeds a.tracks n.tracks (Accepts a) (Accepts n) budget → ⊥) → IsSetOn tracks r
-    except-set c r tracks_c words_c tracks_r words_r reduced budget high within =
-        let decides = except-decides c r tracks_c words_c tracks_r words_r in
-        let states =
-        few_states (members (two (Table a) (Table b))) budget (And (Among 0 tracks) (Not (Among 1 tracks))) r 1 (omega arith) decides reduced
-        (inr (λ over. within ((except-exceeds budget).1 over), refl)) in
-        record {
-          reduced = reduced;
-          integers = DecidesIntegers-decides (And (Among 0 tracks) (Not (Among 1 tracks))) (two (Table a) (Table b)) r decides;
-          tracks_are = decides.tracks ∙ over-tracks;
-          few = omega (arith, states, high);
-        }

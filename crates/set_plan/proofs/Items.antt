@@ -1,5 +1,5 @@
 -- Lists of formulas, and their sets.
-use Rattle.std.proofs.Common.{◌≡◌, ℕ, zero, suc, ◌+◌, ◌<◌, List, [], ◌∷◌, length, map, All, drop, drop-cons, add-one, get_or, Option, Some, None, IfSome, sym, ap, ◌∙◌, subst, arith}
+use Rattle.std.proofs.Common.{◌≡◌, ℕ, zero, suc, ◌+◌, ◌<◌, List, [], ◌∷◌, length, map, All, drop, drop-cons, add-one, get_or, Option, Some, None, IfSome, refl, sym, ap, ◌∙◌, subst, arith}
 use Rattle.std.proofs.lemmas.List.Elements.{All-head}
 use Rattle.track_word.specs.declared.tracks.Var.{Var}
 use Rattle.auto_core.specs.Automaton.{Automaton}
@@ -25,3 +25,7 @@ item-at tracks sets fs i f h less e = all-at (IsItemOn tracks sets) fs i f h les
 pub made_on : (tracks : List Var) (f : Tree) → 0 < length (steps f) → free_vars f ≡ tracks → (set : Option Automaton) → IfSome set (IsSetBy f) → IfSome set (IsSetOn tracks)
 made_on tracks f some over None is = tt
 made_on tracks f some over (Some a) is = record { reduced = is.reduced; integers = is.integers; tracks_are = is.tracks_are ∙ over; few = is.few some }
+
+-- over its own variables
+pub item-own : (tracks : List Var) (sets : List Automaton) (f : Tree) → IsItemOn tracks sets f → IsItemOn (free_vars f) sets f
+item-own tracks sets f is = record { compilable = is.compilable; some = is.some; few = is.few; over = refl }

@@ -14,6 +14,8 @@ pub mod Kept
 pub mod Items
 pub mod Folds
 pub mod Unions
+pub mod Reductions
+pub mod Renewals
 pub mod Askings
 pub mod Takings
 pub mod Tables

@@ -5,12 +5,13 @@ use Rattle.limits.specs.declared.numbers.TheConstants.{MOST_STATES}
 use Rattle.track_word.specs.declared.tracks.Var.{Var}
 use Rattle.auto_core.specs.Automaton.{Automaton}
 use Rattle.auto_core.specs.Integers.{DecidesIntegers}
-use Rattle.auto_core.specs.Reduced.{IsReduced}
+use Rattle.auto_core.specs.Reduced.{IsReachedState, IsReduced}
 use Rattle.lin_formula.specs.Tree.{Tree, free_vars, steps}
 use Rattle.lin_formula.specs.declared.formula.SetId.{SetId}
 use Rattle.lin_formula.specs.SetOf.{SetOf, Nothing, Table, as_set, tables}
 use Rattle.formula_auto.specs.Compiled.{IsCompilable}
 use Rattle.set_plan.specs.Program.{Item}
+use Rattle.set_plan.specs.Same.{SameSets}
 use Rattle.set_plan.specs.declared.left.Left.{Left}
 use Rattle.set_plan.specs.declared.left.Left.TheVariants.{Whole, Part}
 use Rattle.set_plan.specs.declared.made.Made.{Made}
@@ -29,6 +30,35 @@ pub record IsSetBy (f : Tree) (a : Automaton) : Type 0 where
   pub integers : DecidesIntegers a
   pub tracks_are : a.tracks ≡ free_vars f
   pub few : 0 < length (steps f) → length a.accept ≤ MOST_STATES
+
+-- words lead to each state
+abbrev pub IsReached : Automaton → Type 0
+IsReached a = (state : ℕ) → state < length a.accept → IsReachedState a state
+
+-- the automaton decides a set of tuples of integers, one for each of the tracks; it has no more states than the
+-- greatest budget
+pub record DecidesOn (tracks : List Var) (a : Automaton) : Type 0 where
+  pub integers : DecidesIntegers a
+  pub tracks_are : a.tracks ≡ tracks
+  pub few : length a.accept ≤ MOST_STATES
+
+-- and words lead to each of its states, some of which may accept the same suffixes
+pub record IsReachedOn (tracks : List Var) (a : Automaton) : Type 0 where
+  pub reached : IsReached a
+  pub decides : DecidesOn tracks a
+
+-- the second automaton has the tuples of the first, and is a set where the first need only be reached
+pub record IsReductionOf (a r : Automaton) : Type 0 where
+  pub same : SameSets (Table a) (Table r)
+  pub set : (tracks : List Var) → IsReachedOn tracks a → IsSetOn tracks r
+
+abbrev pub IsReducedSet : Option Automaton → Option Automaton → Type 0
+IsReducedSet None set = set ≡ None
+IsReducedSet (Some a) set = (r : Automaton) × (set ≡ Some r) × IsReductionOf a r
+
+-- the same number, and the set reduced, if there is one
+abbrev pub IsReducedMade : Made → Made → Type 0
+IsReducedMade made other = (other.at ≡ made.at) × IsReducedSet made.set other.set
 
 -- an item whose symbols stand for the automata of a table
 abbrev pub item_of : List Automaton → Tree → Item

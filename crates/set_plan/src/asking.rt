@@ -8,8 +8,8 @@ ghost use Rattle.set_plan.specs.Unite as plan;
 
 use crate::empty::{is_empty_set, is_none_or_empty};
 use crate::left::{Left, remainder};
-use crate::parts::make;
-use crate::stop::PlanError;
+use crate::parts::make_on;
+use crate::stop::{PlanError, StepName};
 use auto_core::Auto;
 use formula_auto::{Memo, SetTable};
 use limits::Budget;
@@ -32,9 +32,11 @@ pub fn are_empty<P: Copy>(
         memo.old.budget (λ (b : Bool). b) result }
     ensures budget { memo.new.budget ≡ memo.old.budget }
 {
+    let mut level = memo.level(alloc, sets);
     let mut at = 1;
     for f in formulas {
-        let made = make(alloc, memo, part, at, f, sets)?;
+        let from = StepName { part, at };
+        let made = make_on(alloc, memo, &mut level, from, f)?;
         if !is_none_or_empty(&made.set) {
             return Ok(false);
         }

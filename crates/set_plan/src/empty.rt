@@ -5,6 +5,7 @@ ghost use Rattle.auto_core.specs.Reduced.{IsReduced};
 ghost use Rattle.lin_formula.specs.SetOf.{Table, as_set, tables, IsEmpty, SomeEmpty, NoneEmpty};
 ghost use Rattle.lin_formula.specs.TreeOf.{tree_of};
 ghost use Rattle.formula_auto.specs.Ready.{IsReady};
+ghost use Rattle.set_plan.specs.Sets.{IsReached};
 ghost use Rattle.set_plan.specs.Unite.{positives};
 
 use auto_core::Auto;
@@ -18,19 +19,28 @@ pub fn is_empty_set(a: &Auto) -> bool
     ensures yes { OnTrue result (IsEmpty (Table a.now)) }
     ensures none { OnFalse result (¬ IsEmpty (Table a.now)) }
 {
+    has_no_tuple(a)
+}
+
+/// Whether a set has no tuple, of an automaton that need not be reduced.
+pub fn has_no_tuple(a: &Auto) -> bool
+    requires { IsReached a.now }
+    ensures yes { OnTrue result (IsEmpty (Table a.now)) }
+    ensures none { OnFalse result (¬ IsEmpty (Table a.now)) }
+{
     let _ = a.tracks(); // for its invariant
     is_empty(a)
 }
 
 /// Whether there is no set, or one that has no tuple.
 pub fn is_none_or_empty(set: &Option<Auto>) -> bool
-    requires { IfSome set.now IsReduced }
+    requires { IfSome set.now IsReached }
     ensures yes { OnTrue result (IsEmpty (as_set set.now)) }
     ensures none { OnFalse result (¬ IsEmpty (as_set set.now)) }
 {
     match set {
         None => true,
-        Some(a) => is_empty_set(a),
+        Some(a) => has_no_tuple(a),
     }
 }
 

@@ -4,15 +4,16 @@ ghost use Rattle.lin_formula.specs.Tree.{Among, And, Not, Or};
 ghost use Rattle.lin_formula.specs.SetOf.{Table, members};
 ghost use Rattle.formula_auto.specs.Step.{Exceeds};
 ghost use Rattle.set_plan.specs.Program.{IsSetOf};
-ghost use Rattle.set_plan.specs.Sets.{IsSetOn};
-ghost use Rattle.set_plan.specs.Unite.{difference, either as either_of, two};
+ghost use Rattle.set_plan.specs.Sets.{IsSetOn, IsReachedOn, IsReductionOf};
+ghost use Rattle.set_plan.specs.Unite.{difference as difference_of, either as either_of, two};
 
-use auto_bool::{join, meet, not};
+use auto_bool::{difference, join, join_within};
 use auto_core::Auto;
+use auto_merge::merge;
 use auto_reduce::reduce;
 use auto_walk::Grown;
 use limits::Budget;
-use std::alloc::Global;
+use std::alloc::{AllocError, Global};
 use track_word::Var;
 
 /// The set of the tuples of one set or the other.
@@ -38,6 +39,64 @@ pub fn either(
     Ok(reduce(alloc, &c)?)
 }
 
+/// As `either`, of two sets that need not be reduced. Nor is what they make, whose states are merged in one pass. Only where the pairs
+/// of states are more than the budget are both reduced, since then alone the budget may still suffice.
+pub fn either_reached(
+    alloc: Global,
+    tracks: &[Var],
+    a: &Auto,
+    b: &Auto,
+    budget: Budget,
+) -> Result<Auto, Grown>
+    requires first { IsReachedOn tracks.now a.now }
+    requires second { IsReachedOn tracks.now b.now }
+    ensures ok { IfOk result (λ c. IsSetOf (either_of tracks.now (Table a.now) (Table b.now)) (Table c)) }
+    ensures set { IfOk result (IsReachedOn tracks.now) }
+    ensures within { OnOk result
+        (¬ Exceeds (Or (Among 0 tracks.now) (Among 1 tracks.now)) (members (two (Table a.now) (Table b.now))) budget) }
+    ensures over { result ≡ Err Grown.Over
+        → Exceeds (Or (Among 0 tracks.now) (Among 1 tracks.now)) (members (two (Table a.now) (Table b.now))) budget }
+{
+    let _ = a.tracks(); // for its invariant
+    let _ = budget.states(); // for its invariant
+    match join_within(alloc, a, b, budget) {
+        Ok(c) => Ok(merge(alloc, &c)?),
+        Err(Grown::Over) => either_of_reduced(alloc, tracks, a, b, budget),
+        Err(Grown::Memory) => Err(Grown::Memory),
+    }
+}
+
+/// `either` of the two sets reduced.
+fn either_of_reduced(
+    alloc: Global,
+    tracks: &[Var],
+    a: &Auto,
+    b: &Auto,
+    budget: Budget,
+) -> Result<Auto, Grown>
+    requires first { IsReachedOn tracks.now a.now }
+    requires second { IsReachedOn tracks.now b.now }
+    ensures ok { IfOk result (λ c. IsSetOf (either_of tracks.now (Table a.now) (Table b.now)) (Table c)) }
+    ensures set { IfOk result (IsSetOn tracks.now) }
+    ensures within { OnOk result
+        (¬ Exceeds (Or (Among 0 tracks.now) (Among 1 tracks.now)) (members (two (Table a.now) (Table b.now))) budget) }
+    ensures over { result ≡ Err Grown.Over
+        → Exceeds (Or (Among 0 tracks.now) (Among 1 tracks.now)) (members (two (Table a.now) (Table b.now))) budget }
+{
+    let left = reduced_set(alloc, a)?;
+    let right = reduced_set(alloc, b)?;
+    let c = either(alloc, tracks, &left, &right, budget)?;
+    Ok(c)
+}
+
+/// The same set, reduced.
+pub fn reduced_set(alloc: Global, a: &Auto) -> Result<Auto, AllocError>
+    ensures { IfOk result (IsReductionOf a.now) }
+{
+    let r = reduce(alloc, a)?;
+    Ok(r)
+}
+
 /// The set of the tuples of the one set that the other has not.
 pub fn except(
     alloc: Global,
@@ -48,7 +107,7 @@ pub fn except(
 ) -> Result<Auto, Grown>
     requires first { IsSetOn tracks.now a.now }
     requires second { IsSetOn tracks.now b.now }
-    ensures ok { IfOk result (λ c. IsSetOf (difference tracks.now (Table a.now) (Table b.now)) (Table c)) }
+    ensures ok { IfOk result (λ c. IsSetOf (difference_of tracks.now (Table a.now) (Table b.now)) (Table c)) }
     ensures set { IfOk result (IsSetOn tracks.now) }
     ensures within { OnOk result
         (¬ Exceeds (And (Among 0 tracks.now) (Not (Among 1 tracks.now))) (members (two (Table a.now) (Table b.now)))
@@ -59,7 +118,6 @@ pub fn except(
 {
     let _ = a.tracks(); // for its invariant
     let _ = budget.states(); // for its invariant
-    let others = not(alloc, b)?;
-    let c = meet(alloc, a, &others, budget)?;
+    let c = difference(alloc, a, b, budget)?;
     Ok(reduce(alloc, &c)?)
 }

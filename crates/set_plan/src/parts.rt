@@ -1,26 +1,25 @@
 //! Items, and the union of a list of items.
 ghost use Rattle.std.specs.Prelude.{ℕ, ◌≡◌, ◌<◌, ◌+◌, ◌≤◌, ◌^◌, length, map, All, IfOk, IfSome, ◌∷◌, []};
 ghost use Rattle.auto_core.specs.Reduced.{IsReduced};
-ghost use Rattle.lin_formula.specs.Tree.{steps};
+ghost use Rattle.lin_formula.specs.Tree.{free_vars, steps};
 ghost use Rattle.lin_formula.specs.TreeOf.{tree_of};
 ghost use Rattle.lin_formula.specs.SetOf.{Nothing, as_set};
 ghost use Rattle.formula_auto.specs.Compiled.{IsCompilable};
 ghost use Rattle.set_plan.specs.Outcome.{Answers};
-ghost use Rattle.set_plan.specs.Sets.{IsSetBy, IsSetOn, IsItemOn, item_of, made_of};
+ghost use Rattle.set_plan.specs.Sets.{IsSetBy, IsSetOn, IsReachedOn, IsReducedMade, IsItemOn, item_of, made_of};
 ghost use Rattle.set_plan.specs.Unite as plan;
 
 use crate::empty::{is_none_or_empty, lacks_a_set};
-use crate::fold::{Steps, each};
 use crate::made::Made;
-use crate::pairs::either;
+use crate::pairs::{either, either_reached, reduced_set};
 use crate::steps::step_count;
 use crate::stop::{PlanError, StepName};
 use auto_core::Auto;
 use auto_walk::Grown;
-use formula_auto::{CompileError, Memo, SetTable};
+use formula_auto::{CompileError, Level, Memo, SetTable};
 use limits::Budget;
 use lin_formula::Formula;
-use std::alloc::Global;
+use std::alloc::{AllocError, Global};
 use track_word::Var;
 
 /// The set of one formula, left out where a set that it needs is empty. Its first step has this number in the part.
@@ -58,39 +57,41 @@ pub fn make<P: Copy>(
     }
 }
 
-/// What there is so far with a further set.
-fn join<P: Copy>(
+/// As `make` over the table of the level, for those who go on with the set: it need not be reduced.
+pub fn make_on<P: Copy>(
     alloc: Global,
-    tracks: &[Var],
-    part: P,
-    so_far: Option<Auto>,
-    next: Made,
-    budget: Budget,
+    memo: &mut Memo,
+    level: &mut Level,
+    from: StepName<P>,
+    f: &Formula,
 ) -> Result<Made, PlanError<P>>
-    requires so_far { IfSome so_far (IsSetOn tracks.now) }
-    requires next { IfSome next.set (IsSetOn tracks.now) }
-    requires room { next.at < 2 ^ 31 }
-    ensures answers { Answers (plan.join tracks.now part (as_set so_far) (made_of next)) budget made_of result }
-    ensures set { IfOk result (λ made. IfSome made.set (IsSetOn tracks.now)) }
-    ensures room { IfOk result (λ made. made.at ≤ next.at + 1) }
+    requires item { IsItemOn (free_vars (tree_of f.now)) level.old.sets (tree_of f.now) }
+    requires same_budget { level.old.budget ≡ memo.old.budget }
+    requires room { from.at < 2 ^ 31 }
+    ensures answers { Answers
+        (plan.make from.part from.at (item_of level.old.sets (tree_of f.now))) memo.old.budget made_of result }
+    ensures set { IfOk result (λ made. IfSome made.set (IsReachedOn (free_vars (tree_of f.now)))) }
+    ensures room { IfOk result (λ made. made.at < from.at + 1000) }
+    ensures budget { memo.new.budget ≡ memo.old.budget }
+    ensures same_sets { level.new.sets ≡ level.old.sets }
+    ensures level_budget { level.new.budget ≡ level.old.budget }
 {
-    let Made { set, at } = next;
-    if is_none_or_empty(&set) {
-        return Ok(Made { set: so_far, at });
+    let StepName { part, at } = from;
+    if lacks_a_set(f, level.sets()) {
+        return Ok(Made { set: None, at });
     }
-    if is_none_or_empty(&so_far) {
-        return Ok(Made { set, at });
-    }
-    match (so_far, set) {
-        (Some(a), Some(b)) => match either(alloc, tracks, &a, &b, budget) {
-            Ok(c) => Ok(Made {
-                set: Some(c),
-                at: at + 1,
-            }),
-            Err(Grown::Over) => Err(PlanError::Over(StepName { part, at })),
-            Err(Grown::Memory) => Err(PlanError::Memory),
-        },
-        _ => unreachable!(),
+    let count = step_count(f);
+    let _ = memo.budget(); // for its invariant
+    match memo.compile_on(alloc, f, level) {
+        Ok(a) => Ok(Made {
+            set: Some(a),
+            at: at + count,
+        }),
+        Err(CompileError::Over { step }) => Err(PlanError::Over(StepName {
+            part,
+            at: at + step - 1,
+        })),
+        Err(CompileError::Memory) => Err(PlanError::Memory),
     }
 }
 
@@ -100,46 +101,116 @@ struct Uniting<'a, P> {
     alloc: Global,
     tracks: &'a [Var],
     part: P,
-    sets: &'a SetTable,
 }
 
-impl<P: Copy> Steps for Uniting<'_, P> {
-    ghost use Rattle.std.specs.Prelude.{◌≡◌, ◌<◌, ◌+◌, ◌*◌, ◌^◌, All, IfSome, length, map};
-    ghost use Rattle.lin_formula.specs.TreeOf.{tree_of};
-    ghost use Rattle.set_plan.specs.Sets.{IsItemOn, IsSetOn, item_of, made_of};
-    ghost use Rattle.set_plan.specs.Unite as plan;
+impl<P: Copy> Uniting<'_, P> {
+    /// What there is so far with a further set. Neither need be reduced, nor is what they make.
+    fn join(
+        &self,
+        so_far: Option<Auto>,
+        next: Made,
+        budget: Budget,
+    ) -> Result<Made, PlanError<P>>
+        requires so_far { IfSome so_far (IsReachedOn self.now.tracks.now) }
+        requires next { IfSome next.set (IsReachedOn self.now.tracks.now) }
+        requires room { next.at < 2 ^ 31 }
+        ensures answers { Answers
+            (plan.join self.now.tracks.now self.now.part (as_set so_far) (made_of next)) budget made_of result }
+        ensures set { IfOk result (λ made. IfSome made.set (IsReachedOn self.now.tracks.now)) }
+        ensures room { IfOk result (λ made. made.at ≤ next.at + 1) }
+    {
+        let Made { set, at } = next;
+        if is_none_or_empty(&set) {
+            return Ok(Made { set: so_far, at });
+        }
+        if is_none_or_empty(&so_far) {
+            return Ok(Made { set, at });
+        }
+        match (so_far, set) {
+            (Some(a), Some(b)) => match either_reached(self.alloc, self.tracks, &a, &b, budget) {
+                Ok(c) => Ok(Made {
+                    set: Some(c),
+                    at: at + 1,
+                }),
+                Err(Grown::Over) => Err(PlanError::Over(StepName {
+                    part: self.part,
+                    at,
+                })),
+                Err(Grown::Memory) => Err(PlanError::Memory),
+            },
+            _ => unreachable!(),
+        }
+    }
 
-    type Work = Memo;
-
-    type Item = Formula;
-
-    type Value = Made;
-
-    type Part = P;
-
-    ghost Seen = { plan.Made };
-
-    ghost view = { λ _ _ made. made_of made };
-
-    ghost program = { λ it _ f. plan.with_item it.tracks.now it.part (item_of it.sets.now (tree_of f)) };
-
-    ghost budget = { λ _ memo. memo.budget };
-
-    ghost fits = { λ it _ made fs. All (IsItemOn it.tracks.now it.sets.now) (map tree_of fs)
-        × IfSome made.set (IsSetOn it.tracks.now) × (made.at + length fs * 1001 < 2 ^ 31) };
-
-    ghost keeps = { λ _ _ _. Unit {0} };
-
-    ghost keeps_self = { λ _ _. tt };
-
-    ghost keeps_on = { λ _ _ _ _ _ _. tt };
-
-    fn step(&self, memo: &mut Memo, f: &Formula, so_far: Made) -> Result<Made, PlanError<P>> {
-        let next = make(self.alloc, memo, self.part, so_far.at, f, self.sets)?;
+    /// What there is so far with the set of one more formula, which is joined directly after its own steps.
+    fn with_item(
+        &self,
+        memo: &mut Memo,
+        level: &mut Level,
+        f: &Formula,
+        so_far: Made,
+    ) -> Result<Made, PlanError<P>>
+        requires item { IsItemOn self.now.tracks.now level.old.sets (tree_of f.now) }
+        requires same_budget { level.old.budget ≡ memo.old.budget }
+        requires so_far { IfSome so_far.set (IsReachedOn self.now.tracks.now) }
+        requires room { so_far.at + 1001 < 2 ^ 31 }
+        ensures answers { Answers
+            (plan.with_item self.now.tracks.now self.now.part (item_of level.old.sets (tree_of f.now)) (made_of so_far))
+            memo.old.budget made_of result }
+        ensures set { IfOk result (λ made. IfSome made.set (IsReachedOn self.now.tracks.now)) }
+        ensures room { IfOk result (λ made. made.at ≤ so_far.at + 1001) }
+        ensures budget { memo.new.budget ≡ memo.old.budget }
+        ensures same_sets { level.new.sets ≡ level.old.sets }
+        ensures level_budget { level.new.budget ≡ level.old.budget }
+    {
+        let Made { set, at } = so_far;
+        let from = StepName {
+            part: self.part,
+            at,
+        };
+        let next = make_on(self.alloc, memo, level, from, f)?;
         let budget = memo.budget();
-        let made = join(self.alloc, self.tracks, self.part, so_far.set, next, budget)?;
+        let made = self.join(set, next, budget)?;
         Ok(made)
     }
+
+    /// The union of the sets of the formulas, by steps from this one on. It need not be reduced.
+    fn union_of(
+        &self,
+        memo: &mut Memo,
+        level: &mut Level,
+        at: u32,
+        formulas: &[Formula],
+    ) -> Result<Made, PlanError<P>>
+        requires items { All (IsItemOn self.now.tracks.now level.old.sets) (map tree_of formulas.now) }
+        requires same_budget { level.old.budget ≡ memo.old.budget }
+        requires few { length formulas.now < 2 ^ 20 }
+        requires room { at < 2 ^ 30 }
+        ensures answers { Answers
+            (plan.unite self.now.tracks.now self.now.part (Nothing, at)
+            (map (item_of level.old.sets) (map tree_of formulas.now)))
+            memo.old.budget made_of result }
+        ensures set { IfOk result (λ made. IfSome made.set (IsReachedOn self.now.tracks.now)) }
+        ensures budget { memo.new.budget ≡ memo.old.budget }
+    {
+        let mut made = Made { set: None, at };
+        for f in formulas {
+            made = self.with_item(memo, level, f, made)?;
+        }
+        Ok(made)
+    }
+}
+
+/// The same set, reduced.
+fn reduced(alloc: Global, made: Made) -> Result<Made, AllocError>
+    ensures { IfOk result (IsReducedMade made) }
+{
+    let Made { set, at } = made;
+    let set = match set {
+        Some(a) => Some(reduced_set(alloc, &a)?),
+        None => None,
+    };
+    Ok(Made { set, at })
 }
 
 /// The union of the sets of the formulas, which are over these tracks, by steps from this one on: an item is left out
@@ -167,9 +238,10 @@ pub fn unite<P: Copy>(
         alloc,
         tracks,
         part,
-        sets,
     };
-    each(&uniting, memo, formulas, Made { set: None, at })
+    let mut level = memo.level(alloc, sets);
+    let made = uniting.union_of(memo, &mut level, at, formulas)?;
+    Ok(reduced(alloc, made)?)
 }
 
 /// Two sets over these tracks together, in a part of their own.
@@ -186,13 +258,18 @@ pub fn together<P: Copy>(
     ensures answers { Answers (plan.together tracks.now part (as_set first) (as_set second)) budget as_set result }
     ensures set { IfOk result (λ set. IfSome set (IsSetOn tracks.now)) }
 {
-    let made = join(
-        alloc,
-        tracks,
-        part,
-        first,
-        Made { set: second, at: 1 },
-        budget,
-    )?;
-    Ok(made.set)
+    if is_none_or_empty(&second) {
+        return Ok(first);
+    }
+    if is_none_or_empty(&first) {
+        return Ok(second);
+    }
+    match (first, second) {
+        (Some(a), Some(b)) => match either(alloc, tracks, &a, &b, budget) {
+            Ok(c) => Ok(Some(c)),
+            Err(Grown::Over) => Err(PlanError::Over(StepName { part, at: 1 })),
+            Err(Grown::Memory) => Err(PlanError::Memory),
+        },
+        _ => unreachable!(),
+    }
 }

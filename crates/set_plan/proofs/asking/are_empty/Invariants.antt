@@ -5,11 +5,13 @@ use Rattle.set_plan.specs.Unite as plan
 use Rattle.set_plan.proofs.Composition.{LeadsTo}
 use Rattle.set_plan.proofs.asking.are_empty.Given as goal
 
--- what is left leads to the whole
+-- what is left leads to the whole, over one table
 abbrev pub invariant-loop-f : goal.invariant-loop-f
 invariant-loop-f g l = record {
   room : l.at ≤ 1 + l.f-index * 1001;
   budget : l.memo.budget ≡ l.initial.memo.budget;
+  sets : l.level.sets ≡ l.sets;
+  level_budget : l.level.budget ≡ l.initial.memo.budget;
   left : LeadsTo (plan.are_empty l.fn.part l.at (map (item_of l.sets) (map tree_of (drop l.f-index l.formulas))))
       (plan.are_empty l.fn.part 1 (map (item_of l.sets) (map tree_of l.formulas))) l.initial.memo.budget;
 }

@@ -2,7 +2,7 @@ use Rattle.std.proofs.Common.{◌≡◌, true, false}
 use Rattle.std.proofs.lemmas.Bool.{OnFalse_from}
 use Rattle.lin_formula.specs.SetOf.{IsEmpty, Table}
 use Rattle.set_plan.proofs.Empties.{accepts-none}
-use Rattle.set_plan.proofs.empty.is_empty_set.Goals as goal
+use Rattle.set_plan.proofs.empty.has_no_tuple.Goals as goal
 
 pub returns-clause-none : goal.returns-clause-none
 returns-clause-none c =

@@ -1,19 +1,28 @@
-use Rattle.lin_formula.specs.SetOf.{as_set}
-use Rattle.std.proofs.lemmas.Result.{err_from_is_err_and}
+use Rattle.lin_formula.specs.SetOf.{Table}
 use Rattle.set_plan.specs.Program.{Give}
-use Rattle.set_plan.specs.Sets.{made_of}
 use Rattle.set_plan.specs.Unite as plan
-use Rattle.set_plan.proofs.Composition.{Ends-bind, Ends-give, Error-bind}
+use Rattle.set_plan.proofs.Composition.{Ends-bind, Ends-give, Stops-bind}
+use Rattle.set_plan.proofs.Makes.{Ends-join, Stops-join}
 use Rattle.set_plan.proofs.parts.together.Goals as goal
 
-pub returns-in_err-made-clause-answers : goal.returns-in_err-made-clause-answers
-returns-in_err-made-clause-answers g c =
-    let p = err_from_is_err_and c.from_residual.result c.from_residual.ensures.1 in
-    rw (p.1, p.2)
-    (Error-bind (plan.join c.args.tracks.now c.args.part (as_set c.args.first) (as_set c.args.second, 1)) (λ made. Give made.0) c.args.budget
-    c.in_err-made.field-0.0 c.in_err-made.ensures.answers)
+pub returns-in-Ok-clause-answers : goal.returns-in-Ok-clause-answers
+returns-in-Ok-clause-answers g c =
+    let some_second = rw c.in-Some-Some.is-1 at c.if-is_none_or_empty.ensures.none in
+    let some_first = rw c.in-Some-Some.is-0 at c.if-is_none_or_empty-2.ensures.none in
+    let one = Table c.in-Some-Some.a in
+    let other = Table c.in-Some-Some.b in
+    rw (c.in-Some-Some.is-0, c.in-Some-Some.is-1)
+    (Ends-bind (plan.join c.args.tracks.now c.args.part one (other, 1)) (λ made. Give made.0) c.args.budget (Table c.in-Ok.c, 2) (Table c.in-Ok.c)
+    (Ends-join c.args.tracks.now c.args.part c.args.budget one (other, 1) (Table c.in-Ok.c) some_second some_first c.in-Ok.ensures.ok c.in-Ok.ensures.within)
+    (Ends-give c.args.budget (Table c.in-Ok.c)))
 
-pub returns-clause-answers : goal.returns-clause-answers
-returns-clause-answers g c =
-    Ends-bind (plan.join c.args.tracks.now c.args.part (as_set c.args.first) (as_set c.args.second, 1)) (λ made. Give made.0) c.args.budget
-    (made_of c.in_ok-made.made) _ c.in_ok-made.ensures.answers (Ends-give c.args.budget _)
+pub returns-in-Err-Over-clause-answers : goal.returns-in-Err-Over-clause-answers
+returns-in-Err-Over-clause-answers g c =
+    let some_second = rw c.in-Some-Some.is-1 at c.if-is_none_or_empty.ensures.none in
+    let some_first = rw c.in-Some-Some.is-0 at c.if-is_none_or_empty-2.ensures.none in
+    let over = c.either.ensures.over (cc (c.in-Err-Over.is, c.in-Err-Over.field-0-is)) in
+    let one = Table c.in-Some-Some.a in
+    let other = Table c.in-Some-Some.b in
+    rw (c.in-Some-Some.is-0, c.in-Some-Some.is-1)
+    (Stops-bind (plan.join c.args.tracks.now c.args.part one (other, 1)) (λ made. Give made.0) c.args.budget (record { part = c.args.part; at = 1 })
+    (Stops-join c.args.tracks.now c.args.part c.args.budget one (other, 1) some_second some_first over))
