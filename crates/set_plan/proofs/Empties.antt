@@ -1,11 +1,13 @@
 -- Whether sets are empty.
-use Rattle.std.proofs.Common.{◌≡◌, ℕ, ◌≤◌, List, [], ◌∷◌, ◌++◌, map, length, Some, None, slice_get, refl, sym, ◌∙◌, subst, inl, inr}
+use Rattle.std.proofs.Common.{◌≡◌, ℕ, ◌≤◌, List, [], ◌∷◌, ◌++◌, map, length, Option, Some, None, IfSome, slice_get, refl, sym, ◌∙◌, subst, inl, inr}
 use Rattle.std.proofs.lemmas.Option.{slice_get_past}
+use Rattle.track_word.specs.declared.tracks.Var.{Var}
 use Rattle.track_word.specs.Word.{IsWord}
 use Rattle.auto_core.specs.Automaton.{Automaton, Accepts}
 use Rattle.auto_core.specs.Reduced.{IsReduced}
 use Rattle.formula_auto.specs.Compiled.{IsSetFor}
 use Rattle.lin_formula.specs.SetOf.{SetOf, Table, IsEmpty, SomeEmpty, NoneEmpty}
+use Rattle.set_plan.specs.Sets.{IsReached, IsSetOn}
 
 -- an automaton of an empty set accepts no word
 pub accepts-none : (a : Automaton) → IsEmpty (Table a) → (word : List ℕ) → IsWord (length a.tracks) word → ¬ Accepts a word
@@ -38,3 +40,8 @@ set-there sets number size fits past =
     let none : slice_get sets number ≡ None = slice_get_past sets number past in
     let never : Some fits.set ≡ None = sym fits.is_there ∙ none in
     (cc)
+
+-- words lead to each state of a reduced automaton
+pub set-reached : (tracks : List Var) (set : Option Automaton) → IfSome set (IsSetOn tracks) → IfSome set IsReached
+set-reached tracks None on = tt
+set-reached tracks (Some a) on = on.reduced.reached

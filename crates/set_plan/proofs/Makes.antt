@@ -3,9 +3,13 @@ use Rattle.std.proofs.Common.{◌≡◌, ℕ, ◌+◌, ◌-◌, ◌≤◌, ◌<�
 use Rattle.track_word.specs.declared.tracks.Var.{Var}
 use Rattle.lin_formula.specs.Tree.{Tree, Among, And, Not, Or, steps}
 use Rattle.lin_formula.specs.SetOf.{SetOf, Nothing, members, IsEmpty, NoneEmpty}
+use Rattle.formula_auto.specs.Compiled.{IsCompileError}
 use Rattle.formula_auto.specs.Step.{Exceeds, FirstOver}
+use Rattle.formula_auto.specs.declared.errors.CompileError.{CompileError}
+use Rattle.formula_auto.specs.declared.errors.CompileError.TheVariants as compile_error
 use Rattle.set_plan.specs.Program.{Item, IsSetOf, Give, Ask, Empty}
-use Rattle.set_plan.specs.Outcome.{Ends, Stops}
+use Rattle.set_plan.specs.Outcome.{Ends, IsPlanError, Stops}
+use Rattle.set_plan.specs.Stopped.{IsStepOf, stopped_at}
 use Rattle.set_plan.specs.Unite as plan
 use Rattle.set_plan.proofs.Composition.{none_some, Ends-compute, Ends-give, Ends-ask_no, Ends-ask_yes, Stops-compute_here, Stops-ask_no, Ends-bind, Stops-bind}
 
@@ -37,6 +41,18 @@ module _ {P : Type 0} (part : P) (at : ℕ) (item : Item) (budget : ℕ) where
       → Stops (plan.make part at item) budget (record { part = part; at = at + k - 1 })
   Stops-make k none over =
       Stops-ask_no (Empty (map item.sets (plan.positives item.formula))) (Give (Nothing, at)) (plan.compute part at item) budget _ none (Stops-item k over)
+
+  -- and the error says which, if memory did not run out
+  pub not_made : (why : CompileError) → NoneEmpty (map item.sets (plan.positives item.formula)) → IsCompileError item.formula item.sets 0 budget why
+      → IsPlanError (plan.make part at item) budget (stopped_at (record { part = part; at = at }) why)
+  not_made (compile_error.Over step) none over = Stops-make step none over
+  not_made compile_error.Memory none error = tt
+
+  pub step-of : (why : CompileError) → length (steps item.formula) < 1000 → IsCompileError item.formula item.sets 0 budget why → IsStepOf 1000 why
+  step-of (compile_error.Over step) few over =
+      let (low, high) = FirstOver-within (steps item.formula) item.sets budget 1 step over in
+      (low, omega arith)
+  step-of compile_error.Memory few error = tt
 
   -- an item of one step
   pub Ends-one : (s : SetOf) (f : Tree) → steps item.formula ≡ f ∷ [] → IsSetOf item s → (Exceeds f (members item.sets) budget → ⊥) → Ends (plan.compute part at item) budget (s, at + 1)

@@ -4,7 +4,7 @@ use Rattle.track_word.specs.declared.tracks.Var.{Var}
 use Rattle.auto_core.specs.Automaton.{Automaton}
 use Rattle.lin_formula.specs.Tree.{steps}
 use Rattle.lin_formula.specs.SetOf.{SetOf, Nothing, Table, IsEmpty, as_set}
-use Rattle.set_plan.specs.Program.{Entry, Item, IsSetOf, Program, Give, Ask, Empty, Takes, each}
+use Rattle.set_plan.specs.Program.{Item, IsSetOf, Program, Give, Ask, Empty, Takes, each}
 use Rattle.set_plan.specs.Outcome.{Ends}
 use Rattle.set_plan.specs.Same.{SameSets}
 use Rattle.set_plan.specs.Sets.{IsReachedOn, IsReducedMade, IsReducedSet, IsSetOn, made_of}
@@ -102,9 +102,12 @@ module _ {P : Type 0} (budget : ℕ) where
             → Renews (plan.with_item tracks part item) so_far made
         by next one (inl (inl empty, gives)) =
             let is : made ≡ (so_far.0, next.1) = Ends-give_is (so_far.0, next.1) made budget gives in
-            inl (ap (λ (m : plan.Made). m.0) is, λ t.
-                let At : ℕ → Type 0 = λ n. Ends (plan.with_item tracks part item (t, so_far.1)) budget (t, n) in
-                subst At (sym (ap (λ (m : plan.Made). m.1) is)) (Ends-bind (plan.make part so_far.1 item) (plan.join tracks part t) budget next (t, next.1) one (Ends-join_left tracks part budget t next empty)))
+            inl (
+              ap (λ (m : plan.Made). m.0) is,
+              λ t.
+                  let At : ℕ → Type 0 = λ n. Ends (plan.with_item tracks part item (t, so_far.1)) budget (t, n) in
+                  subst At (sym (ap (λ (m : plan.Made). m.1) is)) (Ends-bind (plan.make part so_far.1 item) (plan.join tracks part t) budget next (t, next.1) one (Ends-join_left tracks part budget t next empty)),
+            )
         by next one (inl (inr never, gives)) = absurd never
         by next one (inr (some, rest)) =
             inr (later next one some.0 (Ends-asked (Empty (so_far.0 ∷ [])) (Give next) (plan.compute part next.1 (plan.either tracks so_far.0 next.0)) budget made rest))

@@ -12,6 +12,7 @@ pub use Rattle.formula_auto.specs.Compiled
 pub mod Program
 pub mod Past
 pub mod Outcome
+pub mod Stopped
 pub mod Unite
 pub mod Relabel
 pub mod Same

@@ -16,7 +16,7 @@ use crate::steps::step_count;
 use crate::stop::{PlanError, StepName};
 use auto_core::Auto;
 use auto_walk::Grown;
-use formula_auto::{CompileError, Level, Memo, SetTable};
+use formula_auto::{Level, Memo, SetTable};
 use limits::Budget;
 use lin_formula::Formula;
 use std::alloc::{AllocError, Global};
@@ -49,11 +49,10 @@ pub fn make<P: Copy>(
             set: Some(a),
             at: at + count,
         }),
-        Err(CompileError::Over { step }) => Err(PlanError::Over(StepName {
-            part,
-            at: at + step - 1,
-        })),
-        Err(CompileError::Memory) => Err(PlanError::Memory),
+        Err(why) => {
+            let from = StepName { part, at };
+            Err(from.stopped(why))
+        }
     }
 }
 
@@ -76,22 +75,20 @@ pub fn make_on<P: Copy>(
     ensures same_sets { level.new.sets ≡ level.old.sets }
     ensures level_budget { level.new.budget ≡ level.old.budget }
 {
-    let StepName { part, at } = from;
     if lacks_a_set(f, level.sets()) {
-        return Ok(Made { set: None, at });
+        return Ok(Made {
+            set: None,
+            at: from.at,
+        });
     }
     let count = step_count(f);
     let _ = memo.budget(); // for its invariant
     match memo.compile_on(alloc, f, level) {
         Ok(a) => Ok(Made {
             set: Some(a),
-            at: at + count,
+            at: from.at + count,
         }),
-        Err(CompileError::Over { step }) => Err(PlanError::Over(StepName {
-            part,
-            at: at + step - 1,
-        })),
-        Err(CompileError::Memory) => Err(PlanError::Memory),
+        Err(why) => Err(from.stopped(why)),
     }
 }
 
@@ -105,12 +102,7 @@ struct Uniting<'a, P> {
 
 impl<P: Copy> Uniting<'_, P> {
     /// What there is so far with a further set. Neither need be reduced, nor is what they make.
-    fn join(
-        &self,
-        so_far: Option<Auto>,
-        next: Made,
-        budget: Budget,
-    ) -> Result<Made, PlanError<P>>
+    fn join(&self, so_far: Option<Auto>, next: Made, budget: Budget) -> Result<Made, PlanError<P>>
         requires so_far { IfSome so_far (IsReachedOn self.now.tracks.now) }
         requires next { IfSome next.set (IsReachedOn self.now.tracks.now) }
         requires room { next.at < 2 ^ 31 }
@@ -215,7 +207,7 @@ fn reduced(alloc: Global, made: Made) -> Result<Made, AllocError>
 
 /// The union of the sets of the formulas, which are over these tracks, by steps from this one on: an item is left out
 /// where a set that it needs is empty, the first set that is not empty is taken, and each further one is joined
-/// directly after its own steps.
+/// directly after its own steps. Only the set that is handed on is reduced, once.
 pub fn unite<P: Copy>(
     alloc: Global,
     memo: &mut Memo,

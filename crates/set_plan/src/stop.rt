@@ -1,7 +1,9 @@
 //! Where a program stops.
-ghost use Rattle.std.specs.Prelude.{◌≡◌};
+ghost use Rattle.std.specs.Prelude.{◌≡◌, ◌<◌, ◌^◌};
 ghost use Rattle.set_plan.specs.declared.stop.PlanError.TheVariants.{Memory};
+ghost use Rattle.set_plan.specs.Stopped.{IsStepOf, stopped_at};
 
+use formula_auto::CompileError;
 use std::alloc::AllocError;
 
 /// A step of a part.
@@ -27,5 +29,23 @@ impl<P> From<AllocError> for PlanError<P> {
 
     fn from(_: AllocError) -> Self {
         PlanError::Memory
+    }
+}
+
+impl<P: Copy> StepName<P> {
+    /// Why a formula has no set that has its first step here.
+    pub(crate) fn stopped(self, why: CompileError) -> PlanError<P>
+        requires step { IsStepOf 1000 why }
+        requires room { self.at < 2 ^ 31 }
+        ensures { result ≡ stopped_at self why }
+    {
+        let StepName { part, at } = self;
+        match why {
+            CompileError::Over { step } => PlanError::Over(StepName {
+                part,
+                at: at + step - 1,
+            }),
+            CompileError::Memory => PlanError::Memory,
+        }
     }
 }

@@ -5,8 +5,12 @@ use Rattle.set_plan.specs.Program.{Ask, Give, Within}
 use Rattle.set_plan.specs.Sets.{lent}
 use Rattle.set_plan.specs.Unite as plan
 use Rattle.set_plan.proofs.Composition.{Error-bind}
+use Rattle.set_plan.proofs.Empties.{set-reached}
 use Rattle.set_plan.proofs.Withins.{within-nothing, within-told}
 use Rattle.set_plan.proofs.asking.is_within.Goals as goal
+
+pub is_none_or_empty-requires : goal.is_none_or_empty-requires
+is_none_or_empty-requires g c = set-reached c.args.tracks.now c.in-Part.set (rw c.in-Part.is at c.in_ok-left.ensures.set)
 
 pub returns-in_err-left : goal.returns-in_err-left
 returns-in_err-left g c =

@@ -1,4 +1,4 @@
-use Rattle.std.proofs.Common.{◌≤◌, length, arith}
+use Rattle.std.proofs.Common.{arith}
 use Rattle.set_plan.proofs.BothSets.{either-exceeds, either-is, either-reached, few-tracks}
 use Rattle.set_plan.proofs.pairs.either_reached.Goals as goal
 

@@ -1,28 +1,15 @@
 use Rattle.std.proofs.Common.{arith}
 use Rattle.lin_formula.specs.SetOf.{Table, members, tables}
-use Rattle.lin_formula.specs.Tree.{steps}
 use Rattle.lin_formula.specs.TreeOf.{tree_of}
 use Rattle.formula_auto.proofs.Rooms.{ready}
 use Rattle.set_plan.specs.Sets.{item_of}
 use Rattle.set_plan.proofs.Decided.{DecidesIntegers-decides, IsSetOf-decides}
 use Rattle.set_plan.proofs.FewStates.{few_states}
-use Rattle.set_plan.proofs.Makes.{Ends-make, FirstOver-within, Stops-make}
+use Rattle.set_plan.proofs.Makes.{Ends-make, not_made, step-of}
 use Rattle.set_plan.proofs.parts.make.Goals as goal
 
 pub lacks_a_set-requires : goal.lacks_a_set-requires
 lacks_a_set-requires g c = ready (tree_of c.args.f.now) c.args.sets.now c.requires.compilable
-
-pub overflow_add-result-in-Err-Over : goal.overflow_add-result-in-Err-Over
-overflow_add-result-in-Err-Over g c =
-    let over = rw c.in-Err-Over.field-0-is at c.in-Err-Over.ensures.over in
-    let (low, high) = FirstOver-within (steps (tree_of c.args.f.now)) (tables c.args.sets.now) c.args.memo.now.budget 1 c.in-Err-Over.step over in
-    omega (arith, c.requires.few, c.requires.room)
-
-pub overflow_sub-result : goal.overflow_sub-result
-overflow_sub-result g c =
-    let over = rw c.in-Err-Over.field-0-is at c.in-Err-Over.ensures.over in
-    let (low, high) = FirstOver-within (steps (tree_of c.args.f.now)) (tables c.args.sets.now) c.args.memo.now.budget 1 c.in-Err-Over.step over in
-    omega arith
 
 pub returns-in-Ok-clause-answers : goal.returns-in-Ok-clause-answers
 returns-in-Ok-clause-answers g c =
@@ -43,7 +30,11 @@ returns-in-Ok-clause-set g c = record {
       omega (arith, states, high, c.budget.ensures.is);
 }
 
-pub returns-in-Err-Over-clause-answers : goal.returns-in-Err-Over-clause-answers
-returns-in-Err-Over-clause-answers g c =
-    let over = rw c.in-Err-Over.field-0-is at c.in-Err-Over.ensures.over in
-    Stops-make c.args.part c.args.at (item_of c.args.sets.now (tree_of c.args.f.now)) c.args.memo.now.budget c.in-Err-Over.step c.if-lacks_a_set.ensures.none over
+pub stopped-requires-clause-step : goal.stopped-requires-clause-step
+stopped-requires-clause-step g c =
+    step-of c.args.part c.args.at (item_of c.args.sets.now (tree_of c.args.f.now)) c.args.memo.now.budget c.in-Err.why c.requires.few c.in-Err.ensures.over
+
+pub returns-in-Err-clause-answers : goal.returns-in-Err-clause-answers
+returns-in-Err-clause-answers g c =
+    rw c.stopped.ensures
+    (not_made c.args.part c.args.at (item_of c.args.sets.now (tree_of c.args.f.now)) c.args.memo.now.budget c.in-Err.why c.if-lacks_a_set.ensures.none c.in-Err.ensures.over)
