@@ -13,3 +13,4 @@ pub mod Merged
 pub mod Merger
 pub mod Leaves
 pub mod NodeMemo
+pub mod Hashed

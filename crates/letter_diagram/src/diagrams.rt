@@ -2,10 +2,13 @@
 ghost use Rattle.std.specs.Prelude.{◌≡◌, ◌<◌, ◌≤◌, ◌^◌, ◌++◌, [], ◌∷◌, List, ℕ, length, slice_get, Some, IfOk, OnErr, IsTrue, ◌↔◌};
 ghost use Rattle.letter_diagram.specs.Diagram.{map_at, top_track, Grows, FitsBelow, IsAt, IsDiagram, HasChildren, chosen};
 ghost use Rattle.letter_diagram.specs.Paired.{IsSplit};
+ghost use Rattle.std.specs.Cmp.Rules.{hashing};
+ghost use Rattle.std.proofs.Common.{rules};
 
 use indexmap::IndexSet;
 use limits::MOST_TRACKS;
 use std::alloc::{AllocError, Global};
+use std::hash::{Hash, Hasher};
 use std::marker::Model;
 
 /// A diagram inside a `Diagrams`.
@@ -32,12 +35,31 @@ impl Node {
 }
 
 /// What a diagram looks at first.
-#[derive(Debug, Clone, Copy, PartialEq, Eq, Hash)]
+#[derive(Debug, Clone, Copy, PartialEq, Eq)]
 pub enum Shape {
     /// The map is constant.
     Leaf(u32),
     /// The least track that the map looks at, and the maps at its bit 0 and bit 1.
     Test { track: u8, low: Node, high: Node },
+}
+
+/// Of a test both sides are hashed and not the track: few tests have the same sides and look at another track.
+impl Hash for Shape {
+    ghost use Rattle.letter_diagram.specs.Hashed.{hashed};
+
+    ghost hash_input = { hashed };
+
+    ghost respects_eq = { Prim.search (hashing, rules) };
+
+    fn hash<H: Hasher>(&self, state: &mut H) {
+        match self {
+            Shape::Leaf(value) => value.hash(state),
+            Shape::Test { low, high, .. } => {
+                low.hash(state);
+                high.hash(state);
+            }
+        }
+    }
 }
 
 /// Diagrams that share their nodes. There are no more than 2^32 of them: one more is refused as want of memory.
