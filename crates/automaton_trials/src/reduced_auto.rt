@@ -5,8 +5,9 @@ ghost use Rattle.track_word.specs.Atom.{IsAtom};
 ghost use Rattle.track_word.specs.Tracks.{with_vars};
 ghost use Rattle.auto_core.specs.Reduced.{IsReduced};
 
-use auto_bool::{join, meet, not};
+use auto_bool::{difference, join, meet, not};
 use auto_core::Auto;
+use auto_project::forget;
 use auto_reduce::reduce;
 use auto_walk::Grown;
 use limits::{Budget, MOST_TRACKS};
@@ -21,6 +22,7 @@ use trial_rows::RowError;
 pub enum Connective {
     And,
     Or,
+    AndNot,
 }
 
 /// An automaton with no state too many.
@@ -119,7 +121,7 @@ fn are_few_together(a: &Auto, b: &Auto) -> bool
     true
 }
 
-/// The words that both accept, or one of them at least.
+/// The words that both accept, or one of them at least, or the first alone.
 pub fn joined(
     alloc: Global,
     connective: Connective,
@@ -135,6 +137,7 @@ pub fn joined(
     match connective {
         Connective::And => grown(alloc, meet(alloc, a, b, budget)),
         Connective::Or => grown(alloc, join(alloc, a, b, budget)),
+        Connective::AndNot => grown(alloc, difference(alloc, a, b, budget)),
     }
 }
 
@@ -142,4 +145,14 @@ pub fn joined(
 pub fn others(alloc: Global, a: &ReducedAuto) -> Result<ReducedAuto, RowError> {
     let auto = not(alloc, a.auto())?;
     Ok(ReducedAuto::new(auto))
+}
+
+/// What some integer of a variable makes true.
+pub fn forgotten(
+    alloc: Global,
+    a: &ReducedAuto,
+    var: Var,
+    budget: Budget,
+) -> Result<ReducedAuto, RowError> {
+    grown(alloc, forget(alloc, a.auto(), var, budget))
 }

@@ -3,7 +3,9 @@
 ghost use Rattle.std.specs.Prelude.{◌<◌, IfOk};
 
 use crate::letters::{var, vars};
-use crate::reduced_auto::{Connective, ReducedAuto, comparison, grown, joined, others, reduced};
+use crate::reduced_auto::{
+    Connective, ReducedAuto, comparison, forgotten, grown, joined, others, reduced,
+};
 use crate::tables::{Tables, tabled};
 use auto_core::Auto;
 use auto_walk::residue;
@@ -52,6 +54,7 @@ impl<'a> Reader<'a> {
 enum Operator {
     Not,
     Both(Connective),
+    Forget,
 }
 
 fn operator_of(word: &str) -> Option<Operator> {
@@ -59,6 +62,8 @@ fn operator_of(word: &str) -> Option<Operator> {
         "not" => Some(Operator::Not),
         "meet" => Some(Operator::Both(Connective::And)),
         "join" => Some(Operator::Both(Connective::Or)),
+        "without" => Some(Operator::Both(Connective::AndNot)),
+        "forget" => Some(Operator::Forget),
         _ => None,
     }
 }
@@ -186,6 +191,7 @@ pub fn automaton(reader: Reader, fields: &mut Fields) -> Result<ReducedAuto, Row
         None => plain_automaton(reader, plain_of(word)?, fields),
         Some(Operator::Not) => negated(inner, fields),
         Some(Operator::Both(connective)) => both(inner, connective, fields),
+        Some(Operator::Forget) => projected(inner, fields),
     }
 }
 
@@ -196,7 +202,16 @@ fn negated(inner: Reader, fields: &mut Fields) -> Result<ReducedAuto, RowError> 
     others(inner.alloc, &set)
 }
 
-/// `meet BUDGET A A` and `join BUDGET A A`, from the second word on.
+/// `forget BUDGET V A`, from the second word on.
+#[cycle(automaton)]
+fn projected(inner: Reader, fields: &mut Fields) -> Result<ReducedAuto, RowError> {
+    let budget = fields.budget()?;
+    let var = var(fields)?;
+    let set = automaton(inner, fields)?;
+    forgotten(inner.alloc, &set, var, budget)
+}
+
+/// `meet BUDGET A A`, `join BUDGET A A` and `without BUDGET A A`, from the second word on.
 #[cycle(automaton)]
 fn both(
     inner: Reader,
