@@ -1,5 +1,5 @@
 -- Keys of nodes: what is remembered of them as nodes are added.
-use Rattle.std.proofs.Common.{◌≡◌, ◌≢◌, ◌⊎◌, ℕ, ◌<◌, ◌≤◌, Bool, true, false, IsTrue, List, length, get_or, nat_eq, Option, Some, sym, ap, ◌∙◌, subst, if◌then◌else◌, inl, inr}
+use Rattle.std.proofs.Common.{◌≡◌, ◌≢◌, ◌⊎◌, ℕ, ◌<◌, ◌≤◌, Bool, true, false, IsTrue, List, length, get_or, nat_eq, Option, sym, ap, ◌∙◌, subst, if◌then◌else◌, inl, inr}
 use Rattle.std.specs.Int.{bit_at}
 use Rattle.limits.specs.declared.numbers.TheConstants.{MOST_TRACKS}
 use Rattle.letter_diagram.specs.declared.diagrams.Shape.{Shape}
@@ -12,7 +12,9 @@ use Rattle.letter_diagram.proofs.Carryings.{IsCarried-grows, Carries-leaf, Carri
 use Rattle.auto_refine.specs.Leading.{IsLedFrom, by_table}
 use Rattle.auto_merge.specs.declared.keys.TheConstants.{NO_CLASS}
 use Rattle.auto_merge.specs.declared.keys.Key.{Key}
-use Rattle.auto_merge.specs.Keys.{IsKey, IsGiven, IsOwn, Adds, RemembersGiven, RemembersOwn}
+use Rattle.auto_merge.specs.declared.keys.NoKey.{NoKey}
+use Rattle.auto_merge.specs.declared.keys.NoKey.TheVariants.{Unclassed, Memory}
+use Rattle.auto_merge.specs.Keys.{IsKey, IsNoKey, IsGiven, IsOwn, Adds, RemembersGiven, RemembersOwn}
 
 pub IsLedFrom-grows : (from old new : List Shape) (table : List ℕ) (a r : ℕ) → Grows old new → IsLedFrom from old table a r → IsLedFrom from new table a r
 IsLedFrom-grows from old new table a r grows led = IsCarried-grows from from old new (λ letter. letter) (λ value. get_or table value 0) a r (Grows-refl from) grows led
@@ -74,6 +76,14 @@ IsKey-leaf from shapes table own a state key at known map top either whole = rec
   ];
   whole = λ h letter e. whole h (ap (λ v. get_or table v 0) (sym (at.map letter)) ∙ e);
 }
+
+-- what a child leads to
+pub IsNoKey-child : (from : List Shape) (table : List ℕ) (own node child : ℕ) → ((letter : ℕ) → (l : ℕ) × (map_at from node l ≡ map_at from child letter))
+    → (refused : NoKey) → IsNoKey from table own child refused → IsNoKey from table own node refused
+IsNoKey-child from table own node child values (Unclassed state) to =
+    let v = values to.letter in
+    record { within = to.within; other = to.other; unclassed = to.unclassed; letter = v.0; leads = v.1 ∙ to.leads }
+IsNoKey-child from table own node child values Memory to = to
 
 either : (P : ℕ → Type 0) (b : Bool) (v w : ℕ) → P v → P w → P (if b then v else w)
 either P true v w p q = p

@@ -1,5 +1,5 @@
 -- Nodes that lead to the classes of states, of which some have none yet.
-use Rattle.std.specs.Prelude.{◌≡◌, ◌≢◌, ◌<◌, ◌⊎◌, ℕ, Bool, true, IsTrue, List, Option, Some}
+use Rattle.std.specs.Prelude.{◌≡◌, ◌≢◌, ◌<◌, ◌⊎◌, ℕ, Bool, true, IsTrue, List, Option, Some, length, slice_index}
 use Rattle.letter_diagram.specs.declared.diagrams.Shape.{Shape}
 use Rattle.letter_diagram.specs.Diagram.{map_at}
 use Rattle.letter_diagram.specs.NodeMemo.{answer_of}
@@ -23,10 +23,28 @@ pub record IsKey (from shapes : List Shape) (table : List ℕ) (own a : ℕ) (ke
   pub own_only : HasOwn from table own a
   pub whole : IsTrue key.whole → IsWhole from table a
 
--- a state without a class that a row leads to is one of so many states
-abbrev pub NamesBelow : ℕ → NoKey → Type 0
-NamesBelow states (Unclassed state) = state < states
-NamesBelow states Memory = Unit {0}
+-- another state, without a class, to which a node leads
+pub record LeadsToUnclassed (from : List Shape) (table : List ℕ) (own node state : ℕ) : Type 0 where
+  pub within : state < length table
+  pub other : state ≢ own
+  pub unclassed : slice_index table state ≡ NO_CLASS
+  pub letter : ℕ
+  pub leads : map_at from node letter ≡ state
+
+-- a node leads to the state that is named
+abbrev pub IsNoKey : List Shape → List ℕ → ℕ → ℕ → NoKey → Type 0
+IsNoKey from table own node (Unclassed state) = LeadsToUnclassed from table own node state
+IsNoKey from table own node Memory = Unit {0}
+
+-- a state has no class and is another one, if it is named
+pub record IsLeafUnclassed (table : List ℕ) (own state named : ℕ) : Type 0 where
+  pub is : named ≡ state
+  pub other : state ≢ own
+  pub unclassed : slice_index table state ≡ NO_CLASS
+
+abbrev pub IsNoLeafKey : List ℕ → ℕ → ℕ → NoKey → Type 0
+IsNoLeafKey table own state (Unclassed named) = IsLeafUnclassed table own state named
+IsNoLeafKey table own state Memory = Unit {0}
 
 -- at most one answer more, where a test holds
 pub record Adds (test : Bool) (old new : List (Option ℕ)) (node answer : ℕ) : Type 0 where

@@ -2,7 +2,7 @@
 ghost use Rattle.std.specs.Prelude.{◌≡◌, ◌≢◌, ◌<◌, ◌⊎◌, ℕ, length, slice_index, IfErr, IfOk, OnOk, IsTrue, not};
 ghost use Rattle.limits.specs.declared.numbers.TheConstants.{MOST_TRACKS};
 ghost use Rattle.letter_diagram.specs.Diagram.{map_at, top_track, Grows};
-ghost use Rattle.auto_merge.specs.Keys.{IsKey, NamesBelow, Adds, RemembersGiven, RemembersOwn};
+ghost use Rattle.auto_merge.specs.Keys.{IsKey, IsNoKey, IsNoLeafKey, Adds, RemembersGiven, RemembersOwn};
 
 use auto_refine::RoundMemo;
 use letter_diagram::{Diagrams, Memo, Node, NodeMemo, Shape};
@@ -80,7 +80,7 @@ fn leaf_key(guide: &Guide, state: u32, to: &mut Diagrams) -> Result<Key, NoKey>
     ensures top { IfOk result (λ key. top_track to.new key.node ≡ MOST_TRACKS) }
     ensures own { IfOk result (λ key. (slice_index guide.now.table.now state ≢ NO_CLASS) ⊎ (state ≡ guide.now.own)) }
     ensures whole { IfOk result (λ key. IsTrue key.whole → slice_index guide.now.table.now state ≢ NO_CLASS) }
-    ensures refused { IfErr result (NamesBelow (length guide.now.table.now)) }
+    ensures refused { IfErr result (IsNoLeafKey guide.now.table.now guide.now.own state) }
     ensures grows { Grows to.old to.new }
 {
     let class = guide.table[state as usize];
@@ -116,7 +116,7 @@ pub fn key_of(guide: &Guide, node: Node, to: &mut Diagrams, memos: &mut Memos) -
     ensures remembered { RemembersGiven guide.now.from.now to.new guide.now.table.now memos.new.whole }
     ensures open { OnOk result
         (RemembersOwn guide.now.from.now to.new guide.now.table.now guide.now.own memos.new.open) }
-    ensures refused { IfErr result (NamesBelow (length guide.now.table.now)) }
+    ensures refused { IfErr result (IsNoKey guide.now.from.now guide.now.table.now guide.now.own node) }
     ensures grows { Grows to.old to.new }
 {
     if let Some(known) = memos.whole.get(node) {

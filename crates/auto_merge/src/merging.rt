@@ -1,7 +1,7 @@
 //! Classes that are given to states one by one.
 ghost use Rattle.std.specs.Prelude.{◌≡◌, ◌<◌, ◌^◌, ◌++◌, ◌∷◌, [], length, slice_index, IfErr, IfOk, IfSome, OnOk, IsTrue, vec_len};
 ghost use Rattle.letter_diagram.specs.Diagram.{Grows};
-ghost use Rattle.auto_merge.specs.Keys.{IsGiven, IsKey, NamesBelow};
+ghost use Rattle.auto_merge.specs.Keys.{IsGiven, IsKey, IsNoKey};
 ghost use Rattle.auto_merge.specs.Merging.{IsKeyOf, CanJoin, IsClassGiven, KeepsClasses};
 ghost use Rattle.auto_merge.specs.Merged.{IsMerging};
 
@@ -115,7 +115,8 @@ pub fn row_key(a: &Auto, state: u32, merging: &mut Merging) -> Result<Key, NoKey
     requires within { state < length a.now.accept }
     ensures key { IfOk result
         (IsKey a.now.shapes merging.new.to merging.old.table.items state (slice_index a.now.row_nodes state)) }
-    ensures refused { IfErr result (NamesBelow (length a.now.accept)) }
+    ensures refused { IfErr result
+        (IsNoKey a.now.shapes merging.old.table.items state (slice_index a.now.row_nodes state)) }
     ensures merging { IsMerging a.now merging.new }
     ensures table { merging.new.table ≡ merging.old.table }
     ensures owners { merging.new.owners ≡ merging.old.owners }

@@ -1,6 +1,6 @@
-use Rattle.std.proofs.Common.{arith, ℕ, sym}
+use Rattle.std.proofs.Common.{arith, rules, ℕ, sym}
 use Rattle.auto_merge.specs.Keys.{IsKey, RemembersGiven, RemembersOwn}
-use Rattle.auto_merge.proofs.Givens.{IsKey-given, IsKey-own, IsKey-leaf, IsKey-test, RemembersGiven-grows, RemembersGiven-adds, RemembersOwn-grows, RemembersOwn-adds}
+use Rattle.auto_merge.proofs.Givens.{IsNoKey-child, IsKey-given, IsKey-own, IsKey-leaf, IsKey-test, RemembersGiven-grows, RemembersGiven-adds, RemembersOwn-grows, RemembersOwn-adds}
 use Rattle.auto_merge.proofs.keys.+key_of.Goals as goal
 use Rattle.auto_merge.proofs.keys.+key_of.Goals.{In_ok-keep, After-from_residual-in_err-keep, in-Leaf+in_ok-key-in-Leaf, in-Test+in_ok-low-in-Test+in_ok-high-in-Test+in_ok-made-in-Test}
 
@@ -47,6 +47,20 @@ key_of-requires-in-Test t c =
         ),
       ),
     )
+
+pub returns-in_err-low-in-Test-clause-refused : goal.returns-in_err-low-in-Test-clause-refused
+returns-in_err-low-in-Test-clause-refused t c =
+    let named =
+    IsNoKey-child c.args.guide.now.from.now c.args.guide.now.table.now c.args.guide.now.own c.args.node c.in-Test.low (λ letter. (c.in-Test.ensures.children letter).0)
+    c.in_err-low-in-Test.field-0.0 c.in_err-low-in-Test.ensures.refused in
+    search rules
+
+pub returns-in_err-high-in-Test-clause-refused : goal.returns-in_err-high-in-Test-clause-refused
+returns-in_err-high-in-Test-clause-refused t c =
+    let named =
+    IsNoKey-child c.args.guide.now.from.now c.args.guide.now.table.now c.args.guide.now.own c.args.node c.in-Test.high (λ letter. (c.in-Test.ensures.children letter).1)
+    c.in_err-high-in-Test.field-0.0 c.in_err-high-in-Test.ensures.refused in
+    search rules
 
 pub returns-in_err-made-in-Test-clause-remembered : goal.returns-in_err-made-in-Test-clause-remembered
 returns-in_err-made-in-Test-clause-remembered t c = RemembersGiven-grows c.node.ensures.grows c.key_of-in-Test.ensures.remembered
