@@ -1,6 +1,5 @@
 pub use Rattle.claim_plan.specs.CheckPlan
 pub mod Finds
-pub mod Grown
 pub mod Plies
 pub mod Ready
 pub mod Replies

@@ -8,6 +8,7 @@ mod checking;
 mod claimed;
 mod error;
 mod first;
+mod in_turn;
 mod plies;
 mod reduced;
 mod replies;

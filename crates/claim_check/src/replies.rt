@@ -11,18 +11,18 @@ ghost use Rattle.mate_plan.specs.Plan.{reach_level as reached_level};
 ghost use Rattle.mate_plan.specs.PlanOf.{rules_of};
 ghost use Rattle.claim_plan.specs.CheckPlan as plan;
 ghost use Rattle.claim_check.specs.Finds.{Finds};
-ghost use Rattle.claim_check.specs.Grown.{grows_on, grows_self};
 ghost use Rattle.claim_check.specs.Ready.{AreSigned, IsReady, claim_in};
 ghost use Rattle.claim_check.specs.Replies.{AreReplies};
 
 use crate::claimed::claimed_level;
+use crate::in_turn::{Checks, first_failing};
 use crate::rules::{Found, judged_by, rule_at};
-use claim_plan::{Rule, RuleAt};
+use claim_plan::Rule;
 use mate_plan::{
     Bench, LevelNames, MovesInto, PartName, Reaching, Stage, Work, are_answered, have_replies,
     reach_level,
 };
-use set_plan::{PlanError, Steps, each};
+use set_plan::PlanError;
 use winning_sets::ClaimedSets;
 
 /// The replies at a ply of the loser.
@@ -150,43 +150,19 @@ struct AnswersByMask<'a> {
     replies: &'a Replies,
 }
 
-impl Steps for AnswersByMask<'_> {
-    type Work = Work;
+impl Checks for AnswersByMask<'_> {
+    ghost program = { λ s sets mask. plan.check_left (rules_of s.claimed.now.position) s.claimed.now.winner
+        (suc s.replies.now.ply) (level_in s.claimed.now.position sets s.replies.now.reached)
+        (level_at (claim_in s.claimed.now) (s.replies.now.ply + 2)) mask };
 
-    type Item = u8;
+    ghost fits = { λ s sets. IsReady s.claimed.now × (s.bench.now.position.now ≡ s.claimed.now.position)
+        × AreReplies s.claimed.now s.replies.now.ply sets s.replies.now };
 
-    type Value = Option<RuleAt>;
+    ghost takes = { λ s mask. IsGameMask s.claimed.now.position mask };
 
-    type Part = PartName;
-
-    ghost Seen = { plan.Finding };
-
-    ghost view = { λ _ _ found. found };
-
-    ghost program = { λ s work mask. plan.go_on
-        (plan.check_left (rules_of s.claimed.now.position) s.claimed.now.winner (suc s.replies.now.ply)
-        (level_in s.claimed.now.position work.sets s.replies.now.reached)
-        (level_at (claim_in s.claimed.now) (s.replies.now.ply + 2)) mask) };
-
-    ghost budget = { λ _ work. work.memo.budget };
-
-    ghost fits = { λ s work _ masks. IsReady s.claimed.now
-        × (s.bench.now.position.now ≡ s.claimed.now.position)
-        × AreReplies s.claimed.now s.replies.now.ply work.sets s.replies.now
-        × All (IsGameMask s.claimed.now.position) masks };
-
-    ghost keeps = { λ _ old new. Grows old.sets new.sets };
-
-    fn step(&self, work: &mut Work, mask: &u8, found: Option<RuleAt>) -> Found {
-        if found.is_some() {
-            return Ok(found);
-        }
-        check_left(self.bench, work, self.claimed, self.replies, *mask)
+    fn check(&self, work: &mut Work, mask: u8) -> Found {
+        check_left(self.bench, work, self.claimed, self.replies, mask)
     }
-
-    ghost keeps_self = { λ _ work. grows_self work.sets };
-
-    ghost keeps_on = { λ _ u v w. grows_on u.sets v.sets w.sets };
 }
 
 /// Whether the loser is in check or has a reply, mask by mask.
@@ -197,43 +173,19 @@ struct StalematesByMask<'a> {
     replies: &'a Replies,
 }
 
-impl Steps for StalematesByMask<'_> {
-    type Work = Work;
+impl Checks for StalematesByMask<'_> {
+    ghost program = { λ s sets mask. plan.check_stale (rules_of s.claimed.now.position) (other s.claimed.now.winner)
+        s.replies.now.ply (level_at (claim_in s.claimed.now) s.replies.now.ply)
+        (level_in s.claimed.now.position sets s.replies.now.reached) mask };
 
-    type Item = u8;
+    ghost fits = { λ s sets. IsReady s.claimed.now × (s.bench.now.position.now ≡ s.claimed.now.position)
+        × AreReplies s.claimed.now s.replies.now.ply sets s.replies.now };
 
-    type Value = Option<RuleAt>;
+    ghost takes = { λ s mask. IsGameMask s.claimed.now.position mask };
 
-    type Part = PartName;
-
-    ghost Seen = { plan.Finding };
-
-    ghost view = { λ _ _ found. found };
-
-    ghost program = { λ s work mask. plan.go_on
-        (plan.check_stale (rules_of s.claimed.now.position) (other s.claimed.now.winner) s.replies.now.ply
-        (level_at (claim_in s.claimed.now) s.replies.now.ply)
-        (level_in s.claimed.now.position work.sets s.replies.now.reached) mask) };
-
-    ghost budget = { λ _ work. work.memo.budget };
-
-    ghost fits = { λ s work _ masks. IsReady s.claimed.now
-        × (s.bench.now.position.now ≡ s.claimed.now.position)
-        × AreReplies s.claimed.now s.replies.now.ply work.sets s.replies.now
-        × All (IsGameMask s.claimed.now.position) masks };
-
-    ghost keeps = { λ _ old new. Grows old.sets new.sets };
-
-    fn step(&self, work: &mut Work, mask: &u8, found: Option<RuleAt>) -> Found {
-        if found.is_some() {
-            return Ok(found);
-        }
-        check_stale(self.bench, work, self.claimed, self.replies, *mask)
+    fn check(&self, work: &mut Work, mask: u8) -> Found {
+        check_stale(self.bench, work, self.claimed, self.replies, mask)
     }
-
-    ghost keeps_self = { λ _ work. grows_self work.sets };
-
-    ghost keeps_on = { λ _ u v w. grows_on u.sets v.sets w.sets };
 }
 
 /// Whether each position that is reached has an answer, mask by mask.
@@ -250,12 +202,12 @@ fn check_all_left(bench: &Bench, work: &mut Work, claimed: &ClaimedSets, replies
     ensures grows { Grows work.old.sets work.new.sets }
     ensures budget { work.new.memo.budget ≡ work.old.memo.budget }
 {
-    let steps = AnswersByMask {
+    let masks = AnswersByMask {
         bench,
         claimed,
         replies,
     };
-    each(&steps, work, claimed.masks.as_slice(), None)
+    first_failing(&masks, work, claimed.masks.as_slice())
 }
 
 /// Whether the loser is in check or has a reply in each claimed position, mask by mask.
@@ -277,12 +229,12 @@ fn check_all_stale(
     ensures grows { Grows work.old.sets work.new.sets }
     ensures budget { work.new.memo.budget ≡ work.old.memo.budget }
 {
-    let steps = StalematesByMask {
+    let masks = StalematesByMask {
         bench,
         claimed,
         replies,
     };
-    each(&steps, work, claimed.masks.as_slice(), None)
+    first_failing(&masks, work, claimed.masks.as_slice())
 }
 
 /// The rules of the replies at a ply. Its sets are let go after it.
@@ -313,39 +265,17 @@ struct RepliesByPly<'a> {
     claimed: &'a ClaimedSets,
 }
 
-impl Steps for RepliesByPly<'_> {
-    type Work = Work;
+impl Checks for RepliesByPly<'_> {
+    ghost program = { λ s _ ply. plan.check_ply (claim_in s.claimed.now) ply };
 
-    type Item = u8;
+    ghost fits = { λ s _. IsReady s.claimed.now × (s.bench.now.position.now ≡ s.claimed.now.position)
+        × AreSigned (claim_in s.claimed.now) };
 
-    type Value = Option<RuleAt>;
+    ghost takes = { λ _ ply. ply ≤ 41 };
 
-    type Part = PartName;
-
-    ghost Seen = { plan.Finding };
-
-    ghost view = { λ _ _ found. found };
-
-    ghost program = { λ s _ ply. plan.go_on (plan.check_ply (claim_in s.claimed.now) ply) };
-
-    ghost budget = { λ _ work. work.memo.budget };
-
-    ghost fits = { λ s _ _ plies. IsReady s.claimed.now
-        × (s.bench.now.position.now ≡ s.claimed.now.position)
-        × AreSigned (claim_in s.claimed.now) × All (λ ply. ply ≤ 41) plies };
-
-    ghost keeps = { λ _ old new. Grows old.sets new.sets };
-
-    fn step(&self, work: &mut Work, ply: &u8, found: Option<RuleAt>) -> Found {
-        if found.is_some() {
-            return Ok(found);
-        }
-        check_ply(self.bench, work, self.claimed, *ply)
+    fn check(&self, work: &mut Work, ply: u8) -> Found {
+        check_ply(self.bench, work, self.claimed, ply)
     }
-
-    ghost keeps_self = { λ _ work. grows_self work.sets };
-
-    ghost keeps_on = { λ _ u v w. grows_on u.sets v.sets w.sets };
 }
 
 /// The rules of the replies at all plies of the loser.
@@ -364,5 +294,5 @@ pub(crate) fn check_replies(
         work.old.memo.budget result }
     ensures budget { work.new.memo.budget ≡ work.old.memo.budget }
 {
-    each(&RepliesByPly { bench, claimed }, work, plies, None)
+    first_failing(&RepliesByPly { bench, claimed }, work, plies)
 }

@@ -10,16 +10,15 @@ ghost use Rattle.mate_plan.specs.PlanOf.{rules_of};
 ghost use Rattle.mate_plan.specs.Questions as questions;
 ghost use Rattle.claim_plan.specs.CheckPlan as plan;
 ghost use Rattle.claim_check.specs.Finds.{Finds};
-ghost use Rattle.claim_check.specs.Grown.{grows_on, grows_self};
 ghost use Rattle.claim_check.specs.Ready.{AreThere, IsReady, claim_in};
 
 use crate::claimed::{claimed_set, lone_level};
+use crate::in_turn::{Checks, first_failing};
 use crate::rules::{Found, judged, judged_by, rule_at};
 use auto_core::Auto;
 use auto_reduce::sign_stable;
-use claim_plan::{Rule, RuleAt};
-use mate_plan::{Bench, PartName, Stage, StageLevel, Work, are_apart, are_safe};
-use set_plan::{Steps, each};
+use claim_plan::Rule;
+use mate_plan::{Bench, Stage, StageLevel, Work, are_apart, are_safe};
 use std::alloc::Global;
 use winning_sets::ClaimedSets;
 
@@ -112,39 +111,16 @@ struct SetsByMask<'a> {
     ply: u8,
 }
 
-impl Steps for SetsByMask<'_> {
-    type Work = Work;
+impl Checks for SetsByMask<'_> {
+    ghost program = { λ s _ mask. plan.check_set (claim_in s.claimed.now) s.ply mask };
 
-    type Item = u8;
+    ghost fits = { λ s _. IsReady s.claimed.now × (s.bench.now.position.now ≡ s.claimed.now.position) };
 
-    type Value = Option<RuleAt>;
+    ghost takes = { λ s mask. IsSome (claimed_at (claim_in s.claimed.now) s.ply mask) };
 
-    type Part = PartName;
-
-    ghost Seen = { plan.Finding };
-
-    ghost view = { λ _ _ found. found };
-
-    ghost program = { λ s _ mask. plan.go_on (plan.check_set (claim_in s.claimed.now) s.ply mask) };
-
-    ghost budget = { λ _ work. work.memo.budget };
-
-    ghost fits = { λ s _ _ masks. IsReady s.claimed.now
-        × (s.bench.now.position.now ≡ s.claimed.now.position)
-        × All (λ mask. IsSome (claimed_at (claim_in s.claimed.now) s.ply mask)) masks };
-
-    ghost keeps = { λ _ old new. Grows old.sets new.sets };
-
-    fn step(&self, work: &mut Work, mask: &u8, found: Option<RuleAt>) -> Found {
-        if found.is_some() {
-            return Ok(found);
-        }
-        check_set(self.bench, work, self.claimed, self.ply, *mask)
+    fn check(&self, work: &mut Work, mask: u8) -> Found {
+        check_set(self.bench, work, self.claimed, self.ply, mask)
     }
-
-    ghost keeps_self = { λ _ work. grows_self work.sets };
-
-    ghost keeps_on = { λ _ u v w. grows_on u.sets v.sets w.sets };
 }
 
 /// The rules of the sets of a ply.
@@ -156,12 +132,12 @@ fn check_sets_at(bench: &Bench, work: &mut Work, claimed: &ClaimedSets, ply: u8)
     ensures grows { Grows work.old.sets work.new.sets }
     ensures budget { work.new.memo.budget ≡ work.old.memo.budget }
 {
-    let steps = SetsByMask {
+    let masks = SetsByMask {
         bench,
         claimed,
         ply,
     };
-    each(&steps, work, claimed.masks.as_slice(), None)
+    first_failing(&masks, work, claimed.masks.as_slice())
 }
 
 /// The rules of the sets, ply by ply.
@@ -171,38 +147,16 @@ struct SetsByPly<'a> {
     claimed: &'a ClaimedSets,
 }
 
-impl Steps for SetsByPly<'_> {
-    type Work = Work;
+impl Checks for SetsByPly<'_> {
+    ghost program = { λ s _ ply. plan.check_sets (claim_in s.claimed.now) ply };
 
-    type Item = u8;
+    ghost fits = { λ s _. IsReady s.claimed.now × (s.bench.now.position.now ≡ s.claimed.now.position) };
 
-    type Value = Option<RuleAt>;
+    ghost takes = { λ s ply. AreThere (claim_in s.claimed.now) ply };
 
-    type Part = PartName;
-
-    ghost Seen = { plan.Finding };
-
-    ghost view = { λ _ _ found. found };
-
-    ghost program = { λ s _ ply. plan.go_on (plan.check_sets (claim_in s.claimed.now) ply) };
-
-    ghost budget = { λ _ work. work.memo.budget };
-
-    ghost fits = { λ s _ _ plies. IsReady s.claimed.now
-        × (s.bench.now.position.now ≡ s.claimed.now.position) × All (AreThere (claim_in s.claimed.now)) plies };
-
-    ghost keeps = { λ _ old new. Grows old.sets new.sets };
-
-    fn step(&self, work: &mut Work, ply: &u8, found: Option<RuleAt>) -> Found {
-        if found.is_some() {
-            return Ok(found);
-        }
-        check_sets_at(self.bench, work, self.claimed, *ply)
+    fn check(&self, work: &mut Work, ply: u8) -> Found {
+        check_sets_at(self.bench, work, self.claimed, ply)
     }
-
-    ghost keeps_self = { λ _ work. grows_self work.sets };
-
-    ghost keeps_on = { λ _ u v w. grows_on u.sets v.sets w.sets };
 }
 
 /// The rules of the sets of all plies of the loser.
@@ -220,5 +174,5 @@ pub(crate) fn check_sets(
         work.old.memo.budget result }
     ensures budget { work.new.memo.budget ≡ work.old.memo.budget }
 {
-    each(&SetsByPly { bench, claimed }, work, plies, None)
+    first_failing(&SetsByPly { bench, claimed }, work, plies)
 }

@@ -18,3 +18,4 @@ pub mod EmptyAnswers
 pub mod QuestionParts
 pub mod PlanOnce
 pub mod FirstMoves
+pub mod Taken

@@ -106,14 +106,13 @@ module _ (p : Position) (side : Side) (ply mask now budget : ℕ) (kept : now �
       let Within : ℕ → Type 0 = λ b. Answers (reply_of (level_of old (masks_of p) next_reach) calm check) b view r in
       subst Within kept (subst In is (subst Of (level-grows p.men old middle (masks_of p) next_reach grows are) h))
 
-  pub last_here : (tracks : List Var) (part : PartName) (check reply : SetOf) → tracks ≡ mask_tracks p mask → part ≡ name ply mask kind.Lost
-      → {R : Type 0} (view : R → SetOf) (r : Result R (PlanError PartName)) → Answers (together tracks part check reply) now view r
+  pub last_here : (part : PartName) (check reply : SetOf) → part ≡ name ply mask kind.Lost
+      → {R : Type 0} (view : R → SetOf) (r : Result R (PlanError PartName)) → Answers (together (mask_tracks p part.mask) part check reply) now view r
       → Answers (together (mask_tracks p mask) (name ply mask kind.Lost) check reply) budget view r
-  last_here tracks part check reply over is view r h =
-      let Over : List Var → Type 0 = λ t. Answers (together t part check reply) now view r in
-      let Named : PartName → Type 0 = λ n. Answers (together (mask_tracks p mask) n check reply) now view r in
+  last_here part check reply is view r h =
+      let Named : PartName → Type 0 = λ n. Answers (together (mask_tracks p n.mask) n check reply) now view r in
       let Within : ℕ → Type 0 = λ b. Answers (together (mask_tracks p mask) (name ply mask kind.Lost) check reply) b view r in
-      subst Within kept (subst Named is (subst Over over h))
+      subst Within kept (subst Named is h)
 
 -- the set of a mask, where nothing is reached and where something is
 module _ (rules : Rules) (side : Side) (ply mask budget : ℕ) (reach reach1 rests : Level) where

@@ -10,7 +10,7 @@ ghost use Rattle.mate_plan.specs.PlanOf.{rules_of};
 ghost use Rattle.mate_plan.specs.Questions as questions;
 
 use crate::bench::{Bench, Work};
-use crate::lending::{is_lacking, keep_left, left_without, lent};
+use crate::lending::{is_lacking, keep_without, lent};
 use crate::level::name_in;
 use crate::names::{Part, PartName};
 use crate::stage::{MovesInto, PartMoves, PartSet, StageSet};
@@ -39,8 +39,8 @@ fn have_moves(
     ensures budget { memo.new.budget ≡ memo.old.budget }
 {
     let StageSet { stage, name } = moves.set;
-    let found = pre_set(bench, memo, sets, moves)?;
     let tracks = mask_tracks(bench.alloc, bench.position, stage.mask)?;
+    let found = pre_set(bench, memo, sets, moves)?;
     is_within(
         bench.alloc,
         &tracks,
@@ -73,9 +73,7 @@ fn quiet_name(
         part: set.stage.part(Part::Quiet),
         name: set.name,
     };
-    let budget = work.memo.budget();
-    let left = left_without(bench, &work.sets, whole, check.as_ref(), budget)?;
-    Ok(keep_left(&mut work.sets, set.name, left)?)
+    keep_without(bench, work, whole, check)
 }
 
 /// Whether the side that is to move has an answer into the other level from each position of the stage's set.

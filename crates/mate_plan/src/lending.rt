@@ -2,20 +2,20 @@
 ghost use Rattle.std.specs.Prelude.{◌≡◌, ◌≤◌, IfOk, IfSome, List};
 ghost use Rattle.std.specs.Bool.{OnTrue, OnFalse};
 ghost use Rattle.track_word.specs.declared.tracks.Var.{Var};
-ghost use Rattle.lin_formula.specs.SetOf.{IsEmpty};
+ghost use Rattle.lin_formula.specs.SetOf.{IsEmpty, as_set};
 ghost use Rattle.set_plan.specs.Outcome.{Answers};
 ghost use Rattle.rule_formula.specs.Mean.{mask_tracks as tracks_at};
 ghost use Rattle.set_plan.specs.Sets.{Grows, IsLeftOn, IsNameOn, IsSetOn, left_of, lent as lent_set, set_at};
-ghost use Rattle.set_plan.specs.Unite.{remainder as remainder_of};
+ghost use Rattle.set_plan.specs.Unite.{remainder as remainder_of, together as together_of};
 
-use crate::bench::Bench;
+use crate::bench::{Bench, Work};
 use crate::names::PartName;
 use crate::stage::PartSet;
 use crate::tracks::mask_tracks;
 use auto_core::Auto;
 use limits::Budget;
 use lin_formula::SetId;
-use set_plan::{Left, PlanError, Sets, is_empty_set, remainder};
+use set_plan::{Left, PlanError, Sets, is_empty_set, remainder, together};
 use std::alloc::AllocError;
 
 /// The set of a name, if there is one.
@@ -78,4 +78,45 @@ pub(crate) fn keep_left(
         Left::Whole => Ok(whole),
         Left::Part(set) => sets.keep(set),
     }
+}
+
+/// The name of what is left of a set without another, over the men of the part's mask.
+pub(crate) fn keep_without(
+    bench: &Bench,
+    work: &mut Work,
+    whole: PartSet,
+    other: Option<Auto>,
+) -> Result<Option<SetId>, PlanError<PartName>>
+    requires one { IsNameOn (tracks_at bench.now.position.now whole.part.mask) work.old.sets whole.name }
+    requires other { IfSome other (IsSetOn (tracks_at bench.now.position.now whole.part.mask)) }
+    ensures answers { Answers
+        (remainder_of (tracks_at bench.now.position.now whole.part.mask) whole.part
+        (set_at work.old.sets whole.name) (as_set other))
+        work.old.memo.budget (λ name. set_at work.new.sets name) result }
+    ensures name { IfOk result (IsNameOn (tracks_at bench.now.position.now whole.part.mask) work.new.sets) }
+    ensures grows { Grows work.old.sets work.new.sets }
+    ensures budget { work.new.memo.budget ≡ work.old.memo.budget }
+{
+    let budget = work.memo.budget();
+    let left = left_without(bench, &work.sets, whole, other.as_ref(), budget)?;
+    Ok(keep_left(&mut work.sets, whole.name, left)?)
+}
+
+/// Two sets together, over the men of the part's mask.
+pub(crate) fn joined(
+    bench: &Bench,
+    part: PartName,
+    first: Option<Auto>,
+    second: Option<Auto>,
+    budget: Budget,
+) -> Result<Option<Auto>, PlanError<PartName>>
+    requires first { IfSome first (IsSetOn (tracks_at bench.now.position.now part.mask)) }
+    requires second { IfSome second (IsSetOn (tracks_at bench.now.position.now part.mask)) }
+    ensures answers { Answers
+        (together_of (tracks_at bench.now.position.now part.mask) part (as_set first) (as_set second))
+        budget as_set result }
+    ensures set { IfOk result (λ set. IfSome set (IsSetOn (tracks_at bench.now.position.now part.mask))) }
+{
+    let tracks = mask_tracks(bench.alloc, bench.position, part.mask)?;
+    together(bench.alloc, &tracks, part, first, second, budget)
 }

@@ -13,16 +13,15 @@ ghost use Rattle.mate_plan.specs.PlanOf.{rules_of};
 
 use crate::bench::{Bench, Work};
 use crate::by_mask::{MaskSets, level_by};
-use crate::lending::{is_lacking, keep_left, left_without, lent};
+use crate::lending::{is_lacking, joined, keep_left, keep_without, left_without, lent};
 use crate::level::{LevelNames, name_in};
 use crate::names::{Part, PartName};
 use crate::stage::{PartMoves, PartSet, Stage, StageSet};
-use crate::tracks::mask_tracks;
 use crate::unions::{check_set, pre_set};
 use auto_core::Auto;
 use game_rules::Side;
 use lin_formula::SetId;
-use set_plan::{PlanError, together};
+use set_plan::PlanError;
 
 /// What is reached at a ply and not kept there.
 #[derive(Clone, Copy)]
@@ -115,9 +114,7 @@ fn calm_name(
         part: reach.stage.part(Part::Calm),
         name: reach.name,
     };
-    let budget = work.memo.budget();
-    let left = left_without(bench, &work.sets, whole, escape.as_ref(), budget)?;
-    Ok(keep_left(&mut work.sets, reach.name, left)?)
+    keep_without(bench, work, whole, escape)
 }
 
 /// What is calm and not in check, and has a move.
@@ -188,15 +185,8 @@ fn lost_set(
     let calm = StageSet { stage, name };
     let check = check_set(bench, &mut work.memo, &work.sets, calm)?;
     let reply = reply_set(bench, work, calm, check.as_ref(), next_reach)?;
-    let tracks = mask_tracks(bench.alloc, bench.position, stage.mask)?;
-    together(
-        bench.alloc,
-        &tracks,
-        stage.part(Part::Lost),
-        check,
-        reply,
-        work.memo.budget(),
-    )
+    let part = stage.part(Part::Lost);
+    joined(bench, part, check, reply, work.memo.budget())
 }
 
 /// What is kept at a ply of the loser, where it is known what is reached at the next ply and not kept there.

@@ -10,17 +10,13 @@ use Rattle.claim_check.specs.Ready.{claim_in}
 use Rattle.claim_check.proofs.LosersPlies.{each_mask}
 use Rattle.claim_check.proofs.replies.check_all_stale.Goals as goal
 
-pub each-requires : goal.each-requires
-each-requires c =
+pub first_failing-requires-clause-fits : goal.first_failing-requires-clause-fits
+first_failing-requires-clause-fits c = (c.requires.ready, c.requires.of, c.requires.replies)
+
+pub first_failing-requires-clause-items : goal.first_failing-requires-clause-items
+first_failing-requires-clause-items c =
     let p = c.args.claimed.now.position in
-    record {
-      fits = (
-        c.requires.ready,
-        c.requires.of,
-        c.requires.replies,
-        each_mask p (IsGameMask p) c.as_slice.result.now (c.as_slice.ensures.value ∙ c.requires.ready.masks) (λ mask game. game),
-      );
-    }
+    each_mask p (IsGameMask p) c.as_slice.result.now (c.as_slice.ensures.value ∙ c.requires.ready.masks) (λ mask game. game)
 
 pub returns-clause-finds : goal.returns-clause-finds
 returns-clause-finds c =
@@ -28,5 +24,5 @@ returns-clause-finds c =
     let r = c.args.replies.now in
     let Over : List ℕ → Type 0 = λ l. Finds
     (for_each l (check_stale (rules_of s.position) (other s.winner) r.ply (claimed_level (claim_in s) r.ply) (level_in s.position c.args.work.now.sets r.reached)))
-    c.args.work.now.memo.budget c.each.result in
-    subst Over (c.as_slice.ensures.value ∙ c.requires.ready.masks) c.each.ensures.answers
+    c.args.work.now.memo.budget c.first_failing.result in
+    subst Over (c.as_slice.ensures.value ∙ c.requires.ready.masks) c.first_failing.ensures.finds

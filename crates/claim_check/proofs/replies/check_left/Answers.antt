@@ -11,7 +11,6 @@ use Rattle.claim_plan.specs.CheckPlan.{check_left, holds_by, rule_at}
 use Rattle.claim_plan.specs.declared.names.Rule.TheVariants as rule
 use Rattle.claim_plan.specs.declared.names.RuleAt.{RuleAt}
 use Rattle.claim_check.specs.Finds.{Finds}
-use Rattle.claim_check.specs.Grown.{grows_self}
 use Rattle.claim_check.specs.Ready.{claim_in}
 use Rattle.claim_check.proofs.replies.check_left.Goals as goal
 
@@ -50,4 +49,4 @@ returns-clause-finds c =
 pub returns-clause-grows : goal.returns-clause-grows
 returns-clause-grows c =
     let From : List Automaton → Type 0 = λ t. Grows c.args.work.now.sets t in
-    subst From (sym c.are_answered.ensures.sets) (grows_self c.args.work.now.sets)
+    subst From (sym c.are_answered.ensures.sets) (λ k a is. is)

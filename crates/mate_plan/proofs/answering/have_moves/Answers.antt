@@ -35,7 +35,7 @@ is_within-requires-clause-other c =
 
 pub returns-in_err-found-clause-answers : goal.returns-in_err-found-clause-answers
 returns-in_err-found-clause-answers c =
-    let p = err_from_is_err_and c.from_residual.result c.from_residual.ensures.1 in
+    let p = err_from_is_err_and c.from_residual-in_err-found.result c.from_residual-in_err-found.ensures.1 in
     let stage = c.args.moves.now.set.stage in
     let source = set_at c.args.sets.now c.args.moves.now.set.name in
     let level = level_of c.args.sets.now (masks_of c.args.bench.now.position.now) c.args.moves.now.into.now in

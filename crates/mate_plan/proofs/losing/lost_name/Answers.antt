@@ -1,12 +1,13 @@
-use Rattle.std.proofs.Common.{Ok, Err, refl, subst, arith}
+use Rattle.std.proofs.Common.{List, Ok, Err, refl, sym, subst, arith}
 use Rattle.std.proofs.lemmas.Result.{err_from_is_err_and}
+use Rattle.auto_core.specs.Automaton.{Automaton}
 use Rattle.lin_formula.specs.SetOf.{IsEmpty, as_set}
 use Rattle.rule_formula.specs.Fits.{masks_of}
 use Rattle.rule_formula.specs.Mean.{mask_tracks}
-use Rattle.set_plan.specs.Sets.{set_at}
+use Rattle.set_plan.specs.Sets.{Grows, set_at}
 use Rattle.mate_plan.specs.Levels.{level_of}
 use Rattle.mate_plan.specs.PlanOf.{rules_of}
-use Rattle.mate_plan.proofs.LevelLemmas.{length-grows, name_is_found, on_from_kept, set_is_found}
+use Rattle.mate_plan.proofs.LevelLemmas.{grows-grows, grows_cut, length-grows, name_is_found, on_from_kept, set_is_found}
 use Rattle.mate_plan.proofs.LostParts.{lost_none, lost_some}
 use Rattle.mate_plan.proofs.losing.lost_name.Goals as goal
 
@@ -66,3 +67,15 @@ pub returns-clause-name : goal.returns-clause-name
 returns-clause-name c =
     on_from_kept (mask_tracks c.args.bench.now.position.now c.args.mask) c.keep.new.self c.in_ok-set.set c.in_ok-keep.field-0 c.in_ok-set.ensures.set
     c.in_ok-keep.ensures.ok c.in_ok-keep.ensures.within
+
+pub returns-in_err-keep-clause-grows : goal.returns-in_err-keep-clause-grows
+returns-in_err-keep-clause-grows c =
+    let cut = grows_cut c.args.work.now.sets c.lost_set.new.work.sets c.count-count.result c.count-count.ensures c.in_ok-set.ensures.grows in
+    let To : List Automaton → Type 0 = λ t. Grows c.args.work.now.sets t in
+    grows-grows c.args.work.now.sets c.truncate.new.self c.keep.new.self (subst To (sym c.truncate.ensures) cut) c.in_err-keep.ensures.grows
+
+pub returns-clause-grows : goal.returns-clause-grows
+returns-clause-grows c =
+    let cut = grows_cut c.args.work.now.sets c.lost_set.new.work.sets c.count-count.result c.count-count.ensures c.in_ok-set.ensures.grows in
+    let To : List Automaton → Type 0 = λ t. Grows c.args.work.now.sets t in
+    grows-grows c.args.work.now.sets c.truncate.new.self c.keep.new.self (subst To (sym c.truncate.ensures) cut) c.in_ok-keep.ensures.grows

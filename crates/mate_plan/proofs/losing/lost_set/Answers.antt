@@ -1,11 +1,9 @@
-use Rattle.std.proofs.Common.{◌≡◌, List, Ok, Err, sym, ◌∙◌, subst}
-use Rattle.std.specs.Prelude.{IfOk, IfSome}
+use Rattle.std.proofs.Common.{◌≡◌, Ok, Err, ◌∙◌}
 use Rattle.std.proofs.lemmas.Result.{err_from_is_err_and}
-use Rattle.track_word.specs.declared.tracks.Var.{Var}
 use Rattle.lin_formula.specs.SetOf.{as_set}
 use Rattle.rule_formula.specs.Fits.{masks_of}
 use Rattle.rule_formula.specs.Mean.{mask_tracks}
-use Rattle.set_plan.specs.Sets.{IsSetOn, lent, set_at}
+use Rattle.set_plan.specs.Sets.{lent, set_at}
 use Rattle.mate_plan.specs.Levels.{level_of}
 use Rattle.mate_plan.specs.PlanOf.{rules_of}
 use Rattle.mate_plan.proofs.LevelLemmas.{grows-grows, names-grow}
@@ -20,17 +18,11 @@ reply_set-requires-clause-next_reach c =
     names-grow c.args.bench.now.position.now.men c.args.work.now.sets c.calm_name.new.work.sets (masks_of c.args.bench.now.position.now)
     c.args.next_reach.now c.in_ok-name.ensures.grows c.requires.next_reach
 
-pub together-requires-clause-first : goal.together-requires-clause-first
-together-requires-clause-first c =
-    let tracks : c.deref.result.now ≡ mask_tracks c.args.bench.now.position.now c.args.reach.stage.mask = c.deref.ensures.value ∙ c.in_ok-tracks.ensures in
-    let On : List Var → Type 0 = λ t. IfSome c.in_ok-check.check (IsSetOn t) in
-    subst On (sym tracks) c.in_ok-check.ensures.set
+pub joined-requires-clause-first : goal.joined-requires-clause-first
+joined-requires-clause-first c = rw c.part-part.ensures c.in_ok-check.ensures.set
 
-pub together-requires-clause-second : goal.together-requires-clause-second
-together-requires-clause-second c =
-    let tracks : c.deref.result.now ≡ mask_tracks c.args.bench.now.position.now c.args.reach.stage.mask = c.deref.ensures.value ∙ c.in_ok-tracks.ensures in
-    let On : List Var → Type 0 = λ t. IfSome c.in_ok-reply.reply (IsSetOn t) in
-    subst On (sym tracks) c.in_ok-reply.ensures.set
+pub joined-requires-clause-second : goal.joined-requires-clause-second
+joined-requires-clause-second c = rw c.part-part.ensures c.in_ok-reply.ensures.set
 
 pub returns-in_err-name-clause-answers : goal.returns-in_err-name-clause-answers
 returns-in_err-name-clause-answers c =
@@ -73,29 +65,22 @@ returns-clause-answers c =
     let masks = masks_of c.args.bench.now.position.now in
     let calm = set_at c.calm_name.new.work.sets c.in_ok-name.name in
     let check = as_set c.in_ok-check.check in
-    let tracks : c.deref.result.now ≡ mask_tracks c.args.bench.now.position.now c.args.reach.stage.mask = c.deref.ensures.value ∙ c.in_ok-tracks.ensures in
     let second = rw c.in_ok-name.ensures.budget at c.in_ok-check.ensures.answers in
     let kept : c.check_set.new.memo.budget ≡ c.args.work.now.memo.budget = c.in_ok-check.ensures.budget ∙ c.in_ok-name.ensures.budget in
     last_answers (rules_of c.args.bench.now.position.now) c.args.reach.stage.side c.args.reach.stage.ply c.args.reach.stage.mask
     (set_at c.args.work.now.sets c.args.reach.name) (level_of c.args.work.now.sets masks c.args.next_reach.now)
     (level_of c.args.work.now.sets masks c.args.rests.now) c.args.work.now.memo.budget as_set calm check (as_set c.in_ok-reply.reply)
-    c.together.result c.in_ok-name.ensures.answers second
+    c.joined.result c.in_ok-name.ensures.answers second
     (reply_here c.args.bench.now.position.now c.args.reach.stage.side c.args.reach.stage.ply c.args.reach.stage.mask c.check_set.new.memo.budget
     c.args.work.now.memo.budget kept c.args.work.now.sets c.calm_name.new.work.sets c.args.next_reach.now calm check (lent c.as_ref.result)
     c.in_ok-name.ensures.grows c.requires.next_reach
     (lent-copied c.as_ref.result c.in_ok-check.check c.as_ref.ensures.value) as_set (Ok c.in_ok-reply.reply) c.in_ok-reply.ensures.answers)
     (last_here c.args.bench.now.position.now c.args.reach.stage.side c.args.reach.stage.ply c.args.reach.stage.mask c.budget.result
-    c.args.work.now.memo.budget (c.budget.ensures.is ∙ c.in_ok-reply.ensures.budget ∙ kept) c.deref.result.now c.part.result check
-    (as_set c.in_ok-reply.reply) tracks c.part.ensures as_set c.together.result c.together.ensures.answers)
+    c.args.work.now.memo.budget (c.budget.ensures.is ∙ c.in_ok-reply.ensures.budget ∙ kept) c.part-part.result check
+    (as_set c.in_ok-reply.reply) c.part-part.ensures as_set c.joined.result c.joined.ensures.answers)
 
 pub returns-clause-set : goal.returns-clause-set
-returns-clause-set c =
-    let tracks : c.deref.result.now ≡ mask_tracks c.args.bench.now.position.now c.args.reach.stage.mask = c.deref.ensures.value ∙ c.in_ok-tracks.ensures in
-    let On : List Var → Type 0 = λ t. IfOk c.together.result (λ set. IfSome set (IsSetOn t)) in
-    subst On tracks c.together.ensures.set
+returns-clause-set c = rw c.part-part.ensures at c.joined.ensures.set
 
 pub returns-in_err-reply-clause-grows : goal.returns-in_err-reply-clause-grows
 returns-in_err-reply-clause-grows c = grows-grows c.args.work.now.sets c.calm_name.new.work.sets c.reply_set.new.work.sets c.in_ok-name.ensures.grows c.in_err-reply.ensures.grows
-
-pub returns-in_err-tracks-clause-grows : goal.returns-in_err-tracks-clause-grows
-returns-in_err-tracks-clause-grows c = grows-grows c.args.work.now.sets c.calm_name.new.work.sets c.reply_set.new.work.sets c.in_ok-name.ensures.grows c.in_ok-reply.ensures.grows

@@ -1,0 +1,26 @@
+use Rattle.std.proofs.Common.{ℕ, suc, ◌+◌, ap}
+use Rattle.rule_formula.specs.Fits.{masks_of}
+use Rattle.mate_plan.specs.Claim.{claimed_level}
+use Rattle.mate_plan.specs.Plan.{Level, Program}
+use Rattle.mate_plan.specs.PlanOf.{rules_of}
+use Rattle.mate_plan.proofs.LevelLemmas.{level-grows}
+use Rattle.claim_plan.specs.CheckPlan.{Finding, check_left}
+use Rattle.claim_check.specs.Ready.{claim_in}
+use Rattle.claim_check.proofs.ReplyParts.{replies_grow}
+use Rattle.claim_check.proofs.replies.AnswersByMaskChecks.check.Goals as goal
+
+pub returns-clause-fits : goal.returns-clause-fits
+returns-clause-fits c =
+    let s = c.args.self.now.claimed.now in
+    let r = c.args.self.now.replies.now in (
+      c.requires.fits.0,
+      c.requires.fits.1,
+      replies_grow s r.ply c.args.work.now.sets c.check_left.new.work.sets r c.check_left.ensures.grows c.requires.fits.2,
+    )
+
+pub returns-clause-same : goal.returns-clause-same
+returns-clause-same c =
+    let s = c.args.self.now.claimed.now in
+    let r = c.args.self.now.replies.now in
+    let Of : Level → ℕ → Program Finding = λ l mask. check_left (rules_of s.position) s.winner (suc r.ply) l (claimed_level (claim_in s) (r.ply + 2)) mask in
+    ap Of (level-grows s.position.men c.args.work.now.sets c.check_left.new.work.sets (masks_of s.position) r.reached c.check_left.ensures.grows c.requires.fits.2.reached)

@@ -1,0 +1,86 @@
+//! Checks of one item after another, up to the first rule that fails.
+ghost use Rattle.std.specs.Prelude.{◌≡◌, ℕ, All, List};
+ghost use Rattle.auto_core.specs.Automaton.{Automaton};
+ghost use Rattle.set_plan.specs.Sets.{Grows};
+ghost use Rattle.mate_plan.specs.Plan.{Program};
+ghost use Rattle.claim_plan.specs.CheckPlan as plan;
+ghost use Rattle.claim_check.specs.Finds.{Finds};
+
+use crate::rules::Found;
+use claim_plan::RuleAt;
+use mate_plan::{PartName, Work};
+use set_plan::{Steps, each};
+
+/// What checks an item, as a ply or a mask.
+pub(crate) trait Checks {
+    /// The program of an item, over the sets of a table.
+    ghost program: { Self → List Automaton → ℕ → Program plan.Finding };
+
+    /// What is checked is ready, and its names are those of sets of the table.
+    ghost fits: { Self → List Automaton → Type 0 };
+
+    /// An item that can be checked.
+    ghost takes: { Self → ℕ → Type 0 };
+
+    /// The first rule that fails at the item, or none.
+    fn check(&self, work: &mut Work, item: u8) -> Found
+        requires fits { fits self.now work.old.sets }
+        requires item { takes self.now item }
+        ensures finds { Finds (program self.now work.old.sets item) work.old.memo.budget result }
+        ensures grows { Grows work.old.sets work.new.sets }
+        ensures budget { work.new.memo.budget ≡ work.old.memo.budget }
+        ensures fits { fits self.now work.new.sets }
+        ensures same { program self.now work.new.sets ≡ program self.now work.old.sets };
+}
+
+/// Items checked in turn.
+#[derive(Drop)]
+struct InTurn<'a, C> {
+    checks: &'a C,
+}
+
+impl<C: Checks> Steps for InTurn<'_, C> {
+    type Work = Work;
+
+    type Item = u8;
+
+    type Value = Option<RuleAt>;
+
+    type Part = PartName;
+
+    ghost Seen = { plan.Finding };
+
+    ghost view = { λ _ _ found. found };
+
+    ghost program = { λ s work item. plan.go_on (C.program s.checks.now work.sets item) };
+
+    ghost budget = { λ _ work. work.memo.budget };
+
+    ghost fits = { λ s work _ items. C.fits s.checks.now work.sets × All (C.takes s.checks.now) items };
+
+    ghost keeps = { λ _ old new. Grows old.sets new.sets };
+
+    ghost keeps_self = { λ _ _ _ _ e. e };
+
+    ghost keeps_on = { λ _ _ _ _ first second k a e. second k a (first k a e) };
+
+    fn step(&self, work: &mut Work, item: &u8, found: Option<RuleAt>) -> Found {
+        if found.is_some() {
+            return Ok(found);
+        }
+        self.checks.check(work, *item)
+    }
+}
+
+/// The first rule that fails at one of the items, which are checked in turn, or none.
+pub(crate) fn first_failing<C: Checks>(checks: &C, work: &mut Work, items: &[u8]) -> Found
+    requires fits { C.fits checks.now work.old.sets }
+    requires items { All (C.takes checks.now) items.now }
+    ensures finds { Finds
+        (plan.for_each items.now (C.program checks.now work.old.sets))
+        work.old.memo.budget result }
+    ensures grows { Grows work.old.sets work.new.sets }
+    ensures budget { work.new.memo.budget ≡ work.old.memo.budget }
+{
+    each(&InTurn { checks }, work, items, None)
+}
