@@ -16,8 +16,8 @@ use Rattle.lin_formula.specs.Free.{IsOneOf}
 use Rattle.lin_formula.proofs.FreeVars.{if_cases}
 use Rattle.formula_auto.specs.Step.{Exceeds}
 use Rattle.formula_auto.specs.Decides.{Decides}
-use Rattle.formula_auto.specs.declared.connective.Connective.TheVariants.{Or as by_or}
-use Rattle.formula_auto.proofs.Exceedings.{Exceeds-and_not, Exceeds-connect}
+use Rattle.formula_auto.specs.declared.connective.Connective.TheVariants.{AndNot as by_and_not, Or as by_or}
+use Rattle.formula_auto.proofs.Exceedings.{Exceeds-connect}
 use Rattle.formula_auto.proofs.Parts.{Decides-AndNot, Decides-Or, Decides-same}
 use Rattle.formula_auto.proofs.Projections.{above}
 use Rattle.set_plan.specs.Program.{IsSetOf}
@@ -123,7 +123,7 @@ module _ (tracks : List Var) (a b : Automaton) (left : DecidesOn tracks a) (righ
       IsSetOf-decides (And (Among 0 tracks) (Not (Among 1 tracks))) (two (Table a) (Table b)) r (except-decides c r tracks_c words_c tracks_r words_r)
 
   pub except-exceeds : (budget : ℕ) → BothSpreadExceeds a.tracks b.tracks (Accepts a) (Accepts b) budget ↔ Exceeds (And (Among 0 tracks) (Not (Among 1 tracks))) (members (two (Table a) (Table b))) budget
-  except-exceeds budget = Exceeds-and_not (members (two (Table a) (Table b))) (Among 0 tracks) (Among 1 tracks) a b budget first second
+  except-exceeds budget = Exceeds-connect (members (two (Table a) (Table b))) (Among 0 tracks) (Among 1 tracks) a b budget first second by_and_not
 
   pub except-set : (c r : Automaton) → c.tracks ≡ with_vars a.tracks b.tracks
       → ((word : List ℕ) → IsWord (length c.tracks) word → Accepts c word ↔ (Accepts a (part_of c.tracks a.tracks word) × (¬ Accepts b (part_of c.tracks b.tracks word))))
