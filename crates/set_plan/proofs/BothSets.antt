@@ -122,7 +122,9 @@ module _ (tracks : List Var) (a b : Automaton) (left : DecidesOn tracks a) (righ
   except-is c r tracks_c words_c tracks_r words_r =
       IsSetOf-decides (And (Among 0 tracks) (Not (Among 1 tracks))) (two (Table a) (Table b)) r (except-decides c r tracks_c words_c tracks_r words_r)
 
-  pub except-exceeds : (budget : ℕ) → BothSpreadExceeds a.tracks b.tracks (Accepts a) (Accepts b) budget ↔ Exceeds (And (Among 0 tracks) (Not (Among 1 tracks))) (members (two (Table a) (Table b))) budget
+  pub except-exceeds : (budget : ℕ)
+      → BothSpreadExceeds a.tracks b.tracks (Accepts a) (Accepts b) budget
+      ↔ Exceeds (And (Among 0 tracks) (Not (Among 1 tracks))) (members (two (Table a) (Table b))) budget
   except-exceeds budget = Exceeds-connect (members (two (Table a) (Table b))) (Among 0 tracks) (Among 1 tracks) a b budget first second by_and_not
 
   pub except-set : (c r : Automaton) → c.tracks ≡ with_vars a.tracks b.tracks

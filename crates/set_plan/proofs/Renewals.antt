@@ -32,7 +32,8 @@ module _ {P : Type 0} (budget : ℕ) where
     each-renews : (xs : List X) (so_far made : plan.Made) → Ends (each xs f so_far) budget made → Renews (each xs f) so_far made
     each-renews [] so_far made h =
         let is = Ends-give_is so_far made budget h in
-        inl (ap (λ (m : plan.Made). m.0) is, λ t. subst (λ (n : ℕ). Ends {P = P} {A = plan.Made} (Give (t, so_far.1)) budget (t, n)) (sym (ap (λ (m : plan.Made). m.1) is)) (Ends-give budget (t, so_far.1)))
+        let count = sym (ap (λ (m : plan.Made). m.1) is) in
+        inl (ap (λ (m : plan.Made). m.0) is, λ t. subst (λ (n : ℕ). Ends {P = P} {A = plan.Made} (Give (t, so_far.1)) budget (t, n)) count (Ends-give budget (t, so_far.1)))
     each-renews (x ∷ xs) so_far made h =
         let (next, first, rest) = Ends-split (f x so_far) (each xs f) budget made h in
         both x xs so_far next made first (step x so_far next first) (each-renews xs next made rest)
@@ -80,7 +81,8 @@ module _ {P : Type 0} (budget : ℕ) where
       where
         -- the next set is not empty, and the one so far is, or both are joined
         later : (next : plan.Made) → Ends (plan.make part so_far.1 item) budget next → (IsEmpty next.0 → ⊥)
-            → ((IsEmpty so_far.0 ⊎ ⊥) × Ends {P = P} {A = plan.Made} (Give next) budget made) ⊎ (((IsEmpty so_far.0 → ⊥) × Unit {0}) × Ends (plan.compute part next.1 (plan.either tracks so_far.0 next.0)) budget made)
+            → ((IsEmpty so_far.0 ⊎ ⊥) × Ends {P = P} {A = plan.Made} (Give next) budget made)
+            ⊎ (((IsEmpty so_far.0 → ⊥) × Unit {0}) × Ends (plan.compute part next.1 (plan.either tracks so_far.0 next.0)) budget made)
             → (t : SetOf) → SameSets made.0 t → Ends (plan.with_item tracks part item so_far) budget (t, made.1)
         later next one some (inl (inl empty, gives)) t like =
             let is : made ≡ next = Ends-give_is next made budget gives in
@@ -106,7 +108,8 @@ module _ {P : Type 0} (budget : ℕ) where
               ap (λ (m : plan.Made). m.0) is,
               λ t.
                   let At : ℕ → Type 0 = λ n. Ends (plan.with_item tracks part item (t, so_far.1)) budget (t, n) in
-                  subst At (sym (ap (λ (m : plan.Made). m.1) is)) (Ends-bind (plan.make part so_far.1 item) (plan.join tracks part t) budget next (t, next.1) one (Ends-join_left tracks part budget t next empty)),
+                  subst At (sym (ap (λ (m : plan.Made). m.1) is))
+                  (Ends-bind (plan.make part so_far.1 item) (plan.join tracks part t) budget next (t, next.1) one (Ends-join_left tracks part budget t next empty)),
             )
         by next one (inl (inr never, gives)) = absurd never
         by next one (inr (some, rest)) =
