@@ -52,6 +52,7 @@ pub record IsReductionOf (a r : Automaton) : Type 0 where
   pub same : SameSets (Table a) (Table r)
   pub set : (tracks : List Var) → IsReachedOn tracks a → IsSetOn tracks r
 
+-- there is none, or it is reduced
 abbrev pub IsReducedSet : Option Automaton → Option Automaton → Type 0
 IsReducedSet None set = set ≡ None
 IsReducedSet (Some a) set = (r : Automaton) × (set ≡ Some r) × IsReductionOf a r
