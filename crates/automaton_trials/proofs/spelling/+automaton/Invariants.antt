@@ -13,3 +13,6 @@ decreases-with_next l = 3 * l.inner.depth + 1
 
 abbrev pub decreases-both : goal.decreases-both
 decreases-both l = 3 * l.inner.depth + 2
+
+abbrev pub decreases-projected : goal.decreases-projected
+decreases-projected l = 3 * l.inner.depth + 1
