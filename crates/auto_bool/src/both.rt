@@ -63,11 +63,17 @@ impl<'a> Both<'a> {
         let left_tracks = left.tracks();
         let right_tracks = right.tracks();
         let tracks = both_tracks(alloc, left_tracks, right_tracks)?;
-        // room for both sides, and for as many nodes of pairs
-        let sides = left.diagrams().len().saturating_add(right.diagrams().len());
-        let mut diagrams = Diagrams::with_capacity(alloc, sides.saturating_mul(2))?;
-        let left_nodes = side(alloc, &mut diagrams, tracks.as_slice(), left)?;
-        let right_nodes = side(alloc, &mut diagrams, tracks.as_slice(), right)?;
+        let left_first = left_tracks.len() == tracks.len();
+        let mut diagrams = Diagrams::new(alloc);
+        let left_nodes;
+        let right_nodes;
+        if left_first {
+            left_nodes = side(alloc, &mut diagrams, tracks.as_slice(), left)?;
+            right_nodes = side(alloc, &mut diagrams, tracks.as_slice(), right)?;
+        } else {
+            right_nodes = side(alloc, &mut diagrams, tracks.as_slice(), right)?;
+            left_nodes = side(alloc, &mut diagrams, tracks.as_slice(), left)?;
+        }
         let pairs = Pairs::with_capacity(alloc, left.states().max(right.states()) as usize)?;
         let product = Product::new(diagrams, pairs, absorbing)?;
         Ok(Both {

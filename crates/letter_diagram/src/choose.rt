@@ -1,6 +1,7 @@
 //! The choice between two maps by the bit of a track.
 ghost use Rattle.std.specs.Prelude.{◌≡◌, ◌<◌, ℕ, length, IfOk, OnOk};
 ghost use Rattle.letter_diagram.specs.Diagram.{map_at, chosen, Grows};
+ghost use Rattle.letter_diagram.specs.Paired.{top_of_both};
 ghost use Rattle.letter_diagram.specs.Chosen.{IsChosen, RemembersChosen};
 
 use crate::diagrams::{Diagrams, Node};
@@ -20,8 +21,26 @@ impl Diagrams {
             (λ node. (letter : ℕ) → map_at self.new node letter ≡ chosen self.old track low high letter) }
         ensures grows { Grows self.old self.new }
     {
+        if track <= self.top(low).min(self.top(high)) {
+            return self.tested(track, low, high);
+        }
         let mut memo = HashMap::new(self.alloc());
         self.chosen(track, low, high, &mut memo)
+    }
+
+    /// The choice at a track that neither map looks before.
+    fn tested(&mut self, track: u8, low: Node, high: Node) -> Result<Node, AllocError>
+        requires track_low { track < MOST_TRACKS }
+        requires low_known { low < length self.old }
+        requires high_known { high < length self.old }
+        requires first { track ≤ top_of_both self.old low high }
+        ensures chosen { IfOk result (λ node. IsChosen self.new track low high node) }
+        ensures grows { Grows self.old self.new }
+    {
+        let (low, _) = self.split(low, track);
+        let (_, high) = self.split(high, track);
+        let node = self.node(track, low, high)?;
+        Ok(node)
     }
 
     /// Before the track both maps are split by the tracks that they look at; at the track the one's side at its bit 0 and the
@@ -43,10 +62,7 @@ impl Diagrams {
     {
         let own = self.top(low).min(self.top(high));
         if track <= own {
-            let (low, _) = self.split(low, track);
-            let (_, high) = self.split(high, track);
-            let node = self.node(track, low, high)?;
-            return Ok(node);
+            return self.tested(track, low, high);
         }
         if low == high {
             return Ok(low);

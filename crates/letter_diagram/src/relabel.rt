@@ -54,6 +54,18 @@ impl<'a> Carry for Relabelling<'a> {
     }
 }
 
+/// Whether each track takes its own bit.
+fn keeps_tracks(tracks: &[u8]) -> bool {
+    let mut own = 0;
+    for track in tracks {
+        if *track != own {
+            return false;
+        }
+        own += 1;
+    }
+    true
+}
+
 impl Diagrams {
     /// The map of `a` on the letter whose bit t is the bit of `tracks[t]`.
     pub fn relabel(&mut self, a: Node, tracks: &[u8]) -> Result<Node, AllocError>
@@ -86,6 +98,10 @@ impl Diagrams {
             made.items) }
         ensures grows { Grows self.old self.new }
     {
+        if self.is_empty() && keeps_tracks(tracks) {
+            *self = from.copy()?;
+            return Ok(nodes.to_vec(self.alloc())?);
+        }
         let mut memo = NodeMemo::new(self.alloc(), from.len())?;
         let relabelling = Relabelling {
             from: Some(from),
