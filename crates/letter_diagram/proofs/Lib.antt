@@ -8,6 +8,7 @@ pub mod Absorptions
 pub mod Pairings
 pub mod Choices
 pub mod Narrow
+pub mod Kept
 pub mod Carryings
 pub mod Lists
 pub mod SetNumbers

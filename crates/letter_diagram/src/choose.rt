@@ -1,5 +1,5 @@
 //! The choice between two maps by the bit of a track.
-ghost use Rattle.std.specs.Prelude.{◌≡◌, ◌<◌, ℕ, length, IfOk, OnOk};
+ghost use Rattle.std.specs.Prelude.{◌≡◌, ◌<◌, ◌≤◌, ℕ, length, IfOk, OnOk};
 ghost use Rattle.letter_diagram.specs.Diagram.{map_at, chosen, Grows};
 ghost use Rattle.letter_diagram.specs.Paired.{top_of_both};
 ghost use Rattle.letter_diagram.specs.Chosen.{IsChosen, RemembersChosen};
@@ -62,7 +62,8 @@ impl Diagrams {
     {
         let own = self.top(low).min(self.top(high));
         if track <= own {
-            return self.tested(track, low, high);
+            let node = self.tested(track, low, high)?;
+            return Ok(node);
         }
         if low == high {
             return Ok(low);

@@ -1,10 +1,10 @@
 //! Maps whose tracks take their bits from other tracks.
-ghost use Rattle.std.specs.Prelude.{◌≡◌, ◌<◌, ℕ, length, option_copied, All, IfOk};
+ghost use Rattle.std.specs.Prelude.{◌≡◌, ◌<◌, ℕ, length, option_copied, All, IfOk, IsTrue};
 ghost use Rattle.limits.specs.declared.numbers.TheConstants.{MOST_TRACKS};
 ghost use Rattle.letter_diagram.specs.Diagram.{map_at, Grows, LooksBelow};
 ghost use Rattle.letter_diagram.specs.Carried.{IsCarried};
 ghost use Rattle.letter_diagram.specs.Listed.{EachAnswers};
-ghost use Rattle.letter_diagram.specs.Relabelled.{relabelled};
+ghost use Rattle.letter_diagram.specs.Relabelled.{relabelled, KeepsTracks};
 
 use crate::carry::{Carry, carried, carried_all};
 use crate::diagrams::{Diagrams, Node, Shape};
@@ -55,13 +55,13 @@ impl<'a> Carry for Relabelling<'a> {
 }
 
 /// Whether each track takes its own bit.
-fn keeps_tracks(tracks: &[u8]) -> bool {
-    let mut own = 0;
-    for track in tracks {
-        if *track != own {
+fn keeps_tracks(tracks: &[u8]) -> bool
+    ensures { IsTrue result → KeepsTracks tracks.now }
+{
+    for (own, track) in tracks.iter().enumerate() {
+        if usize::from(*track) != own {
             return false;
         }
-        own += 1;
     }
     true
 }
@@ -83,7 +83,8 @@ impl Diagrams {
     }
 
     /// The nodes here that have the maps of nodes of `from` on the letter whose bit t is the bit of `tracks[t]`, in their
-    /// order: `bring` and `relabel` in one pass.
+    /// order: `bring` and `relabel` in one pass. Where no node is known here and each track takes its own bit, all nodes are
+    /// copied as they are.
     pub fn bring_relabelled(
         &mut self,
         from: &Diagrams,

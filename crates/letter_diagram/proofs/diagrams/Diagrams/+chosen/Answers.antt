@@ -12,7 +12,7 @@ returns-then-track-own-clause-remembered t c = RemembersChosen-grows _ _ _ _ c.i
 pub returns-in-Some-clause-chosen : goal.returns-in-Some-clause-chosen
 returns-in-Some-clause-chosen t c = c.requires.remembered.chosen _ _ _ (sym c.in-Some.ensures.value)
 
-made : (t : ℕ) (c : goal.In_ok-insert t) → IsChosen c.node-2.new.self c.args.track c.args.low c.args.high c.in_ok-node-2.node
+made : (t : ℕ) (c : goal.In_ok-insert t) → IsChosen c.node.new.self c.args.track c.args.low c.args.high c.in_ok-node-2.node
 made t c =
     let from_on = c.in_ok-node-2.ensures.grows in
     let from_off = Grows-trans _ _ _ c.in_ok-on.ensures.grows from_on in
