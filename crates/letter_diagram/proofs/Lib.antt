@@ -9,6 +9,8 @@ pub mod Pairings
 pub mod Choices
 pub mod Narrow
 pub mod Carryings
+pub mod Turnings
+pub mod Compositions
 pub mod Lists
 pub mod SetNumbers
 pub mod Mergings
