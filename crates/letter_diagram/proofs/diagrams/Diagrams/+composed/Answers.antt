@@ -1,4 +1,4 @@
-use Rattle.std.proofs.Common.{arith, ◌<◌, ℕ, length, refl, sym, ◌∙◌}
+use Rattle.std.proofs.Common.{arith, ◌<◌, ℕ, length, sym, ◌∙◌}
 use Rattle.letter_diagram.specs.Composed.{IsComposed, RemembersComposed}
 use Rattle.letter_diagram.proofs.Maps.{Grows-trans}
 use Rattle.letter_diagram.proofs.Pairings.{chosen-grows}
@@ -24,11 +24,19 @@ composed-requires-in-Test t c =
     let high_before = c.in-Test.ensures.fits.high_before in
     let grows = c.in_ok-low-in-Test.ensures.grows in
     let longer = grows.longer in
-    let known : c.in-Test.high < length c.args.self.now = omega arith in
-    (omega arith, (omega arith, (rows-grow _ _ _ grows c.requires.rows, (
-      (λ letter. let v = (c.in-Test.ensures.children letter).1 in rw (grows.map c.in-Test.high letter known, ← v.1) (c.requires.leaves v.0)),
-      c.in_ok-low-in-Test.ensures.remembered,
-    ))))
+    let known : c.in-Test.high < length c.args.self.now = omega arith in (
+      omega arith,
+      (
+        omega arith,
+        (
+          rows-grow _ _ _ grows c.requires.rows,
+          (
+            (λ letter. let v = (c.in-Test.ensures.children letter).1 in rw (grows.map c.in-Test.high letter known, ← v.1) (c.requires.leaves v.0)),
+            c.in_ok-low-in-Test.ensures.remembered,
+          ),
+        ),
+      ),
+    )
 
 made : (t : ℕ) (c : goal.In_ok-insert t) → IsComposed c.match-shape.self c.args.rows.now c.args.a c.match-shape.node
 made t c = elim c.match-shape.branch [
