@@ -1,12 +1,15 @@
 -- Letters with the other bit on one track, and the choice between two maps at them.
-use Rattle.std.proofs.Common.{◌≡◌, ◌≢◌, ◌⊎◌, ℕ, ◌-◌, ◌%◌, ◌+◌, List, nat_eq, if◌then◌else◌, arith, sym, ap, ◌∙◌, refl, subst, inl, inr}
+use Rattle.std.proofs.Common.{◌≡◌, ◌≢◌, ℕ, ◌<◌, ◌-◌, ◌%◌, ◌+◌, ◌^◌, List, nat_eq, if◌then◌else◌, arith, sym, ap, ◌∙◌, refl, subst, inl, inr}
 use Rattle.std.specs.Int.{bit_at}
+use Rattle.std.proofs.lemmas.Bool.{cases_eq}
+use Rattle.std.proofs.lemmas.Nat.{xor_lt}
 use Rattle.std.proofs.lemmas.Nat.Bits.{bit_at-lt}
+use Rattle.std.proofs.Math.Pow.{pow-lt}
 use Rattle.letter_diagram.specs.declared.diagrams.Shape.{Shape}
 use Rattle.letter_diagram.specs.Diagram.{map_at, chosen}
 use Rattle.letter_diagram.specs.Turned.{turned}
 use Rattle.letter_diagram.specs.Carried.{KeepsLetters}
-use Rattle.letter_diagram.proofs.Canonical.{flip, bit_at-flip_same, bit_at-flip_other, bit_cases}
+use Rattle.letter_diagram.proofs.Canonical.{flip, bit_at-flip_same, bit_at-flip_other}
 
 turned-flip : (track letter : ℕ) → turned track letter ≡ flip letter track
 unfolding turned flip
@@ -21,6 +24,10 @@ turned-same track letter =
     let odd : (bit_at letter track + 1) % 2 ≡ 1 - bit_at letter track = omega (arith, l) in
     ap (λ n. bit_at n track) (turned-flip track letter) ∙ bit_at-flip_same letter track ∙ odd
 
+pub turned-below : (track bound letter : ℕ) → track < bound → letter < 2 ^ bound → turned track letter < 2 ^ bound
+unfolding turned
+turned-below track bound letter within small = xor_lt bound letter (2 ^ track) small (pow-lt within)
+
 -- so no letter is kept
 pub turned-moves : (track : ℕ) → KeepsLetters (turned track) → ⊥
 turned-moves track keeps =
@@ -33,12 +40,14 @@ pub chosen-turned : (shapes : List Shape) (track other low high letter : ℕ) �
     → chosen shapes other high low letter ≡ (if nat_eq (bit_at (turned track letter) other) 0 then map_at shapes low letter else map_at shapes high letter)
 chosen-turned shapes track other low high letter e =
     subst (λ t. chosen shapes t high low letter ≡ (if nat_eq (bit_at (turned track letter) t) 0 then map_at shapes low letter else map_at shapes high letter)) (sym e)
-    (by_bit track (turned-same track letter) (bit_cases letter track))
+    (by_bit track (turned-same track letter) (bit_at-lt letter track))
   where
-    by_bit : (t : ℕ) → bit_at (turned track letter) t ≡ 1 - bit_at letter t → (bit_at letter t ≡ 0) ⊎ (bit_at letter t ≡ 1)
+    by_bit : (t : ℕ) → bit_at (turned track letter) t ≡ 1 - bit_at letter t → bit_at letter t < 2
         → chosen shapes t high low letter ≡ (if nat_eq (bit_at (turned track letter) t) 0 then map_at shapes low letter else map_at shapes high letter)
-    by_bit t other (inl z) = rw (other, z) refl
-    by_bit t other (inr o) = rw (other, o) refl
+    by_bit t other small = elim (cases_eq (bit_at letter t) 0) [
+      | inl z ↦ rw (other, z) refl
+      | inr ne ↦ let o : bit_at letter t ≡ 1 = omega (arith, small, ne) in rw (other, o) refl
+    ]
 
 -- and by another track the same
 pub chosen-kept : (shapes : List Shape) (track other low high letter : ℕ) → other ≢ track
