@@ -4,9 +4,9 @@ ghost use Rattle.auto_core.specs.Integers.{DecidesIntegers};
 ghost use Rattle.auto_core.specs.Reduced.{IsReachedState};
 ghost use Rattle.auto_walk.specs.Walker.{IsWalked, MoreThan};
 ghost use Rattle.auto_shift.specs.Moved.{DecidesMoved};
-ghost use Rattle.auto_shift.specs.Shifted.{by_one, shift_walker};
+ghost use Rattle.auto_shift.specs.Shifted.{by_one, along, shift_walker};
 
-use crate::laws::pairs_decide_moved_sets;
+use crate::laws::{moving_adds_up, pairs_decide_moved_sets};
 use crate::pair_walk::Shift;
 use auto_core::Auto;
 use auto_walk::{Grown, walked};
@@ -52,5 +52,52 @@ pub fn move_by_one(
 {
     pairs_decide_moved_sets();
     let moved = pairs_walked(alloc, a, track, up, budget)?;
+    Ok(moved)
+}
+
+/// So many times one more, or one less.
+#[derive(Clone, Copy)]
+struct Steps {
+    up: bool,
+    times: u32,
+}
+
+impl Steps {
+    fn of(by: i32) -> Self
+        requires { by ≢ pos 0 }
+        ensures along { along result.up result.times ≡ by }
+        ensures some { 0 < result.times }
+    {
+        Steps {
+            up: by > 0,
+            times: by.unsigned_abs(),
+        }
+    }
+}
+
+/// The automaton of the set that is moved by a number: it accepts a word just if the argument accepts the words with so much more
+/// (or less) on the track. That is `move_by_one` as many times, and the budget is that of each time.
+/// By 0 nothing is to be made: such a set is itself (`laws::each_set_is_moved_by_nothing`).
+pub fn move_by(
+    alloc: Global,
+    a: &Auto,
+    track: u8,
+    by: i32,
+    budget: Budget,
+) -> Result<Auto, Grown>
+    requires integers { DecidesIntegers a.now }
+    requires track { track < length a.now.tracks }
+    requires by { by ≢ pos 0 }
+    ensures moved { IfOk result (λ b. DecidesMoved a.now b track by) }
+    ensures integers { IfOk result (λ b. DecidesIntegers b) }
+    ensures reached { IfOk result (λ b. (state : ℕ) → state < length b.accept → IsReachedState b state) }
+    ensures few { IfOk result (λ b. length b.accept ≤ budget) }
+{
+    moving_adds_up();
+    let Steps { up, times } = Steps::of(by);
+    let mut moved = move_by_one(alloc, a, track, up, budget)?;
+    for done in 1..times {
+        moved = move_by_one(alloc, &moved, track, up, budget)?;
+    }
     Ok(moved)
 }
