@@ -7,7 +7,8 @@ use auto_core::Auto;
 use letter_diagram::{Diagrams, Node};
 use std::alloc::AllocError;
 
-/// Of what is read where one more (or one less) stays in the bit and where it goes on, what is read at the bit 0 and at the bit 1.
+/// What is read at the bit 0 and at the bit 1, of what is read where one more (or one less) stays in the bit and where it
+/// goes on.
 pub fn by_bit(up: bool, stays: Node, goes_on: Node) -> (Node, Node)
     ensures { IsByBit up stays goes_on result.0 result.1 }
 {

@@ -14,13 +14,7 @@ use limits::Budget;
 use std::alloc::Global;
 
 /// The automaton over the pairs of states that words lead to.
-fn pairs_walked(
-    alloc: Global,
-    a: &Auto,
-    track: u8,
-    up: bool,
-    budget: Budget,
-) -> Result<Auto, Grown>
+fn pairs_walked(alloc: Global, a: &Auto, track: u8, up: bool, budget: Budget) -> Result<Auto, Grown>
     requires { track < length a.now.tracks }
     ensures ok { IfOk result (IsWalked (shift_walker a.now track up)) }
     ensures few { IfOk result (λ m. length m.accept ≤ budget) }
@@ -31,8 +25,8 @@ fn pairs_walked(
     walked(alloc, pairs, budget)
 }
 
-/// The automaton of the set that is moved by one: it accepts a word just if the argument accepts the words with one more (or one
-/// less) on the track. Its states are the pairs of states that words lead to; some of them may accept the same suffixes.
+/// The automaton of the set that is moved by one: it accepts a word just if the argument accepts the words with one more (or
+/// one less) on the track. Its states are the pairs of states that words lead to; some of them may accept the same suffixes.
 /// `Over` where they are more than the budget. Costs the pairs of nodes that are met over all rows together.
 pub fn move_by_one(
     alloc: Global,
@@ -75,16 +69,10 @@ impl Steps {
     }
 }
 
-/// The automaton of the set that is moved by a number: it accepts a word just if the argument accepts the words with so much more
-/// (or less) on the track. That is `move_by_one` as many times, and the budget is that of each time.
-/// By 0 nothing is to be made: such a set is itself (`laws::each_set_is_moved_by_nothing`).
-pub fn move_by(
-    alloc: Global,
-    a: &Auto,
-    track: u8,
-    by: i32,
-    budget: Budget,
-) -> Result<Auto, Grown>
+/// The automaton of the set that is moved by a number: it accepts a word just if the argument accepts the words with so much
+/// more (or less) on the track. That is `move_by_one` as many times, each within the budget; `Over` where one of them is not.
+/// By 0 there is nothing to make: a set is itself moved by 0 (`laws::each_set_is_moved_by_nothing`).
+pub fn move_by(alloc: Global, a: &Auto, track: u8, by: i32, budget: Budget) -> Result<Auto, Grown>
     requires integers { DecidesIntegers a.now }
     requires track { track < length a.now.tracks }
     requires by { by ≢ pos 0 }
@@ -96,7 +84,7 @@ pub fn move_by(
     moving_adds_up();
     let Steps { up, times } = Steps::of(by);
     let mut moved = move_by_one(alloc, a, track, up, budget)?;
-    for done in 1..times {
+    for _done in 1..times {
         moved = move_by_one(alloc, &moved, track, up, budget)?;
     }
     Ok(moved)

@@ -1,5 +1,4 @@
-use Rattle.std.proofs.Common.{rules, ◌<◌, length}
-use Rattle.auto_shift.proofs.ShiftRows.{HasNodes-kept, first_within, IsFirstMoved-parts}
+use Rattle.auto_shift.proofs.ShiftRows.{IsFirstMoved-parts}
 use Rattle.auto_shift.proofs.first_row.first_moved.Goals as goal
 
 pub returns-clause-moved : goal.returns-clause-moved

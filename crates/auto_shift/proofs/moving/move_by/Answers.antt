@@ -20,6 +20,6 @@ pub returns-clause-moved : goal.returns-clause-moved
 returns-clause-moved c =
     let some = c.of-up.ensures.some in
     let past = c.loop-done-test.false in
-    let most = c.loop-done.auto.done-end in
-    let all : c.loop-done.done ≡ c.of-up.result.times = omega (arith, some, past, most) in
+    let most = c.loop-done.auto._done-end in
+    let all : c.loop-done._done ≡ c.of-up.result.times = omega (arith, some, past, most) in
     subst (DecidesMoved c.args.a.now c.loop-done.moved c.args.track) (ap (along c.of-up.result.up) all ∙ c.of-up.ensures.along ∙ to_z-of_z w32 c.args.by c.ranges.by) c.loop-done.invariant.moved

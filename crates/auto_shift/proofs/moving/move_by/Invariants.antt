@@ -7,7 +7,7 @@ use Rattle.auto_shift.proofs.moving.move_by.Given as goal
 
 abbrev pub invariant-loop-done : goal.invariant-loop-done
 invariant-loop-done l = record {
-  moved : DecidesMoved l.a l.moved l.track (along l.up l.done);
+  moved : DecidesMoved l.a l.moved l.track (along l.up l._done);
   integers : DecidesIntegers l.moved;
   reached : (state : ℕ) → state < length l.moved.accept → IsReachedState l.moved state;
   few : length l.moved.accept ≤ l.budget;
