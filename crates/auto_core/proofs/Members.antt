@@ -37,6 +37,14 @@ alike a decides keeps equal v w av aw shorter same =
     let one : repeated k v ≡ w = equal (length a.tracks) (repeated k v) w (IsWord-repeated (length a.tracks) v k av) aw size (λ t h. val-repeated keeps k v t ∙ same t h) in
     subst (λ x. Accepts a v ↔ Accepts a x) one longer
 
+-- however long they are
+pub accepts-alike : (a : Automaton) → DecidesIntegers a → RepeatKeepsValues → EqualValuesEqualWords → (v w : List ℕ) → IsWord (length a.tracks) v → IsWord (length a.tracks) w
+    → ((t : ℕ) → t < length a.tracks → val v t ≡ val w t) → Accepts a v ↔ Accepts a w
+accepts-alike a decides keeps equal v w av aw same = elim (cases_lt (length w) (length v)) [
+  | inl shorter ↦ let back = alike a decides keeps equal w v aw av (omega (arith, shorter)) (λ t h. sym (same t h)) in (back.1, back.0)
+  | inr longer ↦ alike a decides keeps equal v w av aw longer same
+]
+
 -- the value of the t-th track
 value-at : (tracks : List Var) (word : List ℕ) (t : ℕ) → IsAscending tracks → t < length tracks → get_or (values_at tracks (word_values tracks word)) t (pos 0) ≡ val word t
 value-at tracks word t up h =
@@ -58,12 +66,7 @@ module _ (a : Automaton) (values : List ℤ) (n : ℕ) (is : IsAutomaton a) (cou
   words-alike word of =
       let same = λ (t : ℕ) (h : t < length a.tracks).
       (spell values n fits).values t (omega (arith, h, count)) ∙ ap (λ l. get_or l t (pos 0)) (sym of.values) ∙ value-at a.tracks word t is.ascending h in
-      elim (cases_lt (length word) (length (spelled values n))) [
-        | inl shorter ↦
-            let back = alike a decides keeps equal word (spelled values n) of.is_word spelled-word (omega (arith, shorter)) (λ t h. sym (same t h)) in
-            (back.1, back.0)
-        | inr longer ↦ alike a decides keeps equal (spelled values n) word spelled-word of.is_word longer same
-      ]
+      accepts-alike a decides keeps equal (spelled values n) word spelled-word of.is_word same
 
   -- the word of the bits from a place on tells which tuples are accepted
   pub accepted-spelled : Accepts a (spelled values n) ↔ IsAccepted a values

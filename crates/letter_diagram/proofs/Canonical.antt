@@ -12,7 +12,7 @@ use Rattle.letter_diagram.specs.Diagram.{map_at, top_track, IsTest, IsDiagram, F
 use Rattle.letter_diagram.proofs.Maps.{IsAt-get}
 
 -- the letter with one bit changed
-pub flip : ℕ → ℕ → ℕ
+unfoldable pub flip : ℕ → ℕ → ℕ
 flip letter track = bit_xor letter (2 ^ track)
 
 pub bit_at-flip_other : (letter track k : ℕ) → k ≢ track → bit_at (flip letter track) k ≡ bit_at letter k

@@ -5,6 +5,8 @@ pub mod Paired
 pub mod Absorbed
 pub mod Chosen
 pub mod Relabelled
+pub mod Turned
+pub mod Composed
 pub mod Least
 pub mod Product
 pub mod Listed

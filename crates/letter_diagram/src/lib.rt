@@ -6,6 +6,7 @@ mod apply2;
 mod bring;
 mod carry;
 mod choose;
+mod compose;
 mod diagrams;
 pub mod laws;
 mod leaves;
@@ -18,6 +19,7 @@ mod pairs;
 mod product;
 mod relabel;
 mod sets;
+mod turn;
 
 pub use absorbing::Absorbing;
 pub use carry::{Carry, carried, carried_all};

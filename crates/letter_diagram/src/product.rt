@@ -1,6 +1,6 @@
 //! Maps of pairs over one table of nodes, with a memo that is kept from call to call.
 ghost use Rattle.std.specs.Prelude.{◌≡◌, ◌<◌, ◌≤◌, ◌+◌, ◌^◌, ℕ, length, slice_get, Some, IfOk, OnOk};
-ghost use Rattle.letter_diagram.specs.Diagram.{map_at, top_track, Grows};
+ghost use Rattle.letter_diagram.specs.Diagram.{map_at, top_track, chosen, Grows};
 ghost use Rattle.letter_diagram.specs.Numbering.{PairsKept};
 ghost use Rattle.letter_diagram.specs.Paired.{top_of_both};
 ghost use Rattle.letter_diagram.specs.Absorbed.{absorbed_at, AreAbsorbed};
@@ -108,5 +108,23 @@ impl Product {
                 Err(refused)
             }
         }
+    }
+}
+
+impl Product {
+    /// `Diagrams::choose` of nodes of the product.
+    pub fn choose(&mut self, track: u8, low: Node, high: Node) -> Result<Node, AllocError>
+        requires track_low { track < MOST_TRACKS }
+        requires low_known { low < length self.old.shapes }
+        requires high_known { high < length self.old.shapes }
+        ensures known { IfOk result (λ node. node < length self.new.shapes) }
+        ensures map { IfOk result
+            (λ node. (letter : ℕ) → map_at self.new.shapes node letter ≡ chosen self.old.shapes track low high letter) }
+        ensures pairs { self.new.pairs ≡ self.old.pairs }
+        ensures absorbing { self.new.absorbing ≡ self.old.absorbing }
+        ensures grows { Grows self.old.shapes self.new.shapes }
+    {
+        let node = self.diagrams.choose(track, low, high)?;
+        Ok(node)
     }
 }

@@ -1,0 +1,25 @@
+use Rattle.std.proofs.Common.{◌≡◌, arith, ap, ◌∙◌, subst}
+use Rattle.std.specs.Int.{w32}
+use Rattle.std.proofs.lemmas.Int.{to_z-of_z}
+use Rattle.auto_shift.specs.Moved.{DecidesMoved}
+use Rattle.auto_shift.specs.Shifted.{along}
+use Rattle.auto_shift.proofs.Decisions.{DecidesMoved-next}
+use Rattle.auto_shift.proofs.moving.move_by.Goals as goal
+
+pub loop-done-preserved : goal.loop-done-preserved
+loop-done-preserved c =
+    let e = c.in_ok-moved-2.ensures in
+    record {
+      moved = DecidesMoved-next _ _ _ _ _ _ c.moving_adds_up.ensures c.requires.track c.loop-done.invariant.moved e.moved;
+      integers = e.integers;
+      reached = e.reached;
+      few = e.few;
+    }
+
+pub returns-clause-moved : goal.returns-clause-moved
+returns-clause-moved c =
+    let some = c.of-up.ensures.some in
+    let past = c.loop-done-test.false in
+    let most = c.loop-done.auto._done-end in
+    let all : c.loop-done._done ≡ c.of-up.result.times = omega (arith, some, past, most) in
+    subst (DecidesMoved c.args.a.now c.loop-done.moved c.args.track) (ap (along c.of-up.result.up) all ∙ c.of-up.ensures.along ∙ to_z-of_z w32 c.args.by c.ranges.by) c.loop-done.invariant.moved

@@ -1,0 +1,91 @@
+//! The automaton of a set that is moved along a track.
+ghost use Rattle.std.specs.Prelude.{◌≡◌, ◌≢◌, ◌<◌, ◌≤◌, ◌≤ℤ◌, ℕ, pos, length, IfOk, OnOk};
+ghost use Rattle.auto_core.specs.Integers.{DecidesIntegers};
+ghost use Rattle.auto_core.specs.Reduced.{IsReachedState};
+ghost use Rattle.auto_walk.specs.Walker.{IsWalked, MoreThan};
+ghost use Rattle.auto_shift.specs.Moved.{DecidesMoved};
+ghost use Rattle.auto_shift.specs.Shifted.{by_one, along, shift_walker};
+
+use crate::laws::{moving_adds_up, pairs_decide_moved_sets};
+use crate::pair_walk::Shift;
+use auto_core::Auto;
+use auto_walk::{Grown, walked};
+use limits::Budget;
+use std::alloc::Global;
+
+/// The automaton over the pairs of states that words lead to.
+fn pairs_walked(alloc: Global, a: &Auto, track: u8, up: bool, budget: Budget) -> Result<Auto, Grown>
+    requires { track < length a.now.tracks }
+    ensures ok { IfOk result (IsWalked (shift_walker a.now track up)) }
+    ensures few { IfOk result (λ m. length m.accept ≤ budget) }
+    ensures within { OnOk result (¬ MoreThan (shift_walker a.now track up) budget) }
+    ensures over { result ≡ Err Grown.Over → MoreThan (shift_walker a.now track up) budget }
+{
+    let pairs = Shift::new(alloc, a, track, up)?;
+    walked(alloc, pairs, budget)
+}
+
+/// The automaton of the set that is moved by one: it accepts a word just if the argument accepts the words with one more (or
+/// one less) on the track. Its states are the pairs of states that words lead to; some of them may accept the same suffixes.
+/// `Over` where they are more than the budget. Costs the pairs of nodes that are met over all rows together.
+pub fn move_by_one(
+    alloc: Global,
+    a: &Auto,
+    track: u8,
+    up: bool,
+    budget: Budget,
+) -> Result<Auto, Grown>
+    requires integers { DecidesIntegers a.now }
+    requires track { track < length a.now.tracks }
+    ensures moved { IfOk result (λ b. DecidesMoved a.now b track (by_one up)) }
+    ensures integers { IfOk result (λ b. DecidesIntegers b) }
+    ensures reached { IfOk result (λ b. (state : ℕ) → state < length b.accept → IsReachedState b state) }
+    ensures few { IfOk result (λ b. length b.accept ≤ budget) }
+    ensures within { OnOk result (¬ MoreThan (shift_walker a.now track up) budget) }
+    ensures over { result ≡ Err Grown.Over → MoreThan (shift_walker a.now track up) budget }
+{
+    pairs_decide_moved_sets();
+    let moved = pairs_walked(alloc, a, track, up, budget)?;
+    Ok(moved)
+}
+
+/// So many times one more, or one less.
+#[derive(Clone, Copy)]
+struct Steps {
+    up: bool,
+    times: u32,
+}
+
+impl Steps {
+    fn of(by: i32) -> Self
+        requires { by ≢ pos 0 }
+        ensures along { along result.up result.times ≡ by }
+        ensures some { 0 < result.times }
+    {
+        Steps {
+            up: by > 0,
+            times: by.unsigned_abs(),
+        }
+    }
+}
+
+/// The automaton of the set that is moved by a number: it accepts a word just if the argument accepts the words with so much
+/// more (or less) on the track. That is `move_by_one` as many times, each within the budget; `Over` where one of them is not.
+/// By 0 there is nothing to make: a set is itself moved by 0 (`laws::each_set_is_moved_by_nothing`).
+pub fn move_by(alloc: Global, a: &Auto, track: u8, by: i32, budget: Budget) -> Result<Auto, Grown>
+    requires integers { DecidesIntegers a.now }
+    requires track { track < length a.now.tracks }
+    requires by { by ≢ pos 0 }
+    ensures moved { IfOk result (λ b. DecidesMoved a.now b track by) }
+    ensures integers { IfOk result (λ b. DecidesIntegers b) }
+    ensures reached { IfOk result (λ b. (state : ℕ) → state < length b.accept → IsReachedState b state) }
+    ensures few { IfOk result (λ b. length b.accept ≤ budget) }
+{
+    moving_adds_up();
+    let Steps { up, times } = Steps::of(by);
+    let mut moved = move_by_one(alloc, a, track, up, budget)?;
+    for _done in 1..times {
+        moved = move_by_one(alloc, &moved, track, up, budget)?;
+    }
+    Ok(moved)
+}

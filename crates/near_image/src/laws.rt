@@ -1,0 +1,17 @@
+//! Laws of images, each the contract of a function that does nothing.
+ghost use Rattle.near_image.specs.Laws.{ImageSaysPart, MovedSetIsDecided, StepsAreWithin};
+
+/// The image says what its part says, of the same variables.
+pub fn image_says_what_its_part_says()
+    ensures { ImageSaysPart }
+{}
+
+/// A set whose tracks are moved is what the step makes of it.
+pub fn moved_sets_are_decided()
+    ensures { MovedSetIsDecided }
+{}
+
+/// No step of an image exceeds the budget, where the automata of its part have few states.
+pub fn steps_of_an_image_are_within()
+    ensures { StepsAreWithin }
+{}

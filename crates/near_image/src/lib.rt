@@ -1,0 +1,9 @@
+//! Where a step leads from the members of a set: some of a tuple's values change by numbers, and what comes out is told by a formula that
+//! binds the old values. Its automaton is the set's, with tracks moved, in place of products and projections, wherever that shows that no
+//! step of the formula exceeds the budget; elsewhere the formula is compiled as it stands.
+#![tactic(auto)]
+
+pub mod laws;
+mod shift;
+
+pub use shift::Shift;
