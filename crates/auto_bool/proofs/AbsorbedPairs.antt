@@ -3,18 +3,18 @@ use Rattle.std.proofs.Common.{◌≡◌, ◌≢◌, ◌⊎◌, ℕ, ◌<◌, Boo
 use Rattle.std.specs.List.{fold}
 use Rattle.std.proofs.lemmas.Grind.{common_steps}
 use Rattle.track_word.specs.declared.tracks.Var.{Var}
-use Rattle.track_word.specs.Tracks.{with_vars, restrict}
+use Rattle.track_word.specs.Tracks.{restrict}
 use Rattle.letter_diagram.specs.declared.absorbing.Absorbing.{Absorbing}
 use Rattle.letter_diagram.specs.Absorbed.{absorbs, stand_in, absorbed}
 use Rattle.letter_diagram.proofs.Absorptions.{absorbed-left, absorbed-right, absorbed-neither, absorbed-nothing}
 use Rattle.auto_core.specs.Automaton.{Automaton, IsAutomaton, first_state, next_state, is_final}
 use Rattle.auto_core.proofs.States.{entry_within}
 use Rattle.auto_core.proofs.Restricted.{restrict-below}
-use Rattle.auto_walk.specs.Walker.{place_of, IsWalked}
+use Rattle.auto_walk.specs.Walker.{place_of}
 use Rattle.auto_bool.specs.declared.connective.Connective.{Connective}
 use Rattle.auto_bool.specs.declared.connective.Connective.TheVariants.{And, Or, AndNot}
 use Rattle.auto_bool.specs.Both.{combined, place_of_pair, next_pair, final_pair, walker_over}
-use Rattle.auto_bool.specs.Absorbed.{left_deciding, right_deciding, AreSinks, next_absorbed, absorbing_walker, IsProduct}
+use Rattle.auto_bool.specs.Absorbed.{left_deciding, right_deciding, AreSinks, next_absorbed, absorbing_walker}
 
 nat_eq-true : (x y : ℕ) → nat_eq x y ≡ true → x ≡ y
 nat_eq-true x y e = grind (arith, common_steps, e)
@@ -172,15 +172,3 @@ module _ (g : Absorbing) (left : g.left ≡ None) (right : g.right ≡ None) (tr
     where
       some_none : (state : ℕ) → None ≡ Some state → ⊥
       some_none state e = cc
-
--- the automaton of a walk over pairs is that of the product
-pub IsProduct-walked : (g : Absorbing) (a b m : Automaton) (connective : Connective) → AreSinks a b connective g
-    → IsWalked (absorbing_walker g (with_vars a.tracks b.tracks) a b connective) m → IsProduct a b connective m
-IsProduct-walked g a b m connective sinks walked = record {
-  tracks = walked.tracks;
-  words = λ word is.
-      let said = walked.words word is in
-      let flag = same-flag g (with_vars a.tracks b.tracks) a b connective sinks word is.nonempty in
-      (λ h. sym flag ∙ said.0 h, λ h. said.1 (flag ∙ h));
-  reached = walked.reached;
-}

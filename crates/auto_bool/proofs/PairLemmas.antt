@@ -13,17 +13,19 @@ use Rattle.letter_diagram.specs.Diagram.{map_at}
 use Rattle.letter_diagram.specs.declared.absorbing.Absorbing.{Absorbing}
 use Rattle.letter_diagram.specs.Absorbed.{absorbed, absorbed_at, AreAbsorbed}
 use Rattle.letter_diagram.specs.Numbering.{PairsKept}
+use Rattle.letter_diagram.proofs.Lists.{one_place}
 use Rattle.auto_core.specs.Automaton.{Automaton, IsAutomaton, next_state, run, state_of, is_final, Accepts}
-use Rattle.auto_walk.specs.Walker.{Walker, place_of, IsReached}
+use Rattle.auto_walk.specs.Walker.{Walker, place_of, IsReached, IsWalked}
 use Rattle.auto_walk.specs.Rows.{AreNumbered, Extends, IsRow}
-use Rattle.auto_walk.proofs.WalkLemmas.{All-at, one_place}
+use Rattle.auto_walk.proofs.WalkLemmas.{All-at}
 use Rattle.auto_walk.proofs.WalkWords.{map_at-low}
 use Rattle.auto_bool.specs.declared.connective.Connective.{Connective}
 use Rattle.auto_bool.specs.declared.connective.Connective.TheVariants.{And, Or, AndNot}
 use Rattle.auto_bool.specs.Both.{combined, place_of_pair, walker_over, both_walker}
 use Rattle.auto_bool.specs.Sides.{Reads}
 use Rattle.auto_bool.specs.Absorbed.{AreSinks, absorbing_walker, IsProduct}
-use Rattle.auto_bool.proofs.AbsorbedPairs.{place-pair_of}
+use Rattle.auto_bool.specs.Words.{AcceptsBy}
+use Rattle.auto_bool.proofs.AbsorbedPairs.{place-pair_of, same-flag}
 
 pub get_pair : (pairs : List (ℕ × ℕ)) (number : ℕ) (pair : ℕ × ℕ) → slice_get pairs number ≡ Some pair → slice_get (map place_of_pair pairs) number ≡ Some (place_of_pair pair)
 get_pair pairs number pair at = slice_get-map place_of_pair pairs number ∙ ap (option_map place_of_pair) at
@@ -133,42 +135,29 @@ but_true true true = (λ h. absurd (true≢false (sym h)), λ h. absurd (h.1 ref
 but_true true false = (λ h. (refl, λ e. true≢false (sym e)), λ h. refl)
 but_true false q = (λ h. absurd (true≢false (sym h)), λ h. absurd (true≢false (sym h.0)))
 
-module _ (a b m : Automaton) where
-  accepts-combined : (connective : Connective) → IsProduct a b connective m → (word : List ℕ) → IsWord (length m.tracks) word
+-- the automaton of a walk over pairs is that of the product
+module _ (g : Absorbing) (a b m : Automaton) (connective : Connective) (sinks : AreSinks a b connective g) (walked : IsWalked (absorbing_walker g (with_vars a.tracks b.tracks) a b connective) m) where
+  accepts-combined : (word : List ℕ) → IsWord (length m.tracks) word
       → Accepts m word ↔ IsTrue (combined connective (is_final a (state_of a (part_of m.tracks a.tracks word))) (is_final b (state_of b (part_of m.tracks b.tracks word))))
-  accepts-combined connective product word is =
+  accepts-combined word is =
+      let is_all = subst (λ t. IsWord (length t) word) walked.tracks is in
       let all = with_vars a.tracks b.tracks in
-      let is_all = subst (λ t. IsWord (length t) word) product.tracks is in
-      let flag = ap (both_walker a b connective).final (place_of-pair (with_vars a.tracks b.tracks) a b connective word is.nonempty) in
-      let words = product.words word is_all in
-      let here : IsTrue ((both_walker a b connective).final (place_of (both_walker a b connective) word))
-      ↔ IsTrue
-      (combined connective (is_final a (state_of a (part_of (with_vars a.tracks b.tracks) a.tracks word)))
-      (is_final b (state_of b (part_of (with_vars a.tracks b.tracks) b.tracks word)))) =
-      (λ h. sym flag ∙ h, λ h. flag ∙ h) in
-      subst (λ t. Accepts m word ↔ IsTrue (combined connective (is_final a (state_of a (part_of t a.tracks word))) (is_final b (state_of b (part_of t b.tracks word))))) (sym product.tracks)
-      (λ h. here.0 (words.0 h), λ h. words.1 (here.1 h))
+      let flag : (absorbing_walker g (with_vars a.tracks b.tracks) a b connective).final (place_of (absorbing_walker g (with_vars a.tracks b.tracks) a b connective) word)
+      ≡ combined connective (is_final a (state_of a (part_of (with_vars a.tracks b.tracks) a.tracks word))) (is_final b (state_of b (part_of (with_vars a.tracks b.tracks) b.tracks word))) =
+      same-flag g (with_vars a.tracks b.tracks) a b connective sinks word is.nonempty
+      ∙ ap (both_walker a b connective).final (place_of-pair (with_vars a.tracks b.tracks) a b connective word is.nonempty) in
+      let words = walked.words word is_all in
+      subst (λ t. Accepts m word ↔ IsTrue (combined connective (is_final a (state_of a (part_of t a.tracks word))) (is_final b (state_of b (part_of t b.tracks word))))) (sym walked.tracks)
+      (λ h. sym flag ∙ words.0 h, λ h. words.1 (flag ∙ h))
 
-  pub accepts-both : IsProduct a b And m → (word : List ℕ) → IsWord (length m.tracks) word
-      → Accepts m word ↔ (Accepts a (part_of m.tracks a.tracks word) × Accepts b (part_of m.tracks b.tracks word))
-  accepts-both product word is =
-      let one = accepts-combined And product word is in
-      let two = both_true (is_final a (state_of a (part_of m.tracks a.tracks word))) (is_final b (state_of b (part_of m.tracks b.tracks word))) in
-      (λ h. two.0 (one.0 h), λ h. one.1 (two.1 h))
-
-  pub accepts-one : IsProduct a b Or m → (word : List ℕ) → IsWord (length m.tracks) word
-      → Accepts m word ↔ (Accepts a (part_of m.tracks a.tracks word) ⊎ Accepts b (part_of m.tracks b.tracks word))
-  accepts-one product word is =
-      let one = accepts-combined Or product word is in
-      let two = one_true (is_final a (state_of a (part_of m.tracks a.tracks word))) (is_final b (state_of b (part_of m.tracks b.tracks word))) in
-      (λ h. two.0 (one.0 h), λ h. one.1 (two.1 h))
-
-  pub accepts-left : IsProduct a b AndNot m → (word : List ℕ) → IsWord (length m.tracks) word
-      → Accepts m word ↔ (Accepts a (part_of m.tracks a.tracks word) × (Accepts b (part_of m.tracks b.tracks word) → ⊥))
-  accepts-left product word is =
-      let one = accepts-combined AndNot product word is in
-      let two = but_true (is_final a (state_of a (part_of m.tracks a.tracks word))) (is_final b (state_of b (part_of m.tracks b.tracks word))) in
-      (λ h. two.0 (one.0 h), λ h. one.1 (two.1 h))
+pub IsProduct-walked : (g : Absorbing) (a b m : Automaton) (connective : Connective) → AreSinks a b connective g
+    → IsWalked (absorbing_walker g (with_vars a.tracks b.tracks) a b connective) m → IsProduct a b connective m
+IsProduct-walked g a b m connective sinks walked = record { tracks = walked.tracks; words = accepts connective sinks walked; reached = walked.reached }
+  where
+    accepts : (connective : Connective) → AreSinks a b connective g → IsWalked (absorbing_walker g (with_vars a.tracks b.tracks) a b connective) m → AcceptsBy connective a b m
+    accepts And sinks walked = λ word is. let one = accepts-combined g a b m And sinks walked word is in let two = both_true _ _ in (λ h. two.0 (one.0 h), λ h. one.1 (two.1 h))
+    accepts Or sinks walked = λ word is. let one = accepts-combined g a b m Or sinks walked word is in let two = one_true _ _ in (λ h. two.0 (one.0 h), λ h. one.1 (two.1 h))
+    accepts AndNot sinks walked = λ word is. let one = accepts-combined g a b m AndNot sinks walked word is in let two = but_true _ _ in (λ h. two.0 (one.0 h), λ h. one.1 (two.1 h))
 
 -- the states of a numbered pair, however the pairs are listed
 pub states_in : (g : Absorbing) (tracks : List Var) (a b : Automaton) (connective : Connective) (pairs listed : List (ℕ × ℕ)) (number : ℕ) → IsAutomaton a → IsAutomaton b

@@ -1,16 +1,16 @@
 -- Pairs of states in which one side decides for good what a connective gives, and the automaton of a product.
-use Rattle.std.specs.Prelude.{◌≡◌, ◌↔◌, ℕ, ◌<◌, Bool, true, false, IsTrue, List, [], ◌∷◌, length, Some}
+use Rattle.std.specs.Prelude.{◌≡◌, ℕ, ◌<◌, Bool, true, false, List, [], ◌∷◌, length, Some}
 use Rattle.track_word.specs.declared.tracks.Var.{Var}
-use Rattle.track_word.specs.Word.{IsWord}
 use Rattle.track_word.specs.Tracks.{with_vars, restrict}
 use Rattle.letter_diagram.specs.declared.absorbing.Absorbing.{Absorbing}
 use Rattle.letter_diagram.specs.Absorbed.{absorbed}
-use Rattle.auto_core.specs.Automaton.{Automaton, width, first_state, next_state, is_final, Accepts}
-use Rattle.auto_core.specs.Reduced.{IsReachedState}
-use Rattle.auto_walk.specs.Walker.{Walker, place_of}
+use Rattle.auto_core.specs.Automaton.{Automaton, width, first_state, next_state, is_final}
+use Rattle.auto_core.specs.Reduced.{AllReached}
+use Rattle.auto_walk.specs.Walker.{Walker}
 use Rattle.auto_bool.specs.declared.connective.Connective.{Connective}
 use Rattle.auto_bool.specs.declared.connective.Connective.TheVariants.{And, Or, AndNot}
-use Rattle.auto_bool.specs.Both.{place_of_pair, final_pair, both_walker}
+use Rattle.auto_bool.specs.Both.{place_of_pair, final_pair}
+use Rattle.auto_bool.specs.Words.{AcceptsBy}
 
 -- the flag of the left side at which the right side does not matter
 abbrev pub left_deciding : Connective → Bool
@@ -55,9 +55,8 @@ absorbing_walker absorbing tracks a b connective = record {
   final = final_pair a b connective;
 }
 
--- an automaton of reached states that accepts the words at whose pair of states the connective gives true
+-- an automaton of reached states that accepts the words that the connective takes
 pub record IsProduct (a b : Automaton) (connective : Connective) (m : Automaton) : Type 0 where
   pub tracks : m.tracks ≡ with_vars a.tracks b.tracks
-  pub words : (word : List ℕ) → IsWord (length (with_vars a.tracks b.tracks)) word
-      → Accepts m word ↔ IsTrue ((both_walker a b connective).final (place_of (both_walker a b connective) word))
-  pub reached : (state : ℕ) → state < length m.accept → IsReachedState m state
+  pub words : AcceptsBy connective a b m
+  pub reached : AllReached m

@@ -8,3 +8,4 @@ pub use Rattle.auto_walk.specs.Walker
 pub mod Both
 pub mod Absorbed
 pub mod Sides
+pub mod Words

@@ -1,13 +1,11 @@
 //! The product of two automata.
-ghost use Rattle.std.specs.Prelude.{◌≡◌, ◌↔◌, ◌⊎◌, ◌<◌, ◌≤◌, ◌^◌, List, ℕ, length, IfOk, OnOk, IsTrue};
-ghost use Rattle.track_word.specs.Word.{IsWord};
-ghost use Rattle.track_word.specs.Tracks.{with_vars, part_of};
-ghost use Rattle.auto_core.specs.Automaton.{Accepts};
-ghost use Rattle.auto_core.specs.Reduced.{IsReduced, IsReachedState};
-ghost use Rattle.auto_core.specs.Spread.{BothSpreadExceeds};
+ghost use Rattle.std.specs.Prelude.{◌≡◌, ◌≤◌, length, IfOk, OnOk, IsTrue};
+ghost use Rattle.track_word.specs.Tracks.{with_vars};
+ghost use Rattle.auto_core.specs.Reduced.{IsReduced, AllReached};
 ghost use Rattle.auto_walk.specs.Walker.{MoreThan};
 ghost use Rattle.auto_bool.specs.Both.{both_walker};
 ghost use Rattle.auto_bool.specs.Absorbed.{IsProduct};
+ghost use Rattle.auto_bool.specs.Words.{AcceptsBoth, AcceptsEither, AcceptsFirstOnly, StepExceeds};
 
 use crate::both::Both;
 use crate::connective::Connective;
@@ -31,10 +29,8 @@ fn product(
     requires tracks { length (with_vars a.now.tracks b.now.tracks) ≤ MOST_TRACKS }
     ensures ok { IfOk result (IsProduct a.now b.now connective) }
     ensures few { IfOk result (λ m. length m.accept ≤ budget) }
-    ensures within { OnOk result
-        (¬ BothSpreadExceeds a.now.tracks b.now.tracks (Accepts a.now) (Accepts b.now) budget) }
-    ensures over { IsReduced a.now → IsReduced b.now → result ≡ Err Grown.Over
-        → BothSpreadExceeds a.now.tracks b.now.tracks (Accepts a.now) (Accepts b.now) budget }
+    ensures within { OnOk result (¬ StepExceeds a.now b.now budget) }
+    ensures over { IsReduced a.now → IsReduced b.now → result ≡ Err Grown.Over → StepExceeds a.now b.now budget }
     ensures many { result ≡ Err Grown.Over → MoreThan (both_walker a.now b.now connective) budget }
 {
     if !pairs_fit(a, b, budget) {
@@ -49,8 +45,7 @@ fn product(
 
 /// Whether the budget has room for all pairs of states.
 fn pairs_fit(a: &Auto, b: &Auto, budget: Budget) -> bool
-    ensures { IsTrue result
-        → ¬ BothSpreadExceeds a.now.tracks b.now.tracks (Accepts a.now) (Accepts b.now) budget }
+    ensures { IsTrue result → ¬ StepExceeds a.now b.now budget }
 {
     u64::from(a.states()) * u64::from(b.states()) <= u64::from(budget.states())
 }
@@ -83,10 +78,8 @@ fn exact_product(
     requires tracks { length (with_vars a.now.tracks b.now.tracks) ≤ MOST_TRACKS }
     ensures ok { IfOk result (IsProduct a.now b.now connective) }
     ensures few { IfOk result (λ m. length m.accept ≤ budget) }
-    ensures within { OnOk result
-        (¬ BothSpreadExceeds a.now.tracks b.now.tracks (Accepts a.now) (Accepts b.now) budget) }
-    ensures over { IsReduced a.now → IsReduced b.now → result ≡ Err Grown.Over
-        → BothSpreadExceeds a.now.tracks b.now.tracks (Accepts a.now) (Accepts b.now) budget }
+    ensures within { OnOk result (¬ StepExceeds a.now b.now budget) }
+    ensures over { IsReduced a.now → IsReduced b.now → result ≡ Err Grown.Over → StepExceeds a.now b.now budget }
     ensures many { result ≡ Err Grown.Over → MoreThan (both_walker a.now b.now connective) budget }
 {
     let both = Both::new(alloc, a, b, connective, Absorbing::nothing())?;
@@ -102,16 +95,10 @@ pub fn meet(alloc: Global, a: &Auto, b: &Auto, budget: Budget) -> Result<Auto, G
     requires b_reduced { IsReduced b.now }
     requires tracks { length (with_vars a.now.tracks b.now.tracks) ≤ MOST_TRACKS }
     ensures tracks { IfOk result (λ m. m.tracks ≡ with_vars a.now.tracks b.now.tracks) }
-    ensures words { IfOk result
-        (λ m. (word : List ℕ) → IsWord (length m.tracks) word
-        → Accepts m word
-        ↔ (Accepts a.now (part_of m.tracks a.now.tracks word)
-        × Accepts b.now (part_of m.tracks b.now.tracks word))) }
-    ensures reached { IfOk result (λ m. (state : ℕ) → state < length m.accept → IsReachedState m state) }
-    ensures within { OnOk result
-        (¬ BothSpreadExceeds a.now.tracks b.now.tracks (Accepts a.now) (Accepts b.now) budget) }
-    ensures over { result ≡ Err Grown.Over
-        → BothSpreadExceeds a.now.tracks b.now.tracks (Accepts a.now) (Accepts b.now) budget }
+    ensures words { IfOk result (AcceptsBoth a.now b.now) }
+    ensures reached { IfOk result AllReached }
+    ensures within { OnOk result (¬ StepExceeds a.now b.now budget) }
+    ensures over { result ≡ Err Grown.Over → StepExceeds a.now b.now budget }
 {
     let m = product(alloc, a, b, Connective::And, budget)?;
     Ok(m)
@@ -124,16 +111,10 @@ pub fn join(alloc: Global, a: &Auto, b: &Auto, budget: Budget) -> Result<Auto, G
     requires b_reduced { IsReduced b.now }
     requires tracks { length (with_vars a.now.tracks b.now.tracks) ≤ MOST_TRACKS }
     ensures tracks { IfOk result (λ m. m.tracks ≡ with_vars a.now.tracks b.now.tracks) }
-    ensures words { IfOk result
-        (λ m. (word : List ℕ) → IsWord (length m.tracks) word
-        → Accepts m word
-        ↔ (Accepts a.now (part_of m.tracks a.now.tracks word)
-        ⊎ Accepts b.now (part_of m.tracks b.now.tracks word))) }
-    ensures reached { IfOk result (λ m. (state : ℕ) → state < length m.accept → IsReachedState m state) }
-    ensures within { OnOk result
-        (¬ BothSpreadExceeds a.now.tracks b.now.tracks (Accepts a.now) (Accepts b.now) budget) }
-    ensures over { result ≡ Err Grown.Over
-        → BothSpreadExceeds a.now.tracks b.now.tracks (Accepts a.now) (Accepts b.now) budget }
+    ensures words { IfOk result (AcceptsEither a.now b.now) }
+    ensures reached { IfOk result AllReached }
+    ensures within { OnOk result (¬ StepExceeds a.now b.now budget) }
+    ensures over { result ≡ Err Grown.Over → StepExceeds a.now b.now budget }
 {
     let m = product(alloc, a, b, Connective::Or, budget)?;
     Ok(m)
@@ -146,16 +127,10 @@ pub fn difference(alloc: Global, a: &Auto, b: &Auto, budget: Budget) -> Result<A
     requires b_reduced { IsReduced b.now }
     requires tracks { length (with_vars a.now.tracks b.now.tracks) ≤ MOST_TRACKS }
     ensures tracks { IfOk result (λ m. m.tracks ≡ with_vars a.now.tracks b.now.tracks) }
-    ensures words { IfOk result
-        (λ m. (word : List ℕ) → IsWord (length m.tracks) word
-        → Accepts m word
-        ↔ (Accepts a.now (part_of m.tracks a.now.tracks word)
-        × ¬ Accepts b.now (part_of m.tracks b.now.tracks word))) }
-    ensures reached { IfOk result (λ m. (state : ℕ) → state < length m.accept → IsReachedState m state) }
-    ensures within { OnOk result
-        (¬ BothSpreadExceeds a.now.tracks b.now.tracks (Accepts a.now) (Accepts b.now) budget) }
-    ensures over { result ≡ Err Grown.Over
-        → BothSpreadExceeds a.now.tracks b.now.tracks (Accepts a.now) (Accepts b.now) budget }
+    ensures words { IfOk result (AcceptsFirstOnly a.now b.now) }
+    ensures reached { IfOk result AllReached }
+    ensures within { OnOk result (¬ StepExceeds a.now b.now budget) }
+    ensures over { result ≡ Err Grown.Over → StepExceeds a.now b.now budget }
 {
     let m = product(alloc, a, b, Connective::AndNot, budget)?;
     Ok(m)
@@ -167,15 +142,10 @@ pub fn difference(alloc: Global, a: &Auto, b: &Auto, budget: Budget) -> Result<A
 pub fn meet_within(alloc: Global, a: &Auto, b: &Auto, budget: Budget) -> Result<Auto, Grown>
     requires tracks { length (with_vars a.now.tracks b.now.tracks) ≤ MOST_TRACKS }
     ensures tracks { IfOk result (λ m. m.tracks ≡ with_vars a.now.tracks b.now.tracks) }
-    ensures words { IfOk result
-        (λ m. (word : List ℕ) → IsWord (length m.tracks) word
-        → Accepts m word
-        ↔ (Accepts a.now (part_of m.tracks a.now.tracks word)
-        × Accepts b.now (part_of m.tracks b.now.tracks word))) }
-    ensures reached { IfOk result (λ m. (state : ℕ) → state < length m.accept → IsReachedState m state) }
+    ensures words { IfOk result (AcceptsBoth a.now b.now) }
+    ensures reached { IfOk result AllReached }
     ensures few { IfOk result (λ m. length m.accept ≤ budget) }
-    ensures within { OnOk result
-        (¬ BothSpreadExceeds a.now.tracks b.now.tracks (Accepts a.now) (Accepts b.now) budget) }
+    ensures within { OnOk result (¬ StepExceeds a.now b.now budget) }
     ensures over { result ≡ Err Grown.Over → MoreThan (both_walker a.now b.now Connective.And) budget }
 {
     let both = product(alloc, a, b, Connective::And, budget)?;
@@ -186,15 +156,10 @@ pub fn meet_within(alloc: Global, a: &Auto, b: &Auto, budget: Budget) -> Result<
 pub fn join_within(alloc: Global, a: &Auto, b: &Auto, budget: Budget) -> Result<Auto, Grown>
     requires tracks { length (with_vars a.now.tracks b.now.tracks) ≤ MOST_TRACKS }
     ensures tracks { IfOk result (λ m. m.tracks ≡ with_vars a.now.tracks b.now.tracks) }
-    ensures words { IfOk result
-        (λ m. (word : List ℕ) → IsWord (length m.tracks) word
-        → Accepts m word
-        ↔ (Accepts a.now (part_of m.tracks a.now.tracks word)
-        ⊎ Accepts b.now (part_of m.tracks b.now.tracks word))) }
-    ensures reached { IfOk result (λ m. (state : ℕ) → state < length m.accept → IsReachedState m state) }
+    ensures words { IfOk result (AcceptsEither a.now b.now) }
+    ensures reached { IfOk result AllReached }
     ensures few { IfOk result (λ m. length m.accept ≤ budget) }
-    ensures within { OnOk result
-        (¬ BothSpreadExceeds a.now.tracks b.now.tracks (Accepts a.now) (Accepts b.now) budget) }
+    ensures within { OnOk result (¬ StepExceeds a.now b.now budget) }
     ensures over { result ≡ Err Grown.Over → MoreThan (both_walker a.now b.now Connective.Or) budget }
 {
     let either = product(alloc, a, b, Connective::Or, budget)?;
@@ -205,15 +170,10 @@ pub fn join_within(alloc: Global, a: &Auto, b: &Auto, budget: Budget) -> Result<
 pub fn difference_within(alloc: Global, a: &Auto, b: &Auto, budget: Budget) -> Result<Auto, Grown>
     requires tracks { length (with_vars a.now.tracks b.now.tracks) ≤ MOST_TRACKS }
     ensures tracks { IfOk result (λ m. m.tracks ≡ with_vars a.now.tracks b.now.tracks) }
-    ensures words { IfOk result
-        (λ m. (word : List ℕ) → IsWord (length m.tracks) word
-        → Accepts m word
-        ↔ (Accepts a.now (part_of m.tracks a.now.tracks word)
-        × ¬ Accepts b.now (part_of m.tracks b.now.tracks word))) }
-    ensures reached { IfOk result (λ m. (state : ℕ) → state < length m.accept → IsReachedState m state) }
+    ensures words { IfOk result (AcceptsFirstOnly a.now b.now) }
+    ensures reached { IfOk result AllReached }
     ensures few { IfOk result (λ m. length m.accept ≤ budget) }
-    ensures within { OnOk result
-        (¬ BothSpreadExceeds a.now.tracks b.now.tracks (Accepts a.now) (Accepts b.now) budget) }
+    ensures within { OnOk result (¬ StepExceeds a.now b.now budget) }
     ensures over { result ≡ Err Grown.Over → MoreThan (both_walker a.now b.now Connective.AndNot) budget }
 {
     let only = product(alloc, a, b, Connective::AndNot, budget)?;

@@ -15,7 +15,11 @@ pub record IsReachedState (a : Automaton) (state : ℕ) : Type 0 where
   pub is_word : IsWord (length a.tracks) word
   pub leads : state_of a word ≡ state
 
--- each state is reached by a word, and each two are told apart
+-- words lead to each state
+abbrev pub AllReached : Automaton → Type 0
+AllReached a = (state : ℕ) → state < length a.accept → IsReachedState a state
+
+-- words lead to each state, and each two are told apart
 pub record IsReduced (a : Automaton) : Type 0 where
-  pub reached : (state : ℕ) → state < length a.accept → IsReachedState a state
+  pub reached : AllReached a
   pub apart : (j k : ℕ) → j < length a.accept → k < length a.accept → j ≢ k → ToldApart a j k

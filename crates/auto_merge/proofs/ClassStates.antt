@@ -6,7 +6,7 @@ use Rattle.track_word.specs.Word.{IsWord}
 use Rattle.letter_diagram.specs.declared.diagrams.Shape.{Shape}
 use Rattle.letter_diagram.specs.Diagram.{map_at, LooksBelow}
 use Rattle.auto_core.specs.Automaton.{Automaton, IsAutomaton, width, first_state, next_state, run, state_of, is_final, Accepts}
-use Rattle.auto_core.specs.Reduced.{IsReachedState}
+use Rattle.auto_core.specs.Reduced.{AllReached}
 use Rattle.auto_core.specs.Rows.{AreRows, IsOverNodes, dense}
 use Rattle.auto_core.proofs.RowLemmas.{get_or-row_of, next_state-dense, IsAutomaton-dense}
 use Rattle.auto_refine.specs.Picked.{ArePicked, AreFlags}
@@ -135,7 +135,7 @@ module _ (a : Automaton) (table owners : List ℕ) (m : Automaton) (q : IsMerged
       let flag : is_final m (state_of m word) ≡ is_final a (state_of a word) = ap (is_final m) (words_lead word w) ∙ q.final (get_or table (state_of a word) 0) c.known ∙ c.flag in
       (λ p. sym flag ∙ p, λ p. flag ∙ p)
 
-  pub reached : ((state : ℕ) → state < length a.accept → IsReachedState a state) → (state : ℕ) → state < length m.accept → IsReachedState m state
+  pub reached : AllReached a → AllReached m
   reached all class h =
       let known : class < length owners = let s = q.size in omega (arith, h, s) in
       let r = all (get_or owners class 0) (q.classes.within class known) in
@@ -148,5 +148,5 @@ module _ (a : Automaton) (table owners : List ℕ) (m : Automaton) (q : IsMerged
 pub merged_words : (a m : Automaton) → IsMerged a m → (word : List ℕ) → IsWord (length a.tracks) word → Accepts m word ↔ Accepts a word
 merged_words a m q word w = words_are a q.table q.owners m q.merged word w
 
-pub merged_reached : (a m : Automaton) → IsMerged a m → ((state : ℕ) → state < length a.accept → IsReachedState a state) → (state : ℕ) → state < length m.accept → IsReachedState m state
+pub merged_reached : (a m : Automaton) → IsMerged a m → AllReached a → AllReached m
 merged_reached a m q = reached a q.table q.owners m q.merged

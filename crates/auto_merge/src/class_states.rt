@@ -1,8 +1,8 @@
 //! The automaton over classes of states that lead to the same classes.
-ghost use Rattle.std.specs.Prelude.{◌≡◌, ◌≤◌, ◌<◌, ◌↔◌, List, ℕ, All, IfOk, length};
+ghost use Rattle.std.specs.Prelude.{◌≡◌, ◌≤◌, ◌↔◌, List, ℕ, All, IfOk, length};
 ghost use Rattle.track_word.specs.Word.{IsWord};
 ghost use Rattle.auto_core.specs.Automaton.{Accepts, IsAutomaton};
-ghost use Rattle.auto_core.specs.Reduced.{IsReachedState};
+ghost use Rattle.auto_core.specs.Reduced.{AllReached};
 ghost use Rattle.auto_merge.specs.Merged.{IsMerging, HaveClasses, IsMergedBy, IsMerged};
 
 use crate::leading::lead_rows;
@@ -61,9 +61,7 @@ fn settled(alloc: Global, once: Once) -> Result<Auto, AllocError>
     ensures words { IfOk result
         (λ m. (word : List ℕ) → IsWord (length once.auto.tracks) word → Accepts m word ↔ Accepts once.auto word) }
     ensures fewer { IfOk result (λ m. length m.accept ≤ length once.auto.accept) }
-    ensures reached { IfOk result
-        (λ m. ((state : ℕ) → state < length once.auto.accept → IsReachedState once.auto state) → (state : ℕ)
-        → state < length m.accept → IsReachedState m state) }
+    ensures reached { IfOk result (λ m. AllReached once.auto → AllReached m) }
 {
     if once.is_looped {
         let m = reduce(alloc, &once.auto)?;
@@ -80,9 +78,7 @@ pub fn merge(alloc: Global, a: &Auto) -> Result<Auto, AllocError>
     ensures words { IfOk result
         (λ m. (word : List ℕ) → IsWord (length a.now.tracks) word → Accepts m word ↔ Accepts a.now word) }
     ensures fewer { IfOk result (λ m. length m.accept ≤ length a.now.accept) }
-    ensures reached { IfOk result
-        (λ m. ((state : ℕ) → state < length a.now.accept → IsReachedState a.now state) → (state : ℕ)
-        → state < length m.accept → IsReachedState m state) }
+    ensures reached { IfOk result (λ m. AllReached a.now → AllReached m) }
     ensures valid { IfOk result IsAutomaton }
 {
     let once = merged(alloc, a)?;

@@ -17,10 +17,11 @@ use Rattle.letter_diagram.specs.Diagram.{map_at, Grows}
 use Rattle.letter_diagram.specs.Sets.{SetsKept}
 use Rattle.letter_diagram.specs.Merged.{HasSets}
 use Rattle.letter_diagram.proofs.Mergings.{HasSets-grows}
+use Rattle.letter_diagram.proofs.Lists.{one_place}
 use Rattle.auto_core.specs.Automaton.{Automaton, IsAutomaton, first_state, next_state}
 use Rattle.auto_walk.specs.Walker.{Walker, place_of, IsReached, AreTracks}
 use Rattle.auto_walk.specs.Rows.{AreNumbered, IsRow}
-use Rattle.auto_walk.proofs.WalkLemmas.{All-at, one_place}
+use Rattle.auto_walk.proofs.WalkLemmas.{All-at}
 use Rattle.auto_core.proofs.States.{state_within, run_within}
 use Rattle.auto_project.specs.Lifted.{Begins, Follows, LiftLeads}
 use Rattle.auto_project.specs.Subsets.{lengthened, leads_to, next_set, set_walker}

@@ -17,7 +17,7 @@ use Rattle.auto_core.specs.Reduced.{IsReduced}
 use Rattle.auto_core.specs.Spread.{IsLift, LiftsInto, AlikeLifted, ExSpreadExceeds}
 use Rattle.auto_walk.specs.Walker.{Walker, place_of, MoreThan, IsWalked}
 use Rattle.auto_core.proofs.States.{same_state, same_residual}
-use Rattle.auto_project.specs.Lifted.{LiftLeads, MoreSets}
+use Rattle.auto_project.specs.Lifted.{LiftLeads, MoreSets, AcceptsLifted}
 use Rattle.auto_project.specs.Subsets.{next_set, set_walker}
 use Rattle.auto_project.specs.SetMaps.{set_of, HasClosedRows}
 use Rattle.auto_project.proofs.Lists.{same_sets}
@@ -106,9 +106,8 @@ module _ (a : Automaton) (x : Var) (shapes : List Shape) (sets : List (List ℕ)
     pub tracks-if : IfOk r (IsWalked w) → IfOk r (λ m. m.tracks ≡ without_var x a.tracks)
     tracks-if = IfOk-weaker r (IsWalked w) (λ m. m.tracks ≡ without_var x a.tracks) (λ m walked. (subst (λ v. IsWalked v m) same walked).tracks)
 
-    pub words-if : IfOk r (IsWalked w) → IfOk r (λ m. (word : List ℕ) → IsWord (length m.tracks) word → Accepts m word ↔ ((lift : List ℕ) × IsLift m.tracks a.tracks word lift × Accepts a lift))
-    words-if = IfOk-weaker r (IsWalked w) (λ m. (word : List ℕ) → IsWord (length m.tracks) word → Accepts m word ↔ ((lift : List ℕ) × IsLift m.tracks a.tracks word lift × Accepts a lift))
-        (λ m walked. accepts-lifts m (subst (λ v. IsWalked v m) same walked))
+    pub words-if : IfOk r (IsWalked w) → IfOk r (AcceptsLifted a)
+    words-if = IfOk-weaker r (IsWalked w) (AcceptsLifted a) (λ m walked. accepts-lifts m (subst (λ v. IsWalked v m) same walked))
 
     pub within-if : (budget : ℕ) → OnOk r (MoreThan w budget → ⊥) → OnOk r (ExSpreadExceeds x a.tracks (Accepts a) budget → ⊥)
     within-if budget = on_ok_weaker r (λ few spread. few (subst (λ v. MoreThan v budget) (sym same) (MoreThan-from_spread budget spread)))

@@ -3,8 +3,8 @@ use Rattle.std.specs.Prelude.{◌≡◌, ◌↔◌, ℕ, ◌+◌, ◌^◌, ◌<�
 use Rattle.track_word.specs.declared.tracks.Var.{Var}
 use Rattle.track_word.specs.Word.{IsWord}
 use Rattle.track_word.specs.Tracks.{restrict}
-use Rattle.auto_core.specs.Automaton.{Automaton, first_state, next_state, state_of}
-use Rattle.auto_core.specs.Spread.{IsLift}
+use Rattle.auto_core.specs.Automaton.{Automaton, first_state, next_state, state_of, Accepts}
+use Rattle.auto_core.specs.Spread.{IsLift, ExSpreadExceeds}
 
 -- a letter over all tracks that is the other letter on some of them
 pub record ReadsAs (all some : List Var) (letter longer : ℕ) : Type 0 where
@@ -35,3 +35,13 @@ pub record MoreSets (a : Automaton) (some : List Var) (budget : ℕ) : Type 0 wh
   pub count : length words ≡ budget + 1
   pub are_words : All (IsWord (length some)) words
   pub apart : AllPairs (λ u v. ¬ ((state : ℕ) → LiftLeads a some u state ↔ LiftLeads a some v state)) words
+
+-- the second automaton accepts the words of which the first accepts a lift
+abbrev pub AcceptsLifted : Automaton → Automaton → Type 0
+AcceptsLifted a m =
+    (word : List ℕ) → IsWord (length m.tracks) word
+    → Accepts m word ↔ ((lift : List ℕ) × IsLift m.tracks a.tracks word lift × Accepts a lift)
+
+-- forgetting the variable has to tell apart more words than the budget
+abbrev pub ForgettingExceeds : Var → Automaton → ℕ → Type 0
+ForgettingExceeds var a budget = ExSpreadExceeds var a.tracks (Accepts a) budget

@@ -3,8 +3,10 @@ use Rattle.std.specs.Prelude.{◌≡◌, ℕ, ◌<◌, ◌≤◌, List, length, 
 use Rattle.letter_diagram.specs.declared.diagrams.Shape.{Shape}
 use Rattle.letter_diagram.specs.Diagram.{map_at, top_track}
 use Rattle.letter_diagram.specs.Merged.{HasSets}
+use Rattle.letter_diagram.specs.Merger.{MergerTables}
 use Rattle.letter_diagram.specs.NodeMemo.{answer_of}
 use Rattle.auto_project.specs.SetMaps.{set_of}
+use Rattle.auto_project.specs.declared.placing.Places.{Places}
 
 -- the row's map leads each letter to the place of the set that the node gives it
 pub record IsPlaced (shapes : List Shape) (sets : List (List ℕ)) (rows : List Shape) (places : List (List ℕ))
@@ -23,3 +25,11 @@ pub record AddsSetsOf (shapes : List Shape) (sets before places : List (List ℕ
 pub record RemembersPlaced (shapes : List Shape) (sets : List (List ℕ)) (rows : List Shape) (places : List (List ℕ))
     (memo : List (Option ℕ)) : Type 0 where
   pub placed : (node row : ℕ) → answer_of memo node ≡ Some row → IsPlaced shapes sets rows places node row
+
+-- the row leads each letter to the place of the set that the merger's node gives it
+abbrev pub LeadsToPlaces : MergerTables → Places → ℕ → ℕ → Type 0
+LeadsToPlaces merger places node row = IsPlaced merger.shapes merger.sets places.rows places.sets node row
+
+-- what the places remember of the merger's nodes leads to places
+abbrev pub RemembersRows : MergerTables → Places → Type 0
+RemembersRows merger places = RemembersPlaced merger.shapes merger.sets places.rows places.sets places.placed

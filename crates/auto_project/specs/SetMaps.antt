@@ -8,9 +8,11 @@ use Rattle.letter_diagram.specs.declared.diagrams.Shape.{Shape}
 use Rattle.letter_diagram.specs.Diagram.{map_at}
 use Rattle.letter_diagram.specs.Sets.{set_at}
 use Rattle.letter_diagram.specs.Merged.{HasSets}
+use Rattle.letter_diagram.specs.Merger.{MergerTables}
 use Rattle.auto_core.specs.Automaton.{Automaton, IsAutomaton, first_state, next_state}
 use Rattle.auto_project.specs.Lifted.{Begins, Follows, LiftLeads}
 use Rattle.auto_project.specs.Subsets.{next_set}
+use Rattle.auto_project.specs.declared.closure.Rows.{Rows}
 
 -- each number below a bound is that of the set that has it alone
 pub record AreSingletons (sets : List (List ℕ)) (count : ℕ) : Type 0 where
@@ -59,6 +61,10 @@ pub record AreSetRows (shapes : List Shape) (sets : List (List ℕ)) (a : Automa
   pub size : length rows ≡ length a.accept
   pub each : (state node : ℕ) → slice_get rows state ≡ Some node
       → IsSetRow shapes sets (length some) node (Follows a some state)
+
+-- the rows lead letters to the sets of the merger, as those of an automaton's states
+abbrev pub AreRowsIn : MergerTables → Rows → Type 0
+AreRowsIn merger rows = AreSetRows merger.shapes merger.sets rows.automaton.now rows.tracks.items rows.nodes.items
 
 -- the rows of an automaton over some of its tracks, from the states to which a sign letter leads
 pub record HasSetRows (shapes : List Shape) (sets : List (List ℕ)) (a : Automaton) (some : List Var) (first : ℕ)

@@ -6,7 +6,7 @@ ghost use Rattle.letter_diagram.specs.Sets.{SetsKept, set_at};
 ghost use Rattle.letter_diagram.specs.Merged.{HasSets};
 ghost use Rattle.auto_core.specs.Automaton.{IsAutomaton};
 ghost use Rattle.auto_project.specs.Lifted.{Begins, LiftLeads};
-ghost use Rattle.auto_project.specs.SetMaps.{set_of, IsSetRow, AreSetRows, IsLedRow, IsGuarded, IsSwept};
+ghost use Rattle.auto_project.specs.SetMaps.{set_of, IsSetRow, AreRowsIn, IsLedRow, IsGuarded, IsSwept};
 
 use crate::join::{joined, nothing, united, uniter};
 use auto_core::Auto;
@@ -82,8 +82,7 @@ pub struct Rows<'a> {
 impl<'a> Rows<'a> {
     /// The node whose sets have besides what follows on one of their states by the same letter, in the merger that united them.
     fn swept(&self, merger: Merger, node: Node) -> Result<(Merger, Node), AllocError>
-        requires rows { AreSetRows merger.shapes merger.sets self.now.automaton.now self.now.tracks.items
-            self.now.nodes.items }
+        requires rows { AreRowsIn merger self.now }
         requires led { IsLedRow merger.shapes merger.sets self.now.automaton.now self.now.tracks.items node }
         ensures led { IfOk result
             (λ made. IsLedRow made.0.shapes made.0.sets self.now.automaton.now self.now.tracks.items made.1) }
@@ -117,8 +116,7 @@ impl<'a> Rows<'a> {
         requires valid { IsAutomaton self.now.automaton.now }
         requires first { IsSetRow merger.shapes merger.sets (length self.now.tracks.items) first
             (Begins self.now.automaton.now self.now.tracks.items) }
-        requires rows { AreSetRows merger.shapes merger.sets self.now.automaton.now self.now.tracks.items
-            self.now.nodes.items }
+        requires rows { AreRowsIn merger self.now }
         ensures closed { IfOk result
             (λ made. IsSetRow made.0.shapes made.0.sets (length self.now.tracks.items) made.1
             (λ letter state. LiftLeads self.now.automaton.now self.now.tracks.items (letter ∷ []) state)) }

@@ -4,7 +4,7 @@ ghost use Rattle.letter_diagram.specs.Diagram.{Grows, map_at, top_track};
 ghost use Rattle.letter_diagram.specs.Sets.{SetsKept, set_at};
 ghost use Rattle.letter_diagram.specs.Merged.{HasSets};
 ghost use Rattle.letter_diagram.specs.NodeMemo.{answer_of};
-ghost use Rattle.auto_project.specs.Placed.{IsPlaced, AddsSetsOf, RemembersPlaced};
+ghost use Rattle.auto_project.specs.Placed.{AddsSetsOf, LeadsToPlaces, RemembersRows};
 
 use crate::sets::number_of;
 use letter_diagram::{Diagrams, Merger, Node, NodeMemo, Sets, Shape};
@@ -69,13 +69,10 @@ impl Places {
     /// `row`, where there is room for what is remembered.
     fn led(&mut self, merger: &Merger, node: Node) -> Result<Node, AllocError>
         requires node { HasSets merger.now.shapes merger.now.sets node }
-        requires remembered { RemembersPlaced merger.now.shapes merger.now.sets self.old.rows self.old.sets
-            self.old.placed }
-        ensures placed { IfOk result
-            (λ row. IsPlaced merger.now.shapes merger.now.sets self.new.rows self.new.sets node row) }
+        requires remembered { RemembersRows merger.now self.old }
+        ensures placed { IfOk result (LeadsToPlaces merger.now self.new node) }
         ensures added { OnOk result (AddsSetsOf merger.now.shapes merger.now.sets self.old.sets self.new.sets node) }
-        ensures remembered { RemembersPlaced merger.now.shapes merger.now.sets self.new.rows self.new.sets
-            self.new.placed }
+        ensures remembered { RemembersRows merger.now self.new }
         ensures grows { Grows self.old.rows self.new.rows }
         ensures kept { SetsKept self.old.sets self.new.sets }
     {
@@ -98,14 +95,11 @@ impl Places {
     /// before are not visited again.
     pub fn row(&mut self, merger: &Merger, node: Node) -> Result<Node, AllocError>
         requires node { HasSets merger.now.shapes merger.now.sets node }
-        requires remembered { RemembersPlaced merger.now.shapes merger.now.sets self.old.rows self.old.sets
-            self.old.placed }
-        ensures placed { IfOk result
-            (λ row. IsPlaced merger.now.shapes merger.now.sets self.new.rows self.new.sets node row) }
+        requires remembered { RemembersRows merger.now self.old }
+        ensures placed { IfOk result (LeadsToPlaces merger.now self.new node) }
         ensures added { OnOk result (AddsSetsOf merger.now.shapes merger.now.sets self.old.sets self.new.sets node) }
         ensures different { IfOk result (λ _. AllPairs (λ p q. p ≢ q) self.new.sets) }
-        ensures remembered { RemembersPlaced merger.now.shapes merger.now.sets self.new.rows self.new.sets
-            self.new.placed }
+        ensures remembered { RemembersRows merger.now self.new }
         ensures grows { Grows self.old.rows self.new.rows }
         ensures kept { SetsKept self.old.sets self.new.sets }
     {

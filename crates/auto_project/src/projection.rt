@@ -1,11 +1,8 @@
 //! The projection of an automaton.
-ghost use Rattle.std.specs.Prelude.{◌≡◌, ◌↔◌, ◌<◌, ◌≤◌, ◌^◌, List, ℕ, length, IfOk, OnOk};
-ghost use Rattle.track_word.specs.Word.{IsWord};
+ghost use Rattle.std.specs.Prelude.{◌≡◌, ◌≤◌, length, IfOk, OnOk};
 ghost use Rattle.track_word.specs.Tracks.{without_var};
-ghost use Rattle.auto_core.specs.Automaton.{Accepts};
-ghost use Rattle.auto_core.specs.Reduced.{IsReduced, IsReachedState};
-ghost use Rattle.auto_core.specs.Spread.{IsLift, ExSpreadExceeds};
-ghost use Rattle.auto_project.specs.Lifted.{MoreSets};
+ghost use Rattle.auto_core.specs.Reduced.{IsReduced, AllReached};
+ghost use Rattle.auto_project.specs.Lifted.{AcceptsLifted, ForgettingExceeds, MoreSets};
 
 use crate::subsets::Subsets;
 use auto_core::Auto;
@@ -18,13 +15,11 @@ use track_word::Var;
 /// that lead to one set have lifts with the same residuals; in a reduced automaton words that lead to different sets have not.
 fn projected(alloc: Global, a: &Auto, var: Var, budget: Budget) -> Result<Auto, Grown>
     ensures tracks { IfOk result (λ m. m.tracks ≡ without_var var a.now.tracks) }
-    ensures words { IfOk result
-        (λ m. (word : List ℕ) → IsWord (length m.tracks) word
-        → Accepts m word ↔ ((lift : List ℕ) × IsLift m.tracks a.now.tracks word lift × Accepts a.now lift)) }
-    ensures reached { IfOk result (λ m. (state : ℕ) → state < length m.accept → IsReachedState m state) }
+    ensures words { IfOk result (AcceptsLifted a.now) }
+    ensures reached { IfOk result AllReached }
     ensures few { IfOk result (λ m. length m.accept ≤ budget) }
-    ensures within { OnOk result (¬ ExSpreadExceeds var a.now.tracks (Accepts a.now) budget) }
-    ensures over { IsReduced a.now → result ≡ Err Grown.Over → ExSpreadExceeds var a.now.tracks (Accepts a.now) budget }
+    ensures within { OnOk result (¬ ForgettingExceeds var a.now budget) }
+    ensures over { IsReduced a.now → result ≡ Err Grown.Over → ForgettingExceeds var a.now budget }
     ensures many { result ≡ Err Grown.Over → MoreSets a.now (without_var var a.now.tracks) budget }
 {
     let subsets = Subsets::new(alloc, a, var)?;
@@ -38,11 +33,9 @@ fn projected(alloc: Global, a: &Auto, var: Var, budget: Budget) -> Result<Auto, 
 pub fn forget(alloc: Global, a: &Auto, var: Var, budget: Budget) -> Result<Auto, Grown>
     requires reduced { IsReduced a.now }
     ensures tracks { IfOk result (λ m. m.tracks ≡ without_var var a.now.tracks) }
-    ensures words { IfOk result
-        (λ m. (word : List ℕ) → IsWord (length m.tracks) word
-        → Accepts m word ↔ ((lift : List ℕ) × IsLift m.tracks a.now.tracks word lift × Accepts a.now lift)) }
-    ensures within { OnOk result (¬ ExSpreadExceeds var a.now.tracks (Accepts a.now) budget) }
-    ensures over { result ≡ Err Grown.Over → ExSpreadExceeds var a.now.tracks (Accepts a.now) budget }
+    ensures words { IfOk result (AcceptsLifted a.now) }
+    ensures within { OnOk result (¬ ForgettingExceeds var a.now budget) }
+    ensures over { result ≡ Err Grown.Over → ForgettingExceeds var a.now budget }
 {
     let forgotten = projected(alloc, a, var, budget)?;
     Ok(forgotten)
@@ -53,12 +46,10 @@ pub fn forget(alloc: Global, a: &Auto, var: Var, budget: Budget) -> Result<Auto,
 /// the same words `forget` may still be within.
 pub fn forget_within(alloc: Global, a: &Auto, var: Var, budget: Budget) -> Result<Auto, Grown>
     ensures tracks { IfOk result (λ m. m.tracks ≡ without_var var a.now.tracks) }
-    ensures words { IfOk result
-        (λ m. (word : List ℕ) → IsWord (length m.tracks) word
-        → Accepts m word ↔ ((lift : List ℕ) × IsLift m.tracks a.now.tracks word lift × Accepts a.now lift)) }
-    ensures reached { IfOk result (λ m. (state : ℕ) → state < length m.accept → IsReachedState m state) }
+    ensures words { IfOk result (AcceptsLifted a.now) }
+    ensures reached { IfOk result AllReached }
     ensures few { IfOk result (λ m. length m.accept ≤ budget) }
-    ensures within { OnOk result (¬ ExSpreadExceeds var a.now.tracks (Accepts a.now) budget) }
+    ensures within { OnOk result (¬ ForgettingExceeds var a.now budget) }
     ensures over { result ≡ Err Grown.Over → MoreSets a.now (without_var var a.now.tracks) budget }
 {
     let within = projected(alloc, a, var, budget)?;

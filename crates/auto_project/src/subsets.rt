@@ -8,7 +8,7 @@ ghost use Rattle.letter_diagram.specs.Sets.{SetsKept};
 ghost use Rattle.letter_diagram.specs.Merged.{HasSets};
 ghost use Rattle.auto_walk.specs.Walker.{AreTracks};
 ghost use Rattle.auto_project.specs.SetMaps.{HasClosedRows, HasPlaceRows, IsUnionRow};
-ghost use Rattle.auto_project.specs.Placed.{IsPlaced, AddsSetsOf, RemembersPlaced};
+ghost use Rattle.auto_project.specs.Placed.{AddsSetsOf, LeadsToPlaces, RemembersRows};
 
 use crate::closure::Rows;
 use crate::join::united;
@@ -77,7 +77,7 @@ pub struct Subsets<'a> {
     ghost are_tracks: { AreTracks rows.tracks.items },
     ghost are_rows: { HasPlaceRows merger.shapes merger.sets rows.automaton.now rows.tracks.items first
         rows.nodes.items },
-    ghost remembered: { RemembersPlaced merger.shapes merger.sets places.rows places.sets places.placed },
+    ghost remembered: { RemembersRows merger places },
 }
 
 impl<'a> Subsets<'a> {
@@ -131,9 +131,7 @@ impl<'a> Subsets<'a> {
     /// The node that leads each letter to the place of the set to which `node` leads it. New places are numbered.
     fn numbered(&mut self, node: Node) -> Result<Node, AllocError>
         requires { HasSets self.old.merger.shapes self.old.merger.sets node }
-        ensures placed { IfOk result
-            (λ row. IsPlaced self.old.merger.shapes self.old.merger.sets self.new.places.rows self.new.places.sets node
-            row) }
+        ensures placed { IfOk result (LeadsToPlaces self.old.merger self.new.places node) }
         ensures added { OnOk result
             (AddsSetsOf self.old.merger.shapes self.old.merger.sets self.old.places.sets self.new.places.sets node) }
         ensures different { IfOk result (λ _. AllPairs (λ p q. p ≢ q) self.new.places.sets) }

@@ -2,10 +2,10 @@
 use Rattle.std.proofs.Common.{◌≡◌, ℕ, ◌<◌, true, false, true≢false, List, length, sym, ap, ◌∙◌}
 use Rattle.track_word.specs.Word.{IsWord}
 use Rattle.auto_core.specs.Automaton.{Automaton, IsAutomaton, is_final, state_of, Accepts}
-use Rattle.auto_core.specs.Reduced.{IsReachedState}
+use Rattle.auto_core.specs.Reduced.{AllReached}
 use Rattle.auto_core.proofs.States.{state_within}
 
-pub some_word : (a : Automaton) → ((state : ℕ) → state < length a.accept → IsReachedState a state) → (state : ℕ) → state < length a.accept → is_final a state ≡ true → ((word : List ℕ) → IsWord (length a.tracks) word → Accepts a word → ⊥) → ⊥
+pub some_word : (a : Automaton) → AllReached a → (state : ℕ) → state < length a.accept → is_final a state ≡ true → ((word : List ℕ) → IsWord (length a.tracks) word → Accepts a word → ⊥) → ⊥
 some_word a reached state within flag none =
     let r = reached state within in
     none r.word r.is_word (ap (is_final a) r.leads ∙ flag)

@@ -3,10 +3,11 @@ use Rattle.std.proofs.Common.{◌≡◌, ◌≢◌, ◌↔◌, ℕ, ◌<◌, ◌
 use Rattle.std.proofs.lemmas.Bool.{cases_lt, cases_eq}
 use Rattle.std.proofs.lemmas.List.{length_push, length-append, get_or_push, get_or_append_left, get_or-append_right, get_or_default, get_or-replicate, get_or_past, length-replicate}
 use Rattle.std.proofs.lemmas.List.Elements.{All-get_or, All-from_get_or, All-append, All-weaker, All-contains}
-use Rattle.std.proofs.lemmas.Option.{slice_get_within, slice_get-get_or, get_or_from_slice_get, same_Some}
+use Rattle.std.proofs.lemmas.Option.{slice_get_within, slice_get-get_or, same_Some}
 use Rattle.std.proofs.lemmas.Bool.Decides.{Decides-eqb}
 use Rattle.std.proofs.lemmas.Map.Made.{is_member-Decides}
 use Rattle.letter_diagram.specs.Numbering.{Numbers, PairsKept}
+use Rattle.letter_diagram.proofs.Lists.{one_place}
 use Rattle.auto_refine.specs.Coarsest.{AreMembers, IsAttained, IsPartition}
 use Rattle.auto_refine.specs.Listing.{IsListing, AreListed}
 use Rattle.auto_refine.specs.Moves.{IsSplit, AreSettled, AreCandidates, IsMove, AreMoves, chosen_node}
@@ -16,18 +17,6 @@ use Rattle.auto_refine.proofs.Counting.{decided, length_le-below}
 -- the last of a list
 slice_get-last : {A : Type 0} (xs : List A) (x : A) (place : ℕ) → length xs ≡ place → slice_get (xs ++ x ∷ []) place ≡ Some x
 slice_get-last xs x place here = slice_get-get_or (xs ++ x ∷ []) place x (let l = length_push xs x in omega (arith, l, here)) ∙ ap Some (get_or_push xs x x place here)
-
--- a signature stands at one place
-one_place : (signatures : List (ℕ × ℕ)) → AllPairs (λ p q. p ≢ q) signatures → (i j : ℕ) (p : ℕ × ℕ) → slice_get signatures i ≡ Some p → slice_get signatures j ≡ Some p → i ≡ j
-one_place signatures distinct i j p at_i at_j =
-    elim (cases_lt i j) [
-      | inl less ↦ absurd (apart i j at_i at_j less)
-      | inr more ↦ elim (cases_lt j i) [ inl less ↦ absurd (apart j i at_j at_i less) | inr same ↦ omega arith ]
-    ]
-  where
-    apart : (i j : ℕ) → slice_get signatures i ≡ Some p → slice_get signatures j ≡ Some p → i < j → ⊥
-    apart i j at_i at_j less =
-        distinct i j p less (slice_get_within signatures j p at_j) (get_or_from_slice_get signatures i p p at_i ∙ sym (get_or_from_slice_get signatures j p p at_j))
 
 -- ---- states that are found to move
 pub AreMoves-none : (classes representatives nodes : List ℕ) (count : ℕ) (signatures : List (ℕ × ℕ)) (states numbers firsts : List ℕ) → signatures ≡ [] → states ≡ [] → numbers ≡ [] → firsts ≡ []

@@ -13,6 +13,7 @@ use Rattle.track_word.specs.Word.{IsWord, val, low_value, RepeatKeepsValues}
 use Rattle.track_word.specs.Tracks.{word_values}
 use Rattle.letter_diagram.specs.declared.diagrams.Shape.{Shape}
 use Rattle.letter_diagram.specs.Diagram.{map_at}
+use Rattle.letter_diagram.proofs.Lists.{one_place}
 use Rattle.auto_core.specs.Automaton.{Automaton, Accepts}
 use Rattle.auto_core.specs.Integers.{DecidesIntegers}
 use Rattle.auto_core.proofs.Prefixes.{alone}
@@ -20,7 +21,6 @@ use Rattle.auto_core.proofs.Members.{DecidesIntegers-values}
 use Rattle.auto_walk.specs.Walker.{Walker, place_of, IsWalked}
 use Rattle.auto_walk.specs.Rows.{IsRow}
 use Rattle.auto_walk.specs.Residue.{next_residue, residue_walker, ResidueHolds, IsBitRow}
-use Rattle.auto_walk.proofs.WalkLemmas.{one_place}
 
 -- one of two numbers by the last bit of a letter
 abbrev pub by_bit : ℕ → ℕ → ℕ → ℕ

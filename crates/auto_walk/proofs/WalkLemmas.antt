@@ -1,11 +1,10 @@
 -- Words and the places to which they lead.
-use Rattle.std.proofs.Common.{◌≡◌, ◌≢◌, ℕ, ◌<◌, ◌≤◌, ◌+◌, ◌^◌, nat_eq, List, [], ◌∷◌, ◌++◌, length, map, take, slice_get, get_or, Some, Contains, AllPairs, arith, refl, sym, ap, ◌∙◌, subst, inl, inr}
+use Rattle.std.proofs.Common.{◌≡◌, ◌≢◌, ℕ, ◌<◌, ◌≤◌, ◌+◌, ◌^◌, nat_eq, List, [], ◌∷◌, ◌++◌, length, map, take, slice_get, get_or, Some, Contains, AllPairs, arith, refl, sym, ap, ◌∙◌, subst}
 use Rattle.std.specs.List.{All}
 use Rattle.std.proofs.lemmas.List.{take_more, map-append, length_push, length-map, length-take, get_or_default}
 use Rattle.std.proofs.lemmas.List.Sums.{fold-append}
 use Rattle.std.proofs.lemmas.List.Elements.{All-nil, All-cons, All-head, All-tail, All-push, All-get_or, All-take}
 use Rattle.std.proofs.lemmas.Option.{slice_get_within, get_or_from_slice_get}
-use Rattle.std.proofs.lemmas.Bool.{cases_lt}
 use Rattle.std.proofs.lemmas.Grind.{common_steps}
 use Rattle.std.specs.Bool.{Decides}
 use Rattle.std.specs.Cmp.Lexicographic.{pointwise}
@@ -107,18 +106,6 @@ module _ (w : Walker) where
         are_words = All-take (IsWord (length w.tracks)) (budget + 1) all.words all.are_words;
         apart = apart_in_take (budget + 1) all.words enough (apart-from_map all.words (subst (AllPairs (λ p q. p ≢ q)) (sym all.lead) n.different));
       }
-
--- two numbers of one place are equal
-apart_at : (places : List (List ℕ)) → AllPairs (λ p q. p ≢ q) places → (i j : ℕ) (p : List ℕ) → slice_get places i ≡ Some p → slice_get places j ≡ Some p → i < j → ⊥
-apart_at places distinct i j p at_i at_j less =
-    distinct i j p less (slice_get_within places j p at_j) (get_or_from_slice_get places i p p at_i ∙ sym (get_or_from_slice_get places j p p at_j))
-
-pub one_place : (places : List (List ℕ)) → AllPairs (λ p q. p ≢ q) places → (i j : ℕ) (p : List ℕ) → slice_get places i ≡ Some p → slice_get places j ≡ Some p → i ≡ j
-one_place places distinct i j p at_i at_j =
-    elim (cases_lt i j) [
-      | inl less ↦ absurd (apart_at places distinct i j p at_i at_j less)
-      | inr more ↦ elim (cases_lt j i) [ inl less ↦ absurd (apart_at places distinct j i p at_j at_i less) | inr same ↦ omega arith ]
-    ]
 
 -- places of which no two are equal, all of them among others, are at most as many
 pub length_le-among : (xs ys : List (List ℕ)) → AllPairs (λ p q. p ≢ q) xs → ((q : List ℕ) → Contains xs q → Contains ys q) → length xs ≤ length ys

@@ -12,12 +12,13 @@ use Rattle.track_word.specs.Word.{IsWord}
 use Rattle.letter_diagram.specs.declared.diagrams.Shape.{Shape}
 use Rattle.letter_diagram.specs.Diagram.{map_at, LooksBelow, Grows}
 use Rattle.letter_diagram.proofs.Narrow.{LooksBelow-grows}
+use Rattle.letter_diagram.proofs.Lists.{one_place}
 use Rattle.auto_core.specs.Automaton.{Automaton, next_state, run, state_of, is_final}
 use Rattle.auto_core.specs.Rows.{row_of, rows_of, dense, AreRows as AreRowsOf}
 use Rattle.auto_core.proofs.RowLemmas.{get_or-row_of, next_state-dense}
 use Rattle.auto_walk.specs.Walker.{Walker, place_of, IsReached, AreTracks, MoreThan, IsWalked}
 use Rattle.auto_walk.specs.Rows.{AreNumbered, IsRow, LeadsOn, AreRows, Extends}
-use Rattle.auto_walk.proofs.WalkLemmas.{length_le-among, All-at, apart_in_map, one_place}
+use Rattle.auto_walk.proofs.WalkLemmas.{length_le-among, All-at, apart_in_map}
 
 -- a node that looks below a bound gives each letter the value of one of the letters below the bound's power
 pub map_at-low : (shapes : List Shape) (node bound letter : ℕ) → LooksBelow shapes node bound → map_at shapes node letter ≡ map_at shapes node (letter % 2 ^ bound)

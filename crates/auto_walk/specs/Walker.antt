@@ -1,11 +1,11 @@
 -- Places that words lead to, and the automaton whose states are these places.
-use Rattle.std.specs.Prelude.{◌≡◌, ◌≢◌, ◌↔◌, ℕ, ◌+◌, ◌<◌, ◌≤◌, Bool, IsTrue, List, [], ◌∷◌, length, fold, All, AllPairs}
+use Rattle.std.specs.Prelude.{◌≡◌, ◌≢◌, ◌↔◌, ℕ, ◌+◌, ◌≤◌, Bool, IsTrue, List, [], ◌∷◌, length, fold, All, AllPairs}
 use Rattle.limits.specs.declared.numbers.TheConstants.{MOST_TRACKS}
 use Rattle.track_word.specs.declared.tracks.Var.{Var}
 use Rattle.track_word.specs.Word.{IsWord}
 use Rattle.track_word.specs.Tracks.{IsAscending}
 use Rattle.auto_core.specs.Automaton.{Automaton, state_of, Accepts}
-use Rattle.auto_core.specs.Reduced.{IsReachedState}
+use Rattle.auto_core.specs.Reduced.{AllReached}
 
 -- a place for each sign letter, and for each place and further letter, and which places are accepting
 pub record Walker : Type 0 where
@@ -41,6 +41,6 @@ pub record MoreThan (w : Walker) (budget : ℕ) : Type 0 where
 pub record IsWalked (w : Walker) (m : Automaton) : Type 0 where
   pub tracks : m.tracks ≡ w.tracks
   pub words : (word : List ℕ) → IsWord (length w.tracks) word → Accepts m word ↔ IsTrue (w.final (place_of w word))
-  pub reached : (state : ℕ) → state < length m.accept → IsReachedState m state
+  pub reached : AllReached m
   pub same : (u v : List ℕ) → IsWord (length w.tracks) u → IsWord (length w.tracks) v
       → (state_of m u ≡ state_of m v) ↔ (place_of w u ≡ place_of w v)

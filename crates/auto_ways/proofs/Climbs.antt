@@ -1,5 +1,5 @@
 -- Ways upwards: what is listed as lists grow, and the states that are found by the marks.
-use Rattle.std.proofs.Common.{◌≡◌, ◌≢◌, ◌⊎◌, ℕ, ◌<◌, ◌≤◌, ◌+◌, ◌||◌, Bool, true, false, List, [], ◌∷◌, ◌++◌, length, get_or, slice_get, set, Contains, All, Some, arith, refl, sym, ap, ◌∙◌, subst, inl, inr, zero, suc, true≢false, nat_eq, below_more}
+use Rattle.std.proofs.Common.{◌≡◌, ◌≢◌, ℕ, ◌<◌, ◌≤◌, ◌+◌, Bool, true, false, List, [], ◌∷◌, ◌++◌, length, get_or, slice_get, set, Contains, All, Some, arith, refl, sym, ap, ◌∙◌, subst, inl, inr, zero, suc, true≢false, nat_eq, below_more}
 use Rattle.smallvec.specs.SmallVec.{SmallVec}
 use Rattle.std.specs.Set.{is_member}
 use Rattle.std.proofs.lemmas.Bool.Decides.{Decides-eqb}

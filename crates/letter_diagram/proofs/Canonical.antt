@@ -1,11 +1,12 @@
 -- Two nodes with equal maps are equal.
-use Rattle.std.proofs.Common.{◌≡◌, ◌≢◌, ℕ, zero, suc, ◌<◌, ◌≤◌, ◌+◌, ◌*◌, ◌/◌, ◌%◌, ◌^◌, List, length, get_or, nat_eq, Some, arith, sym, ap, ◌∙◌, subst, if◌then◌else◌, inl, inr, ◌⊎◌}
+use Rattle.std.proofs.Common.{◌≡◌, ◌≢◌, ℕ, zero, suc, ◌<◌, ◌≤◌, ◌+◌, ◌%◌, ◌^◌, List, length, get_or, nat_eq, Some, arith, sym, ap, ◌∙◌, subst, if◌then◌else◌, inl, inr}
 use Rattle.std.specs.Int.{bit_at}
 use Rattle.std.specs.Int.RustNames.{bit_xor}
 use Rattle.std.proofs.lemmas.Grind.{common_steps}
 use Rattle.std.proofs.lemmas.Bool.{cases_order}
-use Rattle.std.proofs.lemmas.Nat.Bits.{bit_at-lt, bit_at_cat_low, bit_at_xor, bit_at-pow_same, bit_at-pow_other}
+use Rattle.std.proofs.lemmas.Nat.Bits.{bit_at-lt, bit_at_xor, bit_at-pow_same, bit_at-pow_other}
 use Rattle.std.proofs.lemmas.Option.{slice_get-get_or}
+use Rattle.track_word.proofs.LetterBits.{bit_cases, low_bits}
 use Rattle.letter_diagram.specs.declared.diagrams.Shape.{Shape}
 use Rattle.letter_diagram.specs.declared.diagrams.Shape.TheVariants.{Leaf, Test}
 use Rattle.letter_diagram.specs.Diagram.{map_at, top_track, IsTest, IsDiagram, FitsBelow, IsAt, HasChildren}
@@ -22,15 +23,6 @@ bit_at-flip_other letter track k ne = let x = bit_at_xor letter (2 ^ track) k in
 pub bit_at-flip_same : (letter track : ℕ) → bit_at (flip letter track) track ≡ (bit_at letter track + 1) % 2
 unfolding flip
 bit_at-flip_same letter track = let x = bit_at_xor letter (2 ^ track) track in let p = bit_at-pow_same track in x ∙ ap (λ n. (bit_at letter track + n) % 2) p
-
-pub bit_cases : (letter track : ℕ) → (bit_at letter track ≡ 0) ⊎ (bit_at letter track ≡ 1)
-bit_cases letter track = let l = bit_at-lt letter track in grind (arith, common_steps, l)
-
--- the bits below a place are those of the remainder
-low_bits : (letter k : ℕ) → k < 20 → bit_at letter k ≡ bit_at (letter % 2 ^ 20) k
-low_bits letter k below =
-    let whole : letter ≡ letter / 2 ^ 20 * 2 ^ 20 + letter % 2 ^ 20 = omega arith in
-    ap (λ n. bit_at n k) whole ∙ bit_at_cat_low (letter / 2 ^ 20) 20 (letter % 2 ^ 20) k below
 
 module _ (shapes : List Shape) (is : IsDiagram shapes) where
   -- the shape of a node that is known
@@ -173,9 +165,9 @@ module _ (shapes : List Shape) (is : IsDiagram shapes) where
   -- what is equal at the letters of 20 tracks is equal at all
   pub node-from_map_below : (a b : ℕ) → a < length shapes → b < length shapes → ((letter : ℕ) → letter < 2 ^ 20 → map_at shapes a letter ≡ map_at shapes b letter) → a ≡ b
   node-from_map_below a b ka kb same = node-from_map a b ka kb (λ letter.
-      map_at-agree a ka letter (letter % 2 ^ 20) (λ k from below. low_bits letter k below)
+      map_at-agree a ka letter (letter % 2 ^ 20) (λ k from below. low_bits letter 20 k below)
       ∙ same (letter % 2 ^ 20) (omega arith)
-      ∙ sym (map_at-agree b kb letter (letter % 2 ^ 20) (λ k from below. low_bits letter k below)))
+      ∙ sym (map_at-agree b kb letter (letter % 2 ^ 20) (λ k from below. low_bits letter 20 k below)))
 
   -- the values of the sides of a test are values of the test
   pub HasChildren-at : (node : ℕ) (shape : Shape) → IsAt shapes node shape → FitsBelow shapes node shape → HasChildren shapes node shape

@@ -1,7 +1,8 @@
--- Answers that are pushed one after another.
-use Rattle.std.proofs.Common.{◌≡◌, ℕ, ◌<◌, ◌+◌, List, [], ◌∷◌, ◌++◌, length, take, get_or, arith, sym, ap, ◌∙◌, subst, inl, inr}
+-- Answers that are pushed one after another, and places of items that differ. Crates above cite the latter.
+use Rattle.std.proofs.Common.{◌≡◌, ◌≢◌, ℕ, ◌<◌, ◌+◌, List, [], ◌∷◌, ◌++◌, length, take, get_or, slice_get, Some, AllPairs, arith, sym, ap, ◌∙◌, subst, inl, inr}
 use Rattle.std.proofs.lemmas.Bool.{cases_lt}
 use Rattle.std.proofs.lemmas.List.{length_push, get_or_push, get_or_append_left, take_more, length-take-le, get_or_read}
+use Rattle.std.proofs.lemmas.Option.{get_or_from_slice_get, slice_get_within}
 use Rattle.letter_diagram.specs.Listed.{EachAnswers}
 
 pub EachAnswers-push : (R S : ℕ → ℕ → Type 0) (nodes answers : List ℕ) (i a r : ℕ) → ((x y : ℕ) → R x y → S x y) → i < length nodes → a ≡ get_or nodes i a
@@ -28,3 +29,15 @@ EachAnswers-push R S nodes answers i a r weaker below is all last =
             subst (λ x. S x (get_or (answers ++ r ∷ []) k 0)) (here ∙ sym first) (subst (S a) (sym second) last)
       ];
     })
+
+-- where no two items are equal, each stands at one place
+pub one_place : {A : Type 0} (items : List A) → AllPairs (λ p q. p ≢ q) items → (i j : ℕ) (p : A) → slice_get items i ≡ Some p → slice_get items j ≡ Some p → i ≡ j
+one_place items distinct i j p at_i at_j =
+    elim (cases_lt i j) [
+      | inl less ↦ absurd (apart i j at_i at_j less)
+      | inr more ↦ elim (cases_lt j i) [ inl less ↦ absurd (apart j i at_j at_i less) | inr same ↦ omega arith ]
+    ]
+  where
+    apart : (i j : ℕ) → slice_get items i ≡ Some p → slice_get items j ≡ Some p → i < j → ⊥
+    apart i j at_i at_j less =
+        distinct i j p less (slice_get_within items j p at_j) (get_or_from_slice_get items i p p at_i ∙ sym (get_or_from_slice_get items j p p at_j))

@@ -2,14 +2,15 @@
 use Rattle.std.proofs.Common.{◌≡◌, ◌≢◌, ℕ, ◌<◌, ◌≤◌, ◌+◌, ◌*◌, ◌%◌, ◌/◌, ◌^◌, zero, suc, AllPairs, List, [], ◌∷◌, length, get_or, map, slice_get, nat_eq, Some, arith, refl, sym, ap, ◌∙◌, inl, inr, if◌then◌else◌}
 use Rattle.std.specs.Int.{bit_at}
 use Rattle.std.proofs.lemmas.Bool.{cases_eq, cases_lt}
-use Rattle.std.proofs.lemmas.Option.{get_or_from_slice_get, slice_get_within}
 use Rattle.std.proofs.lemmas.Nat.Bits.{bit_at-lt, bit_at-suc, bit_at_lowest}
+use Rattle.track_word.proofs.LetterBits.{bit_cases}
 use Rattle.letter_diagram.specs.declared.diagrams.Shape.{Shape}
 use Rattle.letter_diagram.specs.declared.diagrams.Shape.TheVariants.{Test}
 use Rattle.letter_diagram.specs.Diagram.{map_at, chosen, IsDiagram, IsTest, IsAt, Grows, LooksBelow}
 use Rattle.letter_diagram.specs.Relabelled.{relabelled}
 use Rattle.letter_diagram.specs.Carried.{KeepsLetters}
-use Rattle.letter_diagram.proofs.Canonical.{flip, bit_at-flip_same, bit_at-flip_other, bit_cases, flipped, low_is, high_is, node-from_map, map_at-agree}
+use Rattle.letter_diagram.proofs.Lists.{one_place}
+use Rattle.letter_diagram.proofs.Canonical.{flip, bit_at-flip_same, bit_at-flip_other, flipped, low_is, high_is, node-from_map, map_at-agree}
 
 module _ (shapes : List Shape) (is : IsDiagram shapes) (node track low high : ℕ) (at : IsAt shapes node (Test track low high)) (fits : IsTest shapes node track low high) where
   -- a side's value at a letter is the node's at a letter with that bit
@@ -118,21 +119,10 @@ chosen-relabelled shapes tracks track low high letter within =
 pub LooksBelow-all : (shapes : List Shape) → IsDiagram shapes → (node bound : ℕ) → node < length shapes → 20 ≤ bound → LooksBelow shapes node bound
 LooksBelow-all shapes is node bound known enough = record { same = λ a b agree. map_at-agree shapes is node known a b (λ k from below. agree k (omega arith)) }
 
-number_same : (pairs : List (ℕ × ℕ)) → AllPairs (λ p q. p ≢ q) pairs → (i j : ℕ) (p : ℕ × ℕ) → slice_get pairs i ≡ Some p → slice_get pairs j ≡ Some p → i ≡ j
-number_same pairs unrepeated i j p at_i at_j =
-    let wi = slice_get_within pairs i p at_i in
-    let wj = slice_get_within pairs j p at_j in
-    let ei = get_or_from_slice_get pairs i p p at_i in
-    let ej = get_or_from_slice_get pairs j p p at_j in
-    elim (cases_lt i j) [
-      | inl lt ↦ absurd (unrepeated i j p lt wj (ei ∙ sym ej))
-      | inr ge ↦ elim (cases_lt j i) [ inl lt ↦ absurd (unrepeated j i p lt wi (ej ∙ sym ei)) | inr le ↦ omega arith ]
-    ]
-
 -- the map of pairs of two maps looks at the tracks that these look at
 pub LooksBelow-pairs : (old shapes : List Shape) (pairs : List (ℕ × ℕ)) (a b node bound : ℕ) → AllPairs (λ p q. p ≢ q) pairs
     → ((letter : ℕ) → slice_get pairs (map_at shapes node letter) ≡ Some (map_at old a letter, map_at old b letter)) → LooksBelow old a bound → LooksBelow old b bound → LooksBelow shapes node bound
 LooksBelow-pairs old shapes pairs a b node bound unrepeated map narrow narrow' = record {
   same = λ x y agree.
-      number_same pairs unrepeated _ _ (map_at old a y, map_at old b y) (map x ∙ (λ i. Some (narrow.same x y agree i, narrow'.same x y agree i))) (map y);
+      one_place pairs unrepeated _ _ (map_at old a y, map_at old b y) (map x ∙ (λ i. Some (narrow.same x y agree i, narrow'.same x y agree i))) (map y);
 }

@@ -8,13 +8,14 @@ use Rattle.std.proofs.lemmas.List.{length_push, get_or_push}
 use Rattle.std.proofs.lemmas.Option.{slice_get-get_or}
 use Rattle.std.proofs.Math.Pow.{pow_mono}
 use Rattle.std.proofs.lemmas.Nat.{pow_pos}
+use Rattle.track_word.proofs.LetterBits.{bit_cases}
 use Rattle.letter_diagram.specs.declared.diagrams.Shape.{Shape}
 use Rattle.letter_diagram.specs.Diagram.{map_at, top_track, chosen, IsDiagram, Grows}
 use Rattle.letter_diagram.specs.Numbering.{Numbers, PairsKept}
 use Rattle.letter_diagram.specs.declared.absorbing.Absorbing.{Absorbing}
 use Rattle.letter_diagram.specs.Paired.{IsSplit, top_of_both, room_for, pair_eq}
 use Rattle.letter_diagram.specs.Absorbed.{absorbed, absorbed_at, IsPaired, AreAbsorbed, RemembersPaired}
-use Rattle.letter_diagram.proofs.Canonical.{flip, bit_at-flip_same, bit_cases, flipped}
+use Rattle.letter_diagram.proofs.Canonical.{flip, bit_at-flip_same, flipped}
 use Rattle.letter_diagram.proofs.Memos.{pair_answers-insert}
 
 -- the least track of two stays as nodes are added, and so does the room

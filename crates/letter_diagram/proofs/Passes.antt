@@ -13,11 +13,12 @@ use Rattle.std.proofs.lemmas.Map.Keys.{ge_from_not_lt}
 use Rattle.std.proofs.lemmas.Map.Views.{All-keys-insert_entry}
 use Rattle.std.proofs.Math.Pow.{pow_mono, mod-mod-pow}
 use Rattle.std.proofs.Math.Nat.{mod-le, mod-eq_of_lt}
+use Rattle.track_word.proofs.LetterBits.{bit_cases}
 use Rattle.letter_diagram.specs.declared.diagrams.Shape.{Shape}
 use Rattle.letter_diagram.specs.declared.diagrams.Shape.TheVariants.{Leaf, Test}
 use Rattle.letter_diagram.specs.Diagram.{map_at, top_track, IsDiagram, IsTest, IsAt}
 use Rattle.letter_diagram.specs.Least.{AreFirsts, IsMet, Meets, IsFound, IsPassed, IsPass}
-use Rattle.letter_diagram.proofs.Canonical.{bit_cases, low_is, high_is}
+use Rattle.letter_diagram.proofs.Canonical.{low_is, high_is}
 
 -- ---- maps of numbers
 

@@ -1,28 +1,30 @@
--- Two automata over the same tracks, joined or met.
-use Rattle.std.proofs.Common.{◌≡◌, ◌↔◌, ◌⊎◌, ℕ, suc, ◌<◌, ◌≤◌, List, [], ◌∷◌, length, map, true, nat_lt, ◌==◌, if◌then◌else◌, refl, sym, ap, ◌∙◌, subst, inl, inr, arith, eq-eqb}
+-- Two automata over the same tracks, put together by a connective.
+use Rattle.std.proofs.Common.{◌≡◌, ◌↔◌, ℕ, suc, ◌<◌, ◌≤◌, List, [], ◌∷◌, length, map, true, nat_lt, ◌==◌, if◌then◌else◌, refl, sym, ap, ◌∙◌, subst, inl, inr, None, arith, eq-eqb}
 use Rattle.std.specs.List.{AllPairs}
 use Rattle.std.proofs.lemmas.Bool.{ltb-true}
 use Rattle.std.proofs.lemmas.List.Kept.{AllPairs-from_increasing}
 use Rattle.track_word.specs.declared.tracks.Var.{Var}
 use Rattle.track_word.specs.Word.{IsWord}
-use Rattle.track_word.specs.Tracks.{IsAscending, part_of, with_var, with_vars}
+use Rattle.track_word.specs.Tracks.{IsAscending, with_var, with_vars}
 use Rattle.auto_core.specs.Automaton.{Automaton, Accepts}
-use Rattle.auto_core.specs.Integers.{DecidesIntegers}
-use Rattle.auto_core.specs.Reduced.{IsReduced}
+use Rattle.auto_core.specs.Reduced.{AllReached, IsReduced}
 use Rattle.auto_core.specs.Spread.{BothSpreadExceeds}
-use Rattle.lin_formula.specs.Tree.{Among, And, Not, Or}
-use Rattle.lin_formula.specs.SetOf.{Table, members}
+use Rattle.auto_bool.specs.Words.{AcceptsBoth, AcceptsEither, AcceptsFirstOnly}
+use Rattle.lin_formula.specs.Tree.{Tree, Among, free_vars, steps}
+use Rattle.lin_formula.specs.SetOf.{SetOf, Table, members}
 use Rattle.lin_formula.specs.Free.{IsOneOf}
 use Rattle.lin_formula.proofs.FreeVars.{if_cases}
-use Rattle.formula_auto.specs.Step.{Exceeds}
+use Rattle.formula_auto.specs.Connected.{connect}
+use Rattle.formula_auto.specs.Step.{FirstOver}
 use Rattle.formula_auto.specs.Decides.{Decides}
-use Rattle.formula_auto.specs.declared.connective.Connective.TheVariants.{AndNot as by_and_not, Or as by_or}
+use Rattle.formula_auto.specs.declared.connective.Connective.{Connective}
+use Rattle.formula_auto.specs.declared.connective.Connective.TheVariants.{And, Or, AndNot}
 use Rattle.formula_auto.proofs.Exceedings.{Exceeds-connect}
-use Rattle.formula_auto.proofs.Parts.{Decides-AndNot, Decides-Or, Decides-same}
+use Rattle.formula_auto.proofs.Parts.{Decides-And, Decides-AndNot, Decides-Or, Decides-same}
 use Rattle.formula_auto.proofs.Projections.{above}
-use Rattle.set_plan.specs.Program.{IsSetOf}
-use Rattle.set_plan.specs.Sets.{DecidesOn, IsReached, IsReachedOn, IsSetOn}
-use Rattle.set_plan.specs.Unite.{difference, either, two}
+use Rattle.set_plan.specs.Program.{Item, IsSetOf, LastExceeds}
+use Rattle.set_plan.specs.Sets.{DecidesOn, IsReachedOn, IsSetOn}
+use Rattle.set_plan.specs.Unite.{two}
 use Rattle.set_plan.proofs.Decided.{Decides-among, DecidesIntegers-decides, IsSetOf-decides, with_vars-ascending}
 use Rattle.set_plan.proofs.FewStates.{few_states}
 
@@ -49,8 +51,24 @@ with_vars-there (x ∷ xs) ys h there = ap (with_var x) (with_vars-there xs ys h
 pub with_vars-self : (tracks : List Var) → IsAscending tracks → with_vars tracks tracks ≡ tracks
 with_vars-self tracks h = with_vars-there tracks tracks (AllPairs-from_increasing (map (λ v. v.0) tracks) h) (λ x is. is)
 
-pub decides-on : (tracks : List Var) (a : Automaton) → IsSetOn tracks a → DecidesOn tracks a
-decides-on tracks a on = record { integers = on.integers; tracks_are = on.tracks_are; few = on.few }
+-- the two named sets, over these tracks
+abbrev names : Connective → List Var → Tree
+names connective tracks = connect connective (Among 0 tracks) (Among 1 tracks)
+
+-- what the connective makes of two sets over these tracks
+abbrev pub both : Connective → List Var → SetOf → SetOf → Item
+both connective tracks s t = record { formula = names connective tracks; sets = two s t }
+
+-- the words that the connective takes
+abbrev Words : Connective → Automaton → Automaton → Automaton → Type 0
+Words And a b c = AcceptsBoth a b c
+Words Or a b c = AcceptsEither a b c
+Words AndNot a b c = AcceptsFirstOnly a b c
+
+some_step : (connective : Connective) (tracks : List Var) → 0 < length (steps (names connective tracks))
+some_step And tracks = omega arith
+some_step Or tracks = omega arith
+some_step AndNot tracks = omega arith
 
 module _ (tracks : List Var) (a b : Automaton) (left : DecidesOn tracks a) (right : DecidesOn tracks b) (ascending : IsAscending a.tracks) where
   pub ordered : IsAscending tracks
@@ -68,77 +86,52 @@ module _ (tracks : List Var) (a b : Automaton) (left : DecidesOn tracks a) (righ
   second : Decides b (Among 1 tracks) (members (two (Table a) (Table b)))
   second = Decides-among (two (Table a) (Table b)) 1 tracks b refl right.integers (subst IsAscending (sym right.tracks_are) ordered) right.tracks_are
 
-  either-decides : (c r : Automaton) → c.tracks ≡ with_vars a.tracks b.tracks
-      → ((word : List ℕ) → IsWord (length c.tracks) word → Accepts c word ↔ (Accepts a (part_of c.tracks a.tracks word) ⊎ Accepts b (part_of c.tracks b.tracks word)))
-      → r.tracks ≡ c.tracks → ((word : List ℕ) → IsWord (length c.tracks) word → Accepts r word ↔ Accepts c word) → Decides r (Or (Among 0 tracks) (Among 1 tracks)) (members (two (Table a) (Table b)))
-  either-decides c r tracks_c words_c tracks_r words_r =
-      let e = members (two (Table a) (Table b)) in
-      Decides-same e (Or (Among 0 tracks) (Among 1 tracks)) c r (Decides-Or e (Among 0 tracks) (Among 1 tracks) a b c first second tracks_c words_c) tracks_r words_r
-
   over-tracks : with_vars (with_vars tracks []) (with_vars tracks []) ≡ tracks
   over-tracks =
       let same = with_vars-ascending tracks ordered in
       ap (λ (t : List Var). with_vars t t) same ∙ with_vars-self tracks ordered
 
-  pub either-is : (c r : Automaton) → c.tracks ≡ with_vars a.tracks b.tracks
-      → ((word : List ℕ) → IsWord (length c.tracks) word → Accepts c word ↔ (Accepts a (part_of c.tracks a.tracks word) ⊎ Accepts b (part_of c.tracks b.tracks word)))
-      → r.tracks ≡ c.tracks → ((word : List ℕ) → IsWord (length c.tracks) word → Accepts r word ↔ Accepts c word) → IsSetOf (either tracks (Table a) (Table b)) (Table r)
-  either-is c r tracks_c words_c tracks_r words_r =
-      IsSetOf-decides (Or (Among 0 tracks) (Among 1 tracks)) (two (Table a) (Table b)) r (either-decides c r tracks_c words_c tracks_r words_r)
+  free-tracks : (connective : Connective) → free_vars (names connective tracks) ≡ tracks
+  free-tracks And = over-tracks
+  free-tracks Or = over-tracks
+  free-tracks AndNot = over-tracks
 
-  pub either-exceeds : (budget : ℕ) → BothSpreadExceeds a.tracks b.tracks (Accepts a) (Accepts b) budget ↔ Exceeds (Or (Among 0 tracks) (Among 1 tracks)) (members (two (Table a) (Table b))) budget
-  either-exceeds budget = Exceeds-connect (members (two (Table a) (Table b))) (Among 0 tracks) (Among 1 tracks) a b budget first second by_or
+  pub both-exceeds : (connective : Connective) (budget : ℕ)
+      → BothSpreadExceeds a.tracks b.tracks (Accepts a) (Accepts b) budget ↔ LastExceeds (both connective tracks (Table a) (Table b)) budget
+  both-exceeds connective budget = Exceeds-connect (members (two (Table a) (Table b))) (Among 0 tracks) (Among 1 tracks) a b budget first second connective
 
-  module _ (c r : Automaton) (tracks_c : c.tracks ≡ with_vars a.tracks b.tracks)
-      (words_c : (word : List ℕ) → IsWord (length c.tracks) word → Accepts c word ↔ (Accepts a (part_of c.tracks a.tracks word) ⊎ Accepts b (part_of c.tracks b.tracks word)))
+  none-over : (connective : Connective) (budget : ℕ) → (LastExceeds (both connective tracks (Table a) (Table b)) budget → ⊥)
+      → FirstOver (steps (names connective tracks)) (members (two (Table a) (Table b))) budget 1 None
+  none-over And budget within = inr (within, refl)
+  none-over Or budget within = inr (within, refl)
+  none-over AndNot budget within = inr (within, refl)
+
+  both-decides : (connective : Connective) (c : Automaton) → c.tracks ≡ with_vars a.tracks b.tracks → Words connective a b c
+      → Decides c (names connective tracks) (members (two (Table a) (Table b)))
+  both-decides And c tracks_c words_c = Decides-And (members (two (Table a) (Table b))) (Among 0 tracks) (Among 1 tracks) a b c first second tracks_c words_c
+  both-decides Or c tracks_c words_c = Decides-Or (members (two (Table a) (Table b))) (Among 0 tracks) (Among 1 tracks) a b c first second tracks_c words_c
+  both-decides AndNot c tracks_c words_c = Decides-AndNot (members (two (Table a) (Table b))) (Among 0 tracks) (Among 1 tracks) a b c first second tracks_c words_c
+
+  module _ (connective : Connective) (c r : Automaton) (tracks_c : c.tracks ≡ with_vars a.tracks b.tracks) (words_c : Words connective a b c)
       (tracks_r : r.tracks ≡ c.tracks) (words_r : (word : List ℕ) → IsWord (length c.tracks) word → Accepts r word ↔ Accepts c word) where
-    decided : Decides r (Or (Among 0 tracks) (Among 1 tracks)) (members (two (Table a) (Table b)))
-    decided = either-decides c r tracks_c words_c tracks_r words_r
+    decided : Decides r (names connective tracks) (members (two (Table a) (Table b)))
+    decided = Decides-same (members (two (Table a) (Table b))) (names connective tracks) c r (both-decides connective c tracks_c words_c) tracks_r words_r
 
-    either-integers : DecidesIntegers r
-    either-integers = DecidesIntegers-decides (Or (Among 0 tracks) (Among 1 tracks)) (two (Table a) (Table b)) r decided
+    pub both-is : IsSetOf (both connective tracks (Table a) (Table b)) (Table r)
+    both-is = IsSetOf-decides (names connective tracks) (two (Table a) (Table b)) r decided
 
-    pub either-set : IsReduced r → (budget : ℕ) → budget ≤ 200000 → (BothSpreadExceeds a.tracks b.tracks (Accepts a) (Accepts b) budget → ⊥) → IsSetOn tracks r
-    either-set reduced budget high within =
+    decides-on : DecidesOn tracks r
+    decides-on = record {
+      integers = DecidesIntegers-decides (names connective tracks) (two (Table a) (Table b)) r decided;
+      tracks_are = decided.tracks ∙ free-tracks connective;
+    }
+
+    pub both-set : IsReduced r → (budget : ℕ) → budget ≤ 200000 → (BothSpreadExceeds a.tracks b.tracks (Accepts a) (Accepts b) budget → ⊥) → IsSetOn tracks r
+    both-set reduced budget high within =
         let states =
-        few_states (members (two (Table a) (Table b))) budget (Or (Among 0 tracks) (Among 1 tracks)) r 1 (omega arith) decided reduced
-        (inr (λ over. within ((either-exceeds budget).1 over), refl)) in
-        record { reduced = reduced; integers = either-integers; tracks_are = decided.tracks ∙ over-tracks; few = omega (arith, states, high) }
+        few_states (members (two (Table a) (Table b))) budget (names connective tracks) r 1 (some_step connective tracks) decided reduced
+        (none-over connective budget (λ over. within ((both-exceeds connective budget).1 over))) in
+        record { reduced = reduced; decides = decides-on; few = omega (arith, states, high) }
 
-    pub either-reached : IsReached r → length r.accept ≤ 200000 → IsReachedOn tracks r
-    either-reached reached few = record { reached = reached; decides = record { integers = either-integers; tracks_are = decided.tracks ∙ over-tracks; few = few } }
-
-  except-decides : (c r : Automaton) → c.tracks ≡ with_vars a.tracks b.tracks
-      → ((word : List ℕ) → IsWord (length c.tracks) word → Accepts c word ↔ (Accepts a (part_of c.tracks a.tracks word) × (¬ Accepts b (part_of c.tracks b.tracks word))))
-      → r.tracks ≡ c.tracks → ((word : List ℕ) → IsWord (length c.tracks) word → Accepts r word ↔ Accepts c word)
-      → Decides r (And (Among 0 tracks) (Not (Among 1 tracks))) (members (two (Table a) (Table b)))
-  except-decides c r tracks_c words_c tracks_r words_r =
-      let e = members (two (Table a) (Table b)) in
-      Decides-same e (And (Among 0 tracks) (Not (Among 1 tracks))) c r (Decides-AndNot e (Among 0 tracks) (Among 1 tracks) a b c first second tracks_c words_c) tracks_r words_r
-
-  pub except-is : (c r : Automaton) → c.tracks ≡ with_vars a.tracks b.tracks
-      → ((word : List ℕ) → IsWord (length c.tracks) word → Accepts c word ↔ (Accepts a (part_of c.tracks a.tracks word) × (¬ Accepts b (part_of c.tracks b.tracks word))))
-      → r.tracks ≡ c.tracks → ((word : List ℕ) → IsWord (length c.tracks) word → Accepts r word ↔ Accepts c word) → IsSetOf (difference tracks (Table a) (Table b)) (Table r)
-  except-is c r tracks_c words_c tracks_r words_r =
-      IsSetOf-decides (And (Among 0 tracks) (Not (Among 1 tracks))) (two (Table a) (Table b)) r (except-decides c r tracks_c words_c tracks_r words_r)
-
-  pub except-exceeds : (budget : ℕ)
-      → BothSpreadExceeds a.tracks b.tracks (Accepts a) (Accepts b) budget
-      ↔ Exceeds (And (Among 0 tracks) (Not (Among 1 tracks))) (members (two (Table a) (Table b))) budget
-  except-exceeds budget = Exceeds-connect (members (two (Table a) (Table b))) (Among 0 tracks) (Among 1 tracks) a b budget first second by_and_not
-
-  pub except-set : (c r : Automaton) → c.tracks ≡ with_vars a.tracks b.tracks
-      → ((word : List ℕ) → IsWord (length c.tracks) word → Accepts c word ↔ (Accepts a (part_of c.tracks a.tracks word) × (¬ Accepts b (part_of c.tracks b.tracks word))))
-      → r.tracks ≡ c.tracks → ((word : List ℕ) → IsWord (length c.tracks) word → Accepts r word ↔ Accepts c word) → IsReduced r
-      → (budget : ℕ) → budget ≤ 200000 → (BothSpreadExceeds a.tracks b.tracks (Accepts a) (Accepts b) budget → ⊥) → IsSetOn tracks r
-  except-set c r tracks_c words_c tracks_r words_r reduced budget high within =
-      let decides = except-decides c r tracks_c words_c tracks_r words_r in
-      let states =
-      few_states (members (two (Table a) (Table b))) budget (And (Among 0 tracks) (Not (Among 1 tracks))) r 1 (omega arith) decides reduced
-      (inr (λ over. within ((except-exceeds budget).1 over), refl)) in
-      record {
-        reduced = reduced;
-        integers = DecidesIntegers-decides (And (Among 0 tracks) (Not (Among 1 tracks))) (two (Table a) (Table b)) r decides;
-        tracks_are = decides.tracks ∙ over-tracks;
-        few = omega (arith, states, high);
-      }
+    pub both-reached : AllReached r → length r.accept ≤ 200000 → IsReachedOn tracks r
+    both-reached reached few = record { reached = reached; decides = decides-on; few = few }

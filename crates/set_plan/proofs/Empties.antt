@@ -4,10 +4,10 @@ use Rattle.std.proofs.lemmas.Option.{slice_get_past}
 use Rattle.track_word.specs.declared.tracks.Var.{Var}
 use Rattle.track_word.specs.Word.{IsWord}
 use Rattle.auto_core.specs.Automaton.{Automaton, Accepts}
-use Rattle.auto_core.specs.Reduced.{IsReduced}
+use Rattle.auto_core.specs.Reduced.{AllReached, IsReduced}
 use Rattle.formula_auto.specs.Compiled.{IsSetFor}
 use Rattle.lin_formula.specs.SetOf.{SetOf, Table, IsEmpty, SomeEmpty, NoneEmpty}
-use Rattle.set_plan.specs.Sets.{IsReached, IsSetOn}
+use Rattle.set_plan.specs.Sets.{IsSetOn}
 
 -- an automaton of an empty set accepts no word
 pub accepts-none : (a : Automaton) → IsEmpty (Table a) → (word : List ℕ) → IsWord (length a.tracks) word → ¬ Accepts a word
@@ -42,6 +42,6 @@ set-there sets number size fits past =
     (cc)
 
 -- words lead to each state of a reduced automaton
-pub set-reached : (tracks : List Var) (set : Option Automaton) → IfSome set (IsSetOn tracks) → IfSome set IsReached
+pub set-reached : (tracks : List Var) (set : Option Automaton) → IfSome set (IsSetOn tracks) → IfSome set AllReached
 set-reached tracks None on = tt
 set-reached tracks (Some a) on = on.reduced.reached

@@ -24,7 +24,11 @@ item-at tracks sets fs i f h less e = all-at (IsItemOn tracks sets) fs i f h les
 -- the set of a formula that has a step
 pub made_on : (tracks : List Var) (f : Tree) → 0 < length (steps f) → free_vars f ≡ tracks → (set : Option Automaton) → IfSome set (IsSetBy f) → IfSome set (IsSetOn tracks)
 made_on tracks f some over None is = tt
-made_on tracks f some over (Some a) is = record { reduced = is.reduced; integers = is.integers; tracks_are = is.tracks_are ∙ over; few = is.few some }
+made_on tracks f some over (Some a) is = record {
+  reduced = is.reduced;
+  decides = record { integers = is.decides.integers; tracks_are = is.decides.tracks_are ∙ over };
+  few = is.few some;
+}
 
 -- over its own variables
 pub item-own : (tracks : List Var) (sets : List Automaton) (f : Tree) → IsItemOn tracks sets f → IsItemOn (free_vars f) sets f

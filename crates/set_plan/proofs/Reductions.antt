@@ -9,8 +9,7 @@ use Rattle.auto_core.specs.Integers.{DecidesIntegers}
 use Rattle.auto_core.specs.Reduced.{IsReduced}
 use Rattle.lin_formula.specs.Tree.{Among, Or}
 use Rattle.lin_formula.specs.SetOf.{SetOf, Table, members}
-use Rattle.formula_auto.specs.Step.{Exceeds}
-use Rattle.set_plan.specs.Program.{IsSetOf}
+use Rattle.set_plan.specs.Program.{IsSetOf, LastExceeds}
 use Rattle.set_plan.specs.Same.{SameSets, SameItem}
 use Rattle.set_plan.specs.Sets.{IsReductionOf}
 use Rattle.set_plan.specs.Unite.{either, two}
@@ -52,9 +51,8 @@ module _ (a r : Automaton) (tracks : r.tracks ≡ a.tracks) (words : (word : Lis
     same = same-table;
     set = λ tracks_on on. record {
       reduced = reduced;
-      integers = integers-same on.decides.integers;
-      tracks_are = tracks ∙ on.decides.tracks_are;
-      few = omega (arith, fewer, on.decides.few);
+      decides = record { integers = integers-same on.decides.integers; tracks_are = tracks ∙ on.decides.tracks_are };
+      few = omega (arith, fewer, on.few);
     };
   }
 
@@ -73,8 +71,7 @@ module _ (tracks : List Var) (a b left right : Automaton) (one : IsReductionOf a
   either-of_reduced s is = IsSetOf-same (either tracks (Table left) (Table right)) (either tracks (Table a) (Table b)) s same-either is
 
   pub exceeds-of_reduced : (budget : ℕ)
-      → Exceeds (Or (Among 0 tracks) (Among 1 tracks)) (members (two (Table left) (Table right))) budget
-      ↔ Exceeds (Or (Among 0 tracks) (Among 1 tracks)) (members (two (Table a) (Table b))) budget
+      → LastExceeds (either tracks (Table left) (Table right)) budget ↔ LastExceeds (either tracks (Table a) (Table b)) budget
   exceeds-of_reduced budget = (
     Exceeds-same (members (two (Table left) (Table right))) (members (two (Table a) (Table b))) (λ k t. same-two k t) (Or (Among 0 tracks) (Among 1 tracks)) budget,
     Exceeds-same (members (two (Table a) (Table b))) (members (two (Table left) (Table right))) (λ k t. ((same-two k t).1, (same-two k t).0)) (Or (Among 0 tracks) (Among 1 tracks)) budget,

@@ -39,14 +39,14 @@ module _ {P : Type 0} (tracks : List Var) (part : P) (budget : ℕ) where
 
   module _ (a : Automaton) (on : IsSetOn tracks a) (ascending : IsAscending a.tracks) where
     ordered : IsAscending tracks
-    ordered = subst IsAscending on.tracks_are ascending
+    ordered = subst IsAscending on.decides.tracks_are ascending
 
     over : IsOver tracks (Table a)
-    over tuple h = (word_values a.tracks h.word, ap (λ vars. values_at vars (word_values a.tracks h.word)) (sym on.tracks_are) ∙ h.values)
+    over tuple h = (word_values a.tracks h.word, ap (λ vars. values_at vars (word_values a.tracks h.word)) (sym on.decides.tracks_are) ∙ h.values)
 
     known : (t : Option (Bor Automaton)) → IfSome t (λ b. IsSetOn tracks b.now) → (tuple : List ℤ) → Member (lent t) tuple ⊎ (Member (lent t) tuple → ⊥)
     known None is tuple = inr (λ h. h)
-    known (Some b) is tuple = table_decided b.now (subst IsAscending (sym is.tracks_are) ordered) is.integers tuple
+    known (Some b) is tuple = table_decided b.now (subst IsAscending (sym is.decides.tracks_are) ordered) is.decides.integers tuple
 
     within-empty : (t : Option (Bor Automaton)) (rest : SetOf) → IfSome t (λ b. IsSetOn tracks b.now)
         → Ends (remainder tracks part (Table a) (lent t)) budget rest → IsEmpty rest → Ends (is_within tracks part (Table a) (lent t)) budget true

@@ -1,7 +1,8 @@
 -- Programs that compute sets, step by step.
 use Rattle.std.specs.Prelude.{◌≡◌, ◌↔◌, ◌⊎◌, ℕ, List, [], ◌∷◌, Option, Some, None, ℤ}
 use Rattle.lin_formula.specs.Tree.{Tree}
-use Rattle.lin_formula.specs.SetOf.{SetOf, Where, Member, SomeEmpty, NoneEmpty}
+use Rattle.lin_formula.specs.SetOf.{SetOf, Where, Member, SomeEmpty, NoneEmpty, members}
+use Rattle.formula_auto.specs.Step.{Exceeds}
 use Rattle.auto_core.specs.Automaton.{Automaton}
 use Rattle.auto_core.specs.Integers.{DecidesIntegers}
 
@@ -13,6 +14,10 @@ pub record Item : Type 0 where
 -- the set has the tuples at which the formula holds
 pub record IsSetOf (item : Item) (s : SetOf) : Type 0 where
   pub same : (tuple : List ℤ) → Member s tuple ↔ Member (Where item.formula item.sets) tuple
+
+-- the item's last step has to tell apart more words than the budget
+abbrev pub LastExceeds : Item → ℕ → Type 0
+LastExceeds item budget = Exceeds item.formula (members item.sets) budget
 
 -- an item of the part of this name, and the number in the part of its first step
 pub record Entry (P : Type 0) : Type 0 where

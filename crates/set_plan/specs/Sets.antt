@@ -5,7 +5,7 @@ use Rattle.limits.specs.declared.numbers.TheConstants.{MOST_STATES}
 use Rattle.track_word.specs.declared.tracks.Var.{Var}
 use Rattle.auto_core.specs.Automaton.{Automaton}
 use Rattle.auto_core.specs.Integers.{DecidesIntegers}
-use Rattle.auto_core.specs.Reduced.{IsReachedState, IsReduced}
+use Rattle.auto_core.specs.Reduced.{AllReached, IsReduced}
 use Rattle.lin_formula.specs.Tree.{Tree, free_vars, steps}
 use Rattle.lin_formula.specs.declared.formula.SetId.{SetId}
 use Rattle.lin_formula.specs.SetOf.{SetOf, Nothing, Table, as_set, tables}
@@ -16,36 +16,28 @@ use Rattle.set_plan.specs.declared.left.Left.{Left}
 use Rattle.set_plan.specs.declared.left.Left.TheVariants.{Whole, Part}
 use Rattle.set_plan.specs.declared.made.Made.{Made}
 
--- the automaton is reduced and decides a set of tuples of integers, one for each of the tracks; it has no more states
--- than the greatest budget
-pub record IsSetOn (tracks : List Var) (a : Automaton) : Type 0 where
-  pub reduced : IsReduced a
+-- the automaton decides a set of tuples of integers, one for each of the tracks
+pub record DecidesOn (tracks : List Var) (a : Automaton) : Type 0 where
   pub integers : DecidesIntegers a
   pub tracks_are : a.tracks ≡ tracks
+
+-- and it is reduced, with no more states than the greatest budget
+pub record IsSetOn (tracks : List Var) (a : Automaton) : Type 0 where
+  pub reduced : IsReduced a
+  pub decides : DecidesOn tracks a
   pub few : length a.accept ≤ MOST_STATES
 
 -- the same over the free variables of a formula, where its number of states is known only if the formula has a step
 pub record IsSetBy (f : Tree) (a : Automaton) : Type 0 where
   pub reduced : IsReduced a
-  pub integers : DecidesIntegers a
-  pub tracks_are : a.tracks ≡ free_vars f
+  pub decides : DecidesOn (free_vars f) a
   pub few : 0 < length (steps f) → length a.accept ≤ MOST_STATES
 
--- words lead to each state
-abbrev pub IsReached : Automaton → Type 0
-IsReached a = (state : ℕ) → state < length a.accept → IsReachedState a state
-
--- the automaton decides a set of tuples of integers, one for each of the tracks; it has no more states than the
--- greatest budget
-pub record DecidesOn (tracks : List Var) (a : Automaton) : Type 0 where
-  pub integers : DecidesIntegers a
-  pub tracks_are : a.tracks ≡ tracks
-  pub few : length a.accept ≤ MOST_STATES
-
--- and words lead to each of its states, some of which may accept the same suffixes
+-- words lead to each of its states, some of which may accept the same suffixes
 pub record IsReachedOn (tracks : List Var) (a : Automaton) : Type 0 where
-  pub reached : IsReached a
+  pub reached : AllReached a
   pub decides : DecidesOn tracks a
+  pub few : length a.accept ≤ MOST_STATES
 
 -- the second automaton has the tuples of the first, and is a set where the first need only be reached
 pub record IsReductionOf (a r : Automaton) : Type 0 where

@@ -1,11 +1,10 @@
 //! Whether sets are empty.
 ghost use Rattle.std.specs.Prelude.{◌≡◌, IfSome, length, map};
 ghost use Rattle.std.specs.Bool.{OnTrue, OnFalse};
-ghost use Rattle.auto_core.specs.Reduced.{IsReduced};
+ghost use Rattle.auto_core.specs.Reduced.{IsReduced, AllReached};
 ghost use Rattle.lin_formula.specs.SetOf.{Table, as_set, tables, IsEmpty, SomeEmpty, NoneEmpty};
 ghost use Rattle.lin_formula.specs.TreeOf.{tree_of};
 ghost use Rattle.formula_auto.specs.Ready.{IsReady};
-ghost use Rattle.set_plan.specs.Sets.{IsReached};
 ghost use Rattle.set_plan.specs.Unite.{positives};
 
 use auto_core::Auto;
@@ -24,7 +23,7 @@ pub fn is_empty_set(a: &Auto) -> bool
 
 /// Whether a set has no tuple, of an automaton that need not be reduced.
 pub fn has_no_tuple(a: &Auto) -> bool
-    requires { IsReached a.now }
+    requires { AllReached a.now }
     ensures yes { OnTrue result (IsEmpty (Table a.now)) }
     ensures none { OnFalse result (¬ IsEmpty (Table a.now)) }
 {
@@ -34,7 +33,7 @@ pub fn has_no_tuple(a: &Auto) -> bool
 
 /// Whether there is no set, or one that has no tuple.
 pub fn is_none_or_empty(set: &Option<Auto>) -> bool
-    requires { IfSome set.now IsReached }
+    requires { IfSome set.now AllReached }
     ensures yes { OnTrue result (IsEmpty (as_set set.now)) }
     ensures none { OnFalse result (¬ IsEmpty (as_set set.now)) }
 {

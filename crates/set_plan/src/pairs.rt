@@ -1,11 +1,9 @@
 //! Two sets over the same tracks.
-ghost use Rattle.std.specs.Prelude.{◌≡◌, ◌≤◌, ◌∷◌, [], IfOk, OnOk, Err};
-ghost use Rattle.lin_formula.specs.Tree.{Among, And, Not, Or};
-ghost use Rattle.lin_formula.specs.SetOf.{Table, members};
-ghost use Rattle.formula_auto.specs.Step.{Exceeds};
-ghost use Rattle.set_plan.specs.Program.{IsSetOf};
+ghost use Rattle.std.specs.Prelude.{◌≡◌, IfOk, OnOk, Err};
+ghost use Rattle.lin_formula.specs.SetOf.{Table};
+ghost use Rattle.set_plan.specs.Program.{IsSetOf, LastExceeds};
 ghost use Rattle.set_plan.specs.Sets.{IsSetOn, IsReachedOn, IsReductionOf};
-ghost use Rattle.set_plan.specs.Unite.{difference as difference_of, either as either_of, two};
+ghost use Rattle.set_plan.specs.Unite.{difference as difference_of, either as either_of};
 
 use auto_bool::{difference, join, join_within};
 use auto_core::Auto;
@@ -28,10 +26,8 @@ pub fn either(
     requires second { IsSetOn tracks.now b.now }
     ensures ok { IfOk result (λ c. IsSetOf (either_of tracks.now (Table a.now) (Table b.now)) (Table c)) }
     ensures set { IfOk result (IsSetOn tracks.now) }
-    ensures within { OnOk result
-        (¬ Exceeds (Or (Among 0 tracks.now) (Among 1 tracks.now)) (members (two (Table a.now) (Table b.now))) budget) }
-    ensures over { result ≡ Err Grown.Over
-        → Exceeds (Or (Among 0 tracks.now) (Among 1 tracks.now)) (members (two (Table a.now) (Table b.now))) budget }
+    ensures within { OnOk result (¬ LastExceeds (either_of tracks.now (Table a.now) (Table b.now)) budget) }
+    ensures over { result ≡ Err Grown.Over → LastExceeds (either_of tracks.now (Table a.now) (Table b.now)) budget }
 {
     let _ = a.tracks(); // for its invariant
     let _ = budget.states(); // for its invariant
@@ -52,10 +48,8 @@ pub fn either_reached(
     requires second { IsReachedOn tracks.now b.now }
     ensures ok { IfOk result (λ c. IsSetOf (either_of tracks.now (Table a.now) (Table b.now)) (Table c)) }
     ensures set { IfOk result (IsReachedOn tracks.now) }
-    ensures within { OnOk result
-        (¬ Exceeds (Or (Among 0 tracks.now) (Among 1 tracks.now)) (members (two (Table a.now) (Table b.now))) budget) }
-    ensures over { result ≡ Err Grown.Over
-        → Exceeds (Or (Among 0 tracks.now) (Among 1 tracks.now)) (members (two (Table a.now) (Table b.now))) budget }
+    ensures within { OnOk result (¬ LastExceeds (either_of tracks.now (Table a.now) (Table b.now)) budget) }
+    ensures over { result ≡ Err Grown.Over → LastExceeds (either_of tracks.now (Table a.now) (Table b.now)) budget }
 {
     let _ = a.tracks(); // for its invariant
     let _ = budget.states(); // for its invariant
@@ -78,10 +72,8 @@ fn either_of_reduced(
     requires second { IsReachedOn tracks.now b.now }
     ensures ok { IfOk result (λ c. IsSetOf (either_of tracks.now (Table a.now) (Table b.now)) (Table c)) }
     ensures set { IfOk result (IsSetOn tracks.now) }
-    ensures within { OnOk result
-        (¬ Exceeds (Or (Among 0 tracks.now) (Among 1 tracks.now)) (members (two (Table a.now) (Table b.now))) budget) }
-    ensures over { result ≡ Err Grown.Over
-        → Exceeds (Or (Among 0 tracks.now) (Among 1 tracks.now)) (members (two (Table a.now) (Table b.now))) budget }
+    ensures within { OnOk result (¬ LastExceeds (either_of tracks.now (Table a.now) (Table b.now)) budget) }
+    ensures over { result ≡ Err Grown.Over → LastExceeds (either_of tracks.now (Table a.now) (Table b.now)) budget }
 {
     let left = reduced_set(alloc, a)?;
     let right = reduced_set(alloc, b)?;
@@ -109,12 +101,8 @@ pub fn except(
     requires second { IsSetOn tracks.now b.now }
     ensures ok { IfOk result (λ c. IsSetOf (difference_of tracks.now (Table a.now) (Table b.now)) (Table c)) }
     ensures set { IfOk result (IsSetOn tracks.now) }
-    ensures within { OnOk result
-        (¬ Exceeds (And (Among 0 tracks.now) (Not (Among 1 tracks.now))) (members (two (Table a.now) (Table b.now)))
-        budget) }
-    ensures over { result ≡ Err Grown.Over
-        → Exceeds (And (Among 0 tracks.now) (Not (Among 1 tracks.now))) (members (two (Table a.now) (Table b.now)))
-        budget }
+    ensures within { OnOk result (¬ LastExceeds (difference_of tracks.now (Table a.now) (Table b.now)) budget) }
+    ensures over { result ≡ Err Grown.Over → LastExceeds (difference_of tracks.now (Table a.now) (Table b.now)) budget }
 {
     let _ = a.tracks(); // for its invariant
     let _ = budget.states(); // for its invariant

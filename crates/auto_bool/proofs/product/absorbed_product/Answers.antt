@@ -1,7 +1,6 @@
 use Rattle.std.proofs.Common.{subst}
 use Rattle.auto_walk.specs.Walker.{IsWalked}
-use Rattle.auto_bool.proofs.AbsorbedPairs.{IsProduct-walked}
-use Rattle.auto_bool.proofs.PairLemmas.{walker-same}
+use Rattle.auto_bool.proofs.PairLemmas.{walker-same, IsProduct-walked}
 use Rattle.auto_bool.proofs.product.absorbed_product.Goals as goal
 
 pub returns-clause-ok : goal.returns-clause-ok

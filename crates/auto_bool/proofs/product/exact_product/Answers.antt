@@ -1,11 +1,22 @@
-use Rattle.std.proofs.Common.{IfOk, OnOk, subst, ◌∙◌}
+use Rattle.std.proofs.Common.{◌≡◌, IfOk, OnOk, subst, ◌∙◌}
 use Rattle.std.proofs.lemmas.Result.{on_ok_weaker, IfOk-weaker}
 use Rattle.track_word.specs.Tracks.{with_vars}
 use Rattle.auto_walk.specs.Walker.{IsWalked, MoreThan}
-use Rattle.auto_bool.proofs.AbsorbedPairs.{walker-nothing, AreSinks-nothing, IsProduct-walked}
-use Rattle.auto_bool.proofs.PairLemmas.{walker-same}
+use Rattle.auto_bool.specs.Both.{both_walker}
+use Rattle.auto_bool.specs.Absorbed.{absorbing_walker}
+use Rattle.auto_bool.proofs.AbsorbedPairs.{walker-nothing, AreSinks-nothing}
+use Rattle.auto_bool.proofs.PairLemmas.{walker-same, IsProduct-walked}
 use Rattle.auto_bool.proofs.Spreads.{BothSpreadExceeds-from, MoreThan-from_spread}
 use Rattle.auto_bool.proofs.product.exact_product.Goals as goal
+
+-- the walk is one over the pairs of states
+over_pairs : (c : goal.After-walked)
+    → absorbing_walker c.in_ok-both.both.product.absorbing c.in_ok-both.both.tracks.items c.in_ok-both.both.left.now c.in_ok-both.both.right.now c.in_ok-both.both.connective
+    ≡ both_walker c.args.a.now c.args.b.now c.args.connective
+over_pairs c =
+    let made = c.in_ok-both.ensures in
+    walker-same _ _ _ _ _ _ _ _ _ made.absorbing made.left made.right made.connective made.tracks
+    ∙ walker-nothing c.nothing.result c.nothing.ensures.left c.nothing.ensures.right (with_vars c.args.a.now.tracks c.args.b.now.tracks) c.args.a.now c.args.b.now c.args.connective
 
 pub returns-clause-ok : goal.returns-clause-ok
 returns-clause-ok c =
@@ -17,24 +28,14 @@ returns-clause-ok c =
 
 pub returns-clause-within : goal.returns-clause-within
 returns-clause-within c =
-    let made = c.in_ok-both.ensures in
-    let same = walker-same _ _ _ _ _ _ _ _ _ made.absorbing made.left made.right made.connective made.tracks
-    ∙ walker-nothing c.nothing.result c.nothing.ensures.left c.nothing.ensures.right (with_vars c.args.a.now.tracks c.args.b.now.tracks) c.args.a.now c.args.b.now c.args.connective in
-    let few = subst (λ w. OnOk c.walked.result (MoreThan w c.args.budget → ⊥)) same c.walked.ensures.within in
+    let few = subst (λ w. OnOk c.walked.result (MoreThan w c.args.budget → ⊥)) (over_pairs c) c.walked.ensures.within in
     on_ok_weaker c.walked.result (λ no spread. no (MoreThan-from_spread c.args.a.now c.args.b.now c.args.connective c.args.budget spread)) few
 
 pub returns-clause-over : goal.returns-clause-over
-returns-clause-over c =
+returns-clause-over c = λ a_reduced b_reduced over.
     let made = c.in_ok-both.ensures in
-    let same = walker-same _ _ _ _ _ _ _ _ _ made.absorbing made.left made.right made.connective made.tracks
-    ∙ walker-nothing c.nothing.result c.nothing.ensures.left c.nothing.ensures.right (with_vars c.args.a.now.tracks c.args.b.now.tracks) c.args.a.now c.args.b.now c.args.connective in
-    λ a_reduced b_reduced over.
     BothSpreadExceeds-from c.args.a.now c.args.b.now c.args.connective made.left_valid made.right_valid a_reduced b_reduced c.args.budget
-    (subst (λ w. MoreThan w c.args.budget) same (c.walked.ensures.over over))
+    (subst (λ w. MoreThan w c.args.budget) (over_pairs c) (c.walked.ensures.over over))
 
 pub returns-clause-many : goal.returns-clause-many
-returns-clause-many c =
-    let made = c.in_ok-both.ensures in
-    let same = walker-same _ _ _ _ _ _ _ _ _ made.absorbing made.left made.right made.connective made.tracks
-    ∙ walker-nothing c.nothing.result c.nothing.ensures.left c.nothing.ensures.right (with_vars c.args.a.now.tracks c.args.b.now.tracks) c.args.a.now c.args.b.now c.args.connective in
-    λ over. subst (λ w. MoreThan w c.args.budget) same (c.walked.ensures.over over)
+returns-clause-many c = λ over. subst (λ w. MoreThan w c.args.budget) (over_pairs c) (c.walked.ensures.over over)

@@ -1,8 +1,8 @@
-use Rattle.std.proofs.Common.{arith, ◌≡◌, ◌<◌, ◌+◌, ℕ, List, Vec, Global, length, map, ap, sym, ◌∙◌, subst}
+use Rattle.std.proofs.Common.{arith, ◌≡◌, ◌≢◌, ◌<◌, ◌+◌, ℕ, List, Vec, Global, length, get_or, Contains, map, ap, sym, ◌∙◌, subst}
 use Rattle.std.specs.List.{All}
 use Rattle.std.proofs.lemmas.List.{length-map}
 use Rattle.auto_refine.specs.Listing.{IsListing}
-use Rattle.auto_refine.specs.Moves.{IsSplit}
+use Rattle.auto_refine.specs.Moves.{IsSplit, chosen_node}
 use Rattle.auto_refine.proofs.Rounds.{count_le-size}
 use Rattle.auto_refine.proofs.Splits.{signatures_few, signatures_some, moved_within, numbers_within, all_moved, IsSplit-moved, IsListing-moved, AreSettled-moved}
 use Rattle.auto_refine.proofs.partition.split.Goals as goal
@@ -31,57 +31,56 @@ move_states-requires-clause-few c =
     let states = c.requires.partition.states in
     omega (arith, most, firsts, few, states, c.requires.few)
 
+-- a state that has another node than the one that stands for its class is moved
+moved : (c : goal.After-drop-found-2) (state : ℕ) → state < length c.args.partition.now.classes.items
+    → get_or c.args.nodes.now state 0 ≢ chosen_node c.args.partition.now.classes.items c.args.listing.now.representatives.items c.args.nodes.now state
+    → Contains c.in_ok-moves.moves.states.items state
+moved c =
+    all_moved c.args.partition.now.classes.items c.args.listing.now.representatives.items c.args.nodes.now c.args.stale.now c.in_ok-found.found.items
+    c.in_ok-moves.moves.states.items c.requires.settled (rw c.as_slice.ensures.value at c.in_ok-found.ensures.candidates) (rw c.as_slice-2.ensures.value at c.in_ok-moves.ensures.moved)
+
+total : (c : goal.After-drop-found-2) → c.move_states.new.partition.count ≡ c.args.partition.now.count + length c.in_ok-moves.moves.signatures
+total c = c.in_ok-move_states.ensures.count ∙ ap (λ n. c.args.partition.now.count + n) c.in_ok-moves.ensures.moves.firsts_size
+
 pub returns-clause-split : goal.returns-clause-split
 returns-clause-split c =
     let m = c.in_ok-moves.ensures.moves in
     let current = c.args.partition.now.classes.items in
-    let own = c.args.listing.now.representatives.items in
     let moves = c.in_ok-moves.moves in
-    let all = all_moved current own c.args.nodes.now c.args.stale.now c.in_ok-found.found.items moves.states.items c.requires.settled
-    (rw c.as_slice.ensures.value at c.in_ok-found.ensures.candidates) (rw c.as_slice-2.ensures.value at c.in_ok-moves.ensures.moved) in
-    let total : c.move_states.new.partition.count ≡ c.args.partition.now.count + length moves.signatures = c.in_ok-move_states.ensures.count ∙ ap (λ n. c.args.partition.now.count + n) m.firsts_size in
-    subst (IsSplit current c.args.nodes.now c.move_states.new.partition.classes.items) (sym total)
-    (IsSplit-moved _ current c.args.nodes.now own c.args.partition.now.count moves.signatures moves.states.items moves.numbers.items
-    moves.firsts.items _ c.requires.partition c.requires.listing.members m c.in_ok-move_states.ensures.classes all)
+    subst (IsSplit current c.args.nodes.now c.move_states.new.partition.classes.items) (sym (total c))
+    (IsSplit-moved _ current c.args.nodes.now c.args.listing.now.representatives.items c.args.partition.now.count moves.signatures moves.states.items
+    moves.numbers.items moves.firsts.items _ c.requires.partition c.requires.listing.members m c.in_ok-move_states.ensures.classes (moved c))
 
 pub returns-clause-count : goal.returns-clause-count
 returns-clause-count c =
     let m = c.in_ok-moves.ensures.moves in
     let size = m.firsts_size in
-    let total = c.in_ok-move_states.ensures.count in
+    let more = c.in_ok-move_states.ensures.count in
     record {
-      kept = omega (arith, total);
-      grown = λ some. let more = signatures_some _ _ _ _ _ _ _ _ m some in omega (arith, more, size, total);
+      kept = omega (arith, more);
+      grown = λ some. let signed = signatures_some _ _ _ _ _ _ _ _ m some in omega (arith, signed, size, more);
     }
 
 pub returns-clause-listing : goal.returns-clause-listing
 returns-clause-listing c =
     let f : Vec ℕ Global → List ℕ = (λ list. list.items) in
     let m = c.in_ok-moves.ensures.moves in
-    let current = c.args.partition.now.classes.items in
-    let own = c.args.listing.now.representatives.items in
     let moves = c.in_ok-moves.moves in
-    let all = all_moved current own c.args.nodes.now c.args.stale.now c.in_ok-found.found.items moves.states.items c.requires.settled
-    (rw c.as_slice.ensures.value at c.in_ok-found.ensures.candidates) (rw c.as_slice-2.ensures.value at c.in_ok-moves.ensures.moved) in
-    let total : c.move_states.new.partition.count ≡ c.args.partition.now.count + length moves.signatures = c.in_ok-move_states.ensures.count ∙ ap (λ n. c.args.partition.now.count + n) m.firsts_size in
-    let listing = IsListing-moved _ current c.args.nodes.now own c.args.partition.now.count moves.signatures moves.states.items moves.numbers.items
-    moves.firsts.items _ c.requires.partition c.requires.listing.members m c.in_ok-move_states.ensures.classes all
+    let listing = IsListing-moved _ c.args.partition.now.classes.items c.args.nodes.now c.args.listing.now.representatives.items c.args.partition.now.count
+    moves.signatures moves.states.items moves.numbers.items moves.firsts.items _ c.requires.partition c.requires.listing.members m
+    c.in_ok-move_states.ensures.classes (moved c)
     (map f c.candidates.new.lists.items) (map f c.move_states.new.listing.lists.items) (rw c.as_slice.ensures.value at c.in_ok-found.ensures.listing) c.in_ok-move_states.ensures.lists in
-    subst (λ n. IsListing c.move_states.new.partition.classes.items n c.move_states.new.listing.representatives.items (map f c.move_states.new.listing.lists.items)) (sym total)
+    subst (λ n. IsListing c.move_states.new.partition.classes.items n c.move_states.new.listing.representatives.items (map f c.move_states.new.listing.lists.items)) (sym (total c))
     (subst (λ r. IsListing c.move_states.new.partition.classes.items (c.args.partition.now.count + length moves.signatures) r
     (map f c.move_states.new.listing.lists.items)) (sym c.in_ok-move_states.ensures.representatives) listing)
 
 pub returns-clause-settled : goal.returns-clause-settled
 returns-clause-settled c =
     let m = c.in_ok-moves.ensures.moves in
-    let current = c.args.partition.now.classes.items in
-    let own = c.args.listing.now.representatives.items in
     let moves = c.in_ok-moves.moves in
-    let all = all_moved current own c.args.nodes.now c.args.stale.now c.in_ok-found.found.items moves.states.items c.requires.settled
-    (rw c.as_slice.ensures.value at c.in_ok-found.ensures.candidates) (rw c.as_slice-2.ensures.value at c.in_ok-moves.ensures.moved) in
-    rw c.in_ok-move_states.ensures.representatives (AreSettled-moved _ current c.args.nodes.now own c.args.partition.now.count moves.signatures
-    moves.states.items moves.numbers.items moves.firsts.items _ c.requires.partition c.requires.listing.members m c.in_ok-move_states.ensures.classes
-    all)
+    rw c.in_ok-move_states.ensures.representatives (AreSettled-moved _ c.args.partition.now.classes.items c.args.nodes.now c.args.listing.now.representatives.items
+    c.args.partition.now.count moves.signatures moves.states.items moves.numbers.items moves.firsts.items _ c.requires.partition c.requires.listing.members
+    m c.in_ok-move_states.ensures.classes (moved c))
 
 pub returns-clause-within : goal.returns-clause-within
 returns-clause-within c =

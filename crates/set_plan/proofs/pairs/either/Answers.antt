@@ -1,12 +1,13 @@
 use Rattle.std.proofs.Common.{◌≡◌, Err}
 use Rattle.std.proofs.lemmas.Result.{err_from_is_err_and}
 use Rattle.auto_walk.specs.declared.grown.Grown.TheVariants as grown
-use Rattle.set_plan.proofs.BothSets.{decides-on, either-exceeds, either-is, either-set, few-tracks}
+use Rattle.formula_auto.specs.declared.connective.Connective.TheVariants as connective
+use Rattle.set_plan.proofs.BothSets.{both-exceeds, both-is, both-set, few-tracks}
 use Rattle.set_plan.proofs.pairs.either.Goals as goal
 
 pub join-requires-clause-tracks : goal.join-requires-clause-tracks
 join-requires-clause-tracks c =
-    few-tracks c.args.tracks.now c.args.a.now c.args.b.now (decides-on _ _ c.requires.first) (decides-on _ _ c.requires.second) c.tracks.ensures.valid.ascending
+    few-tracks c.args.tracks.now c.args.a.now c.args.b.now c.requires.first.decides c.requires.second.decides c.tracks.ensures.valid.ascending
     c.tracks.ensures.valid.few_tracks
 
 pub returns-in_err-c-clause-over : goal.returns-in_err-c-clause-over
@@ -14,22 +15,22 @@ returns-in_err-c-clause-over c = λ is.
     let p = err_from_is_err_and c.from_residual.result c.from_residual.ensures.1 in
     let was = c.in_err-c.was in
     let same : c.join.result ≡ Err grown.Over = cc (p.1, p.2) in
-    (either-exceeds c.args.tracks.now c.args.a.now c.args.b.now (decides-on _ _ c.requires.first) (decides-on _ _ c.requires.second) c.tracks.ensures.valid.ascending c.args.budget).0
+    (both-exceeds c.args.tracks.now c.args.a.now c.args.b.now c.requires.first.decides c.requires.second.decides c.tracks.ensures.valid.ascending connective.Or c.args.budget).0
     (c.join.ensures.over same)
 
 pub returns-clause-ok : goal.returns-clause-ok
 returns-clause-ok c =
-    either-is c.args.tracks.now c.args.a.now c.args.b.now (decides-on _ _ c.requires.first) (decides-on _ _ c.requires.second) c.tracks.ensures.valid.ascending c.in_ok-c.c
+    both-is c.args.tracks.now c.args.a.now c.args.b.now c.requires.first.decides c.requires.second.decides c.tracks.ensures.valid.ascending connective.Or c.in_ok-c.c
     c.in_ok-reduce.field-0 c.in_ok-c.ensures.tracks c.in_ok-c.ensures.words c.in_ok-reduce.ensures.tracks c.in_ok-reduce.ensures.words
 
 pub returns-clause-set : goal.returns-clause-set
 returns-clause-set c =
-    either-set c.args.tracks.now c.args.a.now c.args.b.now (decides-on _ _ c.requires.first) (decides-on _ _ c.requires.second) c.tracks.ensures.valid.ascending c.in_ok-c.c
+    both-set c.args.tracks.now c.args.a.now c.args.b.now c.requires.first.decides c.requires.second.decides c.tracks.ensures.valid.ascending connective.Or c.in_ok-c.c
     c.in_ok-reduce.field-0 c.in_ok-c.ensures.tracks c.in_ok-c.ensures.words c.in_ok-reduce.ensures.tracks c.in_ok-reduce.ensures.words
     c.in_ok-reduce.ensures.reduced c.args.budget (rw c.states.ensures.is at c.states.ensures.within).1 c.in_ok-c.ensures.within
 
 pub returns-clause-within : goal.returns-clause-within
 returns-clause-within c = λ over.
     c.in_ok-c.ensures.within
-    ((either-exceeds c.args.tracks.now c.args.a.now c.args.b.now (decides-on _ _ c.requires.first) (decides-on _ _ c.requires.second) c.tracks.ensures.valid.ascending c.args.budget).1
+    ((both-exceeds c.args.tracks.now c.args.a.now c.args.b.now c.requires.first.decides c.requires.second.decides c.tracks.ensures.valid.ascending connective.Or c.args.budget).1
     over)

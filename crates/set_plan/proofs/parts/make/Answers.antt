@@ -20,8 +20,10 @@ returns-in-Ok-clause-answers g c =
 pub returns-in-Ok-clause-set : goal.returns-in-Ok-clause-set
 returns-in-Ok-clause-set g c = record {
   reduced = c.in-Ok.ensures.reduced;
-  integers = DecidesIntegers-decides (tree_of c.args.f.now) (tables c.args.sets.now) c.in-Ok.a c.in-Ok.ensures.decides;
-  tracks_are = c.in-Ok.ensures.decides.tracks;
+  decides = record {
+    integers = DecidesIntegers-decides (tree_of c.args.f.now) (tables c.args.sets.now) c.in-Ok.a c.in-Ok.ensures.decides;
+    tracks_are = c.in-Ok.ensures.decides.tracks;
+  };
   few = λ some.
       let high = c.budget.ensures.valid.most in
       let states =
