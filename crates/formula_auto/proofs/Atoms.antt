@@ -1,11 +1,13 @@
 -- The automata of formulas that have no parts.
-use Rattle.std.proofs.Common.{◌≡◌, ◌↔◌, ℕ, zero, suc, ◌+◌, ◌<◌, List, [], ◌∷◌, length, refl, sym, subst, ap, ◌∙◌, ℤ, arith, add-zero}
+use Rattle.std.proofs.Common.{◌≡◌, ◌↔◌, ℕ, zero, suc, ◌+◌, ◌<◌, List, [], ◌∷◌, length, refl, sym, subst, ap, ◌∙◌, ℤ, arith, add-zero, map, get_or}
 use Rattle.std.specs.Int.{bit_at}
+use Rattle.std.proofs.lemmas.Grind.{common_steps}
+use Rattle.std.proofs.lemmas.Bool.Decides.{nat_tests}
 use Rattle.std.proofs.lemmas.Nat.Bits.{bit_at-lt}
 use Rattle.track_word.specs.declared.tracks.Var.{Var}
 use Rattle.track_word.specs.declared.atoms.Rel.{Rel}
 use Rattle.track_word.specs.Word.{IsWord, val}
-use Rattle.track_word.specs.Tracks.{Values, with_vars, part_of, restrict, place, word_values, values_at}
+use Rattle.track_word.specs.Tracks.{IsAscending, Values, with_var, with_vars, part_of, restrict, place, word_values, values_at}
 use Rattle.track_word.specs.Atom.{AtomHolds, ValueHolds, atom_tracks}
 use Rattle.auto_core.specs.Automaton.{Automaton, Accepts}
 use Rattle.auto_core.specs.Integers.{DecidesIntegers, IsAccepted}
@@ -18,6 +20,7 @@ use Rattle.formula_auto.specs.Decides.{Decides}
 use Rattle.formula_auto.specs.Distinct.{Apart}
 use Rattle.formula_auto.proofs.SameWords.{IsWord-part}
 use Rattle.formula_auto.proofs.Values.{SameBits, val-same_bits, bit_at-first, bit_at-rest, place-here, place-later}
+use Rattle.formula_auto.proofs.Projections.{apart-ascending}
 use Rattle.formula_auto.proofs.OneWord.{accepts-same}
 
 pub Decides-Lin : (e : Sets) (a : Automaton) (terms : List (ℤ × Var)) (rel : Rel) (bound : ℤ) → a.tracks ≡ atom_tracks terms
@@ -119,3 +122,38 @@ Decides-Among e number vars a r is integers apart size tracks words = record {
         λ h. w.1 (accepted.1 (subst (IsAccepted a) (sym same) (subst (λ s. Member s (values_at vars (word_values (with_vars vars []) word))) is h))),
       );
 }
+
+before-is : (x y : Var) (ys : List Var) → x.0 < y.0 → with_var x (y ∷ ys) ≡ x ∷ y ∷ ys
+before-is x y ys h = grind (arith, common_steps, nat_tests)
+
+later-ascend : (x : Var) (xs : List Var) → IsAscending (x ∷ xs) → IsAscending xs
+later-ascend x xs all k h =
+    let e : suc k + 1 ≡ suc (k + 1) = omega arith in
+    let names = map (λ (v : Var). v.0) xs in
+    subst (λ i. get_or names k 0 < get_or (x.0 ∷ names) i 0) e (all (suc k) (omega (arith, h)))
+
+-- ascending tracks put in order are those tracks
+own-vars : (tracks : List Var) → IsAscending tracks → with_vars tracks [] ≡ tracks
+own-vars [] ascending = refl
+own-vars (x ∷ []) ascending = refl
+own-vars (x ∷ y ∷ ys) ascending =
+    let rest = own-vars (y ∷ ys) (later-ascend x (y ∷ ys) ascending) in
+    let less : x.0 < y.0 = ascending 0 (omega arith) in
+    ap (with_var x) rest ∙ before-is x y ys less
+
+-- a set decides membership of its own tracks
+pub Decides-itself : (e : ℕ → SetOf) (number : ℕ) (a : Automaton) → e number ≡ Table a → DecidesIntegers a → IsAscending a.tracks → Decides a (Among number a.tracks) (members e)
+Decides-itself e number a is integers ascending = record {
+  tracks = sym own;
+  words = λ word is_word.
+      let there : IsWord (length a.tracks) word = subst (λ t. IsWord (length t) word) own is_word in
+      let accepted = accepted-values a word integers (apart-ascending a.tracks ascending) there in
+      let same : values_at a.tracks (word_values a.tracks word) ≡ values_at a.tracks (word_values (with_vars a.tracks []) word) =
+      ap (λ t. values_at a.tracks (word_values t word)) (sym own) in (
+        λ h. subst (λ s. Member s (values_at a.tracks (word_values (with_vars a.tracks []) word))) (sym is) (subst (IsAccepted a) same (accepted.0 h)),
+        λ h. accepted.1 (subst (IsAccepted a) (sym same) (subst (λ s. Member s (values_at a.tracks (word_values (with_vars a.tracks []) word))) is h)),
+      );
+}
+  where
+    own : with_vars a.tracks [] ≡ a.tracks
+    own = own-vars a.tracks ascending

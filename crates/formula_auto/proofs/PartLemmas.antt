@@ -20,7 +20,7 @@ use Rattle.formula_auto.specs.Remembered.{IsRemembered}
 use Rattle.formula_auto.specs.PartOf.{IsPart, IsRememberedPart}
 use Rattle.formula_auto.specs.declared.course.Course.{Course}
 use Rattle.formula_auto.specs.declared.part.Part.{Part}
-use Rattle.formula_auto.specs.declared.part.Part.TheVariants.{Fresh, Kept, Paired}
+use Rattle.formula_auto.specs.declared.part.Part.TheVariants.{Fresh, Kept, Paired, Named}
 use Rattle.formula_auto.specs.declared.part.Remembered.{Remembered}
 use Rattle.formula_auto.proofs.MemoLemmas.{known-at}
 use Rattle.formula_auto.proofs.PlainLemmas.{some_step}
@@ -38,6 +38,7 @@ one_automaton m l (Kept place) a b left right =
     ap (λ (entry : Formula × Automaton). entry.1) (same_Some (left.0, a) (right.0, b) (sym left.1 ∙ right.1))
 one_automaton m l (Paired place) a b left right =
     ap (λ (entry : Formula × Automaton). entry.1) (same_Some (left.0, a) (right.0, b) (sym left.1 ∙ right.1))
+one_automaton m l (Named set) a b left right = same_Some a b (sym left ∙ right)
 
 -- entries are only added
 pub part-after : (old new : MemoState) (fs : List Tree) (l k : LevelState) (part : Part) (a : Automaton) → IsPart old l part a → IsMemoAfter old new fs → LevelGrows l k → IsPart new k part a
@@ -50,6 +51,7 @@ part-after old new fs l k (Paired place) a has after grows = (
   has.0,
   subst (λ pairs. slice_get pairs place ≡ Some (has.0, a)) (sym grows.pairs) (get-append l.pairs grows.added place (has.0, a) has.1),
 )
+part-after old new fs l k (Named set) a has after grows = subst (λ sets. slice_get sets set.0 ≡ Some a) (sym grows.sets) has
 
 pub same_accessible : {n m : ℕ} {a : Automaton} → n ≡ m → IsAccessible n a → IsAccessible m a
 same_accessible {a = a} same = subst (λ n. IsAccessible n a) same
@@ -60,9 +62,18 @@ module _ {f : Tree} {e : ℕ → SetOf} {course : Course} {l : LevelState} where
   part-fresh {old = old} {new = new} {a = a} is accessible remembered =
       subst (IsRememberedPart f e course old new l) (sym is) (record { auto = a; has = refl; accessible = accessible; remembered = remembered })
 
+  pub part-whole : {m : MemoState} {a : Automaton} {part : Part} → IsPart m l part a → steps f ≡ [] → Decides a f (members e)
+      → IsRememberedPart f e course m m l (record { part = part; done = course.before })
+  part-whole {a = a} has none decides = record {
+    auto = a;
+    has = has;
+    accessible = λ some. absurd (let size : length (steps f) ≡ 0 = ap length none in omega (arith, size, some));
+    remembered = remembered_leaf none decides;
+  }
+
   pub part-leaf : {m : MemoState} {a : Automaton} {made : Remembered} → made ≡ record { part = Fresh a; done = course.before } → steps f ≡ [] → Decides a f (members e)
       → IsRememberedPart f e course m m l made
-  part-leaf is none decides = part-fresh is (λ some. absurd (let size : length (steps f) ≡ 0 = ap length none in omega (arith, size, some))) (remembered_leaf none decides)
+  part-leaf {m = m} is none decides = subst (IsRememberedPart f e course m m l) (sym is) (part-whole refl none decides)
 
   pub part-found : {m : MemoState} {place last : ℕ} → is_recalled course.recall f ≡ true → last ≡ course.before + length (steps f) → IsEntryAt m f place
       → IsRememberedPart f e course m (record m { found = counted m.found }) l (record { part = Kept place; done = last })

@@ -117,7 +117,7 @@ pub ready : (f : Tree) (sets : List Automaton) → IsCompilable f sets → IsRea
 ready f sets h = fits-ready f sets (fits f sets h)
 
 module _ (sets : List Automaton) (number : ℕ) (vars : List Var) (named : IsSetFor sets number (length vars)) where
-  -- the set that is named has a track for each variable, decides a set of integers, and is reduced
+  -- the set that is named has a track for each variable, and decides a set of integers
   pub set_fits : (a : Automaton) → slice_get sets number ≡ Some a → (length vars ≡ length a.tracks) × DecidesIntegers a
   set_fits a there =
       let is : named.set ≡ a = same_Some named.set a (sym named.is_there ∙ there) in

@@ -11,11 +11,11 @@ use Rattle.formula_auto.specs.Decides.{Decides}
 use Rattle.formula_auto.specs.declared.errors.CompileError.{CompileError}
 use Rattle.formula_auto.specs.declared.errors.CompileError.TheVariants as compile_error
 
--- a set of the table, reduced, that decides a set of tuples of integers of this length
+-- a set of the table that decides a set of tuples of integers of this length; words lead to each state
 pub record IsSetFor (sets : List Automaton) (number size : ℕ) : Type 0 where
   pub set : Automaton
   pub is_there : slice_get sets number ≡ Some set
-  pub reduced : IsReduced set
+  pub reached : (state : ℕ) → state < length set.accept → IsReachedState set state
   pub integers : DecidesIntegers set
   pub arity : length set.tracks ≡ size
 

@@ -1,23 +1,31 @@
 -- The automaton of a part of a formula, of its own, in a memo or in a level.
-use Rattle.std.specs.Prelude.{◌≡◌, ℕ, ◌<◌, length, Some, slice_get}
+use Rattle.std.specs.Prelude.{◌≡◌, ℕ, ◌<◌, length, Some, slice_get, List}
 use Rattle.auto_core.specs.Automaton.{Automaton}
-use Rattle.lin_formula.specs.Tree.{Tree, steps}
+use Rattle.track_word.specs.declared.tracks.Var.{Var}
+use Rattle.lin_formula.specs.Tree.{Tree, Among, steps}
 use Rattle.lin_formula.specs.declared.formula.Formula.{Formula}
-use Rattle.lin_formula.specs.SetOf.{SetOf}
+use Rattle.lin_formula.specs.SetOf.{SetOf, members, tables}
+use Rattle.formula_auto.specs.Decides.{Decides}
 use Rattle.formula_auto.specs.MemoState.{MemoState}
 use Rattle.formula_auto.specs.LevelState.{LevelState}
 use Rattle.formula_auto.specs.Compiled.{IsAccessible}
 use Rattle.formula_auto.specs.Remembered.{IsRemembered}
 use Rattle.formula_auto.specs.declared.course.Course.{Course}
 use Rattle.formula_auto.specs.declared.part.Part.{Part}
-use Rattle.formula_auto.specs.declared.part.Part.TheVariants.{Fresh, Kept, Paired}
+use Rattle.formula_auto.specs.declared.part.Part.TheVariants.{Fresh, Kept, Paired, Named}
 use Rattle.formula_auto.specs.declared.part.Remembered.{Remembered}
 
--- the part's own automaton, or that at its place in the memo or in the level
+-- the part's own automaton, that at its place in the memo or in the level, or that of a name
 abbrev pub IsPart : MemoState → LevelState → Part → Automaton → Type 0
 IsPart m l (Fresh a) b = a ≡ b
 IsPart m l (Kept place) b = (f : Formula) × (slice_get m.entries place ≡ Some (f, b))
 IsPart m l (Paired place) b = (f : Formula) × (slice_get l.pairs place ≡ Some (f, b))
+IsPart m l (Named set) b = slice_get l.sets set.0 ≡ Some b
+
+-- the part has an automaton that decides whether these variables are in the set of a number
+abbrev pub IsMembership : LevelState → ℕ → List Var → Part → Type 0
+IsMembership l number vars part =
+    (a : Automaton) × ((m : MemoState) → IsPart m l part a) × Decides a (Among number vars) (members (tables l.sets))
 
 -- the part has the automaton that compiling it makes; where it has a step, words lead to each of few states
 pub record IsRememberedPart (f : Tree) (e : ℕ → SetOf) (course : Course) (old new : MemoState)

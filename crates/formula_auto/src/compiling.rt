@@ -29,7 +29,7 @@ use crate::level::Level;
 use crate::memo::Memo;
 use crate::part::{Part, Remembered};
 use crate::plain::{has_step, is_pair, is_plain, steps_of};
-use crate::steps::{comparison, complement, joined, membership, projection, value_of};
+use crate::steps::{comparison, complement, joined, projection, value_of};
 use crate::table::SetTable;
 use auto_core::Auto;
 use limits::Budget;
@@ -349,13 +349,13 @@ impl Memo {
                 let auto = value_of(alloc, *var, *value)?;
                 Ok(Remembered::fresh(auto, course.before))
             }
-            Formula::Among { set, vars } => match level.sets().get(*set) {
-                Some(set) => {
-                    let auto = membership(alloc, set, vars.as_slice())?;
-                    Ok(Remembered::fresh(auto, course.before))
-                }
-                None => unreachable!(),
-            },
+            Formula::Among { set, vars } => {
+                let part = level.membership(alloc, *set, vars.as_slice())?;
+                Ok(Remembered {
+                    part,
+                    done: course.before,
+                })
+            }
             Formula::Not(g) => {
                 let inner = self.compiled(alloc, g, level, course)?;
                 let auto = complement(alloc, self.automaton(level, &inner.part))?;

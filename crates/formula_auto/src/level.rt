@@ -1,17 +1,22 @@
 //! The formulas of one union, all over one table of sets. Many of them begin with And of the same two sets.
-ghost use Rattle.std.specs.Prelude.{◌≡◌, IfOk, IfSome, [], Some, slice_get};
+ghost use Rattle.std.specs.Prelude.{◌≡◌, IfOk, IfSome, [], Some, slice_get, length};
 ghost use Rattle.auto_core.specs.Automaton.{Automaton};
 ghost use Rattle.lin_formula.specs.declared.formula.Formula.{Formula};
 ghost use Rattle.lin_formula.specs.TreeOf.{tree_of};
+ghost use Rattle.formula_auto.specs.Compiled.{IsSetFor};
 ghost use Rattle.formula_auto.specs.LevelState.{IsPair, IsPairAt, LevelGrows};
+ghost use Rattle.formula_auto.specs.PartOf.{IsMembership};
 
 use crate::entry::{Entry, place_of};
+use crate::part::Part;
+use crate::steps::membership;
 use crate::table::SetTable;
 use auto_core::Auto;
 use limits::Budget;
-use lin_formula::{Formula, copy};
+use lin_formula::{Formula, SetId, copy};
 use std::alloc::{AllocError, Global};
 use std::marker::Model;
+use track_word::Var;
 
 /// A table of sets, lent, and the automata that were made of And of two of its sets, for one budget.
 #[derive(Drop)]
@@ -72,6 +77,35 @@ impl<'a> Level<'a> {
         ensures { (f : Formula) × (slice_get self.now.pairs place ≡ Some (f, result.now)) }
     {
         &self.pairs[place].auto
+    }
+
+    /// The set of a name, lent.
+    pub(crate) fn named(&self, set: SetId) -> &Auto
+        requires { (a : Automaton) × (slice_get self.now.sets set.0 ≡ Some a) }
+        ensures { slice_get self.now.sets set.0 ≡ Some result.now }
+    {
+        match self.sets.get(set) {
+            Some(auto) => auto,
+            None => unreachable!(),
+        }
+    }
+
+    /// The automaton of membership: the set itself where its tracks are these variables, or else a copy under their names.
+    pub(crate) fn membership(
+        &self,
+        alloc: Global,
+        set: SetId,
+        vars: &[Var],
+    ) -> Result<Part, AllocError>
+        requires { IsSetFor self.now.sets set.0 (length vars.now) }
+        ensures { IfOk result (IsMembership self.now set.0 vars.now) }
+    {
+        let named = self.named(set);
+        if named.tracks() == vars {
+            return Ok(Part::Named(set));
+        }
+        let renamed = membership(alloc, named, vars)?;
+        Ok(Part::Fresh(renamed))
     }
 
     /// Puts what was made of a formula at the end, and gives its place.

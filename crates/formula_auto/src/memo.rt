@@ -107,6 +107,7 @@ impl Memo {
             Part::Fresh(auto) => auto,
             Part::Kept(place) => &self.entries[*place].auto,
             Part::Paired(place) => level.automaton(*place),
+            Part::Named(set) => level.named(*set),
         }
     }
 
@@ -134,6 +135,7 @@ impl Memo {
             Part::Fresh(auto) => Ok(auto),
             Part::Kept(place) => self.entries[place].auto.copy(),
             Part::Paired(place) => level.automaton(place).copy(),
+            Part::Named(set) => level.named(set).copy(),
         }
     }
 
@@ -149,6 +151,7 @@ impl Memo {
             Part::Fresh(auto) => reduced(alloc, &auto),
             Part::Kept(place) => self.entries[place].auto.copy(),
             Part::Paired(place) => reduced(alloc, level.automaton(place)),
+            Part::Named(set) => reduced(alloc, level.named(set)),
         }
     }
 

@@ -2,6 +2,7 @@
 ghost use Rattle.std.specs.Prelude.{◌≡◌};
 
 use auto_core::Auto;
+use lin_formula::SetId;
 
 /// The automaton of a part of a formula.
 #[derive(Drop)]
@@ -12,6 +13,8 @@ pub enum Part {
     Kept(usize),
     /// It is of And of two sets, and the level has it at this place.
     Paired(usize),
+    /// It is a set of the level's table.
+    Named(SetId),
 }
 
 /// A part's automaton, and how many steps were taken up to it.

@@ -4,7 +4,7 @@ use Rattle.std.proofs.lemmas.Option.{slice_get_past}
 use Rattle.track_word.specs.declared.tracks.Var.{Var}
 use Rattle.track_word.specs.Word.{IsWord}
 use Rattle.auto_core.specs.Automaton.{Automaton, Accepts}
-use Rattle.auto_core.specs.Reduced.{AllReached, IsReduced}
+use Rattle.auto_core.specs.Reduced.{AllReached}
 use Rattle.formula_auto.specs.Compiled.{IsSetFor}
 use Rattle.lin_formula.specs.SetOf.{SetOf, Table, IsEmpty, SomeEmpty, NoneEmpty}
 use Rattle.set_plan.specs.Sets.{IsSetOn}
@@ -30,10 +30,10 @@ none-both e [] ys h k = k
 none-both e (x ∷ xs) ys h k = (h.0, none-both e xs ys h.1 k)
 
 -- the set of a name that a formula uses
-pub set-reduced : (sets : List Automaton) (number size : ℕ) (a : Automaton) → IsSetFor sets number size → slice_get sets number ≡ Some a → IsReduced a
-set-reduced sets number size a fits e =
+pub named-reached : (sets : List Automaton) (number size : ℕ) (a : Automaton) → IsSetFor sets number size → slice_get sets number ≡ Some a → AllReached a
+named-reached sets number size a fits e =
     let same : fits.set ≡ a = cc (fits.is_there, e) in
-    subst IsReduced same fits.reduced
+    subst AllReached same fits.reached
 
 pub set-there : (sets : List Automaton) (number size : ℕ) → IsSetFor sets number size → length sets ≤ number → ⊥
 set-there sets number size fits past =

@@ -1,4 +1,4 @@
--- A union may come to its end with any form of its set.
+-- A union may come to its end with any form of its set, and so may an item.
 use Rattle.std.proofs.Common.{◌≡◌, ◌⊎◌, ℕ, ◌+◌, List, [], ◌∷◌, length, map, Option, Some, None, IfSome, inl, inr, sym, ap, ◌∙◌, subst}
 use Rattle.track_word.specs.declared.tracks.Var.{Var}
 use Rattle.auto_core.specs.Automaton.{Automaton}
@@ -61,12 +61,12 @@ module _ {P : Type 0} (budget : ℕ) where
             }
         by (inr (rest, s, whole, is, (none, inr end))) = none_some end
 
-    make-renews : (IsEmpty made.0 → ⊥) → Ends (plan.make part at item) budget made → Ends (plan.make part at item) budget (t, made.1)
+    pub make-renews : (made.0 ≡ Nothing → ⊥) → Ends (plan.make part at item) budget made → Ends (plan.make part at item) budget (t, made.1)
     make-renews some h =
         elim (Ends-asked (Empty (map item.sets (plan.positives item.formula))) (Give (Nothing, at)) (plan.compute part at item) budget made h) [
           | inl (empty, gives) ↦
               let nothing : made.0 ≡ Nothing = ap (λ (m : plan.Made). m.0) (Ends-give_is (Nothing, at) made budget gives) in
-              absurd (some (subst (λ (s : SetOf). IsEmpty s) (sym nothing) (λ tuple k. k)))
+              absurd (some nothing)
           | inr (none, computes) ↦ Ends-ask_no (Empty (map item.sets (plan.positives item.formula))) (Give (Nothing, at)) (plan.compute part at item) budget (t, made.1) none (compute-renews computes)
         ]
 
@@ -88,7 +88,8 @@ module _ {P : Type 0} (budget : ℕ) where
             let is : made ≡ next = Ends-give_is next made budget gives in
             let like_next = subst (λ (m : plan.Made). SameSets m.0 t) is like in
             let some_t : IsEmpty t → ⊥ = λ none. some (λ tuple k. none tuple ((like_next tuple).0 k)) in
-            let first = make-renews part so_far.1 item next t like_next some one in
+            let not_nothing : next.0 ≡ Nothing → ⊥ = λ nothing. some (subst (λ (s : SetOf). IsEmpty s) (sym nothing) (λ tuple k. k)) in
+            let first = make-renews part so_far.1 item next t like_next not_nothing one in
             let joined = Ends-join_right tracks part budget so_far.0 (t, next.1) some_t empty in
             let At : ℕ → Type 0 = λ n. Ends (plan.with_item tracks part item so_far) budget (t, n) in
             subst At (sym (ap (λ (m : plan.Made). m.1) is)) (Ends-bind (plan.make part so_far.1 item) (plan.join tracks part so_far.0) budget (t, next.1) (t, next.1) first joined)

@@ -51,7 +51,7 @@ pub fn lacks_a_set(f: &Formula, sets: &SetTable) -> bool
 {
     match f {
         Formula::Among { set, .. } => match sets.get(*set) {
-            Some(a) => is_empty_set(a),
+            Some(a) => has_no_tuple(a),
             None => unreachable!(),
         },
         Formula::And(g, h) => lacks_a_set(g, sets) || lacks_a_set(h, sets),

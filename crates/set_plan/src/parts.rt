@@ -194,7 +194,7 @@ impl<P: Copy> Uniting<'_, P> {
 }
 
 /// The same set, reduced.
-fn reduced(alloc: Global, made: Made) -> Result<Made, AllocError>
+pub fn reduced(alloc: Global, made: Made) -> Result<Made, AllocError>
     ensures { IfOk result (IsReducedMade made) }
 {
     let Made { set, at } = made;

@@ -4,13 +4,13 @@ use Rattle.std.proofs.lemmas.Bool.{OnFalse_at, OnFalse_from, OnTrue_at, OnTrue_f
 use Rattle.lin_formula.specs.SetOf.{SetOf, IsEmpty, as_set, tables, Table, SomeEmpty, NoneEmpty}
 use Rattle.lin_formula.specs.TreeOf.{tree_of}
 use Rattle.set_plan.specs.Unite.{positives}
-use Rattle.set_plan.proofs.Empties.{none-both, set-reduced, set-there, some-left, some-right}
+use Rattle.set_plan.proofs.Empties.{named-reached, none-both, set-there, some-left, some-right}
 use Rattle.set_plan.proofs.empty.+lacks_a_set.Goals as goal
 
-pub is_empty_set-requires : goal.is_empty_set-requires
-is_empty_set-requires t c =
+pub has_no_tuple-requires : goal.has_no_tuple-requires
+has_no_tuple-requires t c =
     let ready = rw c.in-Among.is at c.requires in
-    set-reduced c.args.sets.now c.in-Among.set.0 _ c.in-Some.a.now ready c.in-Some.ensures
+    named-reached c.args.sets.now c.in-Among.set.0 _ c.in-Some.a.now ready c.in-Some.ensures
 
 pub unreachable-requires : goal.unreachable-requires
 unreachable-requires t c =
@@ -22,8 +22,8 @@ returns-in-Some-clause-none t c =
     let same : tables c.args.sets.now c.in-Among.set.0 ≡ Table c.in-Some.a.now = ap as_set c.in-Some.ensures in
     let Some_tuple : SetOf → Type 0 = λ s. IsEmpty s → ⊥ in
     rw c.in-Among.is
-    (OnFalse_from c.is_empty_set.result ((¬ IsEmpty (tables c.args.sets.now c.in-Among.set.0)) × Unit {0})
-    (λ no. (subst Some_tuple (sym same) (OnFalse_at no c.is_empty_set.ensures.none), tt)))
+    (OnFalse_from c.has_no_tuple.result ((¬ IsEmpty (tables c.args.sets.now c.in-Among.set.0)) × Unit {0})
+    (λ no. (subst Some_tuple (sym same) (OnFalse_at no c.has_no_tuple.ensures.none), tt)))
 
 pub returns-then-lacks_a_set-clause-yes : goal.returns-then-lacks_a_set-clause-yes
 returns-then-lacks_a_set-clause-yes t c =

@@ -1,15 +1,14 @@
-use Rattle.std.proofs.Common.{◌+◌, ◌∷◌, [], length, Err, refl, sym, ap, ◌∙◌, arith, rules, length-append}
+use Rattle.std.proofs.Common.{◌+◌, ◌∷◌, [], Err, refl, sym, ap, ◌∙◌, arith, rules, length-append}
 use Rattle.std.proofs.lemmas.Int.{to_z-of_z, ints}
 use Rattle.std.proofs.lemmas.Result.{err_from_is_err_and}
 use Rattle.lin_formula.specs.Tree as tree
 use Rattle.lin_formula.specs.Tree.{steps}
 use Rattle.lin_formula.specs.TreeOf.{tree_of}
-use Rattle.lin_formula.specs.SetOf.{tables, members, as_set}
+use Rattle.lin_formula.specs.SetOf.{tables, members}
 use Rattle.formula_auto.specs.Decides.{Decides}
-use Rattle.formula_auto.proofs.Rooms.{set_fits, set_there}
 use Rattle.formula_auto.proofs.WithMemo.{remembered_not, interrupted_not, interrupted_at_not, remembered_ex, interrupted_ex, interrupted_at_ex, remembered_both, interrupted_left, interrupted_right, interrupted_at_both, interrupted_memory, interrupted_last, remembered_entered, interrupted_inside, may_enter, unknown_still}
 use Rattle.formula_auto.proofs.Connections.{size-connect, ready-connect}
-use Rattle.formula_auto.proofs.PartLemmas.{same_accessible, part-fresh, part-leaf, part-found, part-after, lent, lent-accessible, few_kept, lent-later}
+use Rattle.formula_auto.proofs.PartLemmas.{same_accessible, part-fresh, part-leaf, part-whole, part-found, part-after, lent, lent-accessible, few_kept, lent-later}
 use Rattle.formula_auto.proofs.MemoLemmas.{recalled-plain}
 use Rattle.formula_auto.proofs.Pairs.{pair_outside, pair_size, part-paired, may_remember, part-remembered}
 use Rattle.formula_auto.proofs.memo.Memo.+compiled.Goals as goal
@@ -84,25 +83,15 @@ from_parts-returns-in-Value-clause-ok t c =
     first_of (grind (arith, to_z-of_z, said), search (rules, ints, to_z-of_z, said)) in
     rw c.in-Value.is (part-leaf c.fresh-in-Value.ensures refl decides)
 
-pub from_parts-membership-requires-clause-size : goal.from_parts-membership-requires-clause-size
-from_parts-membership-requires-clause-size t c =
+pub from_parts-membership-requires : goal.from_parts-membership-requires
+from_parts-membership-requires t c =
     let ready = rw c.in-Among.is at c.requires.ready in
-    ap length c.as_slice-in-Some.ensures ∙ (set_fits c.args.level.now.sets c.in-Among.set.0 c.in-Among.vars ready c.in-Some.set.now (rw c.sets.ensures at c.in-Some.ensures)).0
+    rw c.as_slice-in-Among.ensures ready
 
-pub from_parts-membership-requires-clause-integers : goal.from_parts-membership-requires-clause-integers
-from_parts-membership-requires-clause-integers t c =
-    let ready = rw c.in-Among.is at c.requires.ready in
-    (set_fits c.args.level.now.sets c.in-Among.set.0 c.in-Among.vars ready c.in-Some.set.now (rw c.sets.ensures at c.in-Some.ensures)).1
-
-pub from_parts-returns-in-Some-clause-ok : goal.from_parts-returns-in-Some-clause-ok
-from_parts-returns-in-Some-clause-ok t c =
-    let decides = rw c.as_slice-in-Some.ensures at c.in_ok-auto-in-Some.ensures (tables c.args.level.now.sets) c.in-Among.set.0 (ap as_set (rw c.sets.ensures at c.in-Some.ensures)) in
-    rw c.in-Among.is (part-leaf c.fresh-in-Some.ensures refl decides)
-
-pub from_parts-unreachable-requires : goal.from_parts-unreachable-requires
-from_parts-unreachable-requires t c =
-    let ready = rw c.in-Among.is at c.requires.ready in
-    set_there c.args.level.now.sets c.in-Among.set.0 c.in-Among.vars ready (rw c.sets.ensures at c.in-None.ensures)
+pub from_parts-returns-in-Among-clause-ok : goal.from_parts-returns-in-Among-clause-ok
+from_parts-returns-in-Among-clause-ok t c =
+    let made = rw c.as_slice-in-Among.ensures at c.in_ok-part-in-Among.ensures in
+    rw c.in-Among.is (part-whole (made.1 c.args.self.now) refl made.2)
 
 pub from_parts-returns-in_err-inner-in-Not-clause-err : goal.from_parts-returns-in_err-inner-in-Not-clause-err
 from_parts-returns-in_err-inner-in-Not-clause-err t c =
