@@ -12,7 +12,7 @@ use Rattle.letter_diagram.specs.Diagram.{map_at, LooksBelow}
 use Rattle.letter_diagram.specs.Relabelled.{relabelled}
 use Rattle.letter_diagram.specs.Carried.{IsCarried}
 use Rattle.letter_diagram.specs.Listed.{EachAnswers}
-use Rattle.letter_diagram.proofs.Narrow.{bit_at-relabelled, relabelled-below}
+use Rattle.letter_diagram.proofs.Narrow.{relabelled-below}
 use Rattle.auto_core.specs.Automaton.{Automaton, width, first_state, next_state, run, state_of, is_final, Accepts}
 use Rattle.auto_core.specs.Integers.{DecidesIntegers}
 use Rattle.auto_core.specs.Reduced.{IsReduced}
@@ -52,31 +52,6 @@ AreRenamed-brought a shapes places (answer ∷ answers) first rows brought is re
       rows_known = λ i h. (brought.each (suc i) (omega (arith, h))).known;
       rows_are = λ i letter h. (brought.each (suc i) (omega (arith, h))).map letter;
     }))
-
--- nodes stay as they are for letters whose tracks keep their places
-brought-in_order : (shapes : List Shape) (places nodes : List ℕ) → ((i : ℕ) → i < length places → slice_index places i ≡ i) → All (λ node. node < length shapes) nodes
-    → All (λ node. LooksBelow shapes node (length places)) nodes
-    → EachAnswers (IsCarried shapes shapes (relabelled places) (λ value. value)) nodes nodes
-brought-in_order shapes places nodes in_order known narrow = record {
-  size = refl;
-  each = λ i h. record {
-    known = known i 0 h;
-    source_known = known i 0 h;
-    map = λ letter. (narrow i 0 h).same letter (relabelled places letter) (λ k below. sym (bit_at-relabelled places letter k 0 below ∙ ap (bit_at letter) (in_order k below)));
-    top = λ _. omega arith;
-  };
-}
-
-pub rows-in_order : (a : Automaton) (places : List ℕ) → IsOverNodes a → length places ≡ length a.tracks → ((i : ℕ) → i < length places → slice_index places i ≡ i)
-    → EachAnswers (IsCarried a.shapes a.shapes (relabelled places) (λ value. value)) (a.first_node ∷ a.row_nodes) (a.first_node ∷ a.row_nodes)
-rows-in_order a places over count in_order =
-    brought-in_order a.shapes places (a.first_node ∷ a.row_nodes) in_order (all_cons (λ node. node < length a.shapes) a.first_node a.row_nodes over.nodes.first_known over.nodes.rows_known)
-    (subst (λ n. All (λ node. LooksBelow a.shapes node n) (a.first_node ∷ a.row_nodes)) (sym count)
-    (all_cons (λ node. LooksBelow a.shapes node (length a.tracks)) a.first_node a.row_nodes over.nodes.first_narrow over.nodes.rows_narrow))
-  where
-    all_cons : (P : ℕ → Type 0) (x : ℕ) (xs : List ℕ) → P x → All P xs → All P (x ∷ xs)
-    all_cons P x xs p ps zero d h = p
-    all_cons P x xs p ps (suc i) d h = ps i d (omega (arith, h))
 
 narrow : (a : Automaton) (shapes : List Shape) (places : List ℕ) (bound node source : ℕ) → All (λ p. p < bound) places
     → ((letter : ℕ) → map_at shapes node letter ≡ map_at a.shapes source (relabelled places letter)) → LooksBelow shapes node bound

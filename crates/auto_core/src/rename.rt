@@ -40,7 +40,7 @@ impl Auto {
     }
 
     /// The nodes of the first row and of the states' rows, for letters whose bits at the places are read, and the diagrams that
-    /// they are nodes of. Where each track keeps its place the nodes are copied as they are.
+    /// they are nodes of.
     fn nodes_over(&self, alloc: Global, places: &[u8]) -> Result<(Diagrams, Vec<Node>), AllocError>
         requires count { length places.now ≡ length self.now.tracks }
         requires places { All (λ place. place < MOST_TRACKS) places.now }
@@ -50,10 +50,6 @@ impl Auto {
             (self.now.first_node ∷ self.now.row_nodes) made.1.items) }
     {
         let nodes = self.all_nodes(alloc)?;
-        if are_in_order(places) {
-            let diagrams = self.diagrams().copy()?;
-            return Ok((diagrams, nodes));
-        }
         let mut diagrams = Diagrams::with_capacity(alloc, self.diagrams().len())?;
         let rows = diagrams.bring_relabelled(self.diagrams(), nodes.as_slice(), places)?;
         Ok((diagrams, rows))
@@ -87,16 +83,4 @@ impl Auto {
         let _ = renamed.diagrams(); // for its invariant
         Ok(renamed)
     }
-}
-
-/// Whether each place is its own number.
-fn are_in_order(places: &[u8]) -> bool
-    ensures { IsTrue result → (i : ℕ) → i < length places.now → slice_index places.now i ≡ i }
-{
-    for (index, place) in places.iter().enumerate() {
-        if *place as usize != index {
-            return false;
-        }
-    }
-    true
 }
