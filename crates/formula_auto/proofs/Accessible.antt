@@ -4,20 +4,20 @@ use Rattle.std.proofs.lemmas.List.{length-map}
 use Rattle.track_word.specs.declared.tracks.Var.{Var}
 use Rattle.track_word.specs.Tracks.{without_var}
 use Rattle.auto_core.specs.Automaton.{Automaton, IsAutomaton, Accepts}
-use Rattle.auto_core.specs.Reduced.{IsReduced, IsReachedState}
+use Rattle.auto_core.specs.Reduced.{AllReached, IsReachedState}
 use Rattle.auto_core.specs.Spread.{ExSpreadExceeds, LiftsInto}
 use Rattle.auto_core.proofs.States.{same_state}
 use Rattle.auto_project.specs.Lifted.{LiftLeads, MoreSets}
 use Rattle.formula_auto.specs.Compiled.{IsAccessible}
 
-pub accessible : {E : Type 0} (r : Result Automaton E) (budget : ℕ) → IfOk r (λ m. (state : ℕ) → state < length m.accept → IsReachedState m state)
+pub accessible : {E : Type 0} (r : Result Automaton E) (budget : ℕ) → IfOk r AllReached
     → IfOk r (λ m. length m.accept ≤ budget) → IfOk r (IsAccessible budget)
 accessible (Ok m) budget reached few = record { reached = reached; few = few }
 accessible (Err why) budget reached few = reached
 
 -- after a merge
 pub accessible-merged : {E : Type 0} (r : Result Automaton E) (a : Automaton)
-    → IfOk r (λ m. ((state : ℕ) → state < length a.accept → IsReachedState a state) → (state : ℕ) → state < length m.accept → IsReachedState m state)
+    → IfOk r (λ m. AllReached a → AllReached m)
     → IfOk r (λ m. length m.accept ≤ length a.accept) → IfOk r (λ m. (budget : ℕ) → IsAccessible budget a → IsAccessible budget m)
 accessible-merged (Ok m) a reached fewer = λ budget h. record { reached = reached h.reached; few = omega (arith, fewer, h.few) }
 accessible-merged (Err why) a reached fewer = reached

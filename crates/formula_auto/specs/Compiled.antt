@@ -2,7 +2,7 @@
 use Rattle.std.specs.Prelude.{◌≡◌, ℕ, ◌+◌, ◌<◌, ◌≤◌, List, length, All, Result, Ok, Err, Some, None, slice_get}
 use Rattle.limits.specs.declared.numbers.TheConstants.{MOST_TRACKS}
 use Rattle.auto_core.specs.Automaton.{Automaton}
-use Rattle.auto_core.specs.Reduced.{IsReduced, IsReachedState}
+use Rattle.auto_core.specs.Reduced.{AllReached, IsReduced}
 use Rattle.auto_core.specs.Integers.{DecidesIntegers}
 use Rattle.lin_formula.specs.Tree.{Tree, IsWellMade, vars_of, steps, memberships}
 use Rattle.lin_formula.specs.SetOf.{SetOf, members}
@@ -15,7 +15,7 @@ use Rattle.formula_auto.specs.declared.errors.CompileError.TheVariants as compil
 pub record IsSetFor (sets : List Automaton) (number size : ℕ) : Type 0 where
   pub set : Automaton
   pub is_there : slice_get sets number ≡ Some set
-  pub reached : (state : ℕ) → state < length set.accept → IsReachedState set state
+  pub reached : AllReached set
   pub integers : DecidesIntegers set
   pub arity : length set.tracks ≡ size
 
@@ -31,7 +31,7 @@ pub record IsCompilable (f : Tree) (sets : List Automaton) : Type 0 where
 
 -- words lead to each state, and there are no more states than the budget
 pub record IsAccessible (budget : ℕ) (a : Automaton) : Type 0 where
-  pub reached : (state : ℕ) → state < length a.accept → IsReachedState a state
+  pub reached : AllReached a
   pub few : length a.accept ≤ budget
 
 -- decides the formula, and no step exceeds the budget
@@ -48,7 +48,7 @@ pub record IsCompiled (f : Tree) (e : ℕ → SetOf) (before budget : ℕ) (a : 
 -- decides the formula; words lead to each state, and where there is a step, there are no more states than the budget
 pub record IsCompiledOn (f : Tree) (e : ℕ → SetOf) (before budget : ℕ) (a : Automaton) : Type 0 where
   pub made : IsMade f e before budget a
-  pub reached : (state : ℕ) → state < length a.accept → IsReachedState a state
+  pub reached : AllReached a
   pub few : 0 < length (steps f) → length a.accept ≤ budget
 
 -- the step, counted on from the steps before, is the first that exceeds the budget

@@ -3,7 +3,7 @@
 ghost use Rattle.std.specs.Prelude.{◌≡◌, ◌+◌, ◌<◌, ◌≤◌, ◌^◌, ℕ, length, Contains, IfOk, IfErr, OnOk, None, true, false};
 ghost use Rattle.auto_core.specs.Automaton.{Automaton};
 ghost use Rattle.auto_core.specs.Integers.{DecidesIntegers};
-ghost use Rattle.auto_core.specs.Reduced.{IsReduced, IsReachedState};
+ghost use Rattle.auto_core.specs.Reduced.{AllReached, IsReduced};
 ghost use Rattle.lin_formula.specs.Tree as tree;
 ghost use Rattle.lin_formula.specs.Tree.{steps};
 ghost use Rattle.lin_formula.specs.TreeOf.{tree_of};
@@ -120,7 +120,7 @@ impl Memo {
         requires compilable { IsCompilable (tree_of f.now) level.old.sets }
         requires few_steps { length (steps (tree_of f.now)) < 2 ^ 31 }
         requires same_budget { level.old.budget ≡ self.old.budget }
-        ensures reached { IfOk result (λ a. (state : ℕ) → state < length a.accept → IsReachedState a state) }
+        ensures reached { IfOk result AllReached }
         ensures few { IfOk result
             (λ a. 0 < length (steps (tree_of f.now)) → length a.accept ≤ self.old.budget) }
         ensures decides { IfOk result (λ a. Decides a (tree_of f.now) (members (tables level.old.sets))) }
