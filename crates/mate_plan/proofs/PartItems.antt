@@ -46,8 +46,8 @@ set_for tracks sets id m (a, found, is) over = record {
   set = a;
   is_there = subst (λ (k : ℕ). slice_get sets k ≡ Some a) (sym over.set) found;
   reduced = is.reduced;
-  integers = is.integers;
-  arity = ap length is.tracks_are ∙ sym over.count;
+  integers = is.decides.integers;
+  arity = ap length is.decides.tracks_are ∙ sym over.count;
 }
 
 pub has_one : (tracks : List Var) (sets : List Automaton) (id : SetId) (f : Tree) → IsNameOn tracks sets (Some id) → NamesOnly id.0 tracks f → HasSets sets f
