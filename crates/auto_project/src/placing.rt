@@ -62,7 +62,7 @@ impl Places {
                 let row = self.rows.leaf(place)?;
                 Ok(row)
             }
-            None => Err(AllocError),
+            None => unreachable!(),
         }
     }
 

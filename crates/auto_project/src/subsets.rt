@@ -62,7 +62,7 @@ fn copied_set(alloc: Global, places: &Sets, number: u32) -> Result<Vec<u32>, All
 {
     match places.get(number) {
         Some(set) => Ok(set.to_vec(alloc)?),
-        None => Err(AllocError),
+        None => unreachable!(),
     }
 }
 
