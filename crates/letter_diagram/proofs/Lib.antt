@@ -10,6 +10,8 @@ pub mod Choices
 pub mod Narrow
 pub mod Kept
 pub mod Carryings
+pub mod Readings
+pub mod SidedPairs
 pub mod Lists
 pub mod SetNumbers
 pub mod Mergings

@@ -18,6 +18,8 @@ mod pairs;
 mod product;
 mod relabel;
 mod sets;
+mod side;
+mod sides;
 
 pub use absorbing::Absorbing;
 pub use carry::{Carry, carried, carried_all};

@@ -8,6 +8,8 @@ ghost use Rattle.letter_diagram.specs.Absorbed.{absorbed_at, AreAbsorbed};
 use crate::absorbing::Absorbing;
 use crate::diagrams::{Diagrams, Node};
 use crate::pairs::Pairs;
+use crate::side::Here;
+use crate::sides::TwoSides;
 use limits::MOST_TRACKS;
 use std::alloc::AllocError;
 use std::collections::HashMap;
@@ -19,18 +21,18 @@ pub struct Product {
     diagrams: Diagrams,
     pairs: Pairs,
     memo: HashMap<(Node, Node), Node>,
-    absorbing: Absorbing,
+    sides: TwoSides<Here>,
 }
 
 impl Model for Product {
     ghost use Rattle.letter_diagram.specs.Product.{ProductTables};
-    ghost use Rattle.letter_diagram.specs.Absorbed.{RemembersPaired};
+    ghost use Rattle.letter_diagram.specs.Sided.{RemembersPaired};
 
     ghost Value = { ProductTables };
 
-    ghost view = { λ p. record { shapes = p.diagrams; pairs = p.pairs; absorbing = p.absorbing } };
+    ghost view = { λ p. record { shapes = p.diagrams; pairs = p.pairs; absorbing = p.sides.absorbing } };
 
-    ghost invariant = { λ p. RemembersPaired p.absorbing p.diagrams p.pairs p.memo };
+    ghost invariant = { λ p. RemembersPaired p.sides p.diagrams p.pairs p.memo };
 }
 
 impl Product {
@@ -41,11 +43,16 @@ impl Product {
         ensures absorbing { IfOk result (λ product. product.absorbing ≡ absorbing) }
     {
         let memo = HashMap::with_capacity(diagrams.alloc(), diagrams.len())?;
+        let sides = TwoSides {
+            left: Here,
+            right: Here,
+            absorbing,
+        };
         Ok(Product {
             diagrams,
             pairs,
             memo,
-            absorbing,
+            sides,
         })
     }
 
@@ -72,7 +79,7 @@ impl Product {
             diagrams,
             pairs,
             memo: _,
-            absorbing: _,
+            sides: _,
         } = self;
         (diagrams, pairs)
     }
@@ -97,11 +104,13 @@ impl Product {
         ensures grows { Grows self.old.shapes self.new.shapes }
         ensures absorbing { self.new.absorbing ≡ self.old.absorbing }
     {
-        let absorbing = self.absorbing;
-        match self
-            .diagrams
-            .paired(a, b, absorbing, &mut self.pairs, &mut self.memo)
-        {
+        match self.sides.paired(
+            a,
+            b,
+            &mut self.diagrams,
+            &mut self.pairs,
+            &mut self.memo,
+        ) {
             Ok(node) => Ok(node),
             Err(refused) => {
                 self.memo.clear();
