@@ -9,9 +9,9 @@ use Rattle.std.proofs.lemmas.List.Kept.{AllPairs-from_increasing}
 use Rattle.std.proofs.lemmas.Nat.Bits.{bit_at_above}
 use Rattle.letter_diagram.specs.declared.diagrams.Shape.{Shape}
 use Rattle.letter_diagram.specs.declared.diagrams.Shape.TheVariants.{Leaf, Test}
-use Rattle.letter_diagram.specs.Diagram.{map_at, top_track, IsDiagram, IsTest, IsAt, Grows}
+use Rattle.letter_diagram.specs.Diagram.{map_at, top_track, FitsBelow, IsDiagram, IsTest, IsAt, Grows}
 use Rattle.letter_diagram.specs.Relabelled.{relabelled}
-use Rattle.letter_diagram.specs.Sided.{Reading, LentNodes, read_shapes, read_letter, read_track, read_tracks, CanBeRead, read_at, read_top, LooksFrom, IsReadSplit, IsReadLeaf, IsReadTest}
+use Rattle.letter_diagram.specs.Sided.{Reading, LentNodes, read_shapes, read_letter, read_track, read_tracks, CanBeRead, read_at, read_top, LooksFrom, IsReadSplit, IsReadLeaf, IsReadTest, IsRead}
 use Rattle.letter_diagram.proofs.Canonical.{map_at-agree}
 use Rattle.letter_diagram.proofs.Narrow.{LooksBelow-low, LooksBelow-high, LooksBelow-grows, track-below, bit_at-relabelled, relabelled-below}
 use Rattle.letter_diagram.proofs.Maps.{Grows-refl}
@@ -132,8 +132,8 @@ module _ (reading : Reading) (law : IsReading reading) (shapes : List Shape) (is
 
 module _ (reading : Reading) (law : IsReading reading) (shapes : List Shape) (is : IsDiagram (read_shapes reading shapes)) (node track low high : ℕ)
     (read : CanBeRead reading shapes node) (at : IsAt (read_shapes reading shapes) node (Test track low high)) (fits : IsTest (read_shapes reading shapes) node track low high) where
-  within : track < read_tracks reading
-  within = elim (cases_lt (read_tracks reading) 20) [
+  pub tested-within : track < read_tracks reading
+  tested-within = elim (cases_lt (read_tracks reading) 20) [
     | inl few ↦ track-below _ is node track low high at fits (read_tracks reading) (read.narrow few)
     | inr all ↦ let t = fits.track_low in omega (arith, t, all)
   ]
@@ -146,14 +146,14 @@ module _ (reading : Reading) (law : IsReading reading) (shapes : List Shape) (is
 
   pub IsReadTest-at : IsReadTest reading shapes node (read_track reading track) low high
   IsReadTest-at = record {
-    track_low = law.low track within;
+    track_low = law.low track tested-within;
     top = ap (read_track reading) at.top;
     split = record {
       low_read = record { known = low_known; narrow = λ few. LooksBelow-low _ is node track low high at fits (read_tracks reading) (read.narrow few) };
       high_read = record { known = high_known; narrow = λ few. LooksBelow-high _ is node track low high at fits (read_tracks reading) (read.narrow few) };
-      map = λ letter. at.map (read_letter reading letter) ∙ (λ i. if nat_eq (law.bits letter track within i) 0 then read_at reading shapes low letter else read_at reading shapes high letter);
-      low_above = law.rise track (top_track (read_shapes reading shapes) low) fits.low_above within;
-      high_above = law.rise track (top_track (read_shapes reading shapes) high) fits.high_above within;
+      map = λ letter. at.map (read_letter reading letter) ∙ (λ i. if nat_eq (law.bits letter track tested-within i) 0 then read_at reading shapes low letter else read_at reading shapes high letter);
+      low_above = law.rise track (top_track (read_shapes reading shapes) low) fits.low_above tested-within;
+      high_above = law.rise track (top_track (read_shapes reading shapes) high) fits.high_above tested-within;
       low_from = LooksFrom-read reading law shapes is low low_known;
       high_from = LooksFrom-read reading law shapes is high high_known;
       low_within = let before = fits.low_before in omega (arith, before);
@@ -162,3 +162,9 @@ module _ (reading : Reading) (law : IsReading reading) (shapes : List Shape) (is
       high_smaller = λ e. fits.high_before;
     };
   }
+
+-- nodes as they are have the shapes that they have
+pub IsRead-here : (shapes : List Shape) → IsDiagram shapes → (node : ℕ) → CanBeRead None shapes node → (shape : Shape) → IsAt shapes node shape → FitsBelow shapes node shape
+    → IsRead None shapes node shape
+IsRead-here shapes is node read (Leaf value) at fits = IsReadLeaf-at None IsReading-here shapes is node value at
+IsRead-here shapes is node read (Test track low high) at fits = IsReadTest-at None IsReading-here shapes is node track low high read at fits

@@ -2,7 +2,7 @@
 use Rattle.std.specs.Prelude.{ℕ, List}
 use Rattle.letter_diagram.specs.declared.diagrams.Shape.{Shape}
 use Rattle.letter_diagram.specs.declared.absorbing.Absorbing.{Absorbing}
-use Rattle.letter_diagram.specs.Sided.{LentNodes}
+use Rattle.letter_diagram.specs.Sided.{Sides}
 
 -- the nodes of a product, the pairs that are numbered, and which values absorb the other
 pub record ProductTables : Type 0 where
@@ -10,10 +10,8 @@ pub record ProductTables : Type 0 where
   pub pairs : List (ℕ × ℕ)
   pub absorbing : Absorbing
 
--- the two sides of a product, its nodes, the pairs that are numbered, and which values absorb the other
+-- the two sides of a product, its nodes, and the pairs that are numbered
 pub record SidedTables : Type 0 where
-  pub left : LentNodes
-  pub right : LentNodes
+  pub sides : Sides
   pub shapes : List Shape
   pub pairs : List (ℕ × ℕ)
-  pub absorbing : Absorbing

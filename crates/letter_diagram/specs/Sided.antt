@@ -97,6 +97,10 @@ pub record Sides : Type 0 where
   pub right : Reading
   pub absorbing : Absorbing
 
+-- two nodes of those that others are added to
+abbrev pub together : Absorbing → Sides
+together absorbing = record { left = None; right = None; absorbing = absorbing }
+
 -- the absorbed pair of the values of both sides at a letter
 abbrev pub pair_at : Sides → List Shape → ℕ → ℕ → ℕ → ℕ × ℕ
 pair_at sides shapes a b letter =

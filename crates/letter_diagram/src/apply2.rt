@@ -7,7 +7,6 @@ ghost use Rattle.letter_diagram.specs.Paired.{top_of_both, AreAnswers};
 use crate::absorbing::Absorbing;
 use crate::diagrams::{Diagrams, Node};
 use crate::pairs::Pairs;
-use crate::side::Here;
 use crate::sides::TwoSides;
 use limits::MOST_TRACKS;
 use std::alloc::AllocError;
@@ -31,11 +30,7 @@ impl Diagrams {
         ensures grows { Grows self.old self.new }
     {
         let mut memo = HashMap::new(self.alloc());
-        let sides = TwoSides {
-            left: Here,
-            right: Here,
-            absorbing: Absorbing::nothing(),
-        };
+        let sides = TwoSides::together(Absorbing::nothing());
         let node = sides.paired(a, b, self, pairs, &mut memo)?;
         Ok(node)
     }

@@ -8,7 +8,6 @@ ghost use Rattle.letter_diagram.specs.Absorbed.{absorbed_at, AreAbsorbed};
 use crate::absorbing::Absorbing;
 use crate::diagrams::{Diagrams, Node};
 use crate::pairs::Pairs;
-use crate::side::Here;
 use crate::sides::TwoSides;
 use limits::MOST_TRACKS;
 use std::alloc::AllocError;
@@ -21,18 +20,18 @@ pub struct Product {
     diagrams: Diagrams,
     pairs: Pairs,
     memo: HashMap<(Node, Node), Node>,
-    sides: TwoSides<Here>,
+    absorbing: Absorbing,
 }
 
 impl Model for Product {
     ghost use Rattle.letter_diagram.specs.Product.{ProductTables};
-    ghost use Rattle.letter_diagram.specs.Sided.{RemembersPaired};
+    ghost use Rattle.letter_diagram.specs.Sided.{together, RemembersPaired};
 
     ghost Value = { ProductTables };
 
-    ghost view = { λ p. record { shapes = p.diagrams; pairs = p.pairs; absorbing = p.sides.absorbing } };
+    ghost view = { λ p. record { shapes = p.diagrams; pairs = p.pairs; absorbing = p.absorbing } };
 
-    ghost invariant = { λ p. RemembersPaired p.sides p.diagrams p.pairs p.memo };
+    ghost invariant = { λ p. RemembersPaired (together p.absorbing) p.diagrams p.pairs p.memo };
 }
 
 impl Product {
@@ -43,16 +42,11 @@ impl Product {
         ensures absorbing { IfOk result (λ product. product.absorbing ≡ absorbing) }
     {
         let memo = HashMap::with_capacity(diagrams.alloc(), diagrams.len())?;
-        let sides = TwoSides {
-            left: Here,
-            right: Here,
-            absorbing,
-        };
         Ok(Product {
             diagrams,
             pairs,
             memo,
-            sides,
+            absorbing,
         })
     }
 
@@ -79,7 +73,7 @@ impl Product {
             diagrams,
             pairs,
             memo: _,
-            sides: _,
+            absorbing: _,
         } = self;
         (diagrams, pairs)
     }
@@ -104,7 +98,8 @@ impl Product {
         ensures grows { Grows self.old.shapes self.new.shapes }
         ensures absorbing { self.new.absorbing ≡ self.old.absorbing }
     {
-        match self.sides.paired(
+        let sides = TwoSides::together(self.absorbing);
+        match sides.paired(
             a,
             b,
             &mut self.diagrams,

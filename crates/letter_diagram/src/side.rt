@@ -58,6 +58,13 @@ impl<'a> LentSide<'a> {
     {
         LentSide { from, tracks }
     }
+
+    /// How many nodes are lent.
+    pub fn len(&self) -> usize
+        ensures { result ≡ length self.now.shapes }
+    {
+        self.from.len()
+    }
 }
 
 impl<'a> Side for LentSide<'a> {

@@ -4,12 +4,12 @@ ghost use Rattle.letter_diagram.specs.Diagram.{Grows};
 ghost use Rattle.letter_diagram.specs.Numbering.{PairsKept};
 ghost use Rattle.letter_diagram.specs.Paired.{room_from};
 ghost use Rattle.letter_diagram.specs.Absorbed.{ArePairs};
-ghost use Rattle.letter_diagram.specs.Sided.{read_at, pair_at, pair_top, CanBePaired, IsPaired, RemembersPaired};
+ghost use Rattle.letter_diagram.specs.Sided.{together, read_at, pair_at, pair_top, IsReadSplit, CanBePaired, IsPaired, RemembersPaired};
 
 use crate::absorbing::{Absorbing, absorbs};
 use crate::diagrams::{Diagrams, Node};
 use crate::pairs::Pairs;
-use crate::side::{Side, constant, split, top};
+use crate::side::{Here, Side, constant, split, top};
 use limits::MOST_TRACKS;
 use std::alloc::AllocError;
 use std::collections::HashMap;
@@ -29,6 +29,19 @@ impl<S: Side> Model for TwoSides<S> {
     ghost Value = { Sides };
 
     ghost view = { λ s. record { left = S.reading s.left; right = S.reading s.right; absorbing = s.absorbing } };
+}
+
+impl TwoSides<Here> {
+    /// Two nodes of the `Diagrams` to which nodes are added.
+    pub(crate) fn together(absorbing: Absorbing) -> Self
+        ensures { result ≡ together absorbing }
+    {
+        TwoSides {
+            left: Here,
+            right: Here,
+            absorbing,
+        }
+    }
 }
 
 impl<S: Side> TwoSides<S> {
@@ -110,12 +123,38 @@ impl<S: Side> TwoSides<S> {
         ensures pairs { PairsKept pairs.old pairs.new }
         ensures grows { Grows to.old to.new }
     {
-        let track = top(&self.left, to, a).min(top(&self.right, to, b));
-        let (a_low, a_high) = split(&self.left, to, a, track);
-        let (b_low, b_high) = split(&self.right, to, b, track);
-        let low = self.paired(a_low, b_low, to, pairs, memo)?;
-        let high = self.paired(a_high, b_high, to, pairs, memo)?;
+        let track = self.top(to, a, b);
+        let (low, high) = self.split(to, a, b, track);
+        let low = self.paired(low.0, low.1, to, pairs, memo)?;
+        let high = self.paired(high.0, high.1, to, pairs, memo)?;
         let node = to.node(track, low, high)?;
         Ok(node)
+    }
+
+    /// The least track that one of both maps looks at, or 20 where both are constant.
+    fn top(&self, to: &Diagrams, a: Node, b: Node) -> u8
+        requires { CanBePaired self.now to.now a b }
+        ensures { result ≡ pair_top self.now to.now a b }
+    {
+        top(&self.left, to, a).min(top(&self.right, to, b))
+    }
+
+    /// Both maps where the bit of a track is 0, and where it is 1.
+    fn split(
+        &self,
+        to: &Diagrams,
+        a: Node,
+        b: Node,
+        track: u8,
+    ) -> ((Node, Node), (Node, Node))
+        requires read { CanBePaired self.now to.now a b }
+        requires track_low { track < MOST_TRACKS }
+        requires below { track ≤ pair_top self.now to.now a b }
+        ensures left { IsReadSplit self.now.left to.now a track result.0.0 result.1.0 }
+        ensures right { IsReadSplit self.now.right to.now b track result.0.1 result.1.1 }
+    {
+        let (a_low, a_high) = split(&self.left, to, a, track);
+        let (b_low, b_high) = split(&self.right, to, b, track);
+        ((a_low, b_low), (a_high, b_high))
     }
 }
