@@ -1,5 +1,5 @@
 -- Pairs with an absorbing value.
-use Rattle.std.proofs.Common.{◌≡◌, ℕ, Bool, true, false, ◌||◌, if◌then◌else◌, Option, Some, None, IfSome, refl, sym, ap, ◌∙◌, subst}
+use Rattle.std.proofs.Common.{◌≡◌, ℕ, Bool, true, false, ◌||◌, if◌then◌else◌, Option, Some, None, IfSome, refl, ap, ◌∙◌, subst}
 use Rattle.letter_diagram.specs.declared.absorbing.Absorbing.{Absorbing}
 use Rattle.letter_diagram.specs.Absorbed.{absorbs, stand_in, absorbed}
 

@@ -1,5 +1,5 @@
 -- Nodes of one side of a product, as they are read.
-use Rattle.std.proofs.Common.{None, Some, ◌≡◌, ℕ, zero, suc, ◌<◌, ◌≤◌, ◌+◌, List, length, get_or, nat_eq, All, Bool, true, false, arith, refl, sym, ap, ◌∙◌, subst, inl, inr, if◌then◌else◌}
+use Rattle.std.proofs.Common.{None, Some, ◌≡◌, ℕ, zero, suc, ◌<◌, ◌≤◌, List, length, get_or, nat_eq, All, arith, refl, sym, ap, ◌∙◌, subst, inl, inr, if◌then◌else◌}
 use Rattle.std.specs.Int.{bit_at}
 use Rattle.std.specs.List.Sorted.{IsStrictlyIncreasing}
 use Rattle.std.proofs.lemmas.Bool.{cases_lt}
@@ -9,9 +9,9 @@ use Rattle.std.proofs.lemmas.List.Kept.{AllPairs-from_increasing}
 use Rattle.std.proofs.lemmas.Nat.Bits.{bit_at_above}
 use Rattle.letter_diagram.specs.declared.diagrams.Shape.{Shape}
 use Rattle.letter_diagram.specs.declared.diagrams.Shape.TheVariants.{Leaf, Test}
-use Rattle.letter_diagram.specs.Diagram.{map_at, top_track, FitsBelow, IsDiagram, IsTest, IsAt, Grows}
+use Rattle.letter_diagram.specs.Diagram.{top_track, FitsBelow, IsDiagram, IsTest, IsAt, Grows}
 use Rattle.letter_diagram.specs.Relabelled.{relabelled}
-use Rattle.letter_diagram.specs.Sided.{Reading, LentNodes, read_shapes, read_letter, read_track, read_tracks, CanBeRead, read_at, read_top, LooksFrom, IsReadSplit, IsReadLeaf, IsReadTest, IsRead}
+use Rattle.letter_diagram.specs.Sided.{Reading, read_shapes, read_letter, read_track, read_tracks, CanBeRead, read_at, read_top, LooksFrom, IsReadLeaf, IsReadTest, IsRead}
 use Rattle.letter_diagram.proofs.Canonical.{map_at-agree}
 use Rattle.letter_diagram.proofs.Narrow.{LooksBelow-low, LooksBelow-high, LooksBelow-grows, track-below, bit_at-relabelled, relabelled-below}
 use Rattle.letter_diagram.proofs.Maps.{Grows-refl}
@@ -97,27 +97,6 @@ module _ (reading : Reading) (old new : List Shape) (node : ℕ) (grows : Grows 
 
   pub read_top-grows : read_top reading new node ≡ read_top reading old node
   read_top-grows = ap (read_track reading) ((read_shapes-grows reading old new grows).top node read.known)
-
--- a track before a node's least does not split it
-pub IsReadSplit-itself : (reading : Reading) (shapes : List Shape) (node track : ℕ) → CanBeRead reading shapes node → LooksFrom (read_at reading shapes node) (read_top reading shapes node)
-    → track < read_top reading shapes node → IsReadSplit reading shapes node track node node
-IsReadSplit-itself reading shapes node track read from before = record {
-  low_read = read;
-  high_read = read;
-  map = λ letter. one (nat_eq (bit_at letter track) 0) (read_at reading shapes node letter);
-  low_above = before;
-  high_above = before;
-  low_from = from;
-  high_from = from;
-  low_within = omega arith;
-  high_within = omega arith;
-  low_smaller = λ e. absurd (omega (arith, before, e));
-  high_smaller = λ e. absurd (omega (arith, before, e));
-}
-  where
-    one : (c : Bool) (value : ℕ) → value ≡ (if c then value else value)
-    one true value = refl
-    one false value = refl
 
 module _ (reading : Reading) (law : IsReading reading) (shapes : List Shape) (is : IsDiagram (read_shapes reading shapes)) (node : ℕ) where
   pub LooksFrom-read : node < length (read_shapes reading shapes) → LooksFrom (read_at reading shapes node) (read_top reading shapes node)

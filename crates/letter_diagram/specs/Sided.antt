@@ -65,7 +65,7 @@ pub record IsReadSplit (reading : Reading) (shapes : List Shape) (node track low
   pub map : (letter : ℕ)
       → read_at reading shapes node letter
       ≡ (if nat_eq (bit_at letter track) 0 then read_at reading shapes low letter
-        else read_at reading shapes high letter)
+      else read_at reading shapes high letter)
   pub low_above : track < read_top reading shapes low
   pub high_above : track < read_top reading shapes high
   pub low_from : LooksFrom (read_at reading shapes low) (read_top reading shapes low)

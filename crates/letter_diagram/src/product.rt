@@ -99,13 +99,7 @@ impl Product {
         ensures absorbing { self.new.absorbing ≡ self.old.absorbing }
     {
         let sides = TwoSides::together(self.absorbing);
-        match sides.paired(
-            a,
-            b,
-            &mut self.diagrams,
-            &mut self.pairs,
-            &mut self.memo,
-        ) {
+        match sides.paired(a, b, &mut self.diagrams, &mut self.pairs, &mut self.memo) {
             Ok(node) => Ok(node),
             Err(refused) => {
                 self.memo.clear();

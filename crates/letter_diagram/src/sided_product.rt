@@ -102,13 +102,10 @@ impl<'a> SidedProduct<'a> {
         ensures grows { Grows self.old.shapes self.new.shapes }
         ensures sides { self.new.sides ≡ self.old.sides }
     {
-        match self.sides.paired(
-            a,
-            b,
-            &mut self.diagrams,
-            &mut self.pairs,
-            &mut self.memo,
-        ) {
+        match self
+            .sides
+            .paired(a, b, &mut self.diagrams, &mut self.pairs, &mut self.memo)
+        {
             Ok(node) => Ok(node),
             Err(refused) => {
                 self.memo.clear();

@@ -140,13 +140,7 @@ impl<S: Side> TwoSides<S> {
     }
 
     /// Both maps where the bit of a track is 0, and where it is 1.
-    fn split(
-        &self,
-        to: &Diagrams,
-        a: Node,
-        b: Node,
-        track: u8,
-    ) -> ((Node, Node), (Node, Node))
+    fn split(&self, to: &Diagrams, a: Node, b: Node, track: u8) -> ((Node, Node), (Node, Node))
         requires read { CanBePaired self.now to.now a b }
         requires track_low { track < MOST_TRACKS }
         requires below { track ≤ pair_top self.now to.now a b }

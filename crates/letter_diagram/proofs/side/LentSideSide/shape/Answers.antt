@@ -1,4 +1,4 @@
-use Rattle.std.proofs.Common.{Some, ◌≡◌, ◌<◌, ◌∙◌, sym, subst, length, get_or, arith}
+use Rattle.std.proofs.Common.{Some, ◌≡◌, ◌∙◌, sym, subst, get_or}
 use Rattle.std.proofs.lemmas.List.{get_or_default}
 use Rattle.letter_diagram.specs.Sided.{LentNodes, CanBeRead, IsReadLeaf, IsReadTest, LooksFrom, read_at, read_top}
 use Rattle.letter_diagram.proofs.Readings.{IsReading-lent, LooksFrom-read, IsReadLeaf-at, IsReadTest-at, tested-within}
@@ -27,8 +27,8 @@ returns-in-Test-clause-read c =
     let within = tested-within (Some lent) law c.args._to.now c.shape.ensures.diagram c.args.node c.in-Test.track c.in-Test.low c.in-Test.high read tested.at tested.fits in
     let same : c.index.result.now ≡ get_or lent.tracks c.in-Test.track 20 = c.index.ensures ∙ get_or_default lent.tracks c.in-Test.track c.index.result.now 20 within in
     subst (λ (s : LentNodes). IsReadTest (Some s) c.args._to.now c.args.node c.index.result.now c.in-Test.low c.in-Test.high) c.self.view_is (
-      subst (λ track. IsReadTest (Some lent) c.args._to.now c.args.node track c.in-Test.low c.in-Test.high) (sym same)
-      (IsReadTest-at (Some lent) law c.args._to.now c.shape.ensures.diagram c.args.node c.in-Test.track c.in-Test.low c.in-Test.high read tested.at tested.fits))
+    subst (λ track. IsReadTest (Some lent) c.args._to.now c.args.node track c.in-Test.low c.in-Test.high) (sym same)
+    (IsReadTest-at (Some lent) law c.args._to.now c.shape.ensures.diagram c.args.node c.in-Test.track c.in-Test.low c.in-Test.high read tested.at tested.fits))
 
 pub returns-in-Leaf-clause-from : goal.returns-in-Leaf-clause-from
 returns-in-Leaf-clause-from c =

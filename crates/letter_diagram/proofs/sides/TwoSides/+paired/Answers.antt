@@ -1,4 +1,4 @@
-use Rattle.std.proofs.Common.{rules, arith, ◌≡◌, ◌<◌, ℕ, min, subst, ap, sym, ◌∙◌}
+use Rattle.std.proofs.Common.{arith, ℕ, ap, sym, ◌∙◌}
 use Rattle.letter_diagram.specs.Paired.{room_from}
 use Rattle.letter_diagram.specs.Sided.{pair_top, IsPaired, RemembersPaired}
 use Rattle.letter_diagram.proofs.Maps.{Grows-trans}
@@ -59,7 +59,7 @@ paired-returns-clause-answers g t c =
     elim c.match-one_pair.branch [
       | paired-in-Some-one_pair+in_ok-add-in-Some-one_pair+in_ok-node-in-Some-one_pair w ↦ rw w.pairs-is (
           let add = w.in_ok-add-in-Some-one_pair.ensures in
-              ArePairs-leaf _ _ _ _ _ _ w.in-Some-one_pair.ensures.one add.pairs)
+          ArePairs-leaf _ _ _ _ _ _ w.in-Some-one_pair.ensures.one add.pairs)
       | paired-in-None+in_ok-node-in-None w ↦ rw w.pairs-is w.in_ok-node-in-None.ensures.answers
     ]
 
