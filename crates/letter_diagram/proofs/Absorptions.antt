@@ -1,9 +1,7 @@
 -- Pairs with an absorbing value.
-use Rattle.std.proofs.Common.{◌≡◌, ℕ, Bool, true, false, ◌||◌, if◌then◌else◌, Option, Some, None, IfSome, List, refl, sym, ap, ◌∙◌, subst}
-use Rattle.letter_diagram.specs.declared.diagrams.Shape.{Shape}
-use Rattle.letter_diagram.specs.Diagram.{map_at}
+use Rattle.std.proofs.Common.{◌≡◌, ℕ, Bool, true, false, ◌||◌, if◌then◌else◌, Option, Some, None, IfSome, refl, ap, ◌∙◌, subst}
 use Rattle.letter_diagram.specs.declared.absorbing.Absorbing.{Absorbing}
-use Rattle.letter_diagram.specs.Absorbed.{absorbs, stand_in, absorbed, absorbed_at}
+use Rattle.letter_diagram.specs.Absorbed.{absorbs, stand_in, absorbed}
 
 or_true : (b : Bool) → (b || true) ≡ true
 or_true true = refl
@@ -26,15 +24,15 @@ pub absorbed-nothing : (g : Absorbing) (x y : ℕ) → g.left ≡ None → g.rig
 absorbed-nothing g x y e f = absorbed-neither g x y (ap (λ o. absorbs o x) e) (ap (λ o. absorbs o y) f)
 
 -- a constant map of an absorbing value makes one pair with each other map
-module _ (g : Absorbing) (shapes : List Shape) (a b value : ℕ) where
-  pub one_pair-left : (o : Option ℕ) → IfSome o (λ v. (letter : ℕ) → map_at shapes a letter ≡ v) → o ≡ Some value → absorbs g.left value ≡ true → (letter : ℕ)
-      → absorbed_at g shapes a b letter ≡ absorbed_at g shapes a b 0
-  one_pair-left o constant is absorbs_it letter =
-      let same : (l : ℕ) → map_at shapes a l ≡ value = subst (λ p. IfSome p (λ v. (l : ℕ) → map_at shapes a l ≡ v)) is constant in
-      absorbed-left g _ _ (ap (absorbs g.left) (same letter) ∙ absorbs_it) ∙ sym (absorbed-left g _ _ (ap (absorbs g.left) (same 0) ∙ absorbs_it))
+module _ (g : Absorbing) (left right : ℕ → ℕ) (value : ℕ) (constant : Option ℕ) where
+  pub one_pair-left : IfSome constant (λ v. (letter : ℕ) → left letter ≡ v) → constant ≡ Some value → absorbs g.left value ≡ true → (letter : ℕ)
+      → absorbed g (left letter) (right letter) ≡ stand_in g.left g.right
+  one_pair-left all is absorbs_it letter =
+      let same : (l : ℕ) → left l ≡ value = subst (λ p. IfSome p (λ v. (l : ℕ) → left l ≡ v)) is all in
+      absorbed-left g _ _ (ap (absorbs g.left) (same letter) ∙ absorbs_it)
 
-  pub one_pair-right : (o : Option ℕ) → IfSome o (λ v. (letter : ℕ) → map_at shapes b letter ≡ v) → o ≡ Some value → absorbs g.right value ≡ true → (letter : ℕ)
-      → absorbed_at g shapes a b letter ≡ absorbed_at g shapes a b 0
-  one_pair-right o constant is absorbs_it letter =
-      let same : (l : ℕ) → map_at shapes b l ≡ value = subst (λ p. IfSome p (λ v. (l : ℕ) → map_at shapes b l ≡ v)) is constant in
-      absorbed-right g _ _ (ap (absorbs g.right) (same letter) ∙ absorbs_it) ∙ sym (absorbed-right g _ _ (ap (absorbs g.right) (same 0) ∙ absorbs_it))
+  pub one_pair-right : IfSome constant (λ v. (letter : ℕ) → right letter ≡ v) → constant ≡ Some value → absorbs g.right value ≡ true → (letter : ℕ)
+      → absorbed g (left letter) (right letter) ≡ stand_in g.left g.right
+  one_pair-right all is absorbs_it letter =
+      let same : (l : ℕ) → right l ≡ value = subst (λ p. IfSome p (λ v. (l : ℕ) → right l ≡ v)) is all in
+      absorbed-right g _ _ (ap (absorbs g.right) (same letter) ∙ absorbs_it)

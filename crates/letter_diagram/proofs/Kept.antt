@@ -1,9 +1,9 @@
 -- Nodes whose tracks keep their bits.
-use Rattle.std.proofs.Common.{◌≡◌, ℕ, ◌<◌, List, length, get_or, All, arith, sym, ap, ◌∙◌}
+use Rattle.std.proofs.Common.{ℕ, ◌<◌, List, length, get_or, All, arith, sym, ap, ◌∙◌}
 use Rattle.std.proofs.lemmas.List.Elements.{All-get_or}
 use Rattle.std.specs.Int.{bit_at}
 use Rattle.letter_diagram.specs.declared.diagrams.Shape.{Shape}
-use Rattle.letter_diagram.specs.Diagram.{map_at, LooksBelow}
+use Rattle.letter_diagram.specs.Diagram.{LooksBelow}
 use Rattle.letter_diagram.specs.Carried.{IsCarried}
 use Rattle.letter_diagram.specs.Listed.{EachAnswers}
 use Rattle.letter_diagram.specs.Relabelled.{relabelled, KeepsTracks}

@@ -12,6 +12,8 @@ pub mod Kept
 pub mod Carryings
 pub mod Turnings
 pub mod Compositions
+pub mod Readings
+pub mod SidedPairs
 pub mod Lists
 pub mod SetNumbers
 pub mod Mergings

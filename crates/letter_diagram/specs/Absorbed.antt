@@ -1,10 +1,8 @@
 -- Pairs one value of which says all.
 use Rattle.std.specs.Prelude.{◌≡◌, ◌<◌, ◌≤◌, ℕ, Bool, false, nat_eq, ◌||◌, if◌then◌else◌, Option, Some, None, List, length, slice_get}
-use Rattle.std.specs.HashMap.{HashMap, get}
 use Rattle.letter_diagram.specs.declared.diagrams.Shape.{Shape}
 use Rattle.letter_diagram.specs.declared.absorbing.Absorbing.{Absorbing}
-use Rattle.letter_diagram.specs.Diagram.{map_at, top_track}
-use Rattle.letter_diagram.specs.Paired.{top_of_both, pair_eq}
+use Rattle.letter_diagram.specs.Diagram.{map_at}
 
 -- whether a value is the absorbing one
 abbrev pub absorbs : Option ℕ → ℕ → Bool
@@ -27,22 +25,11 @@ absorbed absorbing left right =
 abbrev pub absorbed_at : Absorbing → List Shape → ℕ → ℕ → ℕ → ℕ × ℕ
 absorbed_at absorbing shapes a b letter = absorbed absorbing (map_at shapes a letter) (map_at shapes b letter)
 
--- the map of r gives the number of the absorbed pair of the values of a and b
-pub record IsPaired (absorbing : Absorbing) (shapes : List Shape) (pairs : List (ℕ × ℕ)) (a b r : ℕ) : Type 0 where
-  pub known : r < length shapes
-  pub a_known : a < length shapes
-  pub b_known : b < length shapes
-  pub map : (letter : ℕ)
-      → slice_get pairs (map_at shapes r letter) ≡ Some (absorbed_at absorbing shapes a b letter)
-  pub top : top_of_both shapes a b ≤ top_track shapes r
+-- each pair from a number on is an absorbed pair of the values of two maps
+pub record ArePairs (absorbing : Absorbing) (from : ℕ) (pairs : List (ℕ × ℕ)) (left right : ℕ → ℕ) : Type 0 where
+  pub answer : (number : ℕ) → from ≤ number → number < length pairs
+      → (letter : ℕ) × (slice_get pairs number ≡ Some (absorbed absorbing (left letter) (right letter)))
 
 -- each pair from a number on is an absorbed pair of values of a and b
-pub record AreAbsorbed (absorbing : Absorbing) (shapes : List Shape) (from : ℕ) (pairs : List (ℕ × ℕ)) (a b : ℕ) : Type
-    0 where
-  pub answer : (number : ℕ) → from ≤ number → number < length pairs
-      → (letter : ℕ) × (slice_get pairs number ≡ Some (absorbed_at absorbing shapes a b letter))
-
--- the pairs of nodes in a memo are paired
-pub record RemembersPaired {S : Type 0} (absorbing : Absorbing) (shapes : List Shape) (pairs : List (ℕ × ℕ))
-    (memo : HashMap (ℕ × ℕ) ℕ S) : Type 0 where
-  pub paired : (a b r : ℕ) → get pair_eq memo (a, b) ≡ Some r → IsPaired absorbing shapes pairs a b r
+abbrev pub AreAbsorbed : Absorbing → List Shape → ℕ → List (ℕ × ℕ) → ℕ → ℕ → Type 0
+AreAbsorbed absorbing shapes from pairs a b = ArePairs absorbing from pairs (map_at shapes a) (map_at shapes b)

@@ -3,6 +3,7 @@ pub mod Carried
 pub mod Numbering
 pub mod Paired
 pub mod Absorbed
+pub mod Sided
 pub mod Chosen
 pub mod Relabelled
 pub mod Turned

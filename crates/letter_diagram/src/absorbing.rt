@@ -36,7 +36,8 @@ impl Absorbing {
         }
     }
 
-    fn stand_in(self) -> (u32, u32)
+    /// The pair that stands for all pairs with one of both values.
+    pub(crate) fn stand_in(self) -> (u32, u32)
         ensures { result ≡ stand_in self.left self.right }
     {
         match (self.left, self.right) {

@@ -19,6 +19,9 @@ mod pairs;
 mod product;
 mod relabel;
 mod sets;
+mod side;
+mod sided_product;
+mod sides;
 mod turn;
 
 pub use absorbing::Absorbing;
@@ -30,3 +33,5 @@ pub use node_memo::NodeMemo;
 pub use pairs::{Pairs, PairsError};
 pub use product::Product;
 pub use sets::Sets;
+pub use side::LentSide;
+pub use sided_product::SidedProduct;

@@ -8,6 +8,7 @@ ghost use Rattle.letter_diagram.specs.Absorbed.{absorbed_at, AreAbsorbed};
 use crate::absorbing::Absorbing;
 use crate::diagrams::{Diagrams, Node};
 use crate::pairs::Pairs;
+use crate::sides::TwoSides;
 use limits::MOST_TRACKS;
 use std::alloc::AllocError;
 use std::collections::HashMap;
@@ -24,13 +25,13 @@ pub struct Product {
 
 impl Model for Product {
     ghost use Rattle.letter_diagram.specs.Product.{ProductTables};
-    ghost use Rattle.letter_diagram.specs.Absorbed.{RemembersPaired};
+    ghost use Rattle.letter_diagram.specs.Sided.{together, RemembersPaired};
 
     ghost Value = { ProductTables };
 
     ghost view = { λ p. record { shapes = p.diagrams; pairs = p.pairs; absorbing = p.absorbing } };
 
-    ghost invariant = { λ p. RemembersPaired p.absorbing p.diagrams p.pairs p.memo };
+    ghost invariant = { λ p. RemembersPaired (together p.absorbing) p.diagrams p.pairs p.memo };
 }
 
 impl Product {
@@ -97,11 +98,8 @@ impl Product {
         ensures grows { Grows self.old.shapes self.new.shapes }
         ensures absorbing { self.new.absorbing ≡ self.old.absorbing }
     {
-        let absorbing = self.absorbing;
-        match self
-            .diagrams
-            .paired(a, b, absorbing, &mut self.pairs, &mut self.memo)
-        {
+        let sides = TwoSides::together(self.absorbing);
+        match sides.paired(a, b, &mut self.diagrams, &mut self.pairs, &mut self.memo) {
             Ok(node) => Ok(node),
             Err(refused) => {
                 self.memo.clear();

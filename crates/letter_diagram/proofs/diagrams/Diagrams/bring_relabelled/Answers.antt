@@ -1,4 +1,4 @@
-use Rattle.std.proofs.Common.{rules, ◌≡◌, ℕ, List}
+use Rattle.std.proofs.Common.{rules, ◌≡◌}
 use Rattle.letter_diagram.proofs.Kept.{EachAnswers-kept}
 use Rattle.letter_diagram.proofs.diagrams.Diagrams.bring_relabelled.Goals as goal
 

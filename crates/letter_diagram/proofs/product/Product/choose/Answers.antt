@@ -1,5 +1,5 @@
 use Rattle.letter_diagram.proofs.PairNumbers.{PairsKept-refl}
-use Rattle.letter_diagram.proofs.Pairings.{RemembersPaired-grows}
+use Rattle.letter_diagram.proofs.SidedPairs.{RemembersPaired-grows}
 use Rattle.letter_diagram.proofs.product.Product.choose.Goals as goal
 
 pub invariant_of-self : goal.invariant_of-self
