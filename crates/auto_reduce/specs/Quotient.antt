@@ -1,5 +1,5 @@
 -- One state for all states that nothing tells apart, and the automaton over these in the order in which they are met.
-use Rattle.std.specs.Prelude.{◌≡◌, ◌≢◌, ℕ, ◌<◌, ◌≤◌, Bool, false, List, ◌∷◌, length, drop, All, AllPairs, Contains, slice_index, slice_index_or}
+use Rattle.std.specs.Prelude.{◌≡◌, ◌≢◌, ℕ, ◌<◌, ◌≤◌, Bool, List, ◌∷◌, length, drop, All, AllPairs, Contains, slice_index}
 use Rattle.track_word.specs.Word.{IsWord}
 use Rattle.letter_diagram.specs.declared.diagrams.Shape.{Shape}
 use Rattle.auto_core.specs.Automaton.{Automaton, IsAutomaton, width, first_state, next_state, state_of, is_final}

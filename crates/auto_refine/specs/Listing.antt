@@ -38,10 +38,11 @@ pub record AreListed (old : List (List ℕ)) (states classes : List ℕ) (new : 
   pub only : (class state : ℕ) → Contains (slice_index_or new class []) state
       → Contains (slice_index_or old class []) state ⊎ Contains states state
 
--- some states, but for some that have another class
+-- those of some states that have a class
 pub record AreStillIn (classes : List ℕ) (class : ℕ) (states kept : List ℕ) : Type 0 where
   pub fewer : (state : ℕ) → Contains kept state → Contains states state
   pub stays : (state : ℕ) → Contains states state → slice_index classes state ≡ class → Contains kept state
+  pub only : (state : ℕ) → Contains kept state → slice_index classes state ≡ class
 
 -- lists without some states that have other classes
 pub record ArePruned (classes : List ℕ) (old new : List (List ℕ)) : Type 0 where

@@ -1,5 +1,5 @@
 //! For each class a list in which all its states are, kept while states move to new classes.
-ghost use Rattle.std.specs.Prelude.{◌≡◌, ◌<◌, ◌^◌, ◌+◌, ◌++◌, [], ℕ, All, length, replicate, slice_index, IfOk, OnOk, vec_len};
+ghost use Rattle.std.specs.Prelude.{◌≡◌, ◌<◌, ◌^◌, ◌+◌, ◌++◌, [], ℕ, All, Contains, length, replicate, slice_index, slice_index_or, IfOk, OnOk, vec_len};
 ghost use Rattle.auto_refine.specs.Coarsest.{AreClasses};
 ghost use Rattle.auto_refine.specs.Listing.{AreBelow, AreLists, AreListed, ArePruned, AreStillIn, IsPutInto, lists_of};
 
@@ -111,6 +111,8 @@ pub fn prune(
     requires within { AreBelow (lists_of lists.old.items) (length partition.now.classes.items) }
     ensures pruned { OnOk result
         (ArePruned partition.now.classes.items (lists_of lists.old.items) (lists_of lists.new.items)) }
+    ensures only { OnOk result ((state : ℕ) → Contains (slice_index_or (lists_of lists.new.items) class []) state
+        → slice_index partition.now.classes.items state ≡ class) }
     ensures size { OnOk result (vec_len lists.new ≡ vec_len lists.old) }
 {
     let kept = still_in(alloc, partition, class, lists[class as usize].as_slice())?;

@@ -1,6 +1,6 @@
-use Rattle.std.proofs.Common.{rules, arith, ◌<◌, ◌∙◌, ℕ, [], List, Vec, Global, length, map, get_or, sym, subst}
+use Rattle.std.proofs.Common.{rules, arith, ◌<◌, ◌∙◌, ℕ, [], List, Vec, Global, length, map, get_or, sym, ap, subst}
 use Rattle.std.specs.List.{Contains}
-use Rattle.std.proofs.lemmas.List.{length-map, map-set}
+use Rattle.std.proofs.lemmas.List.{length-map, map-set, get_or-set_same}
 use Rattle.std.proofs.lemmas.List.Elements.{All-from_get_or, Contains-get_or}
 use Rattle.auto_refine.specs.Listing.{ArePruned}
 use Rattle.auto_refine.proofs.Listings.{list_read, ArePruned-set}
@@ -29,3 +29,14 @@ returns-clause-pruned c =
     let kept = c.in_ok-kept.ensures in
     subst (ArePruned classes (map f lists)) (sym (map-set f lists class c.in_ok-kept.kept)) (ArePruned-set classes (map f lists) class
     c.as_slice.result.now c.in_ok-kept.kept.items (omega (arith, inside, mapped)) list_is kept.fewer kept.stays)
+
+pub returns-clause-only : goal.returns-clause-only
+returns-clause-only c =
+    let f : Vec ℕ Global → List ℕ = (λ list. list.items) in
+    let lists = c.args.lists.now.items in
+    let class = c.args.class in
+    let inside : class < length lists = search rules in
+    let mapped = length-map lists f in
+    let kept_is =
+    ap (λ ls. get_or ls class []) (map-set f lists class c.in_ok-kept.kept) ∙ get_or-set_same (map f lists) class c.in_ok-kept.kept.items [] (omega (arith, inside, mapped)) in
+    λ state there. c.in_ok-kept.ensures.only state (subst (λ list. Contains list state) kept_is there)

@@ -1,4 +1,4 @@
-use Rattle.std.proofs.Common.{arith, ◌≡◌, ◌<◌, ◌∷◌, ◌++◌, [], ◌∙◌, length, get_or, ap, subst, inl, inr}
+use Rattle.std.proofs.Common.{arith, ◌≡◌, ◌<◌, ◌∷◌, ◌++◌, [], ◌∙◌, length, get_or, sym, ap, subst, inl, inr}
 use Rattle.std.specs.List.{Contains}
 use Rattle.std.proofs.lemmas.Bool.{cases_lt}
 use Rattle.std.proofs.lemmas.List.{get_or_default, get_or_read}
@@ -18,6 +18,10 @@ loop-state-preserved c =
     let class = get_or_read classes state c.index.result.now known c.index.ensures 0 in
     elim c.if-index-class.branch [
       | then-index-class+in_ok-push w ↦ rw (w.kept-is, w.in_ok-push.ensures.items) (record {
+        only = λ s there. elim (Contains-push_cases kept state s there) [
+          | inl old ↦ before.only s old
+          | inr same ↦ subst (λ n. get_or classes n 0 ≡ c.args.class) same (sym class ∙ w.if-index-class.true)
+        ];
         fewer = λ s there. elim (Contains-push_cases kept state s there) [
           | inl old ↦ before.fewer s old
           | inr same ↦ subst (Contains states) same (Contains-get_or states turn 0 c.loop-state-test.true)
@@ -28,6 +32,7 @@ loop-state-preserved c =
         ];
       })
       | else-index-class w ↦ rw w.kept-is (record {
+        only = before.only;
         fewer = before.fewer;
         stays = λ k less has. elim (cases_lt k turn) [
           | inl low ↦ before.stays k low has
@@ -42,6 +47,7 @@ returns c =
     let end = c.loop-state.auto.state-index-end in
     let kept = c.loop-state.kept.items in
     record {
+      only = c.loop-state.invariant.only;
       fewer = c.loop-state.invariant.fewer;
       stays = λ state there has.
           let less = there.1 in
