@@ -10,14 +10,14 @@ use Rattle.rule_formula.specs.Mean.{IsGame, mask_tracks}
 use Rattle.rule_formula.specs.Meaning.{IsBearer}
 use Rattle.rule_formula.specs.Trees.{safe_of}
 use Rattle.set_plan.specs.Same.{SameItem}
-use Rattle.set_plan.specs.Sets.{IsItemOn, IsSetOn, item_of}
+use Rattle.set_plan.specs.Sets.{IsItemOn, IsReachedOn, item_of}
 use Rattle.mate_plan.specs.Plan.{safe_item}
 use Rattle.mate_plan.specs.PlanOf.{rules_of}
 use Rattle.mate_plan.proofs.PartItems.{safe_on, safe_same}
 
 module _ (p : Position) (game : IsGame p) (sets : List Automaton) (mask : ℕ) (b : Bearing) (w : IsBearer p.men mask b.man b.ray b.king) (id : SetId)
     (f : Tree) (is : f ≡ safe_of p.men mask b.man b.ray b.king id.0) (a : Automaton) (found : slice_get sets id.0 ≡ Some a)
-    (on : IsSetOn (mask_tracks p mask) a) where
+    (on : IsReachedOn (mask_tracks p mask) a) where
   pub safe_item_on : IsItemOn (mask_tracks p mask) sets f
   safe_item_on =
       let On : Tree → Type 0 = λ t. IsItemOn (mask_tracks p mask) sets t in
