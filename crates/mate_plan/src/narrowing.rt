@@ -14,7 +14,7 @@ use crate::names::{Part, PartName};
 use crate::stage::Stage;
 use auto_core::Auto;
 use rule_formula::{Bearing, safe_formula};
-use set_plan::{Made, PlanError, StepName, Steps, each, make_on, reduced};
+use set_plan::{Made, PlanError, StepName, Steps, each, make_reached, reduced};
 
 /// The set of a stage made narrower by one bearing after the other. It need not be reduced on the way.
 #[derive(Drop)]
@@ -84,8 +84,7 @@ impl Steps for Narrowing<'_> {
             part: self.stage.part(Part::Safe),
             at,
         };
-        let mut level = work.memo.level(alloc, work.sets.table());
-        let made = make_on(alloc, &mut work.memo, &mut level, from, &formula)?;
+        let made = make_reached(alloc, &mut work.memo, from, &formula, work.sets.table())?;
         work.sets.truncate(count);
         Ok(made)
     }

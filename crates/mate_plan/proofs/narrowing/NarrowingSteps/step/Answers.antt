@@ -18,8 +18,8 @@ use Rattle.mate_plan.proofs.SafeAnswers.{safe_item_on, safe_item_same}
 use Rattle.mate_plan.proofs.UnionAnswers.{game_of}
 use Rattle.mate_plan.proofs.narrowing.NarrowingSteps.step.Goals as goal
 
-pub make_on-requires-clause-item : goal.make_on-requires-clause-item
-make_on-requires-clause-item c =
+pub make_reached-requires-clause-item : goal.make_reached-requires-clause-item
+make_reached-requires-clause-item c =
     let on : IsReachedOn (mask_tracks c.args.self.now.bench.now.position.now c.args.self.now.stage.mask) c.in-Some.source = rw c.in-Some.is at c.requires.fits.1.2 in
     let item =
     safe_item_on c.args.self.now.bench.now.position.now
@@ -28,7 +28,7 @@ make_on-requires-clause-item c =
     (All-head (λ b. IsBearer c.args.self.now.bench.now.position.now.men c.args.self.now.stage.mask b.man b.ray b.king) c.args.bearing.now
     c.requires.fits.0 c.requires.fits.1.1)
     c.in_ok-id.id (tree_of c.in_ok-formula.formula) c.in_ok-formula.ensures.tree c.in-Some.source c.in_ok-id.ensures.ok on in
-    rw (c.level-level.ensures.sets, c.table.ensures)
+    rw c.table.ensures
     (item-own (mask_tracks c.args.self.now.bench.now.position.now c.args.self.now.stage.mask) c.put.new.self (tree_of c.in_ok-formula.formula) item)
 
 pub truncate-requires : goal.truncate-requires
@@ -48,7 +48,7 @@ returns-clause-answers c =
     c.requires.fits.0 c.requires.fits.1.1)
     c.in_ok-id.id (tree_of c.in_ok-formula.formula) c.in_ok-formula.ensures.tree c.in-Some.source c.in_ok-id.ensures.ok on
     (as_set c.args.so_far.set) is in
-    let made = rw (c.level-level.ensures.sets, c.table.ensures, c.part-part.ensures) at c.in_ok-made.ensures.answers in
+    let made = rw (c.table.ensures, c.part.ensures) at c.in_ok-made.ensures.answers in
     Ends-make_same (name c.args.self.now.stage.ply c.args.self.now.stage.mask kind.Safe) c.args.work.now.memo.budget c.args.so_far.at
     (item_of c.put.new.self (tree_of c.in_ok-formula.formula))
     (safe_item (rules_of c.args.self.now.bench.now.position.now) c.args.self.now.stage.mask (as_set c.args.so_far.set) c.args.bearing.now)
@@ -85,7 +85,7 @@ returns-in_err-made-clause-answers c =
     c.requires.fits.0 c.requires.fits.1.1)
     c.in_ok-id.id (tree_of c.in_ok-formula.formula) c.in_ok-formula.ensures.tree c.in-Some.source c.in_ok-id.ensures.ok on
     (as_set c.args.so_far.set) is in
-    let made = rw (c.level-level.ensures.sets, c.table.ensures, c.part-part.ensures) at c.in_err-made.ensures.answers in
+    let made = rw (c.table.ensures, c.part.ensures) at c.in_err-made.ensures.answers in
     let p = err_from_is_err_and c.from_residual-in_err-made.result c.from_residual-in_err-made.ensures.1 in
     rw (p.1, p.2)
     (Error-make (name c.args.self.now.stage.ply c.args.self.now.stage.mask kind.Safe) c.args.work.now.memo.budget c.args.so_far.at
