@@ -29,8 +29,9 @@ use Rattle.rule_formula.proofs.MeanTheorem.{bearings_mean, options_mean}
 use Rattle.rule_formula.proofs.SizeTheorem.{bear_modest, bear_names, image_modest, image_names, pre_modest, pre_names, safe_modest, safe_names}
 use Rattle.rule_formula.proofs.TracksTheorem.{image_tracks}
 use Rattle.set_plan.specs.Same.{IsLacking, SameItem, Thinned}
-use Rattle.set_plan.specs.Sets.{IsItemOn, IsNameOn, item_of, set_at}
+use Rattle.set_plan.specs.Sets.{IsItemOn, IsNameOn, IsReachedOn, item_of, set_at}
 use Rattle.set_plan.specs.Unite.{two}
+use Rattle.set_plan.proofs.Items.{reached_on}
 use Rattle.mate_plan.specs.Formulas.{bear_trees, image_trees, images_from, name_of, pre_to, pre_trees}
 use Rattle.mate_plan.specs.Levels.{AreNames, level_of}
 use Rattle.mate_plan.specs.Plan.{Level, Rules, bear_item, bear_items, choices_into, image_item, image_items, pre_item, pre_items, safe_item}
@@ -40,22 +41,29 @@ use Rattle.mate_plan.proofs.ItemSteps.{HasStep, bear_step, image_step, pre_step,
 use Rattle.mate_plan.proofs.LevelLemmas.{name_is_on, set_of_name}
 use Rattle.mate_plan.proofs.PlainFormulas.{bear-positives, bear-relabel, image-positives, image-relabel, pre-positives, pre-relabel, safe-relabel}
 
+-- the name of a set that need not be reduced
+abbrev pub IsReachedName : List Var → List Automaton → SetId → Type 0
+IsReachedName tracks sets id = (a : Automaton) × (slice_get sets id.0 ≡ Some a) × IsReachedOn tracks a
+
+pub name_reached : (tracks : List Var) (sets : List Automaton) (id : SetId) → IsNameOn tracks sets (Some id) → IsReachedName tracks sets id
+name_reached tracks sets id (a, found, on) = (a, found, reached_on tracks a on)
+
 -- the set of a name serves where it is named
-set_for : (tracks : List Var) (sets : List Automaton) (id : SetId) (m : ℕ × List Var) → IsNameOn tracks sets (Some id) → IsOver id.0 tracks m → IsSetFor sets m.0 (length m.1)
+set_for : (tracks : List Var) (sets : List Automaton) (id : SetId) (m : ℕ × List Var) → IsReachedName tracks sets id → IsOver id.0 tracks m → IsSetFor sets m.0 (length m.1)
 set_for tracks sets id m (a, found, is) over = record {
   set = a;
   is_there = subst (λ (k : ℕ). slice_get sets k ≡ Some a) (sym over.set) found;
-  reduced = is.reduced;
+  reached = is.reached;
   integers = is.decides.integers;
   arity = ap length is.decides.tracks_are ∙ sym over.count;
 }
 
-pub has_one : (tracks : List Var) (sets : List Automaton) (id : SetId) (f : Tree) → IsNameOn tracks sets (Some id) → NamesOnly id.0 tracks f → HasSets sets f
+pub has_one : (tracks : List Var) (sets : List Automaton) (id : SetId) (f : Tree) → IsReachedName tracks sets id → NamesOnly id.0 tracks f → HasSets sets f
 has_one tracks sets id f on names =
     All-weaker (IsOver id.0 tracks) (λ m. IsSetFor sets m.0 (length m.1)) (λ m over. set_for tracks sets id m on over) (memberships f) names
 
-has_two : (tracks others : List Var) (sets : List Automaton) (source target : SetId) (f : Tree) → IsNameOn tracks sets (Some source)
-    → IsNameOn others sets (Some target) → NamesBoth source.0 tracks target.0 others f → HasSets sets f
+has_two : (tracks others : List Var) (sets : List Automaton) (source target : SetId) (f : Tree) → IsReachedName tracks sets source
+    → IsReachedName others sets target → NamesBoth source.0 tracks target.0 others f → HasSets sets f
 has_two tracks others sets source target f on on_target names =
     All-weaker (λ m. IsOver source.0 tracks m ⊎ IsOver target.0 others m) (λ m. IsSetFor sets m.0 (length m.1))
     (λ m over. elim over [ inl a ↦ set_for tracks sets source m on a | inr b ↦ set_for others sets target m on_target b ]) (memberships f) names
@@ -103,7 +111,7 @@ module _ (p : Position) (game : IsGame p) (sets : List Automaton) where
       let w = choice side mask o i in
       let means : OptionsMean p side mask o = options_mean p game side mask o w in
       is_item (mask_tracks p to) sets f (image_step p.men mask o source.0 w.0) (image_modest p.men mask o source.0 f game.few w.0 refl)
-      (has_one (mask_tracks p mask) sets source f on (image_names p.men mask o source.0 f game.few w.0 refl))
+      (has_one (mask_tracks p mask) sets source f (name_reached (mask_tracks p mask) sets source on) (image_names p.men mask o source.0 f game.few w.0 refl))
       (means.image_tracks source.0 ∙ ap (mask_tracks p) leads)
 
   images_on_from : (side : Side) (to mask : ℕ) (name : Option SetId) → IsNameOn (mask_tracks p mask) sets name → All (IsItemOn (mask_tracks p to) sets) (images_from p side to mask name)
@@ -158,8 +166,10 @@ module _ (p : Position) (game : IsGame p) (sets : List Automaton) where
       let means : OptionsMean p side mask o = options_mean p game side mask o w in
       let others = tracks_of p.men (without (is_live mask) o.taken) in
       let On : List Var → Type 0 = λ tracks. IsNameOn tracks sets (Some target) in
+      let reached = name_reached (mask_tracks p mask) sets source on in
+      let reached_target = name_reached others sets target (subst On (target_tracks side mask o w) on_target) in
       is_item (mask_tracks p mask) sets f (pre_step p.men mask o source.0 target.0 w.0) (pre_modest p.men mask o source.0 target.0 f game.few w.0 refl)
-      (has_two (mask_tracks p mask) others sets source target f on (subst On (target_tracks side mask o w) on_target) (pre_names p.men mask o source.0 target.0 f game.few w.0 refl))
+      (has_two (mask_tracks p mask) others sets source target f reached reached_target (pre_names p.men mask o source.0 target.0 f game.few w.0 refl))
       (means.pre_tracks source.0 target.0)
 
   pre_on_to : (side : Side) (mask : ℕ) (o : Opt) (source : SetId) (target : Option SetId) → Contains (options_of p.men mask side) o
@@ -222,9 +232,9 @@ module _ (p : Position) (game : IsGame p) (sets : List Automaton) where
       let f = bear_of p.men mask b.man b.ray b.king source.0 in
       let means : BearingsMean p mask b = bearings_mean p mask b w in
       is_item (mask_tracks p mask) sets f (bear_step p.men mask b.man b.ray b.king source.0 w) (bear_modest p.men mask b.man b.ray b.king source.0 f game.few w refl)
-      (has_one (mask_tracks p mask) sets source f on (bear_names p.men mask b.man b.ray b.king source.0 f game.few w refl)) (means.bear_tracks source.0)
+      (has_one (mask_tracks p mask) sets source f (name_reached (mask_tracks p mask) sets source on) (bear_names p.men mask b.man b.ray b.king source.0 f game.few w refl)) (means.bear_tracks source.0)
 
-  pub safe_on : (mask : ℕ) (b : Bearing) (source : SetId) → IsBearer p.men mask b.man b.ray b.king → IsNameOn (mask_tracks p mask) sets (Some source)
+  pub safe_on : (mask : ℕ) (b : Bearing) (source : SetId) → IsBearer p.men mask b.man b.ray b.king → IsReachedName (mask_tracks p mask) sets source
       → IsItemOn (mask_tracks p mask) sets (safe_of p.men mask b.man b.ray b.king source.0)
   safe_on mask b source w on =
       let f = safe_of p.men mask b.man b.ray b.king source.0 in

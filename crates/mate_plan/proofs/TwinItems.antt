@@ -26,7 +26,7 @@ use Rattle.set_plan.specs.Sets.{IsItemOn, IsNameOn, item_of, set_at}
 use Rattle.mate_plan.specs.Twins.{twin_item, twin_items, twin_trees, twins_of}
 use Rattle.mate_plan.proofs.ItemLemmas.{lacks_one, nothing_empty, same_one, thinned-map, thinned-none}
 use Rattle.mate_plan.proofs.ItemSteps.{step-And}
-use Rattle.mate_plan.proofs.PartItems.{has_one, is_item}
+use Rattle.mate_plan.proofs.PartItems.{has_one, is_item, name_reached}
 
 pub twins_few : (p : Position) (mask : ℕ) (source : Option SetId) → length p.men ≤ 8 → length (twin_trees p mask source) < 2 ^ 20
 twins_few p mask None few = omega arith
@@ -62,7 +62,7 @@ module _ (p : Position) (game : IsGame p) (sets : List Automaton) (mask : ℕ) (
       let eight = eight_vars mask (length p.men) few here.no_more in
       let names = twins_names mask w.first w.second source.0 f pair.order first second refl in
       is_item (mask_tracks p mask) sets f (step-And (tree.And (tree.Among source.0 vars) across) along) (twins_modest mask w.first w.second source.0 f pair.order first second refl)
-      (has_one vars sets source f (subst (λ vars. IsNameOn vars sets (Some source)) (sym eight) on) names)
+      (has_one vars sets source f (name_reached vars sets source (subst (λ vars. IsNameOn vars sets (Some source)) (sym eight) on)) names)
       ((pairs_mean p few mask w here pair).tracks source.0)
 
   pub twins_on : (source : Option SetId) → IsNameOn (mask_tracks p mask) sets source → All (IsItemOn (mask_tracks p mask) sets) (twin_trees p mask source)

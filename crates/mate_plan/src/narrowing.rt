@@ -14,9 +14,9 @@ use crate::names::{Part, PartName};
 use crate::stage::Stage;
 use auto_core::Auto;
 use rule_formula::{Bearing, safe_formula};
-use set_plan::{Made, PlanError, Steps, each, make};
+use set_plan::{Made, PlanError, StepName, Steps, each, make_reached, reduced};
 
-/// The set of a stage made narrower by one bearing after the other.
+/// The set of a stage made narrower by one bearing after the other. It need not be reduced on the way.
 #[derive(Drop)]
 struct Narrowing<'a> {
     bench: &'a Bench<'a>,
@@ -28,7 +28,7 @@ impl Steps for Narrowing<'_> {
     ghost use Rattle.std.specs.Prelude.{◌<◌, ◌+◌, ◌*◌, ◌^◌, All, IfSome, length};
     ghost use Rattle.rule_formula.specs.Mean.{mask_tracks as tracks_at};
     ghost use Rattle.rule_formula.specs.Meaning.{IsBearer};
-    ghost use Rattle.set_plan.specs.Sets.{Grows, IsSetOn, made_of};
+    ghost use Rattle.set_plan.specs.Sets.{Grows, IsReachedOn, made_of};
     ghost use Rattle.set_plan.specs.Unite as made;
     ghost use Rattle.mate_plan.specs.Plan as plan;
     ghost use Rattle.mate_plan.specs.PlanOf.{rules_of};
@@ -51,7 +51,7 @@ impl Steps for Narrowing<'_> {
 
     ghost fits = { λ it _ so_far bearings. Sound it.bench.now.position.now
         × All (λ b. IsBearer it.bench.now.position.now.men it.stage.mask b.man b.ray b.king) bearings
-        × IfSome so_far.set (IsSetOn (tracks_at it.bench.now.position.now it.stage.mask))
+        × IfSome so_far.set (IsReachedOn (tracks_at it.bench.now.position.now it.stage.mask))
         × (so_far.at + length bearings * 1000 < 2 ^ 31) };
 
     ghost keeps = { λ _ u v. Grows u.sets v.sets };
@@ -80,14 +80,17 @@ impl Steps for Narrowing<'_> {
         let count = work.sets.count();
         let id = work.sets.put(source)?;
         let formula = safe_formula(alloc, position, self.stage.mask, man, ray, king, id)?;
-        let part = self.stage.part(Part::Safe);
-        let made = make(alloc, &mut work.memo, part, at, &formula, work.sets.table())?;
+        let from = StepName {
+            part: self.stage.part(Part::Safe),
+            at,
+        };
+        let made = make_reached(alloc, &mut work.memo, from, &formula, work.sets.table())?;
         work.sets.truncate(count);
         Ok(made)
     }
 }
 
-/// The set made narrower by each of the bearings in turn.
+/// The set made narrower by each of the bearings in turn. Only the last one is reduced.
 pub(crate) fn narrow(
     bench: &Bench,
     work: &mut Work,
@@ -106,7 +109,11 @@ pub(crate) fn narrow(
     ensures grows { Grows work.old.sets work.new.sets }
     ensures budget { work.new.memo.budget ≡ work.old.memo.budget }
 {
+    if bearings.is_empty() {
+        return Ok(moved);
+    }
     let narrowing = Narrowing { bench, stage };
     let made = each(&narrowing, work, bearings, Made { set: moved, at: 1 })?;
-    Ok(made.set)
+    let last = reduced(bench.alloc, made)?;
+    Ok(last.set)
 }

@@ -6,7 +6,7 @@ use Rattle.auto_core.specs.Automaton.{Automaton}
 use Rattle.lin_formula.specs.declared.formula.Formula.{Formula}
 use Rattle.lin_formula.specs.Tree.{Tree, free_vars, steps}
 use Rattle.lin_formula.specs.TreeOf.{tree_of}
-use Rattle.set_plan.specs.Sets.{IsItemOn, IsSetBy, IsSetOn}
+use Rattle.set_plan.specs.Sets.{IsItemOn, IsReachedOn, IsSetBy, IsSetOn}
 
 -- the front of what is left of a list
 pub drop_front : {X : Type 0} (xs : List X) (i : ℕ) (x : X) → i < length xs → x ≡ get_or xs i x → drop i xs ≡ x ∷ drop (i + 1) xs
@@ -29,6 +29,10 @@ made_on tracks f some over (Some a) is = record {
   decides = record { integers = is.decides.integers; tracks_are = is.decides.tracks_are ∙ over };
   few = is.few some;
 }
+
+-- words lead to each state of a set
+pub reached_on : (tracks : List Var) (a : Automaton) → IsSetOn tracks a → IsReachedOn tracks a
+reached_on tracks a on = record { reached = on.reduced.reached; decides = record { integers = on.integers; tracks_are = on.tracks_are; few = on.few } }
 
 -- over its own variables
 pub item-own : (tracks : List Var) (sets : List Automaton) (f : Tree) → IsItemOn tracks sets f → IsItemOn (free_vars f) sets f

@@ -14,6 +14,9 @@ use Rattle.set_plan.proofs.Askings.{Ends-asked}
 use Rattle.set_plan.proofs.Composition.{Ends-ask_no, Ends-bind, Ends-give, Ends-give_is, Ends-split, none_some}
 use Rattle.set_plan.proofs.Makes.{Ends-join_left, Ends-join_right}
 
+table-nothing : (a : Automaton) → Table a ≡ Nothing → ⊥
+table-nothing a e = cc
+
 module _ {P : Type 0} (budget : ℕ) where
   -- the end has the set that was there before, and would have any other, or else it may have any form of its set
   abbrev Renews : (plan.Made → Program P plan.Made) → plan.Made → plan.Made → Type 0
@@ -61,7 +64,7 @@ module _ {P : Type 0} (budget : ℕ) where
             }
         by (inr (rest, s, whole, is, (none, inr end))) = none_some end
 
-    pub make-renews : (made.0 ≡ Nothing → ⊥) → Ends (plan.make part at item) budget made → Ends (plan.make part at item) budget (t, made.1)
+    make-renews : (made.0 ≡ Nothing → ⊥) → Ends (plan.make part at item) budget made → Ends (plan.make part at item) budget (t, made.1)
     make-renews some h =
         elim (Ends-asked (Empty (map item.sets (plan.positives item.formula))) (Give (Nothing, at)) (plan.compute part at item) budget made h) [
           | inl (empty, gives) ↦
@@ -69,6 +72,40 @@ module _ {P : Type 0} (budget : ℕ) where
               absurd (some nothing)
           | inr (none, computes) ↦ Ends-ask_no (Empty (map item.sets (plan.positives item.formula))) (Give (Nothing, at)) (plan.compute part at item) budget (t, made.1) none (compute-renews computes)
         ]
+
+  -- where a program may end with any automaton of its set, it does not matter either whether there is one
+  module _ (m : Program P plan.Made) (any : (at : ℕ) (a r : Automaton) → SameSets (Table a) (Table r) → Ends m budget (Table a, at) → Ends m budget (Table r, at)) where
+    form-renewed : (set other : Option Automaton) (at then_at : ℕ) → then_at ≡ at → IsReducedSet set other → Ends m budget (as_set set, at) → Ends m budget (as_set other, then_at)
+    form-renewed None other at then_at same none h =
+        let Ended : Option Automaton → ℕ → Type 0 = λ o n. Ends m budget (as_set o, n) in
+        subst (λ (o : Option Automaton). Ended o then_at) (sym none) (subst (Ended None) (sym same) h)
+    form-renewed (Some a) other at then_at same (r, is, reduction) h =
+        let Ended : Option Automaton → ℕ → Type 0 = λ o n. Ends m budget (as_set o, n) in
+        subst (λ (o : Option Automaton). Ended o then_at) (sym is) (subst (Ended (Some r)) (sym same) (any at a r reduction.same h))
+
+    made-reduced : (made other : Made) → IsReducedMade made other → Ends m budget (made_of made) → Ends m budget (made_of other)
+    made-reduced made other (same, reduced) h = form-renewed made.set other.set made.at other.at same reduced h
+
+  module _ {X : Type 0} (part : P) (item : X → SetOf → Item) where
+    -- an item of what there is so far
+    abbrev remake : X → plan.Made → Program P plan.Made
+    remake x so_far = plan.make part so_far.1 (item x so_far.0)
+
+    each-renewed : (x : X) (xs : List X) (so_far : plan.Made) (at : ℕ) (a r : Automaton) → SameSets (Table a) (Table r)
+        → Ends (each (x ∷ xs) remake so_far) budget (Table a, at) → Ends (each (x ∷ xs) remake so_far) budget (Table r, at)
+    each-renewed x [] so_far at a r like h =
+        let (next, first, rest) = Ends-split (remake x so_far) (each [] remake) budget (Table a, at) h in
+        let is : (Table a, at) ≡ next = Ends-give_is next (Table a, at) budget rest in
+        let last = make-renews part so_far.1 (item x so_far.0) (Table a, at) (Table r) like (table-nothing a) (subst (Ends (remake x so_far) budget) (sym is) first) in
+        Ends-bind (remake x so_far) (each [] remake) budget (Table r, at) (Table r, at) last (Ends-give budget (Table r, at))
+    each-renewed x (y ∷ ys) so_far at a r like h =
+        let (next, first, rest) = Ends-split (remake x so_far) (each (y ∷ ys) remake) budget (Table a, at) h in
+        Ends-bind (remake x so_far) (each (y ∷ ys) remake) budget next (Table r, at) first (each-renewed y ys next at a r like rest)
+
+    -- where item after item is made of what there is so far, the last one may be reduced
+    pub remade-reduced : (x : X) (xs : List X) (so_far : plan.Made) (made other : Made) → IsReducedMade made other
+        → Ends (each (x ∷ xs) remake so_far) budget (made_of made) → Ends (each (x ∷ xs) remake so_far) budget (made_of other)
+    remade-reduced x xs so_far made other reduced h = made-reduced (each (x ∷ xs) remake so_far) (each-renewed x xs so_far) made other reduced h
 
   module _ (tracks : List Var) (part : P) where
     abbrev or_else : SetOf → plan.Made → Program P plan.Made
@@ -117,30 +154,17 @@ module _ {P : Type 0} (budget : ℕ) where
             inr (later next one some.0 (Ends-asked (Empty (so_far.0 ∷ [])) (Give next) (plan.compute part next.1 (plan.either tracks so_far.0 next.0)) budget made rest))
 
     -- a union from nothing may end with any automaton of its set
-    pub unite-renewed : (items : List Item) (from at : ℕ) (a r : Automaton) → SameSets (Table a) (Table r) → Ends (plan.unite tracks part (Nothing, from) items) budget (Table a, at)
+    unite-renewed : (items : List Item) (from at : ℕ) (a r : Automaton) → SameSets (Table a) (Table r) → Ends (plan.unite tracks part (Nothing, from) items) budget (Table a, at)
         → Ends (plan.unite tracks part (Nothing, from) items) budget (Table r, at)
     unite-renewed items from at a r like h =
         elim (each-renews (plan.with_item tracks part) item-renews items (Nothing, from) (Table a, at) h) [
           | inl (same, any) ↦ absurd (table-nothing a same)
           | inr any ↦ any (Table r) like
         ]
-      where
-        table-nothing : (a : Automaton) → Table a ≡ Nothing → ⊥
-        table-nothing a e = cc
-
-    -- nor does it matter whether there is one
-    form-renewed : (items : List Item) (from : ℕ) (set other : Option Automaton) (at then_at : ℕ) → then_at ≡ at → IsReducedSet set other
-        → Ends (plan.unite tracks part (Nothing, from) items) budget (as_set set, at) → Ends (plan.unite tracks part (Nothing, from) items) budget (as_set other, then_at)
-    form-renewed items from None other at then_at same none h =
-        let Ended : Option Automaton → ℕ → Type 0 = λ o n. Ends (plan.unite tracks part (Nothing, from) items) budget (as_set o, n) in
-        subst (λ (o : Option Automaton). Ended o then_at) (sym none) (subst (Ended None) (sym same) h)
-    form-renewed items from (Some a) other at then_at same (r, is, reduction) h =
-        let Ended : Option Automaton → ℕ → Type 0 = λ o n. Ends (plan.unite tracks part (Nothing, from) items) budget (as_set o, n) in
-        subst (λ (o : Option Automaton). Ended o then_at) (sym is) (subst (Ended (Some r)) (sym same) (unite-renewed items from at a r reduction.same h))
 
     pub made-renewed : (items : List Item) (from : ℕ) (made other : Made) → IsReducedMade made other → Ends (plan.unite tracks part (Nothing, from) items) budget (made_of made)
         → Ends (plan.unite tracks part (Nothing, from) items) budget (made_of other)
-    made-renewed items from made other (same, reduced) h = form-renewed items from made.set other.set made.at other.at same reduced h
+    made-renewed items from made other reduced h = made-reduced (plan.unite tracks part (Nothing, from) items) (unite-renewed items from) made other reduced h
 
 pub set-reduced_on : (tracks : List Var) (set other : Option Automaton) → IsReducedSet set other → IfSome set (IsReachedOn tracks) → IfSome other (IsSetOn tracks)
 set-reduced_on tracks None other none on = subst (λ (o : Option Automaton). IfSome o (IsSetOn tracks)) (sym none) tt

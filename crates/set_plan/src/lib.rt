@@ -20,6 +20,6 @@ pub use empty::is_empty_set;
 pub use fold::{Steps, each};
 pub use left::{Left, remainder};
 pub use made::Made;
-pub use parts::{make, make_on, reduced, together, unite};
+pub use parts::{make, make_reached, reduced, together, unite};
 pub use sets::Sets;
 pub use stop::{PlanError, StepName};

@@ -92,6 +92,27 @@ pub fn make_on<P: Copy>(
     }
 }
 
+/// As `make`, for those who go on with the set: it need not be reduced.
+pub fn make_reached<P: Copy>(
+    alloc: Global,
+    memo: &mut Memo,
+    from: StepName<P>,
+    f: &Formula,
+    sets: &SetTable,
+) -> Result<Made, PlanError<P>>
+    requires item { IsItemOn (free_vars (tree_of f.now)) sets.now (tree_of f.now) }
+    requires room { from.at < 2 ^ 31 }
+    ensures answers { Answers
+        (plan.make from.part from.at (item_of sets.now (tree_of f.now))) memo.old.budget made_of result }
+    ensures set { IfOk result (λ made. IfSome made.set (IsReachedOn (free_vars (tree_of f.now)))) }
+    ensures room { IfOk result (λ made. made.at < from.at + 1000) }
+    ensures budget { memo.new.budget ≡ memo.old.budget }
+{
+    let mut level = memo.level(alloc, sets);
+    let made = make_on(alloc, memo, &mut level, from, f);
+    made
+}
+
 /// A union over these tracks, as a part.
 #[derive(Drop)]
 struct Uniting<'a, P> {

@@ -1,12 +1,16 @@
+use Rattle.std.proofs.Common.{◌<◌, ◌∙◌, length, sym, arith}
+use Rattle.std.proofs.lemmas.Bool.{eqb-false}
 use Rattle.std.proofs.lemmas.Result.{err_from_is_err_and}
 use Rattle.lin_formula.specs.SetOf.{as_set}
 use Rattle.rule_formula.specs.declared.opt.Bearing.{Bearing}
+use Rattle.rule_formula.specs.Mean.{mask_tracks}
 use Rattle.set_plan.specs.Program.{Give, each}
-use Rattle.set_plan.specs.Sets.{made_of}
 use Rattle.set_plan.specs.Unite.{Made}
-use Rattle.set_plan.proofs.Composition.{Ends-bind, Ends-give, Error-bind}
+use Rattle.set_plan.proofs.Composition.{Error-bind}
+use Rattle.set_plan.proofs.Renewals.{set-reduced_on}
 use Rattle.mate_plan.specs.Plan.{Program, narrow_by}
 use Rattle.mate_plan.specs.PlanOf.{rules_of}
+use Rattle.mate_plan.proofs.SafeAnswers.{narrowed}
 use Rattle.mate_plan.proofs.narrowing.narrow.Goals as goal
 
 pub returns-in_err-made-clause-answers : goal.returns-in_err-made-clause-answers
@@ -17,7 +21,11 @@ returns-in_err-made-clause-answers c =
 
 pub returns-clause-answers : goal.returns-clause-answers
 returns-clause-answers c =
-    let by : Bearing → Made → Program Made = narrow_by (rules_of c.args.bench.now.position.now) c.args.stage.ply c.args.stage.mask in
-    let made = made_of c.in_ok-made.made in
-    Ends-bind (each c.args.bearings.now by (as_set c.args.moved, 1)) (λ made. Give made.0) c.args.work.now.memo.budget made made.0
-    c.in_ok-made.ensures.answers (Ends-give c.args.work.now.memo.budget made.0)
+    let none = eqb-false (length c.args.bearings.now) 0 (sym c.is_empty.ensures ∙ c.if-is_empty.false) in
+    let some : 0 < length c.args.bearings.now = omega (arith, none) in
+    narrowed c.args.bench.now.position.now c.args.stage.ply c.args.stage.mask c.args.work.now.memo.budget (as_set c.args.moved) c.args.bearings.now some
+    c.in_ok-made.made c.in_ok-last.last c.in_ok-last.ensures c.in_ok-made.ensures.answers
+
+pub returns-clause-set : goal.returns-clause-set
+returns-clause-set c =
+    set-reduced_on (mask_tracks c.args.bench.now.position.now c.args.stage.mask) c.in_ok-made.made.set c.in_ok-last.last.set c.in_ok-last.ensures.1 c.in_ok-made.ensures.fits.2

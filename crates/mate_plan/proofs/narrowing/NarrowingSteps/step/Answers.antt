@@ -1,12 +1,13 @@
-use Rattle.std.proofs.Common.{◌≡◌, suc, sym, ap, ◌∙◌, arith}
+use Rattle.std.proofs.Common.{◌≡◌, suc, List, IfSome, subst, sym, ap, ◌∙◌, arith}
 use Rattle.std.proofs.lemmas.List.Elements.{All-head}
 use Rattle.std.proofs.lemmas.Result.{err_from_is_err_and}
+use Rattle.track_word.specs.declared.tracks.Var.{Var}
 use Rattle.lin_formula.specs.SetOf.{as_set, tables}
 use Rattle.lin_formula.specs.TreeOf.{tree_of}
 use Rattle.rule_formula.specs.Mean.{mask_tracks}
 use Rattle.rule_formula.specs.Meaning.{IsBearer}
-use Rattle.set_plan.specs.Sets.{IsSetOn, item_of, made_of}
-use Rattle.set_plan.proofs.Items.{made_on}
+use Rattle.set_plan.specs.Sets.{IsReachedOn, item_of, made_of}
+use Rattle.set_plan.proofs.Items.{item-own}
 use Rattle.set_plan.proofs.Thinned.{Ends-make_same}
 use Rattle.mate_plan.specs.Plan.{name, safe_item}
 use Rattle.mate_plan.specs.PlanOf.{rules_of}
@@ -17,9 +18,9 @@ use Rattle.mate_plan.proofs.SafeAnswers.{safe_item_on, safe_item_same}
 use Rattle.mate_plan.proofs.UnionAnswers.{game_of}
 use Rattle.mate_plan.proofs.narrowing.NarrowingSteps.step.Goals as goal
 
-pub make-requires-clause-compilable : goal.make-requires-clause-compilable
-make-requires-clause-compilable c =
-    let on : IsSetOn (mask_tracks c.args.self.now.bench.now.position.now c.args.self.now.stage.mask) c.in-Some.source = rw c.in-Some.is at c.requires.fits.1.2 in
+pub make_reached-requires-clause-item : goal.make_reached-requires-clause-item
+make_reached-requires-clause-item c =
+    let on : IsReachedOn (mask_tracks c.args.self.now.bench.now.position.now c.args.self.now.stage.mask) c.in-Some.source = rw c.in-Some.is at c.requires.fits.1.2 in
     let item =
     safe_item_on c.args.self.now.bench.now.position.now
     (game_of c.args.self.now.bench.now.position.now c.requires.fits.1.0 c.args.self.now.bench.now.few) c.put.new.self
@@ -27,12 +28,8 @@ make-requires-clause-compilable c =
     (All-head (λ b. IsBearer c.args.self.now.bench.now.position.now.men c.args.self.now.stage.mask b.man b.ray b.king) c.args.bearing.now
     c.requires.fits.0 c.requires.fits.1.1)
     c.in_ok-id.id (tree_of c.in_ok-formula.formula) c.in_ok-formula.ensures.tree c.in-Some.source c.in_ok-id.ensures.ok on in
-    rw c.table.ensures item.compilable
-
-pub make-requires-clause-few : goal.make-requires-clause-few
-make-requires-clause-few c =
-    let few = c.in_ok-formula.ensures.modest.steps_are_few in
-    omega (arith, few)
+    rw c.table.ensures
+    (item-own (mask_tracks c.args.self.now.bench.now.position.now c.args.self.now.stage.mask) c.put.new.self (tree_of c.in_ok-formula.formula) item)
 
 pub truncate-requires : goal.truncate-requires
 truncate-requires c =
@@ -41,7 +38,7 @@ truncate-requires c =
 
 pub returns-clause-answers : goal.returns-clause-answers
 returns-clause-answers c =
-    let on : IsSetOn (mask_tracks c.args.self.now.bench.now.position.now c.args.self.now.stage.mask) c.in-Some.source = rw c.in-Some.is at c.requires.fits.1.2 in
+    let on : IsReachedOn (mask_tracks c.args.self.now.bench.now.position.now c.args.self.now.stage.mask) c.in-Some.source = rw c.in-Some.is at c.requires.fits.1.2 in
     let is : as_set c.args.so_far.set ≡ tables c.put.new.self c.in_ok-id.id.0 = ap as_set c.in-Some.is ∙ sym (ap as_set c.in_ok-id.ensures.ok) in
     let same =
     safe_item_same c.args.self.now.bench.now.position.now
@@ -51,7 +48,7 @@ returns-clause-answers c =
     c.requires.fits.0 c.requires.fits.1.1)
     c.in_ok-id.id (tree_of c.in_ok-formula.formula) c.in_ok-formula.ensures.tree c.in-Some.source c.in_ok-id.ensures.ok on
     (as_set c.args.so_far.set) is in
-    let made = rw (c.table.ensures, c.part-part.ensures) at c.in_ok-made.ensures.answers in
+    let made = rw (c.table.ensures, c.part.ensures) at c.in_ok-made.ensures.answers in
     Ends-make_same (name c.args.self.now.stage.ply c.args.self.now.stage.mask kind.Safe) c.args.work.now.memo.budget c.args.so_far.at
     (item_of c.put.new.self (tree_of c.in_ok-formula.formula))
     (safe_item (rules_of c.args.self.now.bench.now.position.now) c.args.self.now.stage.mask (as_set c.args.so_far.set) c.args.bearing.now)
@@ -59,7 +56,7 @@ returns-clause-answers c =
 
 pub returns-clause-fits : goal.returns-clause-fits
 returns-clause-fits c = λ rest (sound, all, set, room).
-    let on : IsSetOn (mask_tracks c.args.self.now.bench.now.position.now c.args.self.now.stage.mask) c.in-Some.source = rw c.in-Some.is at c.requires.fits.1.2 in
+    let on : IsReachedOn (mask_tracks c.args.self.now.bench.now.position.now c.args.self.now.stage.mask) c.in-Some.source = rw c.in-Some.is at c.requires.fits.1.2 in
     let item =
     safe_item_on c.args.self.now.bench.now.position.now
     (game_of c.args.self.now.bench.now.position.now c.requires.fits.1.0 c.args.self.now.bench.now.few) c.put.new.self
@@ -69,7 +66,7 @@ returns-clause-fits c = λ rest (sound, all, set, room).
     c.in_ok-id.id (tree_of c.in_ok-formula.formula) c.in_ok-formula.ensures.tree c.in-Some.source c.in_ok-id.ensures.ok on in (
       sound,
       λ k d within. all (suc k) d (omega (arith, within)),
-      made_on (mask_tracks c.args.self.now.bench.now.position.now c.args.self.now.stage.mask) (tree_of c.in_ok-formula.formula) item.some item.over c.in_ok-made.made.set c.in_ok-made.ensures.set,
+      subst (λ (tracks : List Var). IfSome c.in_ok-made.made.set (IsReachedOn tracks)) item.over c.in_ok-made.ensures.set,
       omega (arith, room, c.in_ok-made.ensures.room),
     )
 
@@ -78,7 +75,7 @@ returns-clause-keeps c = rw c.truncate.ensures (grows_cut c.args.work.now.sets c
 
 pub returns-in_err-made-clause-answers : goal.returns-in_err-made-clause-answers
 returns-in_err-made-clause-answers c =
-    let on : IsSetOn (mask_tracks c.args.self.now.bench.now.position.now c.args.self.now.stage.mask) c.in-Some.source = rw c.in-Some.is at c.requires.fits.1.2 in
+    let on : IsReachedOn (mask_tracks c.args.self.now.bench.now.position.now c.args.self.now.stage.mask) c.in-Some.source = rw c.in-Some.is at c.requires.fits.1.2 in
     let is : as_set c.args.so_far.set ≡ tables c.put.new.self c.in_ok-id.id.0 = ap as_set c.in-Some.is ∙ sym (ap as_set c.in_ok-id.ensures.ok) in
     let same =
     safe_item_same c.args.self.now.bench.now.position.now
@@ -88,7 +85,7 @@ returns-in_err-made-clause-answers c =
     c.requires.fits.0 c.requires.fits.1.1)
     c.in_ok-id.id (tree_of c.in_ok-formula.formula) c.in_ok-formula.ensures.tree c.in-Some.source c.in_ok-id.ensures.ok on
     (as_set c.args.so_far.set) is in
-    let made = rw (c.table.ensures, c.part-part.ensures) at c.in_err-made.ensures.answers in
+    let made = rw (c.table.ensures, c.part.ensures) at c.in_err-made.ensures.answers in
     let p = err_from_is_err_and c.from_residual-in_err-made.result c.from_residual-in_err-made.ensures.1 in
     rw (p.1, p.2)
     (Error-make (name c.args.self.now.stage.ply c.args.self.now.stage.mask kind.Safe) c.args.work.now.memo.budget c.args.so_far.at
