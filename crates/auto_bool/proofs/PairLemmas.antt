@@ -11,7 +11,7 @@ use Rattle.track_word.specs.Tracks.{with_vars, restrict, part_of}
 use Rattle.letter_diagram.specs.declared.diagrams.Shape.{Shape}
 use Rattle.letter_diagram.specs.Diagram.{map_at}
 use Rattle.letter_diagram.specs.declared.absorbing.Absorbing.{Absorbing}
-use Rattle.letter_diagram.specs.Absorbed.{absorbed, absorbed_at, AreAbsorbed}
+use Rattle.letter_diagram.specs.Absorbed.{absorbed, ArePairs}
 use Rattle.letter_diagram.specs.Numbering.{PairsKept}
 use Rattle.letter_diagram.proofs.Lists.{one_place}
 use Rattle.auto_core.specs.Automaton.{Automaton, IsAutomaton, next_state, run, state_of, is_final, Accepts}
@@ -19,6 +19,7 @@ use Rattle.auto_walk.specs.Walker.{Walker, place_of, IsReached, IsWalked}
 use Rattle.auto_walk.specs.Rows.{AreNumbered, Extends, IsRow}
 use Rattle.auto_walk.proofs.WalkLemmas.{All-at}
 use Rattle.auto_walk.proofs.WalkWords.{map_at-low}
+use Rattle.track_word.proofs.LetterBits.{low_bits}
 use Rattle.auto_bool.specs.declared.connective.Connective.{Connective}
 use Rattle.auto_bool.specs.declared.connective.Connective.TheVariants.{And, Or, AndNot}
 use Rattle.auto_bool.specs.Both.{combined, place_of_pair, walker_over, both_walker}
@@ -80,26 +81,25 @@ states_at g tracks a b connective pairs number left right a_valid b_valid sinks 
     (subst (λ n. n < length a.accept) (first_of_two _ _ _ _ e) pair.left_known, subst (λ n. n < length b.accept) (second_of_two _ _ _ _ e) pair.right_known)
 
 -- the row of the pairs of two rows
-pub IsRow-paired : (g : Absorbing) (w : Walker) (old_shapes shapes : List Shape) (old_pairs pairs : List (ℕ × ℕ)) (lead : ℕ → List ℕ) (left right node : ℕ)
-    (left_value right_value : ℕ → ℕ)
-    → Reads old_shapes (length w.tracks) left left_value → Reads old_shapes (length w.tracks) right right_value
+pub IsRow-paired : (g : Absorbing) (w : Walker) (shapes : List Shape) (old_pairs pairs : List (ℕ × ℕ)) (lead : ℕ → List ℕ) (node : ℕ) (left right left_value right_value : ℕ → ℕ)
+    → Reads (length w.tracks) left left_value → Reads (length w.tracks) right right_value
     → ((letter : ℕ) → lead letter ≡ place_of_pair (absorbed g (left_value letter) (right_value letter))) → node < length shapes
-    → ((letter : ℕ) → slice_get pairs (map_at shapes node letter) ≡ Some (absorbed_at g old_shapes left right letter))
-    → AreAbsorbed g old_shapes (length old_pairs) pairs left right → AllPairs (λ p q. p ≢ q) pairs
+    → ((letter : ℕ) → slice_get pairs (map_at shapes node letter) ≡ Some (absorbed g (left letter) (right letter)))
+    → ArePairs g (length old_pairs) pairs left right → AllPairs (λ p q. p ≢ q) pairs
     → IsRow w shapes (map place_of_pair old_pairs) (map place_of_pair pairs) lead node
-IsRow-paired g w old_shapes shapes old_pairs pairs lead left right node left_value right_value l r leads_to known maps answers different =
+IsRow-paired g w shapes old_pairs pairs lead node left right left_value right_value l r leads_to known maps answers different =
     let apart = different-places pairs different in
-    let at = λ (letter : ℕ). get_pair pairs (map_at shapes node letter) (absorbed_at g old_shapes left right letter) (maps letter) in
+    let at = λ (letter : ℕ). get_pair pairs (map_at shapes node letter) (absorbed g (left letter) (right letter)) (maps letter) in
     let value = λ (letter : ℕ) (below : letter < 2 ^ length w.tracks).
-    let both : place_of_pair (absorbed_at g old_shapes left right letter) ≡ place_of_pair (absorbed g (left_value letter) (right_value letter)) =
+    let both : place_of_pair (absorbed g (left letter) (right letter)) ≡ place_of_pair (absorbed g (left_value letter) (right_value letter)) =
     λ i. place_of_pair (absorbed g (l.reads letter below i) (r.reads letter below i)) in
     both ∙ sym (leads_to letter) in
     record {
       known = known;
       narrow = record {
         same = λ x y agree.
-            let both : place_of_pair (absorbed_at g old_shapes left right x) ≡ place_of_pair (absorbed_at g old_shapes left right y) =
-            λ i. place_of_pair (absorbed g (l.narrow.same x y agree i) (r.narrow.same x y agree i)) in
+            let both : place_of_pair (absorbed g (left x) (right x)) ≡ place_of_pair (absorbed g (left y) (right y)) =
+            λ i. place_of_pair (absorbed g (l.narrow x y agree i) (r.narrow x y agree i)) in
             one_place (map place_of_pair pairs) apart _ _ _ (at x) (at y ∙ ap Some (sym both));
       };
       leads = λ letter below. at letter ∙ ap Some (value letter below);
@@ -109,15 +109,16 @@ IsRow-paired g w old_shapes shapes old_pairs pairs lead left right node left_val
           let size = length-map pairs place_of_pair in
           let answer = answers.answer number (omega (arith, old_size, past)) (omega (arith, size, within)) in
           let low = answer.0 % 2 ^ length w.tracks in
-          let below : answer.0 % 2 ^ length w.tracks < 2 ^ length w.tracks = mod_below answer.0 (2 ^ length w.tracks) (pow_pos (length w.tracks)) in
-          let left_low = map_at-low old_shapes left (length w.tracks) answer.0 l.narrow in
-          let right_low = map_at-low old_shapes right (length w.tracks) answer.0 r.narrow in
-          let both : place_of_pair (absorbed_at g old_shapes left right answer.0) ≡ place_of_pair (absorbed_at g old_shapes left right (answer.0 % 2 ^ length w.tracks)) =
+          let below : low < 2 ^ length w.tracks = mod_below answer.0 (2 ^ length w.tracks) (pow_pos (length w.tracks)) in
+          let agree = λ (k : ℕ) (inside : k < length w.tracks). low_bits answer.0 (length w.tracks) k inside in
+          let left_low = l.narrow answer.0 low agree in
+          let right_low = r.narrow answer.0 low agree in
+          let both : place_of_pair (absorbed g (left answer.0) (right answer.0)) ≡ place_of_pair (absorbed g (left low) (right low)) =
           λ i. place_of_pair (absorbed g (left_low i) (right_low i)) in
           record {
-            letter = answer.0 % 2 ^ length w.tracks;
+            letter = low;
             below = below;
-            leads = get_pair pairs number (absorbed_at g old_shapes left right answer.0) answer.1 ∙ ap Some (both ∙ value (answer.0 % 2 ^ length w.tracks) below);
+            leads = get_pair pairs number (absorbed g (left answer.0) (right answer.0)) answer.1 ∙ ap Some (both ∙ value low below);
           };
     }
 

@@ -1,11 +1,13 @@
 -- Tracks of two lists together, and letters over them.
-use Rattle.std.proofs.Common.{◌≡◌, ℕ, zero, suc, ◌<◌, ◌≤◌, ◌+◌, ◌*◌, List, [], ◌∷◌, length, map, get_or, arith, refl, sym, ap, ◌∙◌, subst, inl, inr, ◌⊎◌, eq-eqb}
+use Rattle.std.proofs.Common.{◌≡◌, ◌≢◌, ℕ, zero, suc, ◌<◌, ◌≤◌, ◌+◌, ◌*◌, List, [], ◌∷◌, length, map, get_or, arith, refl, sym, ap, ◌∙◌, subst, inl, inr, ◌⊎◌, eq-eqb}
 use Rattle.std.specs.List.{All}
+use Rattle.std.specs.List.Sorted.{IsStrictlyIncreasing}
+use Rattle.std.proofs.lemmas.List.{length-map, get_or-map}
 use Rattle.std.specs.Int.{bit_at}
 use Rattle.std.proofs.lemmas.Grind.{common_steps}
 use Rattle.std.proofs.lemmas.Bool.Decides.{nat_tests}
-use Rattle.std.proofs.lemmas.List.Elements.{All-nil, All-cons, All-head, All-tail, All-map}
-use Rattle.std.proofs.lemmas.Bool.{cases_order}
+use Rattle.std.proofs.lemmas.List.Elements.{All-nil, All-cons, All-head, All-tail, All-map, All-get_or}
+use Rattle.std.proofs.lemmas.Bool.{cases_order, cases_eq}
 use Rattle.track_word.specs.declared.tracks.Var.{Var}
 use Rattle.track_word.specs.Tracks.{IsAscending, with_var, with_vars, place, restrict}
 use Rattle.auto_bool.specs.Sides.{AreAmong}
@@ -125,3 +127,43 @@ restrict-agree all (v ∷ vs) a b within agree =
 
 pub restrict-same : (all some : List Var) (a b : ℕ) → AreAmong all some → ((k : ℕ) → k < length all → bit_at a k ≡ bit_at b k) → restrict all some a ≡ restrict all some b
 restrict-same all some a b among agree = restrict-agree all some a b among.within agree
+
+-- the places of ascending tracks ascend
+not_below : (bound : ℕ) (ys : List Var) (x : Var) → Rising bound ys → place ys x < length ys → bound ≤ x.0
+unfolding Rising
+not_below bound [] x rising within = absurd (omega (arith, within))
+not_below bound (y ∷ ys) x rising within = elim (cases_eq y.0 x.0) [
+  | inl here ↦ let above = rising.0 in omega (arith, here, above)
+  | inr other ↦
+      let above = rising.0 in
+      let later = not_below (y.0 + 1) ys x rising.1 (grind (arith, common_steps, nat_tests, other, within)) in
+      omega (arith, above, later)
+]
+
+place-rises : (bound : ℕ) (ys : List Var) (x z : Var) → Rising bound ys → x.0 < z.0 → place ys x < length ys → place ys x < place ys z
+unfolding Rising
+place-rises bound [] x z rising less within = absurd (omega (arith, within))
+place-rises bound (y ∷ ys) x z rising less within = elim (cases_eq y.0 x.0) [
+  | inl here ↦ let other : y.0 ≢ z.0 = omega (arith, here, less) in grind (arith, common_steps, nat_tests, here, other)
+  | inr other ↦
+      let inside : place ys x < length ys = grind (arith, common_steps, nat_tests, other, within) in
+      let later = not_below (y.0 + 1) ys x rising.1 inside in
+      let rest = place-rises (y.0 + 1) ys x z rising.1 less inside in
+      let beyond : y.0 ≢ z.0 = omega (arith, later, less) in
+      grind (arith, common_steps, nat_tests, other, beyond, rest)
+]
+
+pub places-ascend : (all some : List Var) → IsAscending all → IsAscending some → AreAmong all some → IsStrictlyIncreasing (map (place all) some)
+places-ascend all some all_ascend some_ascend among k within =
+    let size = length-map some (place all) in
+    let names = length-map some (λ v. v.0) in
+    let next : k + 1 < length some = omega (arith, size, within) in
+    let d : Var = record { 0 = 0 } in
+    let less : (get_or some k d).0 < (get_or some (k + 1) d).0 =
+    rw (← get_or-map (λ v. v.0) some k d 0 (omega (arith, next)), ← get_or-map (λ v. v.0) some (k + 1) d 0 next) (some_ascend k (omega (arith, names, next))) in
+    let inside = subst (λ n. n < length all) (get_or-map (place all) some k d 0 (omega (arith, next))) (All-get_or (λ t. t < length all) (map (place all) some) k 0 (omega (arith, within)) among.within) in
+    rw (get_or-map (place all) some k d 0 (omega (arith, next)), get_or-map (place all) some (k + 1) d 0 next)
+    (place-rises 0 all (get_or some k d) (get_or some (k + 1) d) (rising-ascending 0 all (λ h. omega arith) all_ascend) less inside)
+
+pub places-low : (all some : List Var) → length all ≤ 20 → AreAmong all some → All (λ track. track < 20) (map (place all) some)
+places-low all some few among = λ k d within. let low = among.within k d within in omega (arith, few, low)

@@ -10,7 +10,7 @@ use crate::connective::Connective;
 use crate::side::side;
 use auto_core::Auto;
 use auto_walk::Walk;
-use letter_diagram::{Absorbing, Diagrams, Node, Pairs, Product};
+use letter_diagram::{Absorbing, Diagrams, Node, Pairs, SidedProduct};
 use limits::MOST_TRACKS;
 use std::alloc::{AllocError, Global};
 use track_word::{Var, insert_tracks};
@@ -24,7 +24,7 @@ fn both_tracks(alloc: Global, left: &[Var], right: &[Var]) -> Result<Vec<Var>, A
     Ok(tracks)
 }
 
-/// Two automata, with their rows as nodes over the tracks of both. The pairs of states are the pairs of the product: one stands
+/// Two automata, whose rows are read over the tracks of both. The pairs of states are the pairs of the product: one stands
 /// for all that have an absorbing state.
 #[derive(Drop)]
 pub struct Both<'a> {
@@ -32,13 +32,11 @@ pub struct Both<'a> {
     right: &'a Auto,
     tracks: Vec<Var>,
     connective: Connective,
-    product: Product,
-    left_nodes: Vec<Node>,
-    right_nodes: Vec<Node>,
+    product: SidedProduct<'a>,
     ghost are_tracks: { AreTracks tracks.items },
-    ghost left_side: { IsSide product.shapes tracks.items left.now left_nodes.items },
-    ghost right_side: { IsSide product.shapes tracks.items right.now right_nodes.items },
-    ghost sinks: { AreSinks left.now right.now connective product.absorbing },
+    ghost left_side: { IsSide tracks.items left.now product.sides.left },
+    ghost right_side: { IsSide tracks.items right.now product.sides.right },
+    ghost sinks: { AreSinks left.now right.now connective product.sides.absorbing },
 }
 
 impl<'a> Both<'a> {
@@ -55,35 +53,22 @@ impl<'a> Both<'a> {
         ensures right { IfOk result (λ both. both.right.now ≡ right.now) }
         ensures connective { IfOk result (λ both. both.connective ≡ connective) }
         ensures tracks { IfOk result (λ both. both.tracks.items ≡ with_vars left.now.tracks right.now.tracks) }
-        ensures absorbing { IfOk result (λ both. both.product.absorbing ≡ absorbing) }
+        ensures absorbing { IfOk result (λ both. both.product.sides.absorbing ≡ absorbing) }
         ensures fresh { IfOk result (λ both. both.product.pairs ≡ []) }
         ensures left_valid { IsAutomaton left.now }
         ensures right_valid { IsAutomaton right.now }
     {
-        let left_tracks = left.tracks();
-        let right_tracks = right.tracks();
-        let tracks = both_tracks(alloc, left_tracks, right_tracks)?;
-        let left_first = left_tracks.len() == tracks.len();
-        let mut diagrams = Diagrams::new(alloc);
-        let left_nodes;
-        let right_nodes;
-        if left_first {
-            left_nodes = side(alloc, &mut diagrams, tracks.as_slice(), left)?;
-            right_nodes = side(alloc, &mut diagrams, tracks.as_slice(), right)?;
-        } else {
-            right_nodes = side(alloc, &mut diagrams, tracks.as_slice(), right)?;
-            left_nodes = side(alloc, &mut diagrams, tracks.as_slice(), left)?;
-        }
+        let tracks = both_tracks(alloc, left.tracks(), right.tracks())?;
+        let left_side = side(alloc, tracks.as_slice(), left)?;
+        let right_side = side(alloc, tracks.as_slice(), right)?;
         let pairs = Pairs::with_capacity(alloc, left.states().max(right.states()) as usize)?;
-        let product = Product::new(diagrams, pairs, absorbing)?;
+        let product = SidedProduct::new(alloc, left_side, right_side, pairs, absorbing)?;
         Ok(Both {
             left,
             right,
             tracks,
             connective,
             product,
-            left_nodes,
-            right_nodes,
         })
     }
 }
@@ -93,7 +78,7 @@ impl<'a> Walk for Both<'a> {
     ghost use Rattle.auto_bool.specs.Both.{place_of_pair};
     ghost use Rattle.auto_bool.specs.Absorbed.{absorbing_walker};
 
-    ghost walker = { λ s. absorbing_walker s.product.absorbing s.tracks.items s.left.now s.right.now s.connective };
+    ghost walker = { λ s. absorbing_walker s.product.sides.absorbing s.tracks.items s.left.now s.right.now s.connective };
 
     ghost places = { λ s. map place_of_pair s.product.pairs };
 
@@ -108,16 +93,18 @@ impl<'a> Walk for Both<'a> {
     }
 
     fn first_row(&mut self) -> Result<Node, AllocError> {
-        let node = self.product.apply(self.left_nodes[0], self.right_nodes[0])?;
+        let node = self
+            .product
+            .apply(self.left.first_node(), self.right.first_node())?;
         let _ = self.product.pairs().len(); // for its invariant
         Ok(node)
     }
 
     fn next_row(&mut self, number: u32) -> Result<Node, AllocError> {
         let (left, right) = self.product.pairs().as_slice()[number as usize];
-        let left_row = self.left_nodes[left as usize + 1];
-        let right_row = self.right_nodes[right as usize + 1];
-        let node = self.product.apply(left_row, right_row)?;
+        let node = self
+            .product
+            .apply(self.left.row_node(left), self.right.row_node(right))?;
         let _ = self.product.pairs().len(); // for its invariant
         Ok(node)
     }
@@ -129,7 +116,6 @@ impl<'a> Walk for Both<'a> {
     }
 
     fn into_diagrams(self) -> Diagrams {
-        let (diagrams, _) = self.product.into_parts();
-        diagrams
+        self.product.into_diagrams()
     }
 }

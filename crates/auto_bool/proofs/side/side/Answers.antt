@@ -1,16 +1,23 @@
-use Rattle.auto_bool.proofs.SideLemmas.{IsSide-made}
+use Rattle.std.proofs.Common.{Some, map, ap, ◌∙◌}
+use Rattle.track_word.specs.Tracks.{place}
+use Rattle.auto_bool.proofs.TrackLemmas.{places-ascend, places-low}
 use Rattle.auto_bool.proofs.side.side.Goals as goal
 
-pub returns-clause-side : goal.returns-clause-side
-returns-clause-side c =
-    let brought =
-    rw (
-      c.diagrams.ensures.shapes,
-      c.as_slice.ensures.value,
-      c.in_ok-nodes.ensures.nodes,
-      c.as_slice-2.ensures.value,
-      c.in_ok-places.ensures,
-      c.tracks.ensures.tracks,
-    )
-    at c.in_ok-nodes-2.ensures.brought in
-    IsSide-made _ c.tracks.ensures.valid c.in_ok-nodes.ensures.over _ _ _ c.requires.among brought
+pub new-requires-clause-ascending : goal.new-requires-clause-ascending
+new-requires-clause-ascending c =
+    rw (c.in_ok-places.ensures, c.tracks.ensures.tracks)
+    (places-ascend c.args.all.now c.args.a.now.tracks c.requires.ascending c.tracks.ensures.valid.ascending c.requires.among)
+
+pub new-requires-clause-low : goal.new-requires-clause-low
+new-requires-clause-low c =
+    rw (c.in_ok-places.ensures, c.tracks.ensures.tracks) (places-low c.args.all.now c.args.a.now.tracks c.requires.all c.requires.among)
+
+pub returns : goal.returns
+returns c =
+    let shapes = c.new.ensures.shapes ∙ c.diagrams.ensures.shapes in
+    let tracks = c.new.ensures.tracks ∙ c.in_ok-places.ensures ∙ ap (map (place c.args.all.now)) c.tracks.ensures.tracks in
+    record {
+      valid = c.tracks.ensures.valid;
+      among = c.requires.among;
+      reads = λ i. Some (record { shapes = shapes i; tracks = tracks i });
+    }
