@@ -3,7 +3,9 @@
 //! step of the formula exceeds the budget; elsewhere the formula is compiled as it stands.
 #![tactic(auto)]
 
+mod image;
 pub mod laws;
+mod reading;
 mod shift;
 
 pub use shift::Shift;
