@@ -35,9 +35,8 @@ IsMovedBy (s ∷ shifts) a b =
 
 abbrev pub MovedSetIsDecided : Type 0
 MovedSetIsDecided =
-    (i : Image) (e : ℕ → SetOf) (set a b : Automaton) → IsShiftable i → e i.set ≡ Table set → DecidesIntegers set
-    → length i.vars ≡ length set.tracks → DecidesAmong set (moved_vars i) a → IsMovedBy i.shifts a b
-    → Decides b (moved_tree i) (members e)
+    (i : Image) (e : ℕ → SetOf) (set a b : Automaton) → IsShiftable i → e i.set ≡ Table set
+    → DecidesAmong set (moved_vars i) a → IsMovedBy i.shifts a b → Decides b (moved_tree i) (members e)
 
 -- how many ways to leave the changes open, one after the other
 abbrev pub start_colours : List Shift → ℕ
@@ -61,7 +60,7 @@ pub record HasFewStates (i : Image) (e : ℕ → SetOf) (budget each : ℕ) : Ty
   pub arity : length i.vars ≡ length set.tracks
   pub integers : DecidesIntegers set
   pub start : start_colours i.shifts * length set.accept ≤ budget
-  pub each : change_colours i.shifts * each ≤ budget
+  pub changes : change_colours i.shifts * each ≤ budget
   pub clear : AreClearWithin (moved_tree i) i.clear e budget each
   pub part : Automaton
   pub is_part : IsAutomaton part
