@@ -9,3 +9,4 @@ pub use Rattle.near_bound.specs.Equations
 pub mod Image
 pub mod Laws
 pub mod Read
+pub mod LeftOut

@@ -3,9 +3,15 @@
 //! step of the formula exceeds the budget; elsewhere the formula is compiled as it stands.
 #![tactic(auto)]
 
+mod compiling;
 mod image;
 pub mod laws;
+mod leaving;
+mod movable;
+mod moving;
 mod reading;
+mod share;
 mod shift;
 
+pub use compiling::compile_image_on;
 pub use shift::Shift;

@@ -21,7 +21,7 @@ struct Step<'a> {
 
 /// What a formula says as an image, if it has the form of one.
 pub fn read_image<'a>(alloc: Global, f: &'a Formula) -> Result<Option<Image<'a>>, AllocError>
-    ensures { IfOk result (IfSome (λ i. image_tree (image_of i) ≡ tree_of f.now)) }
+    ensures { IfOk result (λ some. IfSome some (λ i. image_tree (image_of i) ≡ tree_of f.now)) }
 {
     let mut bound = Vec::new(alloc);
     let body = open(f, &mut bound)?;
@@ -85,7 +85,7 @@ fn denied<'a>(f: &'a Formula) -> Option<&'a Formula>
 
 /// The members of a set, and how some of their values change, if a formula says no more.
 fn step_of<'a>(alloc: Global, f: &'a Formula) -> Result<Option<Step<'a>>, AllocError>
-    ensures { IfOk result (IfSome (λ step. step_tree step ≡ tree_of f.now)) }
+    ensures { IfOk result (λ some. IfSome some (λ step. step_tree step ≡ tree_of f.now)) }
 {
     match f {
         Formula::Among { set, vars } => Ok(Some(Step {
