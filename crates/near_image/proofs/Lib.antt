@@ -1,0 +1,4 @@
+pub mod Variables
+pub mod Bindings
+pub mod Shifts
+pub mod Changes
