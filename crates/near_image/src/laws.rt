@@ -1,6 +1,8 @@
 //! Laws of images, each the contract of a function that does nothing.
 ghost use Rattle.near_image.specs.Laws.{ImageSaysPart, MovedSetIsDecided, StepsAreWithin};
 
+use auto_shift::laws::words_can_be_moved;
+
 /// The image says what its part says, of the same variables.
 pub fn image_says_what_its_part_says()
     ensures { ImageSaysPart }
@@ -9,7 +11,9 @@ pub fn image_says_what_its_part_says()
 /// A set whose tracks are moved is what the step makes of it.
 pub fn moved_sets_are_decided()
     ensures { MovedSetIsDecided }
-{}
+{
+    words_can_be_moved();
+}
 
 /// No step of an image exceeds the budget, where the automata of its part have few states.
 pub fn steps_of_an_image_are_within()
