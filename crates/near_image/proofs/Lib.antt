@@ -4,3 +4,7 @@ pub mod Shifts
 pub mod Changes
 pub mod Moving
 pub mod MovedSets
+pub mod Listed
+pub mod Loops
+pub mod Movables
+pub mod Readings

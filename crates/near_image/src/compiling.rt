@@ -17,7 +17,7 @@ use crate::laws::{
 };
 use crate::leaving::{Scope, left_of_all};
 use crate::movable::{is_movable, moved_vars};
-use crate::moving::moved;
+use crate::shifting::moved;
 use crate::reading::read_image;
 use crate::share::share;
 use auto_core::Auto;

@@ -8,10 +8,10 @@ mod image;
 pub mod laws;
 mod leaving;
 mod movable;
-mod moving;
 mod reading;
 mod share;
 mod shift;
+mod shifting;
 
 pub use compiling::compile_image_on;
 pub use shift::Shift;

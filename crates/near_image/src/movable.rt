@@ -64,7 +64,14 @@ fn all_leave(shifts: &[Shift], vars: &[Var]) -> bool
 fn leaves(shift: Shift, vars: &[Var]) -> bool
     ensures { IsTrue result → Leaves vars.now shift }
 {
-    vars.contains(&shift.gone) && !vars.contains(&shift.new) && is_near(shift.by)
+    is_one_of(shift.gone, vars) && !is_one_of(shift.new, vars) && is_near(shift.by)
+}
+
+fn is_one_of(var: Var, vars: &[Var]) -> bool
+    ensures one { IsTrue result → IsOneOf var vars.now }
+    ensures none { IsOneOf var vars.now → IsTrue result }
+{
+    vars.contains(&var)
 }
 
 fn is_near(by: i32) -> bool
@@ -117,10 +124,10 @@ fn is_about(alloc: Global, f: &Formula, vars: &[Var]) -> Result<bool, AllocError
 }
 
 fn are_among(some: &[Var], vars: &[Var]) -> bool
-    ensures { IsTrue result → (x : Var) → IsOneOf x some.now → IsOneOf x vars.now }
+    ensures { IsTrue result → All (λ x. IsOneOf x vars.now) some.now }
 {
     for var in some {
-        if !vars.contains(var) {
+        if !is_one_of(*var, vars) {
             return false;
         }
     }

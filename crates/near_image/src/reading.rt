@@ -142,5 +142,13 @@ fn difference_of(terms: &[(i8, Var)]) -> Option<(Var, Var)>
 fn are_gone(vars: &[Var], shifts: &[Shift]) -> bool
     ensures { IsTrue result → gone shifts.now ≡ vars.now }
 {
-    vars.len() == shifts.len() && shifts.iter().zip(vars).all(|(shift, var)| shift.gone == *var)
+    if vars.len() != shifts.len() {
+        return false;
+    }
+    for (index, shift) in shifts.iter().enumerate() {
+        if shift.gone != vars[index] {
+            return false;
+        }
+    }
+    true
 }
