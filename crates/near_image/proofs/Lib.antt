@@ -8,3 +8,4 @@ pub mod Listed
 pub mod Loops
 pub mod Movables
 pub mod Readings
+pub mod Chains

@@ -1,21 +1,18 @@
 //! What is left of a moved set where some formulas do not hold.
-ghost use Rattle.std.specs.Prelude.{◌≡◌, ◌≤◌, ◌<◌, ◌^◌, ℕ, length, All, IfOk};
-ghost use Rattle.track_word.specs.declared.tracks.Var.{Var};
-ghost use Rattle.lin_formula.specs.Tree as tree;
-ghost use Rattle.lin_formula.specs.Tree.{steps};
+ghost use Rattle.std.specs.Prelude.{◌≡◌, ◌≤◌, length, All, IfOk};
+ghost use Rattle.track_word.specs.Tracks.{with_vars};
 ghost use Rattle.lin_formula.specs.TreeOf.{tree_of};
-ghost use Rattle.lin_formula.specs.Free.{IsOneOf};
 ghost use Rattle.lin_formula.specs.SetOf.{tables};
-ghost use Rattle.formula_auto.specs.Compiled.{IsAccessible, IsCompilable};
+ghost use Rattle.formula_auto.specs.Compiled.{IsAccessible};
 ghost use Rattle.near_image.specs.Read.{trees};
-ghost use Rattle.near_image.specs.LeftOut.{IsLeftOf, AreLeftOf, MayBeAsked};
+ghost use Rattle.near_image.specs.LeftOut.{IsDifference, IsLeftOf, AreLeftOf, MayBeAsked};
 
+use crate::merging::merged;
 use auto_bool::difference_within;
 use auto_core::Auto;
-use auto_merge::merge;
 use auto_walk::Grown;
 use formula_auto::{CompileError, Memo, SetTable};
-use limits::Budget;
+use limits::{Budget, MOST_TRACKS};
 use lin_formula::Formula;
 use std::alloc::Global;
 
@@ -34,7 +31,7 @@ pub fn left_of_all(
     formulas: &[&Formula],
     scope: &Scope,
 ) -> Result<Auto, Grown>
-    requires asked { All (MayBeAsked scope.now.sets.now set.tracks) (trees formulas.now) }
+    requires { All (MayBeAsked scope.now.sets.now set.tracks) (trees formulas.now) }
     ensures left { IfOk result
         (AreLeftOf (tables scope.now.sets.now) memo.old.budget scope.now.each (trees formulas.now) set) }
     ensures accessible { IfOk result
@@ -56,17 +53,24 @@ fn left_of(
     f: &Formula,
     scope: &Scope,
 ) -> Result<Auto, Grown>
-    requires asked { MayBeAsked scope.now.sets.now a.now.tracks (tree_of f.now) }
+    requires { MayBeAsked scope.now.sets.now a.now.tracks (tree_of f.now) }
     ensures left { IfOk result
         (IsLeftOf (tables scope.now.sets.now) memo.old.budget scope.now.each (tree_of f.now) a.now) }
     ensures budget { memo.new.budget ≡ memo.old.budget }
 {
+    let _ = a.tracks(); // for its invariant
     match memo.compile(alloc, f, scope.sets) {
-        Ok(asked) => {
-            let only = difference_within(alloc, a, &asked, scope.each)?;
-            Ok(merge(alloc, &only)?)
-        }
+        Ok(asked) => difference(alloc, a, &asked, scope.each),
         Err(CompileError::Over { .. }) => Err(Grown::Over),
         Err(CompileError::Memory) => Err(Grown::Memory),
     }
+}
+
+/// What the first automaton decides, and not what the second one does.
+fn difference(alloc: Global, a: &Auto, b: &Auto, each: Budget) -> Result<Auto, Grown>
+    requires { length (with_vars a.now.tracks b.now.tracks) ≤ MOST_TRACKS }
+    ensures { IfOk result (IsDifference each a.now b.now) }
+{
+    let only = difference_within(alloc, a, b, each)?;
+    Ok(merged(alloc, &only)?)
 }

@@ -7,6 +7,7 @@ mod compiling;
 mod image;
 pub mod laws;
 mod leaving;
+mod merging;
 mod movable;
 mod reading;
 mod share;

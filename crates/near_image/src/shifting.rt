@@ -8,9 +8,9 @@ ghost use Rattle.auto_shift.specs.Shifted.{by_one};
 ghost use Rattle.near_image.specs.Laws.{IsMovedBy, negated};
 ghost use Rattle.near_image.specs.Read.{IsNear};
 
+use crate::merging::merged;
 use crate::shift::Shift;
 use auto_core::Auto;
-use auto_merge::merge;
 use auto_shift::laws::moving_adds_up;
 use auto_shift::move_by_one;
 use auto_walk::Grown;
@@ -74,5 +74,5 @@ fn by_step(alloc: Global, a: &Auto, track: u8, up: bool, each: Budget) -> Result
     ensures accessible { IfOk result (IsAccessible each) }
 {
     let pairs = move_by_one(alloc, a, track, up, each)?;
-    Ok(merge(alloc, &pairs)?)
+    Ok(merged(alloc, &pairs)?)
 }
