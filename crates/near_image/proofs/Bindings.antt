@@ -63,14 +63,14 @@ holds-and_all f (g ∷ gs) e v =
 abbrev pub AgreeBut : List Var → Values → Values → Type 0
 AgreeBut xs v w = (x : Var) → (¬ IsOneOf x xs) → w x.0 ≡ v x.0
 
-with_value-same : (v : Values) (x y : Var) (n : ℤ) → x ≡ y → with_value v y n x.0 ≡ n
+pub with_value-same : (v : Values) (x y : Var) (n : ℤ) → x ≡ y → with_value v y n x.0 ≡ n
 with_value-same v x y n is = at (x.0 == y.0) (eq-eqb x.0 y.0 (ap (λ (z : Var). z.0) is))
   where
     at : (b : Bool) → b ≡ true → (if b then n else v x.0) ≡ n
     at true e = refl
     at false e = absurd (cc)
 
-with_value-other : (v : Values) (x y : Var) (n : ℤ) → x ≢ y → with_value v y n x.0 ≡ v x.0
+pub with_value-other : (v : Values) (x y : Var) (n : ℤ) → x ≢ y → with_value v y n x.0 ≡ v x.0
 with_value-other v x y n other = at (x.0 == y.0) refl
   where
     at : (b : Bool) → x.0 == y.0 ≡ b → (if b then n else v x.0) ≡ v x.0

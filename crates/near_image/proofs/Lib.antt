@@ -4,3 +4,9 @@ pub mod Shifts
 pub mod Changes
 pub mod Moving
 pub mod MovedSets
+pub mod Withins
+pub mod Colours
+pub mod Factors
+pub mod Members
+pub mod Chains
+pub mod Quantified
