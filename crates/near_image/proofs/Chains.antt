@@ -1,5 +1,5 @@
 -- The conjunctions of an image are within the budget.
-use Rattle.std.proofs.Common.{◌≡◌, ℕ, ◌+◌, ◌*◌, ◌≤◌, List, [], ◌∷◌, ◌++◌, map, arith, None}
+use Rattle.std.proofs.Common.{◌≡◌, ℕ, ◌*◌, ◌≤◌, List, [], ◌∷◌, ◌++◌, map, arith}
 use Rattle.std.proofs.lemmas.Nat.{mul-le}
 use Rattle.lin_formula.specs.Tree.{Tree, Not, And, steps}
 use Rattle.lin_formula.specs.SetOf.{SetOf, members}
@@ -11,7 +11,7 @@ use Rattle.near_image.specs.declared.shift.Shift.{Shift}
 use Rattle.near_image.specs.Image.{and_all, change, equation_of}
 use Rattle.near_image.specs.Laws.{start_colours, AreClearWithin}
 use Rattle.near_image.proofs.Withins.{AreWithin, within-append, over-none}
-use Rattle.near_image.proofs.Colours.{turned, colours-cons, some-start}
+use Rattle.near_image.proofs.Colours.{colours-cons, some-start}
 use Rattle.near_image.proofs.Changes.{change-solved}
 use Rattle.near_image.proofs.Factors.{factored-change, factored-beside}
 
@@ -24,7 +24,13 @@ step-enough c m k r n budget fewer some enough =
     omega (arith, two, three, same, enough)
 
 next-enough : (m k r n budget : ℕ) → m * (k * r) * n ≤ budget → m * k * r * n ≤ budget
-next-enough m k r n budget enough = let same : m * k * r * n ≡ m * (k * r) * n = grind arith in omega (arith, same, enough)
+next-enough m k r n budget enough =
+    let same : m * k * r * n ≡ m * (k * r) * n = grind arith in
+    omega (arith, same, enough)
+
+-- how many colours a change has alone
+abbrev one_colours : Shift → ℕ
+one_colours s = colours (equation_of s ∷ [])
 
 module _ (e : ℕ → SetOf) (budget each : ℕ) where
   -- the changes after a formula that is factored into one with few residuals
@@ -37,14 +43,15 @@ module _ (e : ℕ → SetOf) (budget each : ℕ) where
       let one = colours (equation_of s ∷ []) in
       let rests : RestsOn (change s) (equation_of s ∷ []) (members e) = λ v x same h.
       (change-solved s (members e) x).1 ((same.0 ((change-solved s (members e) v).0 h, tt)).0) in
-      let here = step-enough (colours qs) most (colours (equation_of s ∷ [])) (start_colours shifts) each budget fewer (some-start shifts) enough in
+      let here = step-enough (colours qs) most (one_colours s) (start_colours shifts) each budget fewer
+      (some-start shifts) enough in
       let none : ¬ Exceeds (And w (change s)) (members e) budget =
       λ more. few (bound w p (change s) qs (equation_of s ∷ []) e budget each is rests here more) in
-      let added = mul-le (colours qs) (colours (equation_of s ∷ [])) most (colours (equation_of s ∷ [])) fewer (omega arith) in
+      let added = mul-le (colours qs) (one_colours s) most (one_colours s) fewer (omega arith) in
       let next = colours-cons (equation_of s) qs in
-      within-changes bound shifts (And w (change s)) p (equation_of s ∷ qs) (most * colours (equation_of s ∷ []))
+      within-changes bound shifts (And w (change s)) p (equation_of s ∷ qs) (most * one_colours s)
       (factored-change w p qs (members e) is s) (omega (arith, added, next))
-      (next-enough most (colours (equation_of s ∷ [])) (start_colours shifts) each budget enough) few
+      (next-enough most (one_colours s) (start_colours shifts) each budget enough) few
       (within-append (steps w ++ []) (And w (change s) ∷ []) (members e) budget
       (within-append (steps w) [] (members e) budget within tt) (none, tt))
 
@@ -63,6 +70,7 @@ module _ (e : ℕ → SetOf) (budget each : ℕ) where
       let none : ¬ Exceeds (And w (Not g)) (members e) budget =
       λ more. clear.1 (bound w p (Not g) qs e budget each is enough more) in
       let asked = over-none (steps g) (members e) budget 1 clear.0 in
-      within-clear bound gs (And w (Not g)) (And p (Not g)) qs (factored-beside w p qs (members e) is (Not g)) enough clear.2
+      let more = factored-beside w p qs (members e) is (Not g) in
+      within-clear bound gs (And w (Not g)) (And p (Not g)) qs more enough clear.2
       (within-append (steps w ++ steps g) (And w (Not g) ∷ []) (members e) budget
       (within-append (steps w) (steps g) (members e) budget within asked) (none, tt))

@@ -1,5 +1,5 @@
 -- How many colours the equations of the changes have, in whichever order.
-use Rattle.std.proofs.Common.{◌≡◌, ℕ, zero, suc, ◌+◌, ◌*◌, ◌≤◌, List, [], ◌∷◌, map, arith, refl, sym, ap, ◌∙◌, subst}
+use Rattle.std.proofs.Common.{◌≡◌, ℕ, ◌+◌, ◌*◌, ◌≤◌, List, [], ◌∷◌, map, arith, refl, ◌∙◌}
 use Rattle.std.proofs.lemmas.Nat.{mul-le}
 use Rattle.near_bound.specs.Equations.{Equation, open_ways, colours}
 use Rattle.near_image.specs.declared.shift.Shift.{Shift}
@@ -67,4 +67,6 @@ colours-turned (s ∷ shifts) =
 
 pub some-start : (shifts : List Shift) → 1 ≤ start_colours shifts
 some-start [] = omega arith
-some-start (s ∷ shifts) = mul-le 1 1 (colours (equation_of s ∷ [])) (start_colours shifts) (some-colour (equation_of s ∷ [])) (some-start shifts)
+some-start (s ∷ shifts) =
+    let one = some-colour (equation_of s ∷ []) in
+    mul-le 1 1 (colours (equation_of s ∷ [])) (start_colours shifts) one (some-start shifts)

@@ -1,8 +1,9 @@
 -- Chains of an image are factored: into its set and the changes, then into the moved set and the changes.
-use Rattle.std.proofs.Common.{◌≡◌, ◌≢◌, ◌⊎◌, ◌↔◌, ℤ, pos, negsuc, ◌+ℤ◌, List, [], ◌∷◌, map, refl, sym, ap, ◌∙◌, subst, inl, inr}
+use Rattle.std.proofs.Common.{◌≡◌, ◌≢◌, ◌⊎◌, ◌↔◌, ℤ, pos, negsuc, ◌+ℤ◌, List, [], ◌∷◌, map}
+use Rattle.std.proofs.Common.{refl, sym, ap, ◌∙◌, subst, inl, inr}
 use Rattle.track_word.specs.declared.tracks.Var.{Var}
 use Rattle.track_word.specs.Tracks.{Values, without_var}
-use Rattle.lin_formula.specs.Tree.{Tree, Among, Not, And, Ex, free_vars}
+use Rattle.lin_formula.specs.Tree.{Tree, Among, And, Ex, free_vars}
 use Rattle.lin_formula.specs.Free.{IsOneOf, IsFree}
 use Rattle.lin_formula.specs.Holds.{Sets, Holds, with_value}
 use Rattle.lin_formula.proofs.FreeVars.{free_vars-free, one_of-with_vars, one_of-without_var}
@@ -10,12 +11,14 @@ use Rattle.lin_formula.proofs.Coincide.{coincide}
 use Rattle.near_bound.specs.Equations.{Equation, IsSolved, AreSolved}
 use Rattle.near_bound.specs.Factored.{AreOver, IsFactored}
 use Rattle.near_image.specs.declared.shift.Shift.{Shift}
-use Rattle.near_image.specs.Image.{Image, IsShiftable, and_all, change, step, gone, moved_tree, equation_by, equation_of}
+use Rattle.near_image.specs.Image.{Image, IsShiftable, and_all, change, step, gone, moved_tree}
+use Rattle.near_image.specs.Image.{equation_by, equation_of}
 use Rattle.near_image.specs.Laws.{negated}
 use Rattle.near_image.proofs.Variables.{one_of-cases}
-use Rattle.near_image.proofs.Bindings.{AgreeBut, AllHold, with_value-same, with_value-other, vars-and_all, vars-ex_all, holds-and_all, holds-ex_all}
-use Rattle.near_image.proofs.Shifts.{IsAmong, gone-among, new-not_gone, gone-by, IsGoneBy}
-use Rattle.near_image.proofs.Changes.{change-solved, change-vars, solved-is, each-change, all-changes}
+use Rattle.near_image.proofs.Bindings.{AgreeBut, AllHold, with_value-same, with_value-other}
+use Rattle.near_image.proofs.Bindings.{vars-ex_all, holds-and_all, holds-ex_all}
+use Rattle.near_image.proofs.Shifts.{IsAmong, new-not_gone, gone-by}
+use Rattle.near_image.proofs.Changes.{change-solved, change-vars, solved-is, each-change}
 use Rattle.near_image.proofs.Colours.{turned}
 
 -- the equation's variables are those of the change
@@ -66,7 +69,8 @@ module _ (w p : Tree) (qs : List Equation) (e : Sets) (is : IsFactored w p qs e)
       let (greater, less) = over-one s (equation_of s) (free_vars (And w (change s))) (sides s) new old in
       record {
         part_vars = λ x h. left (change s) x (is.part_vars x h);
-        equation_vars = (greater, less, over-more qs (free_vars w) (free_vars (And w (change s))) (left (change s)) is.equation_vars);
+        equation_vars =
+            (greater, less, over-more qs (free_vars w) (free_vars (And w (change s))) (left (change s)) is.equation_vars);
         holds = λ v. (
           λ h. let k = (is.holds v).0 h.0 in (k.0, ((change-solved s e v).0 h.1, k.1)),
           λ h. ((is.holds v).1 (h.0, h.1.1), (change-solved s e v).1 h.1.0),
@@ -108,7 +112,8 @@ each-solved (t ∷ shifts) qs v h s (inr k) = each-solved shifts (equation_of t 
 -- a member and how it changes are a moved member and the changes
 module _ (i : Image) (is : IsShiftable i) (e : Sets) where
   from-set : IsFactored (step i) (Among i.set i.vars) (turned i.shifts []) e
-  from-set = factored-changes i.shifts (Among i.set i.vars) (Among i.set i.vars) [] e (factored-self (Among i.set i.vars) e)
+  from-set =
+      factored-changes i.shifts (Among i.set i.vars) (Among i.set i.vars) [] e (factored-self (Among i.set i.vars) e)
 
   -- values of which the changes hold are settled by those that stay
   settled : (v w : Values) → AgreeBut (gone i.shifts) v w → AreSolved (turned i.shifts []) v
@@ -145,7 +150,8 @@ abbrev pub IsBeside : Var → List Equation → Type 0
 IsBeside x [] = Unit {0}
 IsBeside x (q ∷ qs) = (q.greater ≢ x) × (q.less ≢ x) × IsBeside x qs
 
-pub beside-one : (s : Shift) (x : Var) (q : Equation) → Sides s q → s.new ≢ x → s.gone ≢ x → (q.greater ≢ x) × (q.less ≢ x)
+pub beside-one : (s : Shift) (x : Var) (q : Equation) → Sides s q → s.new ≢ x → s.gone ≢ x
+    → (q.greater ≢ x) × (q.less ≢ x)
 beside-one s x q (Up greater less) new old = (λ e. new (sym greater ∙ e), λ e. old (sym less ∙ e))
 beside-one s x q (Down greater less) new old = (λ e. old (sym greater ∙ e), λ e. new (sym less ∙ e))
 
@@ -175,24 +181,33 @@ holds-beside x n p e v others =
     (coincide p e v (with_value v x n) (λ y free. sym (at y free)), coincide p e (with_value v x n) v at)
 
 -- without an old variable, the rest is factored by the other equations
-pub factored-ex : (s : Shift) (w p : Tree) (qs : List Equation) (e : Sets) → IsFactored w p (equation_of s ∷ qs) e
-    → s.new ≢ s.gone → ((y : Var) → IsOneOf y (free_vars p) → y ≢ s.gone) → IsBeside s.gone qs
-    → IsFactored (Ex s.gone w) p qs e
-factored-ex s w p qs e is differ others beside = record {
-  part_vars = λ y h. (one_of-without_var y s.gone (free_vars w)).1 (others y h, is.part_vars y h);
-  equation_vars = over-without s.gone qs (free_vars w) beside is.equation_vars.2;
-  holds = λ v. (
-    λ (n, h).
-        let k = (is.holds (with_value v s.gone n)).0 h in
-        ((holds-beside s.gone n p e v others).1 k.0, (solved-beside s.gone n qs v beside).1 k.1.1),
-    λ h.
-        let n = v s.new.0 +ℤ negated s.by in
-        let old = with_value-same v s.gone s.gone (v s.new.0 +ℤ negated s.by) refl in
-        let new = with_value-other v s.new s.gone (v s.new.0 +ℤ negated s.by) differ in
-        let solved = (solved-is s (with_value v s.gone (v s.new.0 +ℤ negated s.by))).1 (old ∙ ap (λ k. k +ℤ negated s.by) (sym new)) in
-        (v s.new.0 +ℤ negated s.by, (is.holds (with_value v s.gone (v s.new.0 +ℤ negated s.by))).1 (
-          (holds-beside s.gone (v s.new.0 +ℤ negated s.by) p e v others).0 h.0,
-          (solved, (solved-beside s.gone (v s.new.0 +ℤ negated s.by) qs v beside).0 h.1),
-        )),
-  );
-}
+module _ (s : Shift) (w p : Tree) (qs : List Equation) (e : Sets) (is : IsFactored w p (equation_of s ∷ qs) e)
+    (differ : s.new ≢ s.gone) (others : (y : Var) → IsOneOf y (free_vars p) → y ≢ s.gone)
+    (beside : IsBeside s.gone qs) where
+  -- the values with an old one by which the change holds
+  abbrev taken : Values → ℤ
+  taken v = v s.new.0 +ℤ negated s.by
+
+  abbrev with_taken : Values → Values
+  with_taken v = with_value v s.gone (taken v)
+
+  taken-solved : (v : Values) → IsSolved (with_taken v) (equation_of s)
+  taken-solved v =
+      let old = with_value-same v s.gone s.gone (taken v) refl in
+      let new = with_value-other v s.new s.gone (taken v) differ in
+      (solved-is s (with_taken v)).1 (old ∙ ap (λ k. k +ℤ negated s.by) (sym new))
+
+  pub factored-ex : IsFactored (Ex s.gone w) p qs e
+  factored-ex = record {
+    part_vars = λ y h. (one_of-without_var y s.gone (free_vars w)).1 (others y h, is.part_vars y h);
+    equation_vars = over-without s.gone qs (free_vars w) beside is.equation_vars.2;
+    holds = λ v. (
+      λ (n, h).
+          let k = (is.holds (with_value v s.gone n)).0 h in
+          ((holds-beside s.gone n p e v others).1 k.0, (solved-beside s.gone n qs v beside).1 k.1.1),
+      λ h.
+          let part = (holds-beside s.gone (taken v) p e v others).0 h.0 in
+          let rest = (solved-beside s.gone (taken v) qs v beside).0 h.1 in
+          (taken v, (is.holds (with_taken v)).1 (part, (taken-solved v, rest))),
+    );
+  }

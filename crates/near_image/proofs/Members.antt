@@ -1,5 +1,5 @@
 -- Membership in a set tells apart no more words than the set has states, whatever the variables are.
-use Rattle.std.proofs.Common.{◌≡◌, ◌↔◌, ℕ, ◌≤◌, ◌<◌, ◌^◌, List, ◌++◌, length, All, arith, sym, ap, ◌∙◌, subst}
+use Rattle.std.proofs.Common.{◌≡◌, ◌↔◌, ℕ, ◌<◌, ◌^◌, List, ◌++◌, length, All, arith, sym, subst}
 use Rattle.track_word.specs.declared.tracks.Var.{Var}
 use Rattle.track_word.specs.Word.{IsWord}
 use Rattle.track_word.specs.Tracks.{part_of, restrict, word_values, values_at}
@@ -40,8 +40,8 @@ module _ (e : ℕ → SetOf) (number : ℕ) (vars : List Var) (set : Automaton) 
         λ h. subst At (sym is) (subst (IsAccepted set) same (accepted.0 h)),
       )
 
-  read-alike : (v w : List ℕ) → IsWord (length over) v → IsWord (length over) w → state_of set (read v) ≡ state_of set (read w)
-      → SaysAlike (Among number vars) (members e) v w
+  read-alike : (v w : List ℕ) → IsWord (length over) v → IsWord (length over) w
+      → state_of set (read v) ≡ state_of set (read w) → SaysAlike (Among number vars) (members e) v w
   read-alike v w is_v is_w same =
       let v_some = not_nil-map (restrict over vars) v is_v.nonempty in
       let w_some = not_nil-map (restrict over vars) w is_w.nonempty in
@@ -61,5 +61,6 @@ module _ (e : ℕ → SetOf) (number : ℕ) (vars : List Var) (set : Automaton) 
 
   pub members-bound : ¬ HasMoreResiduals (Among number vars) (members e) (length set.accept)
   members-bound more =
-      few-colours (length over) (SaysAlike (Among number vars) (members e)) (length set.accept) (λ w. state_of set (read w))
-      (λ w _. state_within set valid (read w)) read-alike (length set.accept) (omega arith) more
+      few-colours (length over) (SaysAlike (Among number vars) (members e)) (length set.accept)
+      (λ w. state_of set (read w)) (λ w _. state_within set valid (read w)) read-alike (length set.accept)
+      (omega arith) more

@@ -1,5 +1,6 @@
 -- The old values of an image are bound within the budget, and so are all its steps.
-use Rattle.std.proofs.Common.{◌≡◌, ◌≢◌, ℕ, ◌*◌, ◌≤◌, List, [], ◌∷◌, ◌++◌, map, AllPairs, None, arith, length, refl, sym, ap, ◌∙◌, subst, inl, inr}
+use Rattle.std.proofs.Common.{◌≡◌, ◌≢◌, ℕ, ◌*◌, ◌≤◌, List, [], ◌∷◌, map, length, AllPairs, None}
+use Rattle.std.proofs.Common.{arith, refl, sym, ◌∙◌, subst, inl, inr}
 use Rattle.std.proofs.lemmas.Nat.{mul-le}
 use Rattle.track_word.specs.declared.tracks.Var.{Var}
 use Rattle.lin_formula.specs.Tree.{Tree, Among, Not, Ex, free_vars, steps}
@@ -10,13 +11,15 @@ use Rattle.near_bound.specs.Equations.{Equation, colours}
 use Rattle.near_bound.specs.Factored.{IsFactored, Settles, AndBound, EquationBound, ExBound}
 use Rattle.near_bound.specs.States.{HasMoreResiduals, StatesBound}
 use Rattle.near_image.specs.declared.shift.Shift.{Shift}
-use Rattle.near_image.specs.Image.{Image, IsShiftable, AreOtherVars, ex_all, and_all, gone, change, step, moved_tree, part_tree, image_tree, equation_of}
+use Rattle.near_image.specs.Image.{Image, IsShiftable, AreOtherVars, ex_all, and_all, gone, step}
+use Rattle.near_image.specs.Image.{moved_tree, part_tree, image_tree, equation_of}
 use Rattle.near_image.specs.Laws.{start_colours, HasFewStates}
 use Rattle.near_image.proofs.Bindings.{vars-and_all, vars-ex_all}
 use Rattle.near_image.proofs.Shifts.{IsAmong, gone-among, beside, later, new-gone, clear-not_gone}
 use Rattle.near_image.proofs.Withins.{AreWithin, within-append, none-over}
 use Rattle.near_image.proofs.Colours.{turned, colours-later, colours-turned}
-use Rattle.near_image.proofs.Factors.{Sides, Up, Down, sides, IsBeside, beside-one, factored-self, factored-step, factored-ex}
+use Rattle.near_image.proofs.Factors.{Sides, Up, Down, sides, IsBeside, beside-one}
+use Rattle.near_image.proofs.Factors.{factored-self, factored-step, factored-ex}
 use Rattle.near_image.proofs.Members.{members-bound}
 use Rattle.near_image.proofs.Chains.{within-changes, factored-clear, within-clear}
 
@@ -43,7 +46,8 @@ settled-later s shifts p qs are = record {
       (greater, less, are.others t (inr h));
 }
 
-module _ (bound : ExBound) (e : ℕ → SetOf) (budget each : ℕ) (p : Tree) (few : ¬ HasMoreResiduals p (members e) each) where
+module _ (bound : ExBound) (e : ℕ → SetOf) (budget each : ℕ) (p : Tree)
+    (few : ¬ HasMoreResiduals p (members e) each) where
   record AreBound (shifts : List Shift) (w : Tree) (qs : List Equation) : Type 0 where
     pub factored : IsFactored (ex_all (gone shifts) w) p qs (members e)
     pub within : AreWithin (steps (ex_all (gone shifts) w)) (members e) budget
@@ -56,11 +60,14 @@ module _ (bound : ExBound) (e : ℕ → SetOf) (budget each : ℕ) (p : Tree) (f
       let inner = bind shifts w (equation_of s ∷ qs) (settled-later s shifts p qs are) is enough within in
       let differ = are.new s s (inl refl) (inl refl) in
       let others = are.part s (inl refl) in
-      let outer = factored-ex s (ex_all (gone shifts) w) p qs (members e) inner.factored differ others (are.others s (inl refl)) in
-      let fewer = mul-le (colours qs) each (colours (turned (s ∷ shifts) qs)) each (colours-later (s ∷ shifts) qs) (omega arith) in
+      let beside = are.others s (inl refl) in
+      let outer = factored-ex s (ex_all (gone shifts) w) p qs (members e) inner.factored differ others beside in
+      let later = colours-later (s ∷ shifts) qs in
+      let fewer = mul-le (colours qs) each (colours (turned (s ∷ shifts) qs)) each later (omega arith) in
+      let settles = settles-old s (equation_of s) (sides s) differ in
       let none : ¬ Exceeds (Ex s.gone (ex_all (gone shifts) w)) (members e) budget = λ more.
-      few (bound s.gone (ex_all (gone shifts) w) p (equation_of s) qs e budget each inner.factored
-      (settles-old s (equation_of s) (sides s) differ) others outer.equation_vars (omega (arith, fewer, enough)) more) in
+      few (bound s.gone (ex_all (gone shifts) w) p (equation_of s) qs e budget each inner.factored settles others
+      outer.equation_vars (omega (arith, fewer, enough)) more) in
       record {
         factored = outer;
         within =
@@ -68,8 +75,8 @@ module _ (bound : ExBound) (e : ℕ → SetOf) (budget each : ℕ) (p : Tree) (f
             inner.within (none, tt);
       }
 
-  pub bound-within : (shifts : List Shift) (w : Tree) → AreSettled shifts p [] → IsFactored w p (turned shifts []) (members e)
-      → colours (turned shifts []) * each ≤ budget → AreWithin (steps w) (members e) budget
+  pub bound-within : (shifts : List Shift) (w : Tree) → AreSettled shifts p []
+      → IsFactored w p (turned shifts []) (members e) → colours (turned shifts []) * each ≤ budget → AreWithin (steps w) (members e) budget
       → AreWithin (steps (ex_all (gone shifts) w)) (members e) budget
   bound-within shifts w are is enough within = (bind shifts w [] are is enough within).within
 
@@ -103,12 +110,13 @@ steps-within bounds i e budget each is few =
     let room : 1 * start_colours i.shifts * length few.set.accept ≤ budget =
     subst (λ n. n * length few.set.accept ≤ budget) (sym once) few.start in
     let members_few = members-bound e i.set i.vars few.set few.is_set few.valid few.arity few.integers in
-    let start = within-changes e budget (length few.set.accept) bounds.equations i.shifts (Among i.set i.vars) (Among i.set i.vars) [] 1
-    (factored-self (Among i.set i.vars) (members e)) (omega arith) room members_few tt in
+    let start = within-changes e budget (length few.set.accept) bounds.equations i.shifts (Among i.set i.vars)
+    (Among i.set i.vars) [] 1 (factored-self (Among i.set i.vars) (members e)) (omega arith) room members_few tt in
     let factored = factored-step i is (members e) in
     let enough : colours (turned i.shifts []) * each ≤ budget =
     subst (λ n. n * each ≤ budget) (sym (colours-turned i.shifts)) few.changes in
-    let asked = within-clear e budget each bounds.conjunctions i.clear (step i) (moved_tree i) (turned i.shifts []) factored enough few.clear start in
+    let asked = within-clear e budget each bounds.conjunctions i.clear (step i) (moved_tree i) (turned i.shifts [])
+    factored enough few.clear start in
     let whole = factored-clear e budget each i.clear (step i) (moved_tree i) (turned i.shifts []) factored in
     let part_few = bounds.states few.part (part_tree i) e each few.is_part few.decides few.few in
     none-over (steps (image_tree i)) (members e) budget 1

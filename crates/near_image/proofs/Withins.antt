@@ -1,5 +1,5 @@
 -- Steps none of which exceeds the budget.
-use Rattle.std.proofs.Common.{◌≡◌, ℕ, ◌+◌, List, [], ◌∷◌, ◌++◌, Option, Some, None, refl, sym, inl, inr}
+use Rattle.std.proofs.Common.{ℕ, ◌+◌, List, [], ◌∷◌, ◌++◌, None, refl, sym, inl, inr}
 use Rattle.lin_formula.specs.Tree.{Tree}
 use Rattle.lin_formula.specs.Holds.{Sets}
 use Rattle.formula_auto.specs.Step.{Exceeds, FirstOver}

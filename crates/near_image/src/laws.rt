@@ -2,10 +2,10 @@
 ghost use Rattle.near_image.specs.Laws.{ImageSaysPart, MovedSetIsDecided, StepsAreWithin};
 
 use auto_shift::laws::words_can_be_moved;
-use near_bound::laws::conjunctions_are_bounded;
-use near_bound::laws::equations_are_bounded;
-use near_bound::laws::projections_are_bounded;
-use near_bound::laws::states_bound_residuals;
+use near_bound::laws::{
+    conjunctions_are_bounded, equations_are_bounded, projections_are_bounded,
+    states_bound_residuals,
+};
 
 /// The image says what its part says, of the same variables.
 pub fn image_says_what_its_part_says()
