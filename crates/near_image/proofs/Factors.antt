@@ -66,11 +66,11 @@ module _ (w p : Tree) (qs : List Equation) (e : Sets) (is : IsFactored w p qs e)
   factored-change s =
       let new = right (change s) s.new ((change-vars s.new s).1 (inl refl)) in
       let old = right (change s) s.gone ((change-vars s.gone s).1 (inr refl)) in
+      let over = over-more qs (free_vars w) (free_vars (And w (change s))) (left (change s)) is.equation_vars in
       let (greater, less) = over-one s (equation_of s) (free_vars (And w (change s))) (sides s) new old in
       record {
         part_vars = λ x h. left (change s) x (is.part_vars x h);
-        equation_vars =
-            (greater, less, over-more qs (free_vars w) (free_vars (And w (change s))) (left (change s)) is.equation_vars);
+        equation_vars = (greater, less, over);
         holds = λ v. (
           λ h. let k = (is.holds v).0 h.0 in (k.0, ((change-solved s e v).0 h.1, k.1)),
           λ h. ((is.holds v).1 (h.0, h.1.1), (change-solved s e v).1 h.1.0),

@@ -76,8 +76,8 @@ module _ (bound : ExBound) (e : ℕ → SetOf) (budget each : ℕ) (p : Tree)
       }
 
   pub bound-within : (shifts : List Shift) (w : Tree) → AreSettled shifts p []
-      → IsFactored w p (turned shifts []) (members e) → colours (turned shifts []) * each ≤ budget → AreWithin (steps w) (members e) budget
-      → AreWithin (steps (ex_all (gone shifts) w)) (members e) budget
+      → IsFactored w p (turned shifts []) (members e) → colours (turned shifts []) * each ≤ budget
+      → AreWithin (steps w) (members e) budget → AreWithin (steps (ex_all (gone shifts) w)) (members e) budget
   bound-within shifts w are is enough within = (bind shifts w [] are is enough within).within
 
 -- the old variables do not stand in the part of an image
