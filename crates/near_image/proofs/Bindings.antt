@@ -1,14 +1,15 @@
 -- What a chain of conjunctions and what "some values" of variables say.
-use Rattle.std.proofs.Common.{◌≡◌, ◌≢◌, ◌⊎◌, ◌↔◌, List, [], ◌∷◌, ◌==◌, if◌then◌else◌, Bool, true, false, ℤ, refl, sym, ap, ◌∙◌, subst, inl, inr, eq-eqb}
+use Rattle.std.proofs.Common.{◌≡◌, ◌≢◌, ◌⊎◌, ◌↔◌, List, [], ◌∷◌, ◌==◌, if◌then◌else◌, Bool, true, false, ℤ}
+use Rattle.std.proofs.Common.{refl, sym, ap, ◌∙◌, subst, inl, inr, eq-eqb}
 use Rattle.std.proofs.lemmas.Bool.{eqb-true}
 use Rattle.track_word.specs.declared.tracks.Var.{Var}
 use Rattle.track_word.specs.Tracks.{Values}
-use Rattle.lin_formula.specs.Tree.{Tree, And, Ex, free_vars}
+use Rattle.lin_formula.specs.Tree.{Tree, And, free_vars}
 use Rattle.lin_formula.specs.Free.{IsOneOf, IsFree}
 use Rattle.lin_formula.specs.Holds.{Sets, Holds, with_value}
 use Rattle.lin_formula.proofs.FreeVars.{free_vars-free, free_vars-ascend, one_of-with_vars, one_of-without_var}
 use Rattle.lin_formula.proofs.Coincide.{coincide}
-use Rattle.formula_auto.proofs.Values.{Cases, Same, Other, cases_of}
+use Rattle.formula_auto.proofs.Values.{Same, Other, cases_of}
 use Rattle.near_image.specs.Image.{and_all, ex_all}
 use Rattle.near_image.proofs.Variables.{same-ascending}
 
@@ -63,14 +64,14 @@ holds-and_all f (g ∷ gs) e v =
 abbrev pub AgreeBut : List Var → Values → Values → Type 0
 AgreeBut xs v w = (x : Var) → (¬ IsOneOf x xs) → w x.0 ≡ v x.0
 
-with_value-same : (v : Values) (x y : Var) (n : ℤ) → x ≡ y → with_value v y n x.0 ≡ n
+pub with_value-same : (v : Values) (x y : Var) (n : ℤ) → x ≡ y → with_value v y n x.0 ≡ n
 with_value-same v x y n is = at (x.0 == y.0) (eq-eqb x.0 y.0 (ap (λ (z : Var). z.0) is))
   where
     at : (b : Bool) → b ≡ true → (if b then n else v x.0) ≡ n
     at true e = refl
     at false e = absurd (cc)
 
-with_value-other : (v : Values) (x y : Var) (n : ℤ) → x ≢ y → with_value v y n x.0 ≡ v x.0
+pub with_value-other : (v : Values) (x y : Var) (n : ℤ) → x ≢ y → with_value v y n x.0 ≡ v x.0
 with_value-other v x y n other = at (x.0 == y.0) refl
   where
     at : (b : Bool) → x.0 == y.0 ≡ b → (if b then n else v x.0) ≡ v x.0
@@ -78,14 +79,16 @@ with_value-other v x y n other = at (x.0 == y.0) refl
     at false e = refl
 
 -- values that agree with those of which x has another one
-agree-with_value : (x : Var) (xs : List Var) (v w : Values) → AgreeBut (x ∷ xs) v w → AgreeBut xs (with_value v x (w x.0)) w
+agree-with_value : (x : Var) (xs : List Var) (v w : Values) → AgreeBut (x ∷ xs) v w
+    → AgreeBut xs (with_value v x (w x.0)) w
 agree-with_value x xs v w agree y none = elim (cases_of y x) [
   | Same is ↦ ap (λ (z : Var). w z.0) is ∙ sym (with_value-same v y x (w x.0) is)
   | Other other ↦
       agree y (λ one. elim one [ inl is ↦ other is | inr k ↦ none k ]) ∙ sym (with_value-other v y x (w x.0) other)
 ]
 
-agree-without : (x : Var) (xs : List Var) (n : ℤ) (v w : Values) → AgreeBut xs (with_value v x n) w → AgreeBut (x ∷ xs) v w
+agree-without : (x : Var) (xs : List Var) (n : ℤ) (v w : Values) → AgreeBut xs (with_value v x n) w
+    → AgreeBut (x ∷ xs) v w
 agree-without x xs n v w agree y none =
     agree y (λ k. none (inr k)) ∙ with_value-other v y x n (λ is. none (inl is))
 
@@ -120,17 +123,18 @@ module _ (xs : List Var) (f : Tree) (gs : List Tree) (others : (x : Var) → IsI
   vars-outside =
       same-ascending _ _ (free_vars-ascend (ex_all xs (and_all f gs))) (free_vars-ascend (and_all (ex_all xs f) gs))
       (λ x h.
-          let (none, k) = (vars-ex_all x xs (and_all f gs)).0 h in
-          (vars-and_all x (ex_all xs f) gs).1 (elim ((vars-and_all x f gs).0 k) [
-            | inl l ↦ inl ((vars-ex_all x xs f).1 (none, l))
-            | inr l ↦ inr l
-          ]))
+      let (none, k) = (vars-ex_all x xs (and_all f gs)).0 h in
+      (vars-and_all x (ex_all xs f) gs).1 (elim ((vars-and_all x f gs).0 k) [
+        | inl l ↦ inl ((vars-ex_all x xs f).1 (none, l))
+        | inr l ↦ inr l
+      ]))
       (λ x h. (vars-ex_all x xs (and_all f gs)).1 (elim ((vars-and_all x (ex_all xs f) gs).0 h) [
         | inl l ↦ let (none, k) = (vars-ex_all x xs f).0 l in (none, (vars-and_all x f gs).1 (inl k))
         | inr l ↦ (others x l, (vars-and_all x f gs).1 (inr l))
       ]))
 
-  pub holds-outside : (e : Sets) (v : Values) → Holds (ex_all xs (and_all f gs)) e v ↔ Holds (and_all (ex_all xs f) gs) e v
+  pub holds-outside : (e : Sets) (v : Values)
+      → Holds (ex_all xs (and_all f gs)) e v ↔ Holds (and_all (ex_all xs f) gs) e v
   holds-outside e v = (
     λ h.
         let (w, agree, k) = (holds-ex_all xs (and_all f gs) e v).0 h in

@@ -1,5 +1,6 @@
 -- What it says that values change by numbers.
-use Rattle.std.proofs.Common.{◌≡◌, ◌⊎◌, ◌↔◌, ℕ, zero, suc, ℤ, pos, negsuc, ◌+ℤ◌, ◌*ℤ◌, List, [], ◌∷◌, map, arith, refl, sym, subst, inl, inr}
+use Rattle.std.proofs.Common.{◌≡◌, ◌⊎◌, ◌↔◌, ℕ, zero, suc, ℤ, pos, negsuc, ◌+ℤ◌, ◌*ℤ◌, List, [], ◌∷◌, map}
+use Rattle.std.proofs.Common.{arith, refl, sym, subst, inl, inr}
 use Rattle.std.proofs.lemmas.Int.{ints}
 use Rattle.track_word.specs.declared.tracks.Var.{Var}
 use Rattle.track_word.specs.Tracks.{Values}
@@ -9,7 +10,8 @@ use Rattle.lin_formula.specs.Holds.{Sets, Holds}
 use Rattle.lin_formula.proofs.FreeVars.{free_vars-free}
 use Rattle.near_bound.specs.Equations.{IsSolved}
 use Rattle.near_image.specs.declared.shift.Shift.{Shift}
-use Rattle.near_image.specs.Image.{Image, IsShiftable, change, step, gone, moved_vars, moved_tree, equation_by, equation_of}
+use Rattle.near_image.specs.Image.{Image, IsShiftable, change, step, gone, moved_vars, moved_tree}
+use Rattle.near_image.specs.Image.{equation_by, equation_of}
 use Rattle.near_image.specs.Laws.{negated}
 use Rattle.near_image.proofs.Bindings.{IsInOne, AllHold, vars-and_all, vars-ex_all}
 use Rattle.near_image.proofs.Shifts.{news, IsAmong, moved-vars, moved-not_gone}
@@ -27,7 +29,8 @@ forward : (a b : ℤ) (n : ℕ) → (a ≡ b +ℤ pos n) ↔ (b ≡ a +ℤ negat
 forward a b zero = (λ e. omega (arith, ints, e), λ e. omega (arith, ints, e))
 forward a b (suc n) = (λ e. omega (arith, ints, e), λ e. omega (arith, ints, e))
 
-solved-by : (new old : Var) (by : ℤ) (v : Values) → IsSolved v (equation_by new old by) ↔ (v old.0 ≡ v new.0 +ℤ negated by)
+solved-by : (new old : Var) (by : ℤ) (v : Values)
+    → IsSolved v (equation_by new old by) ↔ (v old.0 ≡ v new.0 +ℤ negated by)
 solved-by new old (pos n) v = forward (v new.0) (v old.0) n
 solved-by new old (negsuc n) v = (λ e. e, λ e. e)
 
@@ -48,7 +51,8 @@ change-vars x s =
       λ h. free.1 (elim h [ inl is ↦ inl is | inr is ↦ inr (inl is) ]),
     )
 
-pub changes-vars : (x : Var) (shifts : List Shift) → IsInOne x (map change shifts) → IsOneOf x (news shifts) ⊎ IsOneOf x (gone shifts)
+pub changes-vars : (x : Var) (shifts : List Shift) → IsInOne x (map change shifts)
+    → IsOneOf x (news shifts) ⊎ IsOneOf x (gone shifts)
 changes-vars x [] h = absurd h
 changes-vars x (s ∷ shifts) (inl h) = elim ((change-vars x s).0 h) [ inl is ↦ inl (inl is) | inr is ↦ inr (inl is) ]
 changes-vars x (s ∷ shifts) (inr h) = elim (changes-vars x shifts h) [ inl k ↦ inl (inr k) | inr k ↦ inr (inr k) ]
@@ -58,8 +62,8 @@ news-vars x [] h = absurd h
 news-vars x (s ∷ shifts) (inl is) = inl ((change-vars x s).1 (inl is))
 news-vars x (s ∷ shifts) (inr h) = inr (news-vars x shifts h)
 
-pub all-changes : (shifts : List Shift) (e : Sets) (v : Values) → ((s : Shift) → IsAmong s shifts → Holds (change s) e v)
-    → AllHold (map change shifts) e v
+pub all-changes : (shifts : List Shift) (e : Sets) (v : Values)
+    → ((s : Shift) → IsAmong s shifts → Holds (change s) e v) → AllHold (map change shifts) e v
 all-changes [] e v h = tt
 all-changes (s ∷ shifts) e v h = (h s (inl refl), all-changes shifts e v (λ t k. h t (inr k)))
 
@@ -70,7 +74,8 @@ each-change (t ∷ shifts) e v h s (inl is) = subst (λ r. Holds (change r) e v)
 each-change (t ∷ shifts) e v h s (inr k) = each-change shifts e v h.1 s k
 
 -- the moved set speaks of the variables of a moved member
-pub moved-tree_vars : (i : Image) → IsShiftable i → (x : Var) → IsOneOf x (free_vars (moved_tree i)) ↔ IsOneOf x (moved_vars i)
+pub moved-tree_vars : (i : Image) → IsShiftable i → (x : Var)
+    → IsOneOf x (free_vars (moved_tree i)) ↔ IsOneOf x (moved_vars i)
 moved-tree_vars i is x =
     let outer = vars-ex_all x (gone i.shifts) (step i) in
     let inner = vars-and_all x (Among i.set i.vars) (map change i.shifts) in
@@ -83,8 +88,11 @@ moved-tree_vars i is x =
             | inr l ↦ elim (changes-vars x i.shifts l) [ inl new ↦ inl new | inr old ↦ absurd (none old) ]
           ]),
       λ h.
-          outer.1 (moved-not_gone i is x h, inner.1 (elim (moved.0 h) [
-            | inl new ↦ inr (news-vars x i.shifts new)
-            | inr k ↦ inl (among.1 k.1)
-          ])),
+          outer.1 (
+            moved-not_gone i is x h,
+            inner.1 (elim (moved.0 h) [
+              | inl new ↦ inr (news-vars x i.shifts new)
+              | inr k ↦ inl (among.1 k.1)
+            ]),
+          ),
     )

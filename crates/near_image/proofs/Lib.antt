@@ -4,8 +4,14 @@ pub mod Shifts
 pub mod Changes
 pub mod Moving
 pub mod MovedSets
+pub mod Withins
+pub mod Colours
+pub mod Factors
+pub mod Members
+pub mod Chains
+pub mod Quantified
 pub mod Listed
 pub mod Loops
 pub mod Movables
 pub mod Readings
-pub mod Chains
+pub mod Lefts

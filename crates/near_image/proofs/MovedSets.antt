@@ -1,5 +1,6 @@
 -- The moved set of an image has a tuple just if its set has the tuple with each shift taken back.
-use Rattle.std.proofs.Common.{◌≡◌, ◌⊎◌, ◌↔◌, ℕ, ℤ, ◌+ℤ◌, List, [], ◌∷◌, map, length, refl, sym, ap, ◌∙◌, subst, inl, inr}
+use Rattle.std.proofs.Common.{◌≡◌, ◌⊎◌, ◌↔◌, ℕ, ℤ, ◌+ℤ◌, List, [], ◌∷◌, map, length}
+use Rattle.std.proofs.Common.{refl, sym, ap, ◌∙◌, subst, inl, inr}
 use Rattle.track_word.specs.declared.tracks.Var.{Var}
 use Rattle.track_word.specs.Word.{IsWord}
 use Rattle.track_word.specs.Tracks.{Values, word_values, values_at}
@@ -17,7 +18,8 @@ use Rattle.near_image.specs.Image.{Image, IsShiftable, change, step, gone, moved
 use Rattle.near_image.specs.Laws.{negated, IsMovedBy}
 use Rattle.near_image.proofs.Variables.{one_of-cases, same-ascending}
 use Rattle.near_image.proofs.Bindings.{holds-and_all, holds-ex_all}
-use Rattle.near_image.proofs.Shifts.{news, new-by, new-among, IsAmong, gone-among, moved-cases, new, moved-gone, new-not_gone, moved-vars}
+use Rattle.near_image.proofs.Shifts.{IsAmong, new-by, new-among, gone-among, new, new-not_gone}
+use Rattle.near_image.proofs.Shifts.{moved-cases, moved-gone, moved-vars}
 use Rattle.near_image.proofs.Changes.{change-is, all-changes, each-change, moved-tree_vars}
 use Rattle.near_image.proofs.Moving.{AreTakenBack, tracks-moved, taken-back}
 
@@ -55,18 +57,20 @@ module _ (i : Image) (is : IsShiftable i) where
       | inr (none, stays) ↦ others x none ∙ sym (stays-same x h none) ∙ ap (λ (y : Var). v y.0) (sym stays)
     ])
 
+    -- whether the variable is one of the old ones
+    abbrev GoneOrNot : Var → Type 0
+    GoneOrNot x = IsOneOf x (gone i.shifts) ⊎ (¬ IsOneOf x (gone i.shifts))
+
     -- the values of the member, and those of u
-    abbrev chosen : (x : Var) → IsOneOf x (gone i.shifts) ⊎ (¬ IsOneOf x (gone i.shifts)) → ℤ
+    abbrev chosen : (x : Var) → GoneOrNot x → ℤ
     chosen x (inl h) = v (moved_var i.shifts x).0
     chosen x (inr none) = u x.0
 
-    chosen-gone : (x : Var) (c : IsOneOf x (gone i.shifts) ⊎ (¬ IsOneOf x (gone i.shifts))) → IsOneOf x (gone i.shifts)
-        → chosen x c ≡ v (moved_var i.shifts x).0
+    chosen-gone : (x : Var) (c : GoneOrNot x) → IsOneOf x (gone i.shifts) → chosen x c ≡ v (moved_var i.shifts x).0
     chosen-gone x (inl h) k = refl
     chosen-gone x (inr none) k = absurd (none k)
 
-    chosen-other : (x : Var) (c : IsOneOf x (gone i.shifts) ⊎ (¬ IsOneOf x (gone i.shifts))) → (¬ IsOneOf x (gone i.shifts))
-        → chosen x c ≡ u x.0
+    chosen-other : (x : Var) (c : GoneOrNot x) → (¬ IsOneOf x (gone i.shifts)) → chosen x c ≡ u x.0
     chosen-other x (inl h) none = absurd (none h)
     chosen-other x (inr none') none = refl
 
@@ -85,9 +89,11 @@ module _ (i : Image) (is : IsShiftable i) where
     set-moved e = (
       λ h.
           let tuple = subst (e i.set) (sym (from-member member member-other member-gone)) h in
-          let changes = λ (s : Shift) (k : IsAmong s i.shifts). (change-is s e member).1
-          (member-gone s k ∙ back.new s k ∙ ap (λ n. n +ℤ negated s.by) (sym (member-other s.new (new-not_gone i is s k)))) in
-          let both = (holds-and_all (Among i.set i.vars) (map change i.shifts) e member).1 (tuple, all-changes i.shifts e member changes) in
+          let changes = λ (s : Shift) (k : IsAmong s i.shifts).
+          let new = ap (λ n. n +ℤ negated s.by) (sym (member-other s.new (new-not_gone i is s k))) in
+          (change-is s e member).1 (member-gone s k ∙ back.new s k ∙ new) in
+          let all = all-changes i.shifts e member changes in
+          let both = (holds-and_all (Among i.set i.vars) (map change i.shifts) e member).1 (tuple, all) in
           (holds-ex_all (gone i.shifts) (step i) e u).1 (member, member-other, both),
       λ h.
           let (w, agree, k) = (holds-ex_all (gone i.shifts) (step i) e u).0 h in
@@ -105,7 +111,8 @@ module _ (i : Image) (is : IsShiftable i) where
       record {
         tracks = tracks-moved i.shifts a b moved ∙ tracks;
         words = λ u word.
-            let (v, back) = taken-back can (free_vars (moved_tree i)) i.shifts a b u tracks new-within is.apart moved word in
+            let (v, back) =
+            taken-back can (free_vars (moved_tree i)) i.shifts a b u tracks new-within is.apart moved word in
             let there = decides.words v (subst (λ t. IsWord (length t) v) same-vars back.is_word) in
             let At : List Var → Type 0 = λ t. members e i.set (values_at (moved_vars i) (word_values t v)) in
             let says = set-moved _ _ back.values (members e) in (

@@ -1,12 +1,14 @@
 -- A set of which some tracks are moved, one after the other, and the tuples that come out.
-use Rattle.std.proofs.Common.{◌≡◌, ◌≢◌, ◌⊎◌, ◌↔◌, ℕ, zero, suc, ◌+◌, ◌<◌, ℤ, pos, negsuc, ◌+ℤ◌, Bool, true, false, List, [], ◌∷◌, map, length, AllPairs, arith, refl, sym, ap, ◌∙◌, subst, inl, inr}
+use Rattle.std.proofs.Common.{◌≡◌, ◌≢◌, ◌↔◌, ℕ, zero, suc, ◌<◌, ℤ, pos, negsuc, ◌+ℤ◌, Bool, true, false}
+use Rattle.std.proofs.Common.{List, [], ◌∷◌, length, AllPairs, arith, refl, sym, ap, ◌∙◌, subst, inl, inr}
 use Rattle.std.proofs.lemmas.Int.{ints}
 use Rattle.track_word.specs.declared.tracks.Var.{Var}
 use Rattle.track_word.specs.Word.{IsWord, val}
-use Rattle.track_word.specs.Tracks.{Values, place, word_values, values_at}
+use Rattle.track_word.specs.Tracks.{Values, place, word_values}
 use Rattle.auto_core.specs.Automaton.{Automaton, Accepts}
 use Rattle.lin_formula.specs.Free.{IsOneOf}
-use Rattle.formula_auto.proofs.Values.{Cases, Same, Other, cases_of, place-here, place-later}
+use Rattle.formula_auto.proofs.Values.{Same, Other, cases_of, place-here, place-later}
+use Rattle.auto_shift.specs.Shifted.{by_one}
 use Rattle.auto_shift.specs.Moved.{IsMoved, DecidesMoved, WordsCanBeMoved}
 use Rattle.near_image.specs.declared.shift.Shift.{Shift}
 use Rattle.near_image.specs.Image.{AreOtherVars}
@@ -59,11 +61,10 @@ module _ (can : WordsCanBeMoved) (tracks track : ℕ) (u : List ℕ) (within : t
   abbrev HasMoved : ℤ → Type 0
   HasMoved d = (v : List ℕ) × IsMoved tracks track d u v
 
-  once-more : (d : ℤ) (up : Bool) (f g : ℤ) → d +ℤ f ≡ g → HasMoved d
-      → ((v : List ℕ) → IsWord tracks v → (w : List ℕ) × IsMoved tracks track f v w) → HasMoved g
-  once-more d up f g sum (v, one) step =
-      let (w, other) = step v one.is_word in
-      (w, subst (λ k. IsMoved tracks track k u w) sum (moved-again tracks track d f u v w one other))
+  once-more : (d g : ℤ) (up : Bool) → d +ℤ by_one up ≡ g → HasMoved d → HasMoved g
+  once-more d g up sum (v, one) =
+      let (w, other) = can tracks track v within one.is_word up in
+      (w, subst (λ k. IsMoved tracks track k u w) sum (moved-again tracks track d (by_one up) u v w one other))
 
   stays : HasMoved (pos 0)
   stays = (u, record { is_word = is; moved = zero-more (val u track); others = λ t h differs. refl })
@@ -73,12 +74,11 @@ module _ (can : WordsCanBeMoved) (tracks track : ℕ) (u : List ℕ) (within : t
 
   ups : (n : ℕ) → HasMoved (pos n)
   ups zero = stays
-  ups (suc n) = once-more (pos n) true (pos 1) (pos (suc n)) (omega (arith, ints)) (ups n) (λ v word. can tracks track v within word true)
+  ups (suc n) = once-more (pos n) (pos (suc n)) true (omega (arith, ints)) (ups n)
 
   downs : (n : ℕ) → HasMoved (negsuc n)
   downs zero = can tracks track u within is false
-  downs (suc n) =
-      once-more (negsuc n) false (negsuc 0) (negsuc (suc n)) (omega (arith, ints)) (downs n) (λ v word. can tracks track v within word false)
+  downs (suc n) = once-more (negsuc n) (negsuc (suc n)) false (omega (arith, ints)) (downs n)
 
   pub has-moved : (d : ℤ) → HasMoved d
   has-moved (pos n) = ups n
@@ -102,14 +102,18 @@ tracks-moved (s ∷ shifts) a b (m, one, rest) = tracks-moved shifts m b rest �
 pub taken-back : WordsCanBeMoved → (vars : List Var) (shifts : List Shift) (a b : Automaton) (u : List ℕ)
     → a.tracks ≡ vars → ((s : Shift) → IsAmong s shifts → IsOneOf s.new vars) → AllPairs AreOtherVars shifts
     → IsMovedBy shifts a b → IsWord (length vars) u → (v : List ℕ) × IsTakenBack vars shifts a b u v
-taken-back can vars [] a b u tracks within apart is is_word = (u, record {
-  is_word = is_word;
-  words = (λ h. subst (λ m. Accepts m u) is h, λ h. subst (λ m. Accepts m u) (sym is) h);
-  values = record { new = λ s h. absurd h; others = λ x h none. refl };
-})
+taken-back can vars [] a b u tracks within apart is is_word = (
+  u,
+  record {
+    is_word = is_word;
+    words = (λ h. subst (λ m. Accepts m u) is h, λ h. subst (λ m. Accepts m u) (sym is) h);
+    values = record { new = λ s h. absurd h; others = λ x h none. refl };
+  },
+)
 taken-back can vars (s ∷ shifts) a b u tracks within apart (m, one, rest) is_word =
+    let fewer = λ (t : Shift) (h : IsAmong t shifts). within t (inr h) in
     let (v, back) =
-    taken-back can vars shifts m b u (one.tracks ∙ tracks) (λ t h. within t (inr h)) (later s shifts apart) rest is_word in
+    taken-back can vars shifts m b u (one.tracks ∙ tracks) fewer (later s shifts apart) rest is_word in
     further can vars s shifts a b u tracks within apart m one v back
   where
     further : WordsCanBeMoved → (vars : List Var) (s : Shift) (shifts : List Shift) (a b : Automaton) (u : List ℕ)
@@ -125,20 +129,23 @@ taken-back can vars (s ∷ shifts) a b u tracks within apart (m, one, rest) is_w
         subst (λ t. IsMoved (length t) (place t s.new) (negated s.by) v w) (sym tracks) moved in
         let step = one.words v w (subst (λ t. IsWord (length t) v) (sym tracks) back.is_word) on_a in
         let other : (x : Var) → IsOneOf x vars → x ≢ s.new → word_values vars w x.0 ≡ word_values vars v x.0 =
-        λ x h differs. moved.others (place vars x) (place-within x vars h) (λ e. place-other x s.new vars differs e h) in
+        λ x h differs.
+        moved.others (place vars x) (place-within x vars h) (λ e. place-other x s.new vars differs e h) in
         let none : ¬ IsOneOf s.new (news shifts) =
         λ h. let by = new-by s.new shifts h in (beside s shifts apart by.shift by.among).new by.is in
-        let first = moved.moved ∙ ap (λ z. z +ℤ negated s.by) (back.values.others s.new here none) in
-        (w, record {
-          is_word = moved.is_word;
-          words = (λ h. step.0 (back.words.0 h), λ h. back.words.1 (step.1 h));
-          values = record {
-            new = λ t h. elim h [
-              | inl is ↦
-                  subst (λ r. word_values vars w r.new.0 ≡ word_values vars u r.new.0 +ℤ negated r.by) (sym is) first
-              | inr k ↦
-                  other t.new (within t (inr k)) (λ e. (beside s shifts apart t k).new (sym e)) ∙ back.values.new t k
-            ];
-            others = λ x h new. other x h (λ is. new (inl is)) ∙ back.values.others x h (λ k. new (inr k));
-          };
-        })
+        let first = moved.moved ∙ ap (λ z. z +ℤ negated s.by) (back.values.others s.new here none) in (
+          w,
+          record {
+            is_word = moved.is_word;
+            words = (λ h. step.0 (back.words.0 h), λ h. back.words.1 (step.1 h));
+            values = record {
+              new = λ t h. elim h [
+                | inl is ↦
+                    subst (λ r. word_values vars w r.new.0 ≡ word_values vars u r.new.0 +ℤ negated r.by) (sym is) first
+                | inr k ↦
+                    other t.new (within t (inr k)) (λ e. (beside s shifts apart t k).new (sym e)) ∙ back.values.new t k
+              ];
+              others = λ x h new. other x h (λ is. new (inl is)) ∙ back.values.others x h (λ k. new (inr k));
+            };
+          },
+        )

@@ -1,5 +1,6 @@
 -- The variables in which values stand before and after they change.
-use Rattle.std.proofs.Common.{◌≡◌, ◌≢◌, ◌⊎◌, ◌↔◌, suc, List, [], ◌∷◌, map, All, AllPairs, get_or, ◌==◌, if◌then◌else◌, Bool, true, false, arith, refl, sym, ap, ◌∙◌, subst, inl, inr, eq-eqb}
+use Rattle.std.proofs.Common.{◌≡◌, ◌≢◌, ◌⊎◌, ◌↔◌, suc, List, [], ◌∷◌, map, All, AllPairs, ◌==◌, if◌then◌else◌}
+use Rattle.std.proofs.Common.{Bool, true, false, arith, refl, sym, ap, ◌∙◌, subst, inl, inr, eq-eqb}
 use Rattle.std.proofs.lemmas.Bool.{eqb-true}
 use Rattle.std.proofs.lemmas.List.Elements.{All-head, All-tail}
 use Rattle.track_word.specs.declared.tracks.Var.{Var}
@@ -60,7 +61,8 @@ of-each P (t ∷ shifts) all s (inr h) = of-each P shifts (All-tail P t shifts a
 -- the first shift and each later one
 pub beside : (s : Shift) (shifts : List Shift) → AllPairs AreOtherVars (s ∷ shifts) → (t : Shift) → IsAmong t shifts
     → AreOtherVars s t
-beside s shifts apart t h = of-each (AreOtherVars s) shifts (λ i d within. apart 0 (suc i) d (omega arith) (omega arith)) t h
+beside s shifts apart t h =
+    of-each (AreOtherVars s) shifts (λ i d within. apart 0 (suc i) d (omega arith) (omega arith)) t h
 
 pub later : (s : Shift) (shifts : List Shift) → AllPairs AreOtherVars (s ∷ shifts) → AllPairs AreOtherVars shifts
 later s shifts apart i j d less within = apart (suc i) (suc j) d (omega arith) (omega arith)
@@ -91,14 +93,17 @@ moved-cases (s ∷ shifts) x = at (moved-cases shifts x) (x.0 == s.gone.0) refl
       moved = refl;
     })
     at (inl to) false e = inl (record { shift = to.shift; among = inr to.among; is = to.is; moved = to.moved })
-    at (inr (none, stays)) false e = inr (λ h. elim h [
-      | inl is ↦ let same : x.0 == s.gone.0 ≡ true = eq-eqb x.0 s.gone.0 (ap (λ (v : Var). v.0) is) in absurd (cc)
-      | inr k ↦ none k
-    ], stays)
+    at (inr (none, stays)) false e = inr (
+      λ h. elim h [
+        | inl is ↦ let same : x.0 == s.gone.0 ≡ true = eq-eqb x.0 s.gone.0 (ap (λ (v : Var). v.0) is) in absurd (cc)
+        | inr k ↦ none k
+      ],
+      stays,
+    )
 
 -- no two shifts have one old variable, so each leads to its own new one
-pub same-shift : (shifts : List Shift) → AllPairs AreOtherVars shifts → (s t : Shift) → IsAmong s shifts → IsAmong t shifts
-    → s.gone ≡ t.gone → s ≡ t
+same-shift : (shifts : List Shift) → AllPairs AreOtherVars shifts → (s t : Shift) → IsAmong s shifts
+    → IsAmong t shifts → s.gone ≡ t.gone → s ≡ t
 same-shift [] apart s t one other same = absurd one
 same-shift (r ∷ shifts) apart s t (inl is) (inl is') same = is ∙ sym is'
 same-shift (r ∷ shifts) apart s t (inl is) (inr h) same =
@@ -124,12 +129,15 @@ map-one_of f [] x h = absurd h
 map-one_of f (y ∷ ys) x (inl is) = inl (ap f is)
 map-one_of f (y ∷ ys) x (inr h) = inr (map-one_of f ys x h)
 
-clear-vars : (vars : List Var) (gs : List Tree) → All (λ g. (x : Var) → IsOneOf x (free_vars g) → IsOneOf x vars) gs
-    → (x : Var) → IsInOne x (map Not gs) → IsOneOf x vars
+-- the formula speaks of some variables alone
+abbrev SpeaksOf : List Var → Tree → Type 0
+SpeaksOf vars g = (x : Var) → IsOneOf x (free_vars g) → IsOneOf x vars
+
+clear-vars : (vars : List Var) (gs : List Tree) → All (SpeaksOf vars) gs → (x : Var) → IsInOne x (map Not gs)
+    → IsOneOf x vars
 clear-vars vars [] all x h = absurd h
-clear-vars vars (g ∷ gs) all x (inl h) = All-head (λ f. (x : Var) → IsOneOf x (free_vars f) → IsOneOf x vars) g gs all x h
-clear-vars vars (g ∷ gs) all x (inr h) =
-    clear-vars vars gs (All-tail (λ f. (x : Var) → IsOneOf x (free_vars f) → IsOneOf x vars) g gs all) x h
+clear-vars vars (g ∷ gs) all x (inl h) = All-head (SpeaksOf vars) g gs all x h
+clear-vars vars (g ∷ gs) all x (inr h) = clear-vars vars gs (All-tail (SpeaksOf vars) g gs all) x h
 
 module _ (i : Image) (is : IsShiftable i) where
   pub old : (s : Shift) → IsAmong s i.shifts → IsOneOf s.gone i.vars
@@ -161,11 +169,14 @@ module _ (i : Image) (is : IsShiftable i) where
         let from = one_of-map (moved_var i.shifts) i.vars x h in
         elim (moved-cases i.shifts from.old) [
           | inl to ↦
-              inl (subst (λ y. IsOneOf y (news i.shifts)) (sym (from.is ∙ to.moved)) (new-among to.shift i.shifts to.among))
+              let one = new-among to.shift i.shifts to.among in
+              inl (subst (λ y. IsOneOf y (news i.shifts)) (sym (from.is ∙ to.moved)) one)
           | inr (none, stays) ↦
               let same = from.is ∙ stays in
-              inr (λ k. none (subst (λ y. IsOneOf y (gone i.shifts)) same k),
-              subst (λ y. IsOneOf y i.vars) (sym same) from.among)
+              inr (
+                λ k. none (subst (λ y. IsOneOf y (gone i.shifts)) same k),
+                subst (λ y. IsOneOf y i.vars) (sym same) from.among,
+              )
         ],
     λ h. elim h [
       | inl k ↦
@@ -175,7 +186,8 @@ module _ (i : Image) (is : IsShiftable i) where
       | inr (none, k) ↦
           elim (moved-cases i.shifts x) [
             | inl to ↦
-                absurd (none (subst (λ y. IsOneOf y (gone i.shifts)) (sym to.is) (gone-among to.shift i.shifts to.among)))
+                let one = gone-among to.shift i.shifts to.among in
+                absurd (none (subst (λ y. IsOneOf y (gone i.shifts)) (sym to.is) one))
             | inr (_, stays) ↦
                 subst (λ y. IsOneOf y (moved_vars i)) stays (map-one_of (moved_var i.shifts) i.vars x k)
           ]

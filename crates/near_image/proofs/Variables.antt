@@ -1,10 +1,10 @@
 -- Lists of variables that ascend and have the same variables are equal.
-use Rattle.std.proofs.Common.{◌≡◌, ◌≢◌, ◌⊎◌, ℕ, suc, ◌<◌, List, [], ◌∷◌, map, AllPairs, arith, refl, sym, ap, ◌∙◌, subst, inl, inr}
+use Rattle.std.proofs.Common.{◌≡◌, ◌⊎◌, suc, ◌<◌, List, [], ◌∷◌, map, AllPairs, arith, refl, sym, ap, ◌∙◌, inl, inr}
 use Rattle.std.proofs.lemmas.List.Kept.{AllPairs-from_increasing}
 use Rattle.track_word.specs.declared.tracks.Var.{Var}
 use Rattle.track_word.specs.Tracks.{IsAscending}
 use Rattle.lin_formula.specs.Free.{IsOneOf}
-use Rattle.formula_auto.proofs.Values.{Cases, Same, Other, cases_of}
+use Rattle.formula_auto.proofs.Values.{Same, Other, cases_of}
 use Rattle.formula_auto.proofs.Projections.{above}
 
 pub one_of-cases : (x : Var) (xs : List Var) → IsOneOf x xs ⊎ (¬ IsOneOf x xs)

@@ -4,7 +4,6 @@ use Rattle.lin_formula.specs.SetOf.{members}
 use Rattle.near_image.specs.Image.{gone, step}
 use Rattle.near_image.proofs.Bindings.{vars-outside, holds-outside}
 use Rattle.near_image.proofs.Shifts.{clear-not_gone}
-use Rattle.near_image.proofs.Changes.{change-solved}
 use Rattle.near_image.proofs.laws.image_says_what_its_part_says.Goals as goal
 
 pub returns : goal.returns

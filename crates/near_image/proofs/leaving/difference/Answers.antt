@@ -1,4 +1,4 @@
-use Rattle.near_image.proofs.Chains.{differs}
+use Rattle.near_image.proofs.Lefts.{differs}
 use Rattle.near_image.proofs.leaving.difference.Goals as goal
 
 pub returns : goal.returns

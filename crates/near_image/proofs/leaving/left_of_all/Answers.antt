@@ -4,7 +4,7 @@ use Rattle.lin_formula.specs.TreeOf.{tree_of}
 use Rattle.lin_formula.specs.SetOf.{tables}
 use Rattle.near_image.specs.Read.{trees}
 use Rattle.near_image.specs.LeftOut.{MayBeAsked, AreLeftOf}
-use Rattle.near_image.proofs.Chains.{tree-at, left-more, length-trees}
+use Rattle.near_image.proofs.Lefts.{tree-at, left-more, length-trees}
 use Rattle.near_image.proofs.leaving.left_of_all.Goals as goal
 
 pub left_of-requires : goal.left_of-requires

@@ -1,4 +1,4 @@
-use Rattle.near_image.proofs.Chains.{moved-same, integers-same}
+use Rattle.near_image.proofs.Lefts.{moved-same, integers-same}
 use Rattle.near_image.proofs.shifting.by_step.Goals as goal
 
 pub returns-clause-moved : goal.returns-clause-moved

@@ -2,7 +2,7 @@ use Rattle.std.proofs.Common.{pos, refl, ◌∙◌, arith}
 use Rattle.std.proofs.lemmas.List.{drop_all}
 use Rattle.near_image.specs.Laws.{IsMovedBy}
 use Rattle.near_image.specs.declared.shift.Shift.{Shift}
-use Rattle.near_image.proofs.Chains.{moved-more}
+use Rattle.near_image.proofs.Lefts.{moved-more}
 use Rattle.near_image.proofs.shifting.moved.Goals as goal
 
 abbrev nowhere : Shift
