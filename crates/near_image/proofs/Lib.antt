@@ -15,3 +15,5 @@ pub mod Loops
 pub mod Movables
 pub mod Readings
 pub mod Lefts
+pub mod Askings
+pub mod Results

@@ -15,7 +15,7 @@ use Rattle.near_image.specs.Image.{AreOtherVars}
 use Rattle.near_image.specs.Laws.{negated, IsMovedBy}
 use Rattle.near_image.proofs.Shifts.{news, new-by, IsAmong, beside, later}
 
-place-within : (x : Var) (xs : List Var) → IsOneOf x xs → place xs x < length xs
+pub place-within : (x : Var) (xs : List Var) → IsOneOf x xs → place xs x < length xs
 place-within x [] h = absurd h
 place-within x (y ∷ ys) h = elim (cases_of x y) [
   | Same is ↦ let here = place-here x y ys is in omega (arith, here)

@@ -4,11 +4,11 @@ ghost use Rattle.auto_core.specs.Integers.{DecidesIntegers};
 ghost use Rattle.auto_core.specs.Reduced.{IsReachedState};
 ghost use Rattle.lin_formula.specs.Tree.{steps};
 ghost use Rattle.lin_formula.specs.TreeOf.{tree_of};
-ghost use Rattle.lin_formula.specs.SetOf.{tables, members};
+ghost use Rattle.lin_formula.specs.SetOf.{SetOf, Table, tables, members};
 ghost use Rattle.formula_auto.specs.Step.{FirstOver};
 ghost use Rattle.formula_auto.specs.Decides.{Decides};
-ghost use Rattle.formula_auto.specs.Compiled.{IsCompilable, IsCompiledOn, IsCompileError};
-ghost use Rattle.near_image.specs.Image.{image_tree};
+ghost use Rattle.formula_auto.specs.Compiled.{IsAccessible, IsCompilable, IsCompiledOn, IsCompileError};
+ghost use Rattle.near_image.specs.Image.{image_tree, moved_tree};
 ghost use Rattle.near_image.specs.Read.{image_of, IsMovable};
 
 use crate::image::Image;
@@ -23,6 +23,7 @@ use crate::share::share;
 use auto_core::Auto;
 use auto_walk::Grown;
 use formula_auto::{CompileError, Level, Memo, SetTable};
+use limits::Budget;
 use lin_formula::Formula;
 use std::alloc::{AllocError, Global};
 
@@ -107,17 +108,32 @@ fn image_within(
     ensures budget { memo.new.budget ≡ memo.old.budget }
 {
     image_says_what_its_part_says();
-    moved_sets_are_decided();
     steps_of_an_image_are_within();
-    let shifts = image.shifts.as_slice();
     let Some(set) = sets.get(image.set) else {
         unreachable!();
     };
-    let Some(each) = share(memo.budget(), shifts, set.states()) else {
+    let Some(each) = share(memo.budget(), image.shifts.as_slice(), set.states()) else {
         return Err(Grown::Over);
     };
+    let moved = moved_set(alloc, set, image, each)?;
+    let part = left_of_all(alloc, memo, moved, image.clear.as_slice(), &Scope { sets, each })?;
+    let _ = part.states(); // for its invariant
+    Ok(part)
+}
+
+/// The set with the new values of the image in place of the old ones. `Over` says nothing.
+fn moved_set(alloc: Global, set: &Auto, image: &Image, each: Budget) -> Result<Auto, Grown>
+    requires movable { IsMovable (image_of image.now) }
+    requires arity { length image.now.vars.now ≡ length set.now.tracks }
+    requires integers { DecidesIntegers set.now }
+    ensures decides { IfOk result
+        (λ b. (e : ℕ → SetOf) → e image.now.set.0 ≡ Table set.now → Decides b (moved_tree (image_of image.now)) (members e)) }
+    ensures accessible { IfOk result (IsAccessible each) }
+{
+    moved_sets_are_decided();
+    let _ = set.tracks(); // for its invariant
+    let shifts = image.shifts.as_slice();
     let vars = moved_vars(alloc, shifts, image.vars)?;
     let renamed = set.rename(alloc, vars.as_slice())?;
-    let moved = moved(alloc, renamed, shifts, each)?;
-    left_of_all(alloc, memo, moved, image.clear.as_slice(), &Scope { sets, each })
+    moved(alloc, renamed, shifts, each)
 }
