@@ -3,10 +3,11 @@ use Rattle.std.proofs.Common.{◌≡◌, ◌↔◌, ℕ, ◌+◌, ◌*◌, ◌<�
 use Rattle.std.proofs.lemmas.List.Elements.{All-nil, All-cons, All-tail}
 use Rattle.track_word.specs.declared.tracks.Var.{Var}
 use Rattle.track_word.specs.Word.{IsWord}
-use Rattle.track_word.specs.Tracks.{with_vars, place}
+use Rattle.track_word.specs.Tracks.{with_vars, place, word_values}
 use Rattle.auto_core.specs.Automaton.{Automaton, IsAutomaton}
 use Rattle.lin_formula.specs.Tree.{Tree, Not, And, free_vars}
 use Rattle.lin_formula.specs.Free.{IsOneOf}
+use Rattle.lin_formula.specs.Holds.{Holds}
 use Rattle.lin_formula.specs.SetOf.{SetOf, Table, members, tables}
 use Rattle.lin_formula.proofs.FreeVars.{one_of-with_vars}
 use Rattle.formula_auto.specs.Decides.{Decides}
@@ -56,23 +57,32 @@ module _ (e : ℕ → SetOf) (budget each : ℕ) where
   clear-within f (g ∷ gs) a b decides (m, left, rest) =
       (left.asked, left.within f decides, clear-within (And f (Not g)) gs m b (left.decides f decides) rest)
 
-decides-says : {f g : Tree} {e : ℕ → SetOf} {a : Automaton} → SaysTheSame f g → Decides a g (members e) → Decides a f (members e)
-decides-says {f = f} {g = g} {e = e} same decides = record {
+decides-says : (f g : Tree) (e : ℕ → SetOf) (a : Automaton) → SaysTheSame f g → Decides a g (members e) → Decides a f (members e)
+decides-says f g e a same decides = record {
   tracks = decides.tracks ∙ sym same.vars;
-  words = λ word is. ?;
+  words = λ word is.
+      let w = decides.words word (subst (λ t. IsWord (length t) word) same.vars is) in
+      let says = same.holds e (word_values (free_vars f) word) in
+      let At : List Var → Type 0 = λ t. Holds g (members e) (word_values t word) in (
+        λ h. says.1 (subst At (sym same.vars) (w.0 h)),
+        λ h. w.1 (subst At same.vars (says.0 h)),
+      );
 }
 
 -- one at least
 colours-least : (shifts : List Shift) (each budget : ℕ) → change_colours shifts * each ≤ budget → each ≤ budget
-colours-least [] each budget h = ?
-colours-least (s ∷ shifts) each budget h = ?
+colours-least [] each budget h = omega (arith, h)
+colours-least (s ∷ shifts) each budget h = one_more (open_ways (map equation_of (s ∷ shifts))) each budget h
+  where
+  one_more : (ways each budget : ℕ) → (ways + 1) * each ≤ budget → each ≤ budget
+  one_more ways each budget h = let sum : (ways + 1) * each ≡ ways * each + each = grind arith in omega (arith, h, sum)
 
 pub compiled-on : (i : Image) (e : ℕ → SetOf) (budget each : ℕ) (part : Automaton) → ImageSaysPart → StepsAreWithin → IsShiftable i
     → HasFewStates i e budget each → Decides part (part_tree i) (members e) → IsAccessible each part
     → IsCompiledOn (image_tree i) e 0 budget part
 compiled-on i e budget each part says within is few decides accessible = record {
   made = record {
-    decides = decides-says (says i is) decides;
+    decides = decides-says (image_tree i) (part_tree i) e part (says i is) decides;
     within = within i e budget each is few;
   };
   reached = accessible.reached;
