@@ -1,5 +1,5 @@
 -- Formulas of where a step leads from the members of a set.
-use Rattle.std.specs.Prelude.{◌≢◌, ℕ, ℤ, pos, negsuc, ◌==◌, if◌then◌else◌, List, [], ◌∷◌, map, All, AllPairs}
+use Rattle.std.specs.Prelude.{◌≢◌, ℕ, suc, ℤ, pos, negsuc, ◌==◌, if◌then◌else◌, List, [], ◌∷◌, map, All, AllPairs}
 use Rattle.track_word.specs.declared.tracks.Var.{Var}
 use Rattle.track_word.specs.declared.atoms.Rel.TheVariants.{Eq}
 use Rattle.lin_formula.specs.Tree.{Tree, Lin, Among, Not, And, Ex, free_vars}
@@ -65,10 +65,10 @@ pub record IsShiftable (i : Image) : Type 0 where
   pub apart : AllPairs AreOtherVars i.shifts
   pub clear : All (λ g. (x : Var) → IsOneOf x (free_vars g) → IsOneOf x (moved_vars i)) i.clear
 
--- as an equation by a natural number
+-- the new value is the old one and so much more, as an equation by a natural number
 abbrev pub equation_by : Var → Var → ℤ → Equation
-equation_by new gone (pos n) = record { greater = new; less = gone; by = n }
-equation_by new gone (negsuc n) = record { greater = gone; less = new; by = suc n }
+equation_by new old (pos n) = record { greater = new; less = old; by = n }
+equation_by new old (negsuc n) = record { greater = old; less = new; by = suc n }
 
 abbrev pub equation_of : Shift → Equation
 equation_of s = equation_by s.new s.gone s.by

@@ -1,6 +1,5 @@
 -- What is proved of images and of what they are computed by.
-use Rattle.std.specs.Prelude.{◌≡◌, ◌↔◌, ℕ, ℤ, pos, negsuc, suc, zero, ◌+◌, ◌*◌, ◌≤◌, List, [], ◌∷◌, ◌++◌, length, map, None}
-use Rattle.track_word.specs.declared.tracks.Var.{Var}
+use Rattle.std.specs.Prelude.{◌≡◌, ◌↔◌, ℕ, ℤ, pos, negsuc, suc, zero, ◌*◌, ◌≤◌, List, [], ◌∷◌, length, map, None}
 use Rattle.track_word.specs.Tracks.{Values, place}
 use Rattle.auto_core.specs.Automaton.{Automaton, IsAutomaton}
 use Rattle.auto_core.specs.Integers.{DecidesIntegers}
@@ -11,9 +10,9 @@ use Rattle.formula_auto.specs.Decides.{Decides}
 use Rattle.formula_auto.specs.Nodes.{DecidesAmong}
 use Rattle.formula_auto.specs.Step.{Exceeds, FirstOver}
 use Rattle.auto_shift.specs.Moved.{DecidesMoved}
-use Rattle.near_bound.specs.Equations.{Equation, colours}
+use Rattle.near_bound.specs.Equations.{colours}
 use Rattle.near_image.specs.declared.shift.Shift.{Shift}
-use Rattle.near_image.specs.Image.{Image, IsShiftable, image_tree, moved_tree, part_tree, moved_vars, and_all, equation_of}
+use Rattle.near_image.specs.Image.{Image, IsShiftable, image_tree, moved_tree, part_tree, moved_vars, equation_of}
 
 pub record SaysTheSame (f g : Tree) : Type 0 where
   pub vars : free_vars f ≡ free_vars g
@@ -35,9 +34,8 @@ IsMovedBy (s ∷ shifts) a b =
 
 abbrev pub MovedSetIsDecided : Type 0
 MovedSetIsDecided =
-    (i : Image) (e : ℕ → SetOf) (set a b : Automaton) → IsShiftable i → e i.set ≡ Table set → DecidesIntegers set
-    → length i.vars ≡ length set.tracks → DecidesAmong set (moved_vars i) a → IsMovedBy i.shifts a b
-    → Decides b (moved_tree i) (members e)
+    (i : Image) (e : ℕ → SetOf) (set a b : Automaton) → IsShiftable i → e i.set ≡ Table set
+    → DecidesAmong set (moved_vars i) a → IsMovedBy i.shifts a b → Decides b (moved_tree i) (members e)
 
 -- how many ways to leave the changes open, one after the other
 abbrev pub start_colours : List Shift → ℕ
@@ -61,7 +59,7 @@ pub record HasFewStates (i : Image) (e : ℕ → SetOf) (budget each : ℕ) : Ty
   pub arity : length i.vars ≡ length set.tracks
   pub integers : DecidesIntegers set
   pub start : start_colours i.shifts * length set.accept ≤ budget
-  pub each : change_colours i.shifts * each ≤ budget
+  pub changes : change_colours i.shifts * each ≤ budget
   pub clear : AreClearWithin (moved_tree i) i.clear e budget each
   pub part : Automaton
   pub is_part : IsAutomaton part

@@ -8,3 +8,5 @@ pub use Rattle.auto_shift.specs.Moved
 pub use Rattle.near_bound.specs.Equations
 pub mod Image
 pub mod Laws
+pub mod Read
+pub mod LeftOut

@@ -3,7 +3,16 @@
 //! step of the formula exceeds the budget; elsewhere the formula is compiled as it stands.
 #![tactic(auto)]
 
+mod compiling;
+mod image;
 pub mod laws;
+mod leaving;
+mod merging;
+mod movable;
+mod reading;
+mod share;
 mod shift;
+mod shifting;
 
+pub use compiling::compile_image_on;
 pub use shift::Shift;

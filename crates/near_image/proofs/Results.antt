@@ -1,0 +1,90 @@
+-- What is made of an image by moving tracks.
+use Rattle.std.proofs.Common.{◌≡◌, ◌↔◌, ℕ, ◌+◌, ◌*◌, ◌<◌, ◌≤◌, List, [], ◌∷◌, length, map, All, None, refl, sym, ap, ◌∙◌, subst, inl, inr, arith}
+use Rattle.std.proofs.lemmas.List.Elements.{All-nil, All-cons, All-tail}
+use Rattle.track_word.specs.declared.tracks.Var.{Var}
+use Rattle.track_word.specs.Word.{IsWord}
+use Rattle.track_word.specs.Tracks.{with_vars, place, word_values}
+use Rattle.auto_core.specs.Automaton.{Automaton, IsAutomaton}
+use Rattle.lin_formula.specs.Tree.{Tree, Not, And, free_vars}
+use Rattle.lin_formula.specs.Free.{IsOneOf}
+use Rattle.lin_formula.specs.Holds.{Holds}
+use Rattle.lin_formula.specs.SetOf.{SetOf, Table, members, tables}
+use Rattle.lin_formula.proofs.FreeVars.{one_of-with_vars}
+use Rattle.formula_auto.specs.Decides.{Decides}
+use Rattle.formula_auto.specs.Compiled.{IsAccessible, IsCompiledOn}
+use Rattle.near_bound.specs.Equations.{colours, open_ways}
+use Rattle.near_image.specs.declared.shift.Shift.{Shift}
+use Rattle.near_image.specs.Image.{Image, IsShiftable, and_all, image_tree, moved_tree, part_tree, moved_vars, equation_of}
+use Rattle.near_image.specs.Laws.{SaysTheSame, ImageSaysPart, StepsAreWithin, AreClearWithin, HasFewStates, change_colours}
+use Rattle.near_image.specs.LeftOut.{IsLeftOf, AreLeftOf, MayBeAsked}
+use Rattle.near_image.proofs.Shifts.{IsAmong, new-among, moved-vars}
+use Rattle.near_image.proofs.Changes.{moved-tree_vars}
+use Rattle.near_image.proofs.Moving.{place-within}
+use Rattle.near_image.proofs.Askings.{CanBeCompiled}
+
+all-among : (P : Shift → Type 0) (shifts : List Shift) → ((s : Shift) → IsAmong s shifts → P s) → All P shifts
+all-among P [] h = All-nil P
+all-among P (s ∷ shifts) h = All-cons P s shifts (h s (inl refl)) (all-among P shifts (λ t among. h t (inr among)))
+
+-- the new values have tracks in the set that is renamed
+pub new-places : (i : Image) → IsShiftable i → (tracks : List Var) → tracks ≡ with_vars (moved_vars i) []
+    → All (λ s. place tracks s.new < length tracks) i.shifts
+new-places i is tracks same =
+    all-among (λ s. place tracks s.new < length tracks) i.shifts (λ s among.
+        let one = (moved-vars i is s.new).1 (inl (new-among s i.shifts among)) in
+        rw same (place-within s.new (with_vars (moved_vars i) []) ((one_of-with_vars s.new (moved_vars i) []).1 (inl one))))
+
+-- what the image asks may be asked of the moved set
+pub may_ask : (i : Image) (sets : List Automaton) (a : Automaton) → IsShiftable i → a.tracks ≡ free_vars (moved_tree i)
+    → All (CanBeCompiled sets) i.clear → All (MayBeAsked sets a.tracks) i.clear
+may_ask i sets a is same all k g within =
+    let can = all k g within in
+    record {
+      compilable = can.compilable;
+      few_steps = can.few_steps;
+      about = λ x one. rw same ((moved-tree_vars i is x).1 (is.clear k g within x one));
+    }
+
+module _ (e : ℕ → SetOf) (budget each : ℕ) where
+  pub decides-all : (f : Tree) (gs : List Tree) (a b : Automaton) → Decides a f (members e) → AreLeftOf e budget each gs a b
+      → Decides b (and_all f (map Not gs)) (members e)
+  decides-all f [] a b decides same = subst (λ c. Decides c f (members e)) (sym same) decides
+  decides-all f (g ∷ gs) a b decides (m, left, rest) = decides-all (And f (Not g)) gs m b (left.decides f decides) rest
+
+  pub clear-within : (f : Tree) (gs : List Tree) (a b : Automaton) → Decides a f (members e) → AreLeftOf e budget each gs a b
+      → AreClearWithin f gs e budget each
+  clear-within f [] a b decides same = tt
+  clear-within f (g ∷ gs) a b decides (m, left, rest) =
+      (left.asked, left.within f decides, clear-within (And f (Not g)) gs m b (left.decides f decides) rest)
+
+decides-says : (f g : Tree) (e : ℕ → SetOf) (a : Automaton) → SaysTheSame f g → Decides a g (members e) → Decides a f (members e)
+decides-says f g e a same decides = record {
+  tracks = decides.tracks ∙ sym same.vars;
+  words = λ word is.
+      let w = decides.words word (subst (λ t. IsWord (length t) word) same.vars is) in
+      let says = same.holds e (word_values (free_vars f) word) in
+      let At : List Var → Type 0 = λ t. Holds g (members e) (word_values t word) in (
+        λ h. says.1 (subst At (sym same.vars) (w.0 h)),
+        λ h. w.1 (subst At same.vars (says.0 h)),
+      );
+}
+
+-- one at least
+colours-least : (shifts : List Shift) (each budget : ℕ) → change_colours shifts * each ≤ budget → each ≤ budget
+colours-least [] each budget h = omega (arith, h)
+colours-least (s ∷ shifts) each budget h = one_more (open_ways (map equation_of (s ∷ shifts))) each budget h
+  where
+  one_more : (ways each budget : ℕ) → (ways + 1) * each ≤ budget → each ≤ budget
+  one_more ways each budget h = let sum : (ways + 1) * each ≡ ways * each + each = grind arith in omega (arith, h, sum)
+
+pub compiled-on : (i : Image) (e : ℕ → SetOf) (budget each : ℕ) (part : Automaton) → ImageSaysPart → StepsAreWithin → IsShiftable i
+    → HasFewStates i e budget each → Decides part (part_tree i) (members e) → IsAccessible each part
+    → IsCompiledOn (image_tree i) e 0 budget part
+compiled-on i e budget each part says within is few decides accessible = record {
+  made = record {
+    decides = decides-says (image_tree i) (part_tree i) e part (says i is) decides;
+    within = within i e budget each is few;
+  };
+  reached = accessible.reached;
+  few = λ some. let least = colours-least i.shifts each budget few.changes in omega (arith, least, accessible.few);
+}

@@ -1,0 +1,9 @@
+use Rattle.lin_formula.specs.TreeOf.{tree_of}
+use Rattle.lin_formula.specs.SetOf.{tables, members}
+use Rattle.formula_auto.proofs.Stable.{Decides-integers}
+use Rattle.near_image.proofs.compiling.compile_image_on.Goals as goal
+
+pub returns-in-Some-clause-integers : goal.returns-in-Some-clause-integers
+returns-in-Some-clause-integers c =
+    let made = rw c.in-Some.is at c.in_ok-auto.ensures.made in
+    Decides-integers (tree_of c.args.f.now) (members (tables c.sets.result.now)) c.in-Some.auto made.made.decides

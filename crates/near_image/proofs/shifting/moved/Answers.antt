@@ -1,0 +1,32 @@
+use Rattle.std.proofs.Common.{pos, refl, ◌∙◌, arith}
+use Rattle.std.proofs.lemmas.List.{drop_all}
+use Rattle.near_image.specs.Laws.{IsMovedBy}
+use Rattle.near_image.specs.declared.shift.Shift.{Shift}
+use Rattle.near_image.proofs.Lefts.{moved-more}
+use Rattle.near_image.proofs.shifting.moved.Goals as goal
+
+abbrev nowhere : Shift
+nowhere = record { gone = record { 0 = 0 }; new = record { 0 = 0 }; by = pos 0 }
+
+pub shifted-requires-clause-near : goal.shifted-requires-clause-near
+shifted-requires-clause-near c = c.requires.near c.loop-shift.shift-index nowhere c.loop-shift-test.true
+
+pub shifted-requires-clause-there : goal.shifted-requires-clause-there
+shifted-requires-clause-there c = rw c.loop-shift.invariant.tracks (c.requires.there c.loop-shift.shift-index nowhere c.loop-shift-test.true)
+
+pub loop-shift-preserved : goal.loop-shift-preserved
+loop-shift-preserved c = record {
+  integers = c.in_ok-auto.ensures.integers;
+  tracks = c.in_ok-auto.ensures.moved.tracks ∙ c.loop-shift.invariant.tracks;
+  rest = moved-more c.args.shifts.now c.loop-shift.shift-index nowhere c.args.set c.loop-shift.auto' c.in_ok-auto.auto c.loop-shift-test.true
+      c.loop-shift.invariant.rest c.in_ok-auto.ensures.moved;
+  accessible = λ some. c.in_ok-auto.ensures.accessible;
+}
+
+pub returns-clause-moved : goal.returns-clause-moved
+returns-clause-moved c =
+    c.loop-shift.invariant.rest c.loop-shift.auto'
+    (rw (drop_all c.loop-shift.shift-index c.args.shifts.now c.loop-shift-test.false) refl)
+
+pub returns-clause-accessible : goal.returns-clause-accessible
+returns-clause-accessible c = λ some. c.loop-shift.invariant.accessible (omega (arith, some, c.loop-shift-test.false))

@@ -1,0 +1,42 @@
+-- What is left of what an automaton decides where some formulas do not hold.
+use Rattle.std.specs.Prelude.{◌≡◌, ◌<◌, ◌^◌, ℕ, List, [], ◌∷◌, length, None}
+use Rattle.track_word.specs.declared.tracks.Var.{Var}
+use Rattle.track_word.specs.Tracks.{with_vars}
+use Rattle.auto_core.specs.Automaton.{Automaton}
+use Rattle.lin_formula.specs.Tree.{Tree, Not, And, steps, free_vars}
+use Rattle.lin_formula.specs.Free.{IsOneOf}
+use Rattle.lin_formula.specs.SetOf.{SetOf, members}
+use Rattle.formula_auto.specs.Decides.{Decides}
+use Rattle.formula_auto.specs.Compiled.{IsAccessible, IsCompilable}
+use Rattle.formula_auto.specs.Step.{Exceeds, FirstOver}
+
+-- the third automaton decides And of any formula that the first one decides and Not of one that the second one does, and
+-- that step does not exceed the budget
+pub record IsDifference (budget : ℕ) (a b c : Automaton) : Type 0 where
+  pub tracks : c.tracks ≡ with_vars a.tracks b.tracks
+  pub decides : (f g : Tree) (e : ℕ → SetOf) → Decides a f (members e) → Decides b g (members e)
+      → Decides c (And f (Not g)) (members e)
+  pub within : (f g : Tree) (e : ℕ → SetOf) → Decides a f (members e) → Decides b g (members e)
+      → ¬ Exceeds (And f (Not g)) (members e) budget
+  pub accessible : IsAccessible budget c
+
+-- it can be compiled, and speaks of the variables that are tracks
+pub record MayBeAsked (sets : List Automaton) (tracks : List Var) (g : Tree) : Type 0 where
+  pub compilable : IsCompilable g sets
+  pub few_steps : length (steps g) < 2 ^ 31
+  pub about : (x : Var) → IsOneOf x (free_vars g) → IsOneOf x tracks
+
+-- the second automaton decides And of any formula that the first one decides and Not of this one, and no step exceeds
+-- its budget
+pub record IsLeftOf (e : ℕ → SetOf) (budget each : ℕ) (g : Tree) (a b : Automaton) : Type 0 where
+  pub tracks : b.tracks ≡ a.tracks
+  pub asked : FirstOver (steps g) (members e) budget 1 None
+  pub decides : (f : Tree) → Decides a f (members e) → Decides b (And f (Not g)) (members e)
+  pub within : (f : Tree) → Decides a f (members e) → ¬ Exceeds (And f (Not g)) (members e) each
+  pub accessible : IsAccessible each b
+
+-- one formula after the other
+abbrev pub AreLeftOf : (ℕ → SetOf) → ℕ → ℕ → List Tree → Automaton → Automaton → Type 0
+AreLeftOf e budget each [] a b = b ≡ a
+AreLeftOf e budget each (g ∷ gs) a b =
+    (m : Automaton) × IsLeftOf e budget each g a m × AreLeftOf e budget each gs m b
