@@ -18,7 +18,6 @@ use Rattle.auto_core.specs.Automaton.{Automaton, IsAutomaton, next_state, run, s
 use Rattle.auto_walk.specs.Walker.{Walker, place_of, IsReached, IsWalked}
 use Rattle.auto_walk.specs.Rows.{AreNumbered, Extends, IsRow}
 use Rattle.auto_walk.proofs.WalkLemmas.{All-at}
-use Rattle.auto_walk.proofs.WalkWords.{map_at-low}
 use Rattle.track_word.proofs.LetterBits.{low_bits}
 use Rattle.auto_bool.specs.declared.connective.Connective.{Connective}
 use Rattle.auto_bool.specs.declared.connective.Connective.TheVariants.{And, Or, AndNot}

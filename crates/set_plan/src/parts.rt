@@ -18,6 +18,7 @@ use auto_core::Auto;
 use auto_walk::Grown;
 use formula_auto::{Level, Memo, SetTable};
 use limits::Budget;
+use near_image::compile_image_on;
 use lin_formula::Formula;
 use std::alloc::{AllocError, Global};
 use track_word::Var;
@@ -83,7 +84,7 @@ pub fn make_on<P: Copy>(
     }
     let count = step_count(f);
     let _ = memo.budget(); // for its invariant
-    match memo.compile_on(alloc, f, level) {
+    match compile_image_on(alloc, memo, f, level) {
         Ok(a) => Ok(Made {
             set: Some(a),
             at: from.at + count,

@@ -11,7 +11,7 @@ use Rattle.auto_bool.proofs.product.exact_product.Goals as goal
 
 -- the walk is one over the pairs of states
 over_pairs : (c : goal.After-walked)
-    → absorbing_walker c.in_ok-both.both.product.absorbing c.in_ok-both.both.tracks.items c.in_ok-both.both.left.now c.in_ok-both.both.right.now c.in_ok-both.both.connective
+    → absorbing_walker c.in_ok-both.both.product.sides.absorbing c.in_ok-both.both.tracks.items c.in_ok-both.both.left.now c.in_ok-both.both.right.now c.in_ok-both.both.connective
     ≡ both_walker c.args.a.now c.args.b.now c.args.connective
 over_pairs c =
     let made = c.in_ok-both.ensures in
