@@ -20,7 +20,6 @@ use Rattle.near_image.specs.LeftOut.{IsLeftOf, AreLeftOf, MayBeAsked}
 use Rattle.near_image.proofs.Shifts.{IsAmong, new-among, moved-vars}
 use Rattle.near_image.proofs.Changes.{moved-tree_vars}
 use Rattle.near_image.proofs.Moving.{place-within}
-use Rattle.near_image.proofs.Askings.{CanBeCompiled}
 
 all-among : (P : Shift → Type 0) (shifts : List Shift) → ((s : Shift) → IsAmong s shifts → P s) → All P shifts
 all-among P [] h = All-nil P
@@ -33,17 +32,6 @@ new-places i is tracks same =
     all-among (λ s. place tracks s.new < length tracks) i.shifts (λ s among.
         let one = (moved-vars i is s.new).1 (inl (new-among s i.shifts among)) in
         rw same (place-within s.new (with_vars (moved_vars i) []) ((one_of-with_vars s.new (moved_vars i) []).1 (inl one))))
-
--- what the image asks may be asked of the moved set
-pub may_ask : (i : Image) (sets : List Automaton) (a : Automaton) → IsShiftable i → a.tracks ≡ free_vars (moved_tree i)
-    → All (CanBeCompiled sets) i.clear → All (MayBeAsked sets a.tracks) i.clear
-may_ask i sets a is same all k g within =
-    let can = all k g within in
-    record {
-      compilable = can.compilable;
-      few_steps = can.few_steps;
-      about = λ x one. rw same ((moved-tree_vars i is x).1 (is.clear k g within x one));
-    }
 
 module _ (e : ℕ → SetOf) (budget each : ℕ) where
   pub decides-all : (f : Tree) (gs : List Tree) (a b : Automaton) → Decides a f (members e) → AreLeftOf e budget each gs a b

@@ -127,7 +127,8 @@ fn moved_set(alloc: Global, set: &Auto, image: &Image, each: Budget) -> Result<A
     requires arity { length image.now.vars.now ≡ length set.now.tracks }
     requires integers { DecidesIntegers set.now }
     ensures decides { IfOk result
-        (λ b. (e : ℕ → SetOf) → e image.now.set.0 ≡ Table set.now → Decides b (moved_tree (image_of image.now)) (members e)) }
+        (λ b. (e : ℕ → SetOf) → e image.now.set.0 ≡ Table set.now
+        → Decides b (moved_tree (image_of image.now)) (members e)) }
     ensures accessible { IfOk result (IsAccessible each) }
 {
     moved_sets_are_decided();
