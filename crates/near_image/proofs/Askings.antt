@@ -1,5 +1,5 @@
 -- What an image names and asks can be compiled.
-use Rattle.std.proofs.Common.{◌≡◌, ℕ, ◌+◌, ◌<◌, ◌≤◌, ◌^◌, Bool, true, false, nat_lt, ◌==◌, if◌then◌else◌, List, [], ◌∷◌, ◌++◌, length, map, All, Some, refl, sym, ap, ◌∙◌, subst, inl, inr, arith, length-append}
+use Rattle.std.proofs.Common.{◌≡◌, ℕ, ◌+◌, ◌<◌, ◌≤◌, ◌^◌, nat_lt, ◌==◌, if◌then◌else◌, List, [], ◌∷◌, ◌++◌, length, map, All, Some, subst, inl, inr, arith, length-append}
 use Rattle.std.specs.List.{slice_get}
 use Rattle.std.proofs.Math.Seq.{take-append_seam, drop-append_seam}
 use Rattle.std.proofs.lemmas.List.Elements.{All-nil, All-cons, All-take, All-drop}
@@ -9,7 +9,6 @@ use Rattle.auto_core.specs.Automaton.{Automaton}
 use Rattle.auto_bool.proofs.TrackLemmas.{ascending-with_vars}
 use Rattle.auto_core.specs.Integers.{DecidesIntegers}
 use Rattle.lin_formula.specs.Tree.{Tree, Lin, Value, Among, Not, And, Or, Ex, free_vars, vars_of, memberships, steps}
-use Rattle.lin_formula.specs.Free.{IsOneOf}
 use Rattle.lin_formula.proofs.FreeVars.{if_cases, free_vars-ascend, one_of-with_vars}
 use Rattle.formula_auto.specs.Compiled.{IsSetFor, IsCompilable}
 use Rattle.formula_auto.proofs.Rooms.{set_fits, set_there}
