@@ -1,5 +1,5 @@
 -- Automata that are made one after the other.
-use Rattle.std.proofs.Common.{◌≡◌, ◌↔◌, ℕ, ◌+◌, ◌<◌, ℤ, List, Bor, [], ◌∷◌, length, get_or, drop, refl, sym, ap, ◌∙◌, subst, add-one, drop-cons, inl, inr, None}
+use Rattle.std.proofs.Common.{◌≡◌, ◌↔◌, ℕ, ◌+◌, ◌<◌, ℤ, pos, List, Bor, ◌∷◌, length, get_or, drop, sym, ap, ◌∙◌, subst, add-one, drop-cons, inl, inr, None}
 use Rattle.std.proofs.lemmas.List.{get_or-map, length-map}
 use Rattle.track_word.specs.declared.tracks.Var.{Var}
 use Rattle.track_word.specs.Word.{IsWord, repeat_first}
@@ -10,7 +10,7 @@ use Rattle.auto_core.specs.Spread.{BothSpreadExceeds}
 use Rattle.auto_core.specs.Integers.{DecidesIntegers}
 use Rattle.auto_bool.proofs.TrackLemmas.{ascending-with_vars}
 use Rattle.auto_shift.specs.Moved.{DecidesMoved}
-use Rattle.lin_formula.specs.Tree.{Tree, Not, And, steps, free_vars}
+use Rattle.lin_formula.specs.Tree.{Tree, steps, free_vars}
 use Rattle.lin_formula.specs.TreeOf.{tree_of}
 use Rattle.lin_formula.specs.declared.formula.Formula.{Formula}
 use Rattle.lin_formula.specs.Free.{IsOneOf}
@@ -26,7 +26,7 @@ use Rattle.formula_auto.proofs.Parts.{Decides-AndNot}
 use Rattle.formula_auto.proofs.SameAutomata.{still_decides}
 use Rattle.near_image.specs.Laws.{IsMovedBy, negated}
 use Rattle.near_image.specs.Read.{trees}
-use Rattle.near_image.specs.LeftOut.{IsDifference, IsLeftOf, AreLeftOf, MayBeAsked}
+use Rattle.near_image.specs.LeftOut.{IsDifference, IsLeftOf, AreLeftOf}
 use Rattle.near_image.specs.declared.shift.Shift.{Shift}
 use Rattle.near_image.proofs.Variables.{same-ascending}
 
@@ -39,6 +39,10 @@ moved-same track d moved same = record {
       let m = moved.words u v is k in
       (λ h. m.0 (w.0 h), λ h. w.1 (m.1 h));
 }
+
+-- a shift where a list has none
+abbrev pub nowhere : Shift
+nowhere = record { gone = record { 0 = 0 }; new = record { 0 = 0 }; by = pos 0 }
 
 drop-here : {X : Type 0} (xs : List X) (i : ℕ) (d : X) → i < length xs → get_or xs i d ∷ drop (i + 1) xs ≡ drop i xs
 drop-here xs i d within = rw add-one (sym (drop-cons xs i d within))

@@ -1,5 +1,5 @@
 -- Whether a variable is one of a list.
-use Rattle.std.proofs.Common.{◌≡◌, ℕ, Bool, true, false, nat_eq, ◌||◌, List, [], ◌∷◌, All, refl, sym, ap, subst, inl, inr, arith}
+use Rattle.std.proofs.Common.{◌≡◌, Bool, true, false, nat_eq, ◌||◌, List, [], ◌∷◌, All, refl, sym, ap, subst, inl, inr, arith}
 use Rattle.std.specs.List.{list_any}
 use Rattle.std.proofs.lemmas.Bool.{or_cases, eqb-true, eq-eqb}
 use Rattle.std.proofs.lemmas.List.Elements.{All-tail}
@@ -19,9 +19,9 @@ any-one_of x [] h = absurd h
 any-one_of x (y ∷ ys) (inl is) = rw (eq-eqb y.0 x.0 (ap (λ (v : Var). v.0) (sym is)))
 any-one_of x (y ∷ ys) (inr there) = rw (any-one_of x ys there) (or-true (nat_eq y.0 x.0))
   where
-  or-true : (b : Bool) → (b || true) ≡ true
-  or-true true = refl
-  or-true false = refl
+    or-true : (b : Bool) → (b || true) ≡ true
+    or-true true = refl
+    or-true false = refl
 
 pub at_one_of : (P : Var → Type 0) (ys : List Var) (x : Var) → All P ys → IsOneOf x ys → P x
 at_one_of P [] x all h = absurd h

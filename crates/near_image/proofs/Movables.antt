@@ -1,5 +1,5 @@
 -- When tracks can be moved in place of an image's steps.
-use Rattle.std.proofs.Common.{ℕ, ◌<◌, List, length, All, AllPairs}
+use Rattle.std.proofs.Common.{◌<◌, length, All, AllPairs}
 use Rattle.std.proofs.lemmas.List.Elements.{All-weaker}
 use Rattle.track_word.specs.declared.tracks.Var.{Var}
 use Rattle.lin_formula.specs.Tree.{free_vars}

@@ -17,9 +17,9 @@ use crate::laws::{
 };
 use crate::leaving::{Scope, left_of_all};
 use crate::movable::{is_movable, moved_vars};
-use crate::shifting::moved;
 use crate::reading::read_image;
 use crate::share::share;
+use crate::shifting::moved;
 use auto_core::Auto;
 use auto_walk::Grown;
 use formula_auto::{CompileError, Level, Memo, SetTable};
@@ -116,7 +116,13 @@ fn image_within(
         return Err(Grown::Over);
     };
     let moved = moved_set(alloc, set, image, each)?;
-    let part = left_of_all(alloc, memo, moved, image.clear.as_slice(), &Scope { sets, each })?;
+    let part = left_of_all(
+        alloc,
+        memo,
+        moved,
+        image.clear.as_slice(),
+        &Scope { sets, each },
+    )?;
     let _ = part.states(); // for its invariant
     Ok(part)
 }
@@ -127,7 +133,8 @@ fn moved_set(alloc: Global, set: &Auto, image: &Image, each: Budget) -> Result<A
     requires arity { length image.now.vars.now ≡ length set.now.tracks }
     requires integers { DecidesIntegers set.now }
     ensures decides { IfOk result
-        (λ b. (e : ℕ → SetOf) → e image.now.set.0 ≡ Table set.now → Decides b (moved_tree (image_of image.now)) (members e)) }
+        (λ b. (e : ℕ → SetOf) → e image.now.set.0 ≡ Table set.now
+        → Decides b (moved_tree (image_of image.now)) (members e)) }
     ensures accessible { IfOk result (IsAccessible each) }
 {
     moved_sets_are_decided();

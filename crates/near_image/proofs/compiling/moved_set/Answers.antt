@@ -1,11 +1,10 @@
-use Rattle.std.proofs.Common.{◌≡◌, [], length, map, sym, ap, ◌∙◌, subst}
+use Rattle.std.proofs.Common.{◌≡◌, length, subst}
 use Rattle.std.proofs.lemmas.List.{length-map}
 use Rattle.std.proofs.lemmas.Result.{IfOk-weaker}
-use Rattle.track_word.specs.Tracks.{with_vars}
 use Rattle.formula_auto.specs.Nodes.{DecidesAmong}
 use Rattle.formula_auto.proofs.Atoms.{Decides-Among}
 use Rattle.formula_auto.proofs.Projections.{apart-ascending}
-use Rattle.near_image.specs.Image.{moved_var, moved_vars}
+use Rattle.near_image.specs.Image.{moved_vars}
 use Rattle.near_image.specs.Read.{image_of}
 use Rattle.near_image.proofs.Results.{new-places}
 use Rattle.near_image.proofs.compiling.moved_set.Goals as goal
@@ -34,8 +33,8 @@ returns-clause-decides c =
     let vars_are = rw (c.in_ok-vars.ensures, c.as_slice-shifts.ensures.value) at c.as_slice.ensures.value in
     let size : length vars ≡ length set.tracks = rw (vars_are, length-map) c.requires.arity in
     let among : DecidesAmong set vars renamed = λ e number is.
-        Decides-Among e number vars set renamed is c.requires.integers (apart-ascending set.tracks c.tracks.ensures.valid.ascending)
-        size c.in_ok-renamed.ensures.tracks c.in_ok-renamed.ensures.words in
+    Decides-Among e number vars set renamed is c.requires.integers (apart-ascending set.tracks c.tracks.ensures.valid.ascending)
+    size c.in_ok-renamed.ensures.tracks c.in_ok-renamed.ensures.words in
     let at_moved : DecidesAmong set (moved_vars i) renamed = subst (λ xs. DecidesAmong set xs renamed) vars_are among in
     let moved = rw c.as_slice-shifts.ensures.value at c.moved.ensures.moved in
     IfOk-weaker c.moved.result _ _

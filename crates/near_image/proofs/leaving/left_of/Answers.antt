@@ -1,6 +1,4 @@
-use Rattle.std.proofs.Common.{length, sym, ◌∙◌, ap, arith}
 use Rattle.std.proofs.lemmas.Result.{IfOk-weaker}
-use Rattle.track_word.specs.Tracks.{with_vars}
 use Rattle.lin_formula.specs.TreeOf.{tree_of}
 use Rattle.near_image.proofs.Lefts.{same_tracks, left-of}
 use Rattle.near_image.proofs.leaving.left_of.Goals as goal

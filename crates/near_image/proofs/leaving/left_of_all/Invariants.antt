@@ -13,5 +13,5 @@ invariant-loop-f l =
       tracks : l.auto'.tracks ≡ l.fn.set.tracks;
       rest : (b : Automaton) → AreLeftOf (tables l.scope.sets.now) l.fn.memo.budget l.scope.each (drop l.f-index (trees l.formulas)) l.auto' b
           → AreLeftOf (tables l.scope.sets.now) l.fn.memo.budget l.scope.each (trees l.formulas) l.fn.set b;
-      accessible : IsAccessible l.scope.each l.fn.set → IsAccessible l.scope.each l.auto'
+      accessible : IsAccessible l.scope.each l.fn.set → IsAccessible l.scope.each l.auto';
     }

@@ -1,4 +1,4 @@
-use Rattle.std.proofs.Common.{List, All, Bor, subst}
+use Rattle.std.proofs.Common.{List, Bor, subst}
 use Rattle.std.proofs.lemmas.List.Elements.{All-more, All-map}
 use Rattle.track_word.specs.declared.tracks.Var.{Var}
 use Rattle.lin_formula.specs.Tree.{Tree, free_vars}

@@ -1,4 +1,3 @@
-use Rattle.std.proofs.Common.{All, ◌∙◌, subst}
 use Rattle.lin_formula.specs.Free.{IsOneOf}
 use Rattle.near_image.proofs.Listed.{at_one_of}
 use Rattle.near_image.proofs.movable.is_about.Goals as goal

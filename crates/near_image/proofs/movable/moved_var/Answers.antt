@@ -1,18 +1,16 @@
-use Rattle.std.proofs.Common.{◌≡◌, ℕ, pos, ◌+◌, ◌<◌, ◌≤◌, true, false, ◌==◌, if◌then◌else◌, List, length, get_or, drop, refl, sym, ap, ◌∙◌, add-one, drop-cons}
+use Rattle.std.proofs.Common.{◌≡◌, ℕ, ◌+◌, ◌<◌, ◌==◌, if◌then◌else◌, List, length, get_or, drop, refl, sym, ap, ◌∙◌, add-one, drop-cons}
 use Rattle.std.proofs.lemmas.Bool.{eq-eqb, ne_eqb}
 use Rattle.std.proofs.lemmas.List.{drop_all}
 use Rattle.track_word.specs.declared.tracks.Var.{Var}
 use Rattle.near_image.specs.Image.{moved_var}
 use Rattle.near_image.specs.declared.shift.Shift.{Shift}
+use Rattle.near_image.proofs.Lefts.{nowhere}
 use Rattle.near_image.proofs.movable.moved_var.Goals as goal
 
 -- the first of the shifts that are left decides, or else the others
 from_here : (shifts : List Shift) (i : ℕ) (d : Shift) (x : Var) → i < length shifts
     → moved_var (drop i shifts) x ≡ (if x.0 == (get_or shifts i d).gone.0 then (get_or shifts i d).new else moved_var (drop (i + 1) shifts) x)
 from_here shifts i d x within = rw (drop-cons shifts i d, add-one) refl
-
-abbrev nowhere : Shift
-nowhere = record { gone = record { 0 = 0 }; new = record { 0 = 0 }; by = pos 0 }
 
 pub returns-then-var-shift : goal.returns-then-var-shift
 returns-then-var-shift c =

@@ -1,7 +1,5 @@
-use Rattle.std.proofs.Common.{◌∙◌, sym, ap}
-use Rattle.std.proofs.lemmas.Result.{IfOk-weaker}
+use Rattle.std.proofs.Common.{ap}
 use Rattle.lin_formula.specs.TreeOf.{tree_of}
-use Rattle.near_image.specs.Image.{ex_all}
 use Rattle.near_image.proofs.Readings.{ex_all-push}
 use Rattle.near_image.proofs.reading.+open.Goals as goal
 

@@ -1,12 +1,7 @@
-use Rattle.std.proofs.Common.{pos, refl, ◌∙◌, arith}
+use Rattle.std.proofs.Common.{refl, ◌∙◌, arith}
 use Rattle.std.proofs.lemmas.List.{drop_all}
-use Rattle.near_image.specs.Laws.{IsMovedBy}
-use Rattle.near_image.specs.declared.shift.Shift.{Shift}
-use Rattle.near_image.proofs.Lefts.{moved-more}
+use Rattle.near_image.proofs.Lefts.{nowhere, moved-more}
 use Rattle.near_image.proofs.shifting.moved.Goals as goal
-
-abbrev nowhere : Shift
-nowhere = record { gone = record { 0 = 0 }; new = record { 0 = 0 }; by = pos 0 }
 
 pub shifted-requires-clause-near : goal.shifted-requires-clause-near
 shifted-requires-clause-near c = c.requires.near c.loop-shift.shift-index nowhere c.loop-shift-test.true

@@ -11,5 +11,5 @@ invariant-loop-shift l =
       integers : DecidesIntegers l.auto';
       tracks : l.auto'.tracks ≡ l.fn.set.tracks;
       rest : (b : Automaton) → IsMovedBy (drop l.shift-index l.shifts) l.auto' b → IsMovedBy l.shifts l.fn.set b;
-      accessible : 0 < l.shift-index → IsAccessible l.each l.auto'
+      accessible : 0 < l.shift-index → IsAccessible l.each l.auto';
     }
