@@ -6,7 +6,7 @@ use Rattle.std.proofs.lemmas.List.{length-map, get_or-map}
 use Rattle.std.specs.Int.{bit_at}
 use Rattle.std.proofs.lemmas.Grind.{common_steps}
 use Rattle.std.proofs.lemmas.Bool.Decides.{nat_tests}
-use Rattle.std.proofs.lemmas.List.Elements.{All-nil, All-cons, All-head, All-tail, All-map, All-get_or}
+use Rattle.std.proofs.lemmas.List.Elements.{All-nil, All-cons, All-head, All-tail, All-map}
 use Rattle.std.proofs.lemmas.Bool.{cases_order, cases_eq}
 use Rattle.track_word.specs.declared.tracks.Var.{Var}
 use Rattle.track_word.specs.Tracks.{IsAscending, with_var, with_vars, place, restrict}
@@ -161,7 +161,7 @@ places-ascend all some all_ascend some_ascend among k within =
     let d : Var = record { 0 = 0 } in
     let less : (get_or some k d).0 < (get_or some (k + 1) d).0 =
     rw (← get_or-map (λ v. v.0) some k d 0 (omega (arith, next)), ← get_or-map (λ v. v.0) some (k + 1) d 0 next) (some_ascend k (omega (arith, names, next))) in
-    let inside = subst (λ n. n < length all) (get_or-map (place all) some k d 0 (omega (arith, next))) (All-get_or (λ t. t < length all) (map (place all) some) k 0 (omega (arith, within)) among.within) in
+    let inside = subst (λ n. n < length all) (get_or-map (place all) some k d 0 (omega (arith, next))) (among.within k 0 (omega (arith, within))) in
     rw (get_or-map (place all) some k d 0 (omega (arith, next)), get_or-map (place all) some (k + 1) d 0 next)
     (place-rises 0 all (get_or some k d) (get_or some (k + 1) d) (rising-ascending 0 all (λ h. omega arith) all_ascend) less inside)
 

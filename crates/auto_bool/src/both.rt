@@ -78,7 +78,8 @@ impl<'a> Walk for Both<'a> {
     ghost use Rattle.auto_bool.specs.Both.{place_of_pair};
     ghost use Rattle.auto_bool.specs.Absorbed.{absorbing_walker};
 
-    ghost walker = { λ s. absorbing_walker s.product.sides.absorbing s.tracks.items s.left.now s.right.now s.connective };
+    ghost walker = { λ s.
+        absorbing_walker s.product.sides.absorbing s.tracks.items s.left.now s.right.now s.connective };
 
     ghost places = { λ s. map place_of_pair s.product.pairs };
 

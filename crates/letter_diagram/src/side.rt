@@ -9,7 +9,7 @@ use limits::MOST_TRACKS;
 use std::marker::Model;
 
 /// A way to read nodes: those of another `Diagrams`, or those of the one to which nodes are added, which is `to`.
-pub trait Side: Drop {
+pub(crate) trait Side: Drop {
     ghost reading: { Self → Reading };
 
     /// What a node looks at first, by the tracks from which its own tracks take their bits.
@@ -21,7 +21,7 @@ pub trait Side: Drop {
 
 /// Nodes of the `Diagrams` to which nodes are added, as they are.
 #[derive(Drop)]
-pub struct Here;
+pub(crate) struct Here;
 
 impl Side for Here {
     ghost reading = { λ _. None };
@@ -60,7 +60,7 @@ impl<'a> LentSide<'a> {
     }
 
     /// How many nodes are lent.
-    pub fn len(&self) -> usize
+    pub(crate) fn len(&self) -> usize
         ensures { result ≡ length self.now.shapes }
     {
         self.from.len()
