@@ -4,7 +4,7 @@ use Rattle.std.proofs.lemmas.List.{length-map}
 use Rattle.track_word.specs.declared.tracks.Var.{Var}
 use Rattle.track_word.specs.Tracks.{without_var}
 use Rattle.auto_core.specs.Automaton.{Automaton, IsAutomaton, Accepts}
-use Rattle.auto_core.specs.Reduced.{AllReached, IsReachedState}
+use Rattle.auto_core.specs.Reduced.{AllReached, IsReduced, IsReachedState}
 use Rattle.auto_core.specs.Spread.{ExSpreadExceeds, LiftsInto}
 use Rattle.auto_core.proofs.States.{same_state}
 use Rattle.auto_project.specs.Lifted.{LiftLeads, MoreSets}
