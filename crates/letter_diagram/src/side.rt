@@ -9,7 +9,7 @@ use limits::MOST_TRACKS;
 use std::marker::Model;
 
 /// A way to read nodes: those of another `Diagrams`, or those of the one to which nodes are added, which is `to`.
-pub(crate) trait Side: Drop {
+pub trait Side: Drop {
     ghost reading: { Self → Reading };
 
     /// What a node looks at first, by the tracks from which its own tracks take their bits.
@@ -21,7 +21,7 @@ pub(crate) trait Side: Drop {
 
 /// Nodes of the `Diagrams` to which nodes are added, as they are.
 #[derive(Drop)]
-pub(crate) struct Here;
+pub struct Here;
 
 impl Side for Here {
     ghost reading = { λ _. None };
@@ -60,7 +60,7 @@ impl<'a> LentSide<'a> {
     }
 
     /// How many nodes are lent.
-    pub(crate) fn len(&self) -> usize
+    pub fn len(&self) -> usize
         ensures { result ≡ length self.now.shapes }
     {
         self.from.len()

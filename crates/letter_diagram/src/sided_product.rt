@@ -37,8 +37,8 @@ impl<'a> Model for SidedProduct<'a> {
 }
 
 impl<'a> SidedProduct<'a> {
-    /// Over pairs that are there already, with no node. There is room for as many nodes, and for as many pairs of nodes, as both
-    /// sides have nodes.
+    /// Over pairs that are there already, with no node. There is room for as many nodes, and for as many pairs of nodes, as the
+    /// larger side has nodes.
     pub fn new(
         alloc: Global,
         left: LentSide<'a>,
@@ -52,7 +52,7 @@ impl<'a> SidedProduct<'a> {
         ensures shapes { IfOk result (λ product. product.shapes ≡ []) }
         ensures pairs { IfOk result (λ product. product.pairs ≡ pairs) }
     {
-        let nodes = left.len().saturating_add(right.len());
+        let nodes = left.len().max(right.len());
         let diagrams = Diagrams::with_capacity(alloc, nodes)?;
         let memo = HashMap::with_capacity(alloc, nodes)?;
         let sides = TwoSides {
