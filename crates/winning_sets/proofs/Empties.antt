@@ -52,8 +52,10 @@ module _ (tracks : List Var) (a : Automaton) (tracks_are : a.tracks ≡ tracks) 
   empty_on = record {
     set = record {
       reduced = reduced;
-      integers = record { stable = λ word is. (λ h. absurd (never word h), λ h. absurd (never (repeat_first word) h)) };
-      tracks_are = tracks_are;
+      decides = record {
+        integers = record { stable = λ word is. (λ h. absurd (never word h), λ h. absurd (never (repeat_first word) h)) };
+        tracks_are = tracks_are;
+      };
       few = omega (arith, one);
     };
     none = λ tuple h. never h.word h.accepts;

@@ -12,12 +12,10 @@ use Rattle.set_plan.specs.Sets.{Grows, IsNameOn, set_at}
 use Rattle.set_plan.proofs.Composition.{none_some}
 use Rattle.mate_plan.specs.Levels.{AreNames, level_from, level_of}
 use Rattle.mate_plan.specs.Plan.{Level, level_with, no_sets}
+pub use Rattle.mate_plan.proofs.LevelLemmas.{grows-grows as grows-trans}
 use Rattle.winning_sets.specs.Lent.{set_or, sets_or}
 use Rattle.set_plan.proofs.Takings.{same_some}
 use Rattle.winning_sets.proofs.LentLemmas.{Names}
-
-pub grows-trans : (x y z : List Automaton) → Grows x y → Grows y z → Grows x z
-grows-trans x y z h k n a e = k n a (h n a e)
 
 -- the first sets of a table
 pub grows-take : (n : ℕ) (table : List Automaton) → Grows (take n table) table

@@ -22,7 +22,7 @@ module _ (p : Position) (game : GameMeans p) where
   ascending mask = subst IsAscending (game.tracks mask 0 1) (free_vars-ascend (Or (Among 0 (mask_tracks p mask)) (Among 1 (mask_tracks p mask))))
 
   set_decided : (mask : ℕ) (a : Automaton) → IsSetOn (mask_tracks p mask) a → IsDecided (Table a)
-  set_decided mask a is = table_decided a (subst IsAscending (sym is.tracks_are) (ascending mask)) is.integers
+  set_decided mask a is = table_decided a (subst IsAscending (sym is.decides.tracks_are) (ascending mask)) is.decides.integers
 
   name_decided : (sets : List Automaton) (mask : ℕ) (id : Option SetId) → IsNameOn (mask_tracks p mask) sets id → IsDecided (set_at sets id)
   name_decided sets mask None is = λ tuple. inr (λ h. h)

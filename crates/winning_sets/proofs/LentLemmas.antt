@@ -107,7 +107,7 @@ pub record IsLentAt (stock : List Man) (masks : List ℕ) (level : Level) (m : �
 
 module _ (table : List Automaton) (stock : List Man) where
   formed_of : (m : ℕ) (a : Automaton) → IsSetOn (tracks_of stock (is_live m)) a → IsSetAt stock m a
-  formed_of m a on = record { reduced = on.reduced; integers = on.integers; tracks = on.tracks_are; few = on.few }
+  formed_of m a on = record { reduced = on.reduced; integers = on.decides.integers; tracks = on.decides.tracks_are; few = on.few }
 
   lent_here : (mask : ℕ) (masks : List ℕ) (other : Automaton) (id : Option SetId) (ids : Names) (level : Level) → (Contains masks mask → ⊥)
       → IsEmptyOn (tracks_of stock (is_live mask)) other → IsNameOn (tracks_of stock (is_live mask)) table id
