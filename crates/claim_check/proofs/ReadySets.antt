@@ -11,8 +11,7 @@ use Rattle.claim_check.specs.Ready.{AreSigned, IsReady, claim_in}
 pub one_on : (s : ClaimedSets) → IsReady s → (ply mask : ℕ) (a : Automaton) → DecidesIntegers a → claimed_at (claim_in s) ply mask ≡ Some a → IsSetOn (mask_tracks s.position mask) a
 one_on s ready ply mask a signed there = record {
   reduced = ready.reduced ply mask a there;
-  integers = signed;
-  tracks_are = ready.claim.tracks ply mask a there;
+  decides = record { integers = signed; tracks_are = ready.claim.tracks ply mask a there };
   few = ready.few ply mask a there;
 }
 

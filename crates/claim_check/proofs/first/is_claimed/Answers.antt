@@ -22,7 +22,7 @@ member-requires-clause-count c =
     let s = c.args.claimed.now in
     let at = (goal.at.member-requires-clause-count c).In-Some in
     let on = claimed_on s c.requires.ready c.requires.signed 0 (mask_of s.position) c.in-Some.set.now (there at) in
-    ap length (c.as_slice.ensures.value ∙ c.coordinates.ensures) ∙ own_count s.position c.requires.ready.claim.sound ∙ sym (ap length on.tracks_are)
+    ap length (c.as_slice.ensures.value ∙ c.coordinates.ensures) ∙ own_count s.position c.requires.ready.claim.sound ∙ sym (ap length on.decides.tracks_are)
 
 pub member-requires-clause-decides : goal.member-requires-clause-decides
 member-requires-clause-decides c = c.requires.signed 0 (mask_of c.args.claimed.now.position) c.in-Some.set.now (there (goal.at.member-requires-clause-decides c).In-Some)
