@@ -8,3 +8,4 @@ pub mod Marks
 pub mod Heads
 pub mod Met
 pub mod Room
+pub mod Entries

@@ -4,7 +4,8 @@ ghost use Rattle.auto_search.specs.Fews.{HasFew};
 ghost use Rattle.auto_search.specs.Search.{IsFront};
 ghost use Rattle.auto_search.specs.Marks.{Serves, SameRoom, IsClear};
 ghost use Rattle.auto_search.specs.Heads.{IsOpened};
-ghost use Rattle.auto_search.specs.Met.{HasSizes, SameSizes, Counting, Meets, IsEntered};
+ghost use Rattle.auto_search.specs.Met.{Meets};
+ghost use Rattle.auto_search.specs.Entries.{AreListed, HasCounted, HasLists, KeepsLists};
 
 use crate::course::Course;
 use crate::few::Few;
@@ -23,15 +24,13 @@ pub struct Room {
 /// How many numbers of steps from the near end have their tuple in the set. The room is cleared before and after.
 pub fn count(room: &mut Room, course: &Course) -> Few
     requires serves { Serves course.now.auto.now course.now.ray.now room.old.marks }
-    requires sizes { HasSizes course.now.auto.now room.old.met.times.items room.old.met.states.items
-        room.old.met.slots.items }
+    requires sizes { HasLists course.now room.old.met }
     requires none { (k : ℕ) → slice_index room.old.met.times.items k ≡ 0 }
     ensures few { HasFew result (Meets course.now.auto.now course.now.ray.now) }
     ensures clear { IsClear room.new.marks }
     ensures room { SameRoom room.old.marks room.new.marks }
     ensures none { (k : ℕ) → slice_index room.new.met.times.items k ≡ 0 }
-    ensures sizes { SameSizes room.old.met.times.items room.old.met.states.items room.old.met.slots.items
-        room.new.met.times.items room.new.met.states.items room.new.met.slots.items }
+    ensures sizes { KeepsLists room.old.met room.new.met }
 {
     let few = walk(room, course);
     room.marks.clear();
@@ -42,16 +41,13 @@ pub fn count(room: &mut Room, course: &Course) -> Few
 /// Counts by a walk over the heads of all numbers: each entry is a head, and yields the numbers whose last bits complete it.
 fn walk(room: &mut Room, course: &Course) -> Few
     requires serves { Serves course.now.auto.now course.now.ray.now room.old.marks }
-    requires sizes { HasSizes course.now.auto.now room.old.met.times.items room.old.met.states.items
-        room.old.met.slots.items }
+    requires sizes { HasLists course.now room.old.met }
     requires none { (k : ℕ) → slice_index room.old.met.times.items k ≡ 0 }
     ensures few { HasFew result (Meets course.now.auto.now course.now.ray.now) }
     ensures serves { Serves course.now.auto.now course.now.ray.now room.new.marks }
     ensures room { SameRoom room.old.marks room.new.marks }
-    ensures entered { IsEntered room.new.met.times.items room.new.met.states.items room.new.met.slots.items
-        room.new.met.len }
-    ensures sizes { SameSizes room.old.met.times.items room.old.met.states.items room.old.met.slots.items
-        room.new.met.times.items room.new.met.states.items room.new.met.slots.items }
+    ensures entered { AreListed room.new.met }
+    ensures sizes { KeepsLists room.old.met room.new.met }
 {
     room.met.begin(course, &opened(course));
     let starts = room.met.len;
@@ -72,14 +68,11 @@ fn walk(room: &mut Room, course: &Course) -> Few
 fn turn(room: &mut Room, course: &Course, entry: usize, starts: usize, few: Few) -> Few
     requires serves { Serves course.now.auto.now course.now.ray.now room.old.marks }
     requires entry { entry < room.old.met.len }
-    requires counting { Counting course.now.auto.now course.now.ray.now room.old.met.times.items
-        room.old.met.states.items room.old.met.slots.items room.old.met.len starts entry few }
-    ensures counting { Counting course.now.auto.now course.now.ray.now room.new.met.times.items
-        room.new.met.states.items room.new.met.slots.items room.new.met.len starts (entry + 1) result }
+    requires counting { HasCounted course.now room.old.met starts entry few }
+    ensures counting { HasCounted course.now room.new.met starts (entry + 1) result }
     ensures serves { Serves course.now.auto.now course.now.ray.now room.new.marks }
     ensures room { SameRoom room.old.marks room.new.marks }
-    ensures sizes { SameSizes room.old.met.times.items room.old.met.states.items room.old.met.slots.items
-        room.new.met.times.items room.new.met.states.items room.new.met.slots.items }
+    ensures sizes { KeepsLists room.old.met room.new.met }
 {
     let front = alone(room.met.slot_of(entry), room.met.state_of(entry));
     let more = several(&mut room.marks, course, course.ray.top, &front);

@@ -1,6 +1,7 @@
 //! What a walk over heads has met.
 ghost use Rattle.std.specs.Prelude.{◌≡◌, ◌≤◌, ◌<◌, ◌*◌, ◌+◌, ◌/◌, ◌%◌, length, slice_index, slice_set, ℕ};
-ghost use Rattle.auto_search.specs.Met.{HasPlace, HasSizes, SameSizes, Begins, Adds, Walks, IsAfter, IsEntered, moment};
+ghost use Rattle.auto_search.specs.Met.{Begins, Adds, Walks, IsAfter, moment};
+ghost use Rattle.auto_search.specs.Entries.{AreListed, HasLists, HasRoomFor, KeepsLists};
 ghost use Rattle.auto_search.specs.Heads.{IsOpened};
 ghost use Rattle.auto_search.specs.Search.{IsFront};
 
@@ -37,14 +38,12 @@ impl Met {
 
     /// Enters a state with a slot, where it was not entered twice before.
     pub fn add(&mut self, course: &Course, state: u32, slot: u8)
-        requires place { HasPlace course.now.auto.now self.old.times.items self.old.states.items self.old.slots.items
-            self.old.len }
+        requires place { HasRoomFor course.now self.old }
         requires state { state < length course.now.auto.now.accept }
         requires slot { slot < 9 }
         ensures adds { Adds self.old.times.items self.old.states.items self.old.slots.items self.old.len
             self.new.times.items self.new.states.items self.new.slots.items self.new.len state slot }
-        ensures place { HasPlace course.now.auto.now self.new.times.items self.new.states.items self.new.slots.items
-            self.new.len }
+        ensures place { HasRoomFor course.now self.new }
     {
         let at = state as usize * SLOTS as usize + slot as usize;
         if self.times[at] < MOST_TIMES {
@@ -55,12 +54,11 @@ impl Met {
 
     /// Begins with the states of a front.
     pub fn begin(&mut self, course: &Course, front: &Front)
-        requires sizes { HasSizes course.now.auto.now self.old.times.items self.old.states.items self.old.slots.items }
+        requires sizes { HasLists course.now self.old }
         requires none { (k : ℕ) → slice_index self.old.times.items k ≡ 0 }
         requires front { IsFront course.now.auto.now front.now }
         requires opened { IsOpened course.now.auto.now course.now.ray.now front.now }
-        ensures sizes { SameSizes self.old.times.items self.old.states.items self.old.slots.items self.new.times.items
-            self.new.states.items self.new.slots.items }
+        ensures sizes { KeepsLists self.old self.new }
         ensures begins { Begins course.now.auto.now course.now.ray.now self.new.times.items self.new.states.items
             self.new.slots.items self.new.len 9 }
     {
@@ -91,8 +89,7 @@ impl Met {
 
     /// Enters the states that an entry leads to by a bit; by 0 none where the walk begins with the entry.
     pub fn follow(&mut self, course: &Course, entry: usize, bit: bool, starts: usize)
-        requires place { HasPlace course.now.auto.now self.old.times.items self.old.states.items self.old.slots.items
-            self.old.len }
+        requires place { HasRoomFor course.now self.old }
         requires entry { entry < self.old.len }
         requires slot { slice_index self.old.slots.items entry < 9 }
         requires state { slice_index self.old.states.items entry < length course.now.auto.now.accept }
@@ -113,10 +110,9 @@ impl Met {
 
     /// Takes all entries away, at the cost of those that there are.
     pub fn clear(&mut self)
-        requires { IsEntered self.old.times.items self.old.states.items self.old.slots.items self.old.len }
+        requires { AreListed self.old }
         ensures none { (k : ℕ) → slice_index self.new.times.items k ≡ 0 }
-        ensures sizes { SameSizes self.old.times.items self.old.states.items self.old.slots.items self.new.times.items
-            self.new.states.items self.new.slots.items }
+        ensures sizes { KeepsLists self.old self.new }
     {
         for entry in 0..self.len {
             let at = self.states[entry] as usize * SLOTS as usize + self.slots[entry] as usize;
