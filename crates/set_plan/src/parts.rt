@@ -18,8 +18,8 @@ use auto_core::Auto;
 use auto_walk::Grown;
 use formula_auto::{Level, Memo, SetTable};
 use limits::Budget;
-use near_image::compile_image_on;
 use lin_formula::Formula;
+use near_image::compile_image_on;
 use std::alloc::{AllocError, Global};
 use track_word::Var;
 
