@@ -1,7 +1,7 @@
 //! The automaton of a set that is moved along a track.
 ghost use Rattle.std.specs.Prelude.{◌≡◌, ◌≢◌, ◌<◌, ◌≤◌, ◌≤ℤ◌, ℕ, pos, length, IfOk, OnOk};
 ghost use Rattle.auto_core.specs.Integers.{DecidesIntegers};
-ghost use Rattle.auto_core.specs.Reduced.{IsReachedState};
+ghost use Rattle.auto_core.specs.Reduced.{AllReached};
 ghost use Rattle.auto_walk.specs.Walker.{IsWalked, MoreThan};
 ghost use Rattle.auto_shift.specs.Moved.{DecidesMoved};
 ghost use Rattle.auto_shift.specs.Shifted.{by_one, along, shift_walker};
@@ -39,7 +39,7 @@ pub fn move_by_one(
     requires track { track < length a.now.tracks }
     ensures moved { IfOk result (λ b. DecidesMoved a.now b track (by_one up)) }
     ensures integers { IfOk result (λ b. DecidesIntegers b) }
-    ensures reached { IfOk result (λ b. (state : ℕ) → state < length b.accept → IsReachedState b state) }
+    ensures reached { IfOk result AllReached }
     ensures few { IfOk result (λ b. length b.accept ≤ budget) }
     ensures within { OnOk result (¬ MoreThan (shift_walker a.now track up) budget) }
     ensures over { result ≡ Err Grown.Over → MoreThan (shift_walker a.now track up) budget }
@@ -78,7 +78,7 @@ pub fn move_by(alloc: Global, a: &Auto, track: u8, by: i32, budget: Budget) -> R
     requires by { by ≢ pos 0 }
     ensures moved { IfOk result (λ b. DecidesMoved a.now b track by) }
     ensures integers { IfOk result (λ b. DecidesIntegers b) }
-    ensures reached { IfOk result (λ b. (state : ℕ) → state < length b.accept → IsReachedState b state) }
+    ensures reached { IfOk result AllReached }
     ensures few { IfOk result (λ b. length b.accept ≤ budget) }
 {
     moving_adds_up();

@@ -2,6 +2,7 @@
 use Rattle.std.proofs.Common.{◌≡◌, ◌≢◌, ◌⊎◌, inl, inr, ℕ, zero, suc, ◌^◌, ◌<◌, ◌≤◌, List, [], ◌∷◌, ℤ, pos, negsuc, FitsSigned, Option, Some, None, refl, sym, ap, subst, ◌∙◌, arith, codes}
 use Rattle.std.specs.Int.{w64}
 use Rattle.std.specs.Fmt.{signed_decimal}
+use Rattle.std.proofs.lemmas.List.Elements.{All-cons, All-nil}
 use Rattle.game_laws.proofs.DecideLemmas.{Decided, below, both, either, less, map_decided, number_same}
 use Rattle.chess_game.specs.declared.moves.Move.{Move}
 use Rattle.line_fields.specs.Blanks.{HasNoBlank}
@@ -31,20 +32,13 @@ record IsSplit (text : List ℕ) : Type 0 where
   joined : text ≡ two_fields first second
   no_blank : HasNoBlank first
 
-none_blank : HasNoBlank []
-none_blank k e low is = absurd (omega (arith, low))
-
-one_blank : (x : ℕ) (xs : List ℕ) → x ≢ 32 → HasNoBlank xs → HasNoBlank (x ∷ xs)
-one_blank x xs ne h zero e low is = ne is
-one_blank x xs ne h (suc k) e low is = h k e (omega (arith, low)) is
-
 split_more : (x : ℕ) (xs : List ℕ) → Decided (x ≡ 32) → IsSplit xs ⊎ HasNoBlank xs → IsSplit (x ∷ xs) ⊎ HasNoBlank (x ∷ xs)
-split_more x xs (inl is) rest = inl (record { first = []; second = xs; joined = ap (λ y. y ∷ xs) is; no_blank = none_blank })
-split_more x xs (inr ne) (inl h) = inl (record { first = x ∷ h.first; second = h.second; joined = ap (λ ys. x ∷ ys) h.joined; no_blank = one_blank x h.first ne h.no_blank })
-split_more x xs (inr ne) (inr h) = inr (one_blank x xs ne h)
+split_more x xs (inl is) rest = inl (record { first = []; second = xs; joined = ap (λ y. y ∷ xs) is; no_blank = All-nil (λ byte. byte ≢ 32) })
+split_more x xs (inr ne) (inl h) = inl (record { first = x ∷ h.first; second = h.second; joined = ap (λ ys. x ∷ ys) h.joined; no_blank = All-cons (λ byte. byte ≢ 32) x h.first ne h.no_blank })
+split_more x xs (inr ne) (inr h) = inr (All-cons (λ byte. byte ≢ 32) x xs ne h)
 
 split : (text : List ℕ) → IsSplit text ⊎ HasNoBlank text
-split [] = inr none_blank
+split [] = inr (All-nil (λ byte. byte ≢ 32))
 split (x ∷ xs) = split_more x xs (number_same x 32) (split xs)
 
 some_byte : (text : List ℕ) → Decided (text ≢ [])

@@ -1,7 +1,7 @@
 //! An image compiled by moving tracks of its set, where that is known to be within the budget, or else as any formula.
 ghost use Rattle.std.specs.Prelude.{◌≡◌, ◌≤◌, ◌<◌, ◌^◌, ℕ, length, IfOk, IfErr, IfSome, OnOk, None};
 ghost use Rattle.auto_core.specs.Integers.{DecidesIntegers};
-ghost use Rattle.auto_core.specs.Reduced.{IsReachedState};
+ghost use Rattle.auto_core.specs.Reduced.{AllReached};
 ghost use Rattle.lin_formula.specs.Tree.{steps};
 ghost use Rattle.lin_formula.specs.TreeOf.{tree_of};
 ghost use Rattle.lin_formula.specs.SetOf.{SetOf, Table, tables, members};
@@ -38,7 +38,7 @@ pub fn compile_image_on(
     requires compilable { IsCompilable (tree_of f.now) level.old.sets }
     requires few_steps { length (steps (tree_of f.now)) < 2 ^ 31 }
     requires same_budget { level.old.budget ≡ memo.old.budget }
-    ensures reached { IfOk result (λ a. (state : ℕ) → state < length a.accept → IsReachedState a state) }
+    ensures reached { IfOk result AllReached }
     ensures few { IfOk result
         (λ a. 0 < length (steps (tree_of f.now)) → length a.accept ≤ memo.old.budget) }
     ensures decides { IfOk result (λ a. Decides a (tree_of f.now) (members (tables level.old.sets))) }

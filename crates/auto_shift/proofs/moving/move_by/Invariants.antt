@@ -1,6 +1,6 @@
 use Rattle.std.proofs.Common.{ℕ, ◌<◌, ◌≤◌, length}
 use Rattle.auto_core.specs.Integers.{DecidesIntegers}
-use Rattle.auto_core.specs.Reduced.{IsReachedState}
+use Rattle.auto_core.specs.Reduced.{AllReached}
 use Rattle.auto_shift.specs.Moved.{DecidesMoved}
 use Rattle.auto_shift.specs.Shifted.{along}
 use Rattle.auto_shift.proofs.moving.move_by.Given as goal
@@ -9,6 +9,6 @@ abbrev pub invariant-loop-done : goal.invariant-loop-done
 invariant-loop-done l = record {
   moved : DecidesMoved l.a l.moved l.track (along l.up l._done);
   integers : DecidesIntegers l.moved;
-  reached : (state : ℕ) → state < length l.moved.accept → IsReachedState l.moved state;
+  reached : AllReached l.moved;
   few : length l.moved.accept ≤ l.budget;
 }
