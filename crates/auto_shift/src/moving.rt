@@ -3,10 +3,10 @@ ghost use Rattle.std.specs.Prelude.{◌≡◌, ◌≢◌, ◌<◌, ◌≤◌, �
 ghost use Rattle.auto_core.specs.Integers.{DecidesIntegers};
 ghost use Rattle.auto_core.specs.Reduced.{AllReached};
 ghost use Rattle.auto_walk.specs.Walker.{IsWalked, MoreThan};
-ghost use Rattle.auto_shift.specs.Moved.{DecidesMoved};
+ghost use Rattle.auto_shift.specs.Moved.{DecidesMoved, IsOverOnTheWay};
 ghost use Rattle.auto_shift.specs.Shifted.{by_one, along, shift_walker};
 
-use crate::laws::{moving_adds_up, pairs_decide_moved_sets};
+use crate::laws::{each_set_is_moved_by_nothing, moving_adds_up, pairs_decide_moved_sets};
 use crate::pair_walk::Shift;
 use auto_core::Auto;
 use auto_walk::{Grown, walked};
@@ -80,7 +80,9 @@ pub fn move_by(alloc: Global, a: &Auto, track: u8, by: i32, budget: Budget) -> R
     ensures integers { IfOk result (λ b. DecidesIntegers b) }
     ensures reached { IfOk result AllReached }
     ensures few { IfOk result (λ b. length b.accept ≤ budget) }
+    ensures over { result ≡ Err Grown.Over → IsOverOnTheWay a.now track by budget }
 {
+    each_set_is_moved_by_nothing();
     moving_adds_up();
     let Steps { up, times } = Steps::of(by);
     let mut moved = move_by_one(alloc, a, track, up, budget)?;

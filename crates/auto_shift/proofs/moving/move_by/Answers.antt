@@ -1,10 +1,29 @@
-use Rattle.std.proofs.Common.{◌≡◌, arith, ap, ◌∙◌, subst}
+use Rattle.std.proofs.Common.{rules, ◌≡◌, Bool, true, false, Err, pos, refl, sym, arith, ap, ◌∙◌, subst}
+use Rattle.auto_walk.specs.declared.grown.Grown.TheVariants as grown
 use Rattle.std.specs.Int.{w32}
 use Rattle.std.proofs.lemmas.Int.{to_z-of_z}
 use Rattle.auto_shift.specs.Moved.{DecidesMoved}
 use Rattle.auto_shift.specs.Shifted.{along}
 use Rattle.auto_shift.proofs.Decisions.{DecidesMoved-next}
 use Rattle.auto_shift.proofs.moving.move_by.Goals as goal
+
+along-none : (up : Bool) → along up 0 ≡ pos 0
+along-none true = refl
+along-none false = refl
+
+pub returns-in_err-moved-clause-over : goal.returns-in_err-moved-clause-over
+returns-in_err-moved-clause-over c = λ is_over.
+    let over : c.move_by_one.result ≡ Err grown.Over = search (rules, is_over) in
+    record {
+      up = c.of-up.result.up;
+      times = c.of-up.result.times;
+      all = c.of-up.ensures.along ∙ to_z-of_z w32 c.args.by c.ranges.by;
+      done = 0;
+      before = c.of-up.ensures.some;
+      part = c.args.a.now;
+      moved = subst (DecidesMoved c.args.a.now c.args.a.now c.args.track) (sym (along-none c.of-up.result.up)) (c.each_set_is_moved_by_nothing.ensures c.args.a.now c.args.track c.requires.integers);
+      more = c.move_by_one.ensures.over over;
+    }
 
 pub loop-done-preserved : goal.loop-done-preserved
 loop-done-preserved c =

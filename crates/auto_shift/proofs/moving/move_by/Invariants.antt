@@ -1,4 +1,4 @@
-use Rattle.std.proofs.Common.{ℕ, ◌<◌, ◌≤◌, length}
+use Rattle.std.proofs.Common.{◌≤◌, length}
 use Rattle.auto_core.specs.Integers.{DecidesIntegers}
 use Rattle.auto_core.specs.Reduced.{AllReached}
 use Rattle.auto_shift.specs.Moved.{DecidesMoved}
