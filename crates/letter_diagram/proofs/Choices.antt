@@ -4,7 +4,7 @@ use Rattle.std.specs.Int.{bit_at}
 use Rattle.std.specs.HashMap.{HashMap, Updates}
 use Rattle.letter_diagram.specs.declared.diagrams.Shape.{Shape}
 use Rattle.letter_diagram.specs.Diagram.{map_at, top_track, chosen, Grows}
-use Rattle.letter_diagram.specs.Paired.{IsSplit, top_of_both, pair_eq}
+use Rattle.letter_diagram.specs.Splits.{IsSplit, top_of_both, pair_eq}
 use Rattle.letter_diagram.specs.Chosen.{IsChosen, RemembersChosen}
 use Rattle.letter_diagram.proofs.Pairings.{top_of_both-grows, chosen-grows}
 use Rattle.letter_diagram.proofs.Memos.{pair_answers-insert}

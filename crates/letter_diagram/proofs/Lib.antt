@@ -4,7 +4,6 @@ pub mod Added
 pub mod Canonical
 pub mod Memos
 pub mod PairNumbers
-pub mod Absorptions
 pub mod Pairings
 pub mod Choices
 pub mod Narrow
@@ -12,8 +11,6 @@ pub mod Kept
 pub mod Carryings
 pub mod Turnings
 pub mod Compositions
-pub mod Readings
-pub mod SidedPairs
 pub mod Lists
 pub mod SetNumbers
 pub mod Mergings

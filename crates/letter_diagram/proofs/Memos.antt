@@ -5,7 +5,7 @@ use Rattle.std.proofs.lemmas.Grind.{common_steps}
 use Rattle.std.proofs.lemmas.Bool.{cases_eq}
 use Rattle.letter_diagram.specs.NodeMemo.{answer_of, Remembers}
 use Rattle.letter_diagram.specs.Carried.{Learns}
-use Rattle.letter_diagram.specs.Paired.{pair_eq}
+use Rattle.letter_diagram.specs.Splits.{pair_eq}
 use Rattle.letter_diagram.proofs.PairNumbers.{pair_eq-true}
 
 -- a fact of each key and its answer, after one more is put in

@@ -6,7 +6,7 @@ use Rattle.std.proofs.lemmas.Bool.{cases_lt, cases_eq}
 use Rattle.track_word.proofs.LetterBits.{bit_cases}
 use Rattle.letter_diagram.specs.declared.diagrams.Shape.{Shape}
 use Rattle.letter_diagram.specs.Diagram.{map_at, top_track, chosen, IsDiagram, Grows}
-use Rattle.letter_diagram.specs.Paired.{IsSplit, top_of_both, pair_eq}
+use Rattle.letter_diagram.specs.Splits.{IsSplit, top_of_both, pair_eq}
 use Rattle.letter_diagram.specs.Sets.{SetsKept, IsUnion}
 use Rattle.letter_diagram.specs.Merged.{IsWithBit, HasSets, IsUnited, AreUnions, RemembersUnited, IgnoresTrack, IsMerged, AreMerged, RemembersMerged}
 use Rattle.letter_diagram.proofs.Canonical.{flip, bit_at-flip_same, bit_at-flip_other, flipped, map_at-agree}

@@ -118,11 +118,3 @@ chosen-relabelled shapes tracks track low high letter within =
 -- no map looks at a track past the twentieth
 pub LooksBelow-all : (shapes : List Shape) → IsDiagram shapes → (node bound : ℕ) → node < length shapes → 20 ≤ bound → LooksBelow shapes node bound
 LooksBelow-all shapes is node bound known enough = record { same = λ a b agree. map_at-agree shapes is node known a b (λ k from below. agree k (omega arith)) }
-
--- the map of pairs of two maps looks at the tracks that these look at
-pub LooksBelow-pairs : (old shapes : List Shape) (pairs : List (ℕ × ℕ)) (a b node bound : ℕ) → AllPairs (λ p q. p ≢ q) pairs
-    → ((letter : ℕ) → slice_get pairs (map_at shapes node letter) ≡ Some (map_at old a letter, map_at old b letter)) → LooksBelow old a bound → LooksBelow old b bound → LooksBelow shapes node bound
-LooksBelow-pairs old shapes pairs a b node bound unrepeated map narrow narrow' = record {
-  same = λ x y agree.
-      one_place pairs unrepeated _ _ (map_at old a y, map_at old b y) (map x ∙ (λ i. Some (narrow.same x y agree i, narrow'.same x y agree i))) (map y);
-}

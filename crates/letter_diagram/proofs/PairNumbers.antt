@@ -9,7 +9,7 @@ use Rattle.std.proofs.lemmas.List.Quantifiers.{position-Some}
 use Rattle.std.proofs.lemmas.Option.{slice_get-get_or, slice_get_within, get_or_from_slice_get}
 use Rattle.indexmap.specs.IndexSet.{insert_key}
 use Rattle.letter_diagram.specs.Numbering.{PairsKept}
-use Rattle.letter_diagram.specs.Paired.{pair_eq}
+use Rattle.letter_diagram.specs.Splits.{pair_eq}
 
 pub pair_eq-true : (p q : ℕ × ℕ) → pair_eq p q ≡ true → p ≡ q
 pair_eq-true (a, b) (c, d) h = grind (arith, common_steps)

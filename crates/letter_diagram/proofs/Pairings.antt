@@ -8,7 +8,7 @@ use Rattle.std.proofs.lemmas.Nat.{pow_pos}
 use Rattle.track_word.proofs.LetterBits.{bit_cases}
 use Rattle.letter_diagram.specs.declared.diagrams.Shape.{Shape}
 use Rattle.letter_diagram.specs.Diagram.{map_at, top_track, chosen, IsDiagram, Grows}
-use Rattle.letter_diagram.specs.Paired.{IsSplit, top_of_both, room_from, room_for}
+use Rattle.letter_diagram.specs.Splits.{IsSplit, top_of_both, room_from, room_for}
 use Rattle.letter_diagram.proofs.Canonical.{flip, bit_at-flip_same, flipped}
 
 -- the least track of two stays as nodes are added, and so does the room

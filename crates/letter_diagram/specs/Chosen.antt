@@ -3,7 +3,7 @@ use Rattle.std.specs.Prelude.{◌≡◌, ℕ, ◌<◌, ◌≤◌, min, List, len
 use Rattle.std.specs.HashMap.{HashMap, get}
 use Rattle.letter_diagram.specs.declared.diagrams.Shape.{Shape}
 use Rattle.letter_diagram.specs.Diagram.{map_at, top_track, chosen}
-use Rattle.letter_diagram.specs.Paired.{top_of_both, pair_eq}
+use Rattle.letter_diagram.specs.Splits.{top_of_both, pair_eq}
 
 -- the map of r is that of low where the track's bit is 0, else that of high
 pub record IsChosen (shapes : List Shape) (track low high r : ℕ) : Type 0 where

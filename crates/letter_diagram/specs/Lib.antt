@@ -1,15 +1,12 @@
 pub mod Diagram
 pub mod Carried
 pub mod Numbering
-pub mod Paired
-pub mod Absorbed
-pub mod Sided
+pub mod Splits
 pub mod Chosen
 pub mod Relabelled
 pub mod Turned
 pub mod Composed
 pub mod Least
-pub mod Product
 pub mod Listed
 pub mod Sets
 pub mod Merged

@@ -4,7 +4,7 @@ use Rattle.std.specs.Int.{bit_at}
 use Rattle.std.specs.HashMap.{HashMap, get}
 use Rattle.letter_diagram.specs.declared.diagrams.Shape.{Shape}
 use Rattle.letter_diagram.specs.Diagram.{map_at, top_track}
-use Rattle.letter_diagram.specs.Paired.{top_of_both, pair_eq}
+use Rattle.letter_diagram.specs.Splits.{top_of_both, pair_eq}
 use Rattle.letter_diagram.specs.Sets.{IsUnion}
 
 -- a letter that has this bit on a track, and is the other letter elsewhere

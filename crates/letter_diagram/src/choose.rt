@@ -1,7 +1,7 @@
 //! The choice between two maps by the bit of a track.
 ghost use Rattle.std.specs.Prelude.{◌≡◌, ◌<◌, ◌≤◌, ℕ, length, IfOk, OnOk};
 ghost use Rattle.letter_diagram.specs.Diagram.{map_at, chosen, Grows};
-ghost use Rattle.letter_diagram.specs.Paired.{top_of_both};
+ghost use Rattle.letter_diagram.specs.Splits.{top_of_both};
 ghost use Rattle.letter_diagram.specs.Chosen.{IsChosen, RemembersChosen};
 
 use crate::diagrams::{Diagrams, Node};

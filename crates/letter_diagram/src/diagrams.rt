@@ -1,7 +1,7 @@
 //! Nodes, numbered in the order in which they were made.
 ghost use Rattle.std.specs.Prelude.{◌≡◌, ◌<◌, ◌≤◌, ◌^◌, ◌++◌, [], ◌∷◌, List, ℕ, length, slice_get, Some, IfOk, OnErr, IsTrue, ◌↔◌};
 ghost use Rattle.letter_diagram.specs.Diagram.{map_at, top_track, Grows, FitsBelow, IsAt, IsDiagram, HasChildren, chosen};
-ghost use Rattle.letter_diagram.specs.Paired.{IsSplit};
+ghost use Rattle.letter_diagram.specs.Splits.{IsSplit};
 ghost use Rattle.std.specs.Cmp.Rules.{hashing};
 ghost use Rattle.std.proofs.Common.{rules};
 

@@ -2,7 +2,7 @@
 ghost use Rattle.std.specs.Prelude.{◌≡◌, ◌<◌, ◌≤◌, ◌+◌, ◌^◌, ℕ, length, IfOk, OnOk};
 ghost use Rattle.letter_diagram.specs.Diagram.{map_at, top_track, Grows};
 ghost use Rattle.letter_diagram.specs.Sets.{SetsKept, IsUnion};
-ghost use Rattle.letter_diagram.specs.Paired.{IsSplit, top_of_both, room_for};
+ghost use Rattle.letter_diagram.specs.Splits.{IsSplit, top_of_both, room_for};
 ghost use Rattle.letter_diagram.specs.Merged.{IsWithBit};
 ghost use Rattle.letter_diagram.specs.Merged.{HasSets, IsUnited, AreUnions, RemembersUnited, IgnoresTrack, IsMerged, AreMerged, RemembersMerged};
 

@@ -3,7 +3,7 @@ ghost use Rattle.std.specs.Prelude.{◌≡◌, ◌≢◌, ◌≤◌, ◌<◌, �
 ghost use Rattle.std.specs.List.Sorted.{IsStrictlyIncreasing};
 ghost use Rattle.letter_diagram.specs.Sets.{NumbersSet, SetsKept, IsUnion};
 
-use crate::pairs::PairsError;
+use crate::numbering::NumberingError;
 use indexmap::IndexSet;
 use std::alloc::{AllocError, AllocFailed, Global};
 use std::marker::Model;
@@ -72,18 +72,18 @@ impl Sets {
     }
 
     /// The number of a set, which is added where it is new.
-    pub fn number(&mut self, set: &[u32]) -> Result<u32, PairsError>
+    pub fn number(&mut self, set: &[u32]) -> Result<u32, NumberingError>
         requires { IsStrictlyIncreasing set.now }
         ensures number { IfOk result (λ number. slice_get self.new number ≡ Some set.now) }
         ensures sets { OnOk result (NumbersSet self.old self.new set.now) }
-        ensures full { (result ≡ Err PairsError.Full) ↔ ((length self.old ≡ 2 ^ 32 - 1) × ¬ Contains self.old set.now) }
+        ensures full { (result ≡ Err NumberingError.Full) ↔ ((length self.old ≡ 2 ^ 32 - 1) × ¬ Contains self.old set.now) }
         ensures err { OnErr result (self.new ≡ self.old) }
     {
         if let Some(number) = self.seen.get_index_of(set) {
             return Ok(number as u32);
         }
         if self.seen.len() == u32::MAX as usize {
-            return Err(PairsError::Full);
+            return Err(NumberingError::Full);
         }
         let set = set.to_vec(*self.seen.allocator())?;
         Ok(self.add(set)?)

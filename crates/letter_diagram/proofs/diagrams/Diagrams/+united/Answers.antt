@@ -1,5 +1,5 @@
 use Rattle.std.proofs.Common.{rules, arith, ◌≡◌, ℕ, sym, ◌∙◌}
-use Rattle.letter_diagram.specs.Paired.{top_of_both}
+use Rattle.letter_diagram.specs.Splits.{top_of_both}
 use Rattle.letter_diagram.specs.Merged.{IsUnited, RemembersUnited}
 use Rattle.letter_diagram.proofs.Maps.{Grows-trans}
 use Rattle.letter_diagram.proofs.SetNumbers.{SetsKept-refl, SetsKept-trans}

@@ -1,0 +1,3 @@
+pub mod Absorptions
+pub mod Readings
+pub mod SidedPairs

@@ -1,0 +1,19 @@
+use Rattle.std.proofs.Common.{length, ap, arith}
+use Rattle.diagram_product.specs.Product.{SidedTables}
+use Rattle.diagram_product.specs.Sided.{pair_top}
+use Rattle.letter_diagram.proofs.Pairings.{room_from-le}
+use Rattle.diagram_product.proofs.sided_product.SidedProduct.apply.Goals as goal
+
+pub paired-requires-clause-room : goal.paired-requires-clause-room
+paired-requires-clause-room c =
+    let room = room_from-le (pair_top c.self.inside.sides c.self.inside.diagrams c.args.a c.args.b) in
+    let same = ap (λ (t : SidedTables). length t.pairs) c.self.view_is in
+    let before = c.requires.room in
+    omega (arith, room, same, before)
+
+pub returns-in-Ok-clause-few : goal.returns-in-Ok-clause-few
+returns-in-Ok-clause-few c =
+    let room = room_from-le (pair_top c.self.inside.sides c.self.inside.diagrams c.args.a c.args.b) in
+    let same = ap (λ (t : SidedTables). length t.pairs) c.self.view_is in
+    let used = c.in-Ok.ensures.room in
+    omega (arith, room, same, used)

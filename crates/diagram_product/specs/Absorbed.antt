@@ -1,0 +1,35 @@
+-- Pairs one value of which says all.
+use Rattle.std.specs.Prelude.{◌≡◌, ◌<◌, ◌≤◌, ℕ, Bool, false, nat_eq, ◌||◌, if◌then◌else◌, Option, Some, None, List, length, slice_get}
+use Rattle.letter_diagram.specs.declared.diagrams.Shape.{Shape}
+use Rattle.diagram_product.specs.declared.absorbing.Absorbing.{Absorbing}
+use Rattle.letter_diagram.specs.Diagram.{map_at}
+
+-- whether a value is the absorbing one
+abbrev pub absorbs : Option ℕ → ℕ → Bool
+absorbs None value = false
+absorbs (Some absorbing) value = nat_eq value absorbing
+
+-- the pair that stands for all pairs with an absorbing value
+abbrev pub stand_in : Option ℕ → Option ℕ → ℕ × ℕ
+stand_in (Some left) right = (left, 0)
+stand_in None (Some right) = (0, right)
+stand_in None None = (0, 0)
+
+-- a pair with an absorbing value is one with all such pairs, and each other pair is itself
+unfoldable pub absorbed : Absorbing → ℕ → ℕ → ℕ × ℕ
+absorbed absorbing left right =
+    if absorbs absorbing.left left || absorbs absorbing.right right then stand_in absorbing.left absorbing.right
+    else (left, right)
+
+-- the absorbed pair of the values of a and b at a letter
+abbrev pub absorbed_at : Absorbing → List Shape → ℕ → ℕ → ℕ → ℕ × ℕ
+absorbed_at absorbing shapes a b letter = absorbed absorbing (map_at shapes a letter) (map_at shapes b letter)
+
+-- each pair from a number on is an absorbed pair of the values of two maps
+pub record ArePairs (absorbing : Absorbing) (from : ℕ) (pairs : List (ℕ × ℕ)) (left right : ℕ → ℕ) : Type 0 where
+  pub answer : (number : ℕ) → from ≤ number → number < length pairs
+      → (letter : ℕ) × (slice_get pairs number ≡ Some (absorbed absorbing (left letter) (right letter)))
+
+-- each pair from a number on is an absorbed pair of values of a and b
+abbrev pub AreAbsorbed : Absorbing → List Shape → ℕ → List (ℕ × ℕ) → ℕ → ℕ → Type 0
+AreAbsorbed absorbing shapes from pairs a b = ArePairs absorbing from pairs (map_at shapes a) (map_at shapes b)

@@ -1,0 +1,4 @@
+pub mod Paired
+pub mod Absorbed
+pub mod Sided
+pub mod Product

@@ -1,0 +1,128 @@
+//! Maps of pairs over one table of nodes, with a memo that is kept from call to call.
+ghost use Rattle.std.specs.Prelude.{◌≡◌, ◌<◌, ◌≤◌, ◌+◌, ◌^◌, ℕ, length, slice_get, Some, IfOk, OnOk};
+ghost use Rattle.letter_diagram.specs.Diagram.{map_at, top_track, chosen, Grows};
+ghost use Rattle.letter_diagram.specs.Numbering.{PairsKept};
+ghost use Rattle.letter_diagram.specs.Splits.{top_of_both};
+ghost use Rattle.diagram_product.specs.Absorbed.{absorbed_at, AreAbsorbed};
+
+use crate::absorbing::Absorbing;
+use crate::pairs::Pairs;
+use crate::sides::TwoSides;
+use letter_diagram::{Diagrams, Node};
+use limits::MOST_TRACKS;
+use std::alloc::AllocError;
+use std::collections::HashMap;
+use std::marker::Model;
+
+/// Diagrams and the pairs of their values, for many calls of `apply`. What two calls have in common is done once.
+#[derive(Drop)]
+pub struct Product {
+    diagrams: Diagrams,
+    pairs: Pairs,
+    memo: HashMap<(Node, Node), Node>,
+    absorbing: Absorbing,
+}
+
+impl Model for Product {
+    ghost use Rattle.diagram_product.specs.Product.{ProductTables};
+    ghost use Rattle.diagram_product.specs.Sided.{together, RemembersPaired};
+
+    ghost Value = { ProductTables };
+
+    ghost view = { λ p. record { shapes = p.diagrams; pairs = p.pairs; absorbing = p.absorbing } };
+
+    ghost invariant = { λ p. RemembersPaired (together p.absorbing) p.diagrams p.pairs p.memo };
+}
+
+impl Product {
+    /// Over nodes and pairs that are there already. The memo has room for as many pairs of nodes as there are nodes.
+    pub fn new(diagrams: Diagrams, pairs: Pairs, absorbing: Absorbing) -> Result<Self, AllocError>
+        ensures shapes { IfOk result (λ product. product.shapes ≡ diagrams) }
+        ensures pairs { IfOk result (λ product. product.pairs ≡ pairs) }
+        ensures absorbing { IfOk result (λ product. product.absorbing ≡ absorbing) }
+    {
+        let memo = HashMap::with_capacity(diagrams.alloc(), diagrams.len())?;
+        Ok(Product {
+            diagrams,
+            pairs,
+            memo,
+            absorbing,
+        })
+    }
+
+    /// The nodes.
+    pub fn diagrams(&self) -> &Diagrams
+        ensures { result.now ≡ self.now.shapes }
+    {
+        &self.diagrams
+    }
+
+    /// The pairs that are numbered.
+    pub fn pairs(&self) -> &Pairs
+        ensures { result.now ≡ self.now.pairs }
+    {
+        &self.pairs
+    }
+
+    /// The nodes and the pairs.
+    pub fn into_parts(self) -> (Diagrams, Pairs)
+        ensures shapes { result.0 ≡ self.shapes }
+        ensures pairs { result.1 ≡ self.pairs }
+    {
+        let Product {
+            diagrams,
+            pairs,
+            memo: _,
+            absorbing: _,
+        } = self;
+        (diagrams, pairs)
+    }
+
+    /// The map from a letter to the number of the absorbed pair of both values, as `Diagrams::apply2` gives it where nothing
+    /// absorbs. Where a node's map is an absorbing value alone, the other node is not visited, nor are pairs of nodes that
+    /// earlier calls met. Want of memory empties the memo.
+    pub fn apply(&mut self, a: Node, b: Node) -> Result<Node, AllocError>
+        requires a_known { a < length self.old.shapes }
+        requires b_known { b < length self.old.shapes }
+        requires room { length self.old.pairs < 2 ^ 31 }
+        ensures known { IfOk result (λ node. node < length self.new.shapes) }
+        ensures map { IfOk result
+            (λ node. (letter : ℕ)
+            → slice_get self.new.pairs (map_at self.new.shapes node letter) ≡ Some
+            (absorbed_at self.old.absorbing self.old.shapes a b letter)) }
+        ensures top { IfOk result (λ node. top_of_both self.old.shapes a b ≤ top_track self.new.shapes node) }
+        ensures answers { OnOk result
+            (AreAbsorbed self.old.absorbing self.old.shapes (length self.old.pairs) self.new.pairs a b) }
+        ensures few { OnOk result (length self.new.pairs ≤ length self.old.pairs + 2 ^ MOST_TRACKS) }
+        ensures pairs { PairsKept self.old.pairs self.new.pairs }
+        ensures grows { Grows self.old.shapes self.new.shapes }
+        ensures absorbing { self.new.absorbing ≡ self.old.absorbing }
+    {
+        let sides = TwoSides::together(self.absorbing);
+        match sides.paired(a, b, &mut self.diagrams, &mut self.pairs, &mut self.memo) {
+            Ok(node) => Ok(node),
+            Err(refused) => {
+                self.memo.clear();
+                Err(refused)
+            }
+        }
+    }
+}
+
+impl Product {
+    /// `Diagrams::choose` of nodes of the product.
+    pub fn choose(&mut self, track: u8, low: Node, high: Node) -> Result<Node, AllocError>
+        requires track_low { track < MOST_TRACKS }
+        requires low_known { low < length self.old.shapes }
+        requires high_known { high < length self.old.shapes }
+        ensures known { IfOk result (λ node. node < length self.new.shapes) }
+        ensures map { IfOk result
+            (λ node. (letter : ℕ) → map_at self.new.shapes node letter ≡ chosen self.old.shapes track low high letter) }
+        ensures pairs { self.new.pairs ≡ self.old.pairs }
+        ensures absorbing { self.new.absorbing ≡ self.old.absorbing }
+        ensures grows { Grows self.old.shapes self.new.shapes }
+    {
+        let node = self.diagrams.choose(track, low, high)?;
+        Ok(node)
+    }
+}

@@ -1,0 +1,127 @@
+//! One side of a product: how its nodes are read.
+ghost use Rattle.std.specs.Prelude.{◌≡◌, ◌<◌, ◌≤◌, ℕ, length, None, All, IfSome};
+ghost use Rattle.std.specs.List.Sorted.{IsStrictlyIncreasing};
+ghost use Rattle.limits.specs.declared.numbers.TheConstants.{MOST_TRACKS};
+ghost use Rattle.diagram_product.specs.Sided.{Reading, CanBeRead, IsRead, IsReadSplit, LooksFrom, read_at, read_top};
+
+use letter_diagram::{Diagrams, Node, Shape};
+use limits::MOST_TRACKS;
+use std::marker::Model;
+
+/// A way to read nodes: those of another `Diagrams`, or those of the one to which nodes are added, which is `to`.
+pub trait Side: Drop {
+    ghost reading: { Self → Reading };
+
+    /// What a node looks at first, by the tracks from which its own tracks take their bits.
+    fn shape(&self, to: &Diagrams, node: Node) -> Shape
+        requires { CanBeRead (reading self.now) to.now node }
+        ensures read { IsRead (reading self.now) to.now node result }
+        ensures from { LooksFrom (read_at (reading self.now) to.now node) (read_top (reading self.now) to.now node) };
+}
+
+/// Nodes of the `Diagrams` to which nodes are added, as they are.
+#[derive(Drop)]
+pub struct Here;
+
+impl Side for Here {
+    ghost reading = { λ _. None };
+
+    fn shape(&self, to: &Diagrams, node: Node) -> Shape {
+        to.shape(node)
+    }
+}
+
+/// Nodes of another `Diagrams`, each track of which takes its bit from a later or the same track.
+#[derive(Drop)]
+pub struct LentSide<'a> {
+    from: &'a Diagrams,
+    tracks: Vec<u8>,
+    ghost ascending: { IsStrictlyIncreasing tracks.items },
+    ghost low: { All (λ track. track < MOST_TRACKS) tracks.items },
+}
+
+impl<'a> Model for LentSide<'a> {
+    ghost use Rattle.diagram_product.specs.Sided.{LentNodes};
+
+    ghost Value = { LentNodes };
+
+    ghost view = { λ s. record { shapes = s.from.now; tracks = s.tracks.items } };
+}
+
+impl<'a> LentSide<'a> {
+    /// Track t takes its bit from `tracks[t]`.
+    pub fn new(from: &'a Diagrams, tracks: Vec<u8>) -> Self
+        requires ascending { IsStrictlyIncreasing tracks.items }
+        requires low { All (λ track. track < MOST_TRACKS) tracks.items }
+        ensures shapes { result.shapes ≡ from.now }
+        ensures tracks { result.tracks ≡ tracks.items }
+    {
+        LentSide { from, tracks }
+    }
+
+    /// How many nodes are lent.
+    pub fn len(&self) -> usize
+        ensures { result ≡ length self.now.shapes }
+    {
+        self.from.len()
+    }
+}
+
+impl<'a> Side for LentSide<'a> {
+    ghost use Rattle.std.specs.Prelude.{Some};
+
+    ghost reading = { λ s. Some s };
+
+    fn shape(&self, _to: &Diagrams, node: Node) -> Shape {
+        match self.from.shape(node) {
+            Shape::Leaf(value) => Shape::Leaf(value),
+            Shape::Test { track, low, high } => Shape::Test {
+                track: self.tracks[track as usize],
+                low,
+                high,
+            },
+        }
+    }
+}
+
+/// The value of a map where it is constant.
+pub(crate) fn constant<S: Side>(side: &S, to: &Diagrams, node: Node) -> Option<u32>
+    requires { CanBeRead (S.reading side.now) to.now node }
+    ensures constant { IfSome result
+        (λ value. (letter : ℕ) → read_at (S.reading side.now) to.now node letter ≡ value) }
+    ensures low { result ≡ None → read_top (S.reading side.now) to.now node < MOST_TRACKS }
+    ensures small { read_top (S.reading side.now) to.now node ≤ MOST_TRACKS }
+{
+    match side.shape(to, node) {
+        Shape::Leaf(value) => Some(value),
+        Shape::Test { .. } => None,
+    }
+}
+
+/// The least track that a map looks at, or 20 where it is constant.
+pub(crate) fn top<S: Side>(side: &S, to: &Diagrams, node: Node) -> u8
+    requires { CanBeRead (S.reading side.now) to.now node }
+    ensures { result ≡ read_top (S.reading side.now) to.now node }
+{
+    match side.shape(to, node) {
+        Shape::Leaf(_) => MOST_TRACKS,
+        Shape::Test { track, .. } => track,
+    }
+}
+
+/// A map where the bit of a track is 0, and where it is 1.
+pub(crate) fn split<S: Side>(side: &S, to: &Diagrams, node: Node, track: u8) -> (Node, Node)
+    requires read { CanBeRead (S.reading side.now) to.now node }
+    requires track_low { track < MOST_TRACKS }
+    requires below { track ≤ read_top (S.reading side.now) to.now node }
+    ensures { IsReadSplit (S.reading side.now) to.now node track result.0 result.1 }
+{
+    match side.shape(to, node) {
+        Shape::Test {
+            track: own,
+            low,
+            high,
+        } if own == track => (low, high),
+        _ => (node, node),
+    }
+}

@@ -1,0 +1,116 @@
+//! Maps of pairs of the values of two sides that are read where they stand, with a memo that is kept from call to call.
+ghost use Rattle.std.specs.Prelude.{◌≡◌, ◌<◌, ◌≤◌, ◌+◌, ◌^◌, [], ℕ, length, slice_get, Some, IfOk, OnOk};
+ghost use Rattle.letter_diagram.specs.Diagram.{map_at, top_track, Grows};
+ghost use Rattle.letter_diagram.specs.Numbering.{PairsKept};
+ghost use Rattle.diagram_product.specs.Absorbed.{ArePairs};
+ghost use Rattle.diagram_product.specs.Sided.{read_at, pair_at, pair_top, CanBePaired};
+
+use crate::absorbing::Absorbing;
+use crate::pairs::Pairs;
+use crate::side::LentSide;
+use crate::sides::TwoSides;
+use letter_diagram::{Diagrams, Node};
+use limits::MOST_TRACKS;
+use std::alloc::{AllocError, Global};
+use std::collections::HashMap;
+use std::marker::Model;
+
+/// Two sides, the nodes of maps of pairs of their values, and these pairs, for many calls of `apply`. What two calls have in
+/// common is done once, and no node of a side is copied.
+#[derive(Drop)]
+pub struct SidedProduct<'a> {
+    sides: TwoSides<LentSide<'a>>,
+    diagrams: Diagrams,
+    pairs: Pairs,
+    memo: HashMap<(Node, Node), Node>,
+}
+
+impl<'a> Model for SidedProduct<'a> {
+    ghost use Rattle.diagram_product.specs.Product.{SidedTables};
+    ghost use Rattle.diagram_product.specs.Sided.{RemembersPaired};
+
+    ghost Value = { SidedTables };
+
+    ghost view = { λ p. record { sides = p.sides; shapes = p.diagrams; pairs = p.pairs } };
+
+    ghost invariant = { λ p. RemembersPaired p.sides p.diagrams p.pairs p.memo };
+}
+
+impl<'a> SidedProduct<'a> {
+    /// Over pairs that are there already, with no node. There is room for as many nodes, and for as many pairs of nodes, as the
+    /// larger side has nodes.
+    pub fn new(
+        alloc: Global,
+        left: LentSide<'a>,
+        right: LentSide<'a>,
+        pairs: Pairs,
+        absorbing: Absorbing,
+    ) -> Result<Self, AllocError>
+        ensures left { IfOk result (λ product. product.sides.left ≡ Some left.entry) }
+        ensures right { IfOk result (λ product. product.sides.right ≡ Some right.entry) }
+        ensures absorbing { IfOk result (λ product. product.sides.absorbing ≡ absorbing) }
+        ensures shapes { IfOk result (λ product. product.shapes ≡ []) }
+        ensures pairs { IfOk result (λ product. product.pairs ≡ pairs) }
+    {
+        let nodes = left.len().max(right.len());
+        let diagrams = Diagrams::with_capacity(alloc, nodes)?;
+        let memo = HashMap::with_capacity(alloc, nodes)?;
+        let sides = TwoSides {
+            left,
+            right,
+            absorbing,
+        };
+        Ok(SidedProduct {
+            sides,
+            diagrams,
+            pairs,
+            memo,
+        })
+    }
+
+    /// The pairs that are numbered.
+    pub fn pairs(&self) -> &Pairs
+        ensures { result.now ≡ self.now.pairs }
+    {
+        &self.pairs
+    }
+
+    /// The nodes of the maps that were made.
+    pub fn into_diagrams(self) -> Diagrams
+        ensures { result ≡ self.entry.shapes }
+    {
+        self.diagrams
+    }
+
+    /// The map from a letter to the number of the absorbed pair of the value of `a`, a node of the left side, and that of `b`, a
+    /// node of the right one. Otherwise as `Product::apply`.
+    pub fn apply(&mut self, a: Node, b: Node) -> Result<Node, AllocError>
+        requires read { CanBePaired self.old.sides self.old.shapes a b }
+        requires room { length self.old.pairs < 2 ^ 31 }
+        ensures known { IfOk result (λ node. node < length self.new.shapes) }
+        ensures map { IfOk result
+            (λ node. (letter : ℕ)
+            → slice_get self.new.pairs (map_at self.new.shapes node letter) ≡ Some
+            (pair_at self.old.sides self.old.shapes a b letter)) }
+        ensures top { IfOk result
+            (λ node. pair_top self.old.sides self.old.shapes a b ≤ top_track self.new.shapes node) }
+        ensures answers { OnOk result
+            (ArePairs self.old.sides.absorbing (length self.old.pairs) self.new.pairs
+            (read_at self.old.sides.left self.old.shapes a) (read_at self.old.sides.right self.old.shapes b)) }
+        ensures few { OnOk result (length self.new.pairs ≤ length self.old.pairs + 2 ^ MOST_TRACKS) }
+        ensures pairs { PairsKept self.old.pairs self.new.pairs }
+        ensures grows { Grows self.old.shapes self.new.shapes }
+        ensures sides { self.new.sides ≡ self.old.sides }
+    {
+        match self
+            .sides
+            .paired(a, b, &mut self.diagrams, &mut self.pairs, &mut self.memo)
+        {
+            Ok(node) => Ok(node),
+            Err(refused) => {
+                self.memo.clear();
+                Err(refused)
+            }
+        }
+    }
+}

@@ -1,0 +1,154 @@
+//! The map of the pairs of the values of two maps, each of which is read where it stands.
+ghost use Rattle.std.specs.Prelude.{◌≡◌, ◌<◌, ◌≤◌, ◌+◌, ◌^◌, ℕ, length, None, IfOk, IfSome, OnOk};
+ghost use Rattle.letter_diagram.specs.Diagram.{Grows};
+ghost use Rattle.letter_diagram.specs.Numbering.{PairsKept};
+ghost use Rattle.letter_diagram.specs.Splits.{room_from};
+ghost use Rattle.diagram_product.specs.Absorbed.{ArePairs};
+ghost use Rattle.diagram_product.specs.Sided.{together, read_at, pair_at, pair_top, IsReadSplit, CanBePaired, IsPaired, RemembersPaired};
+
+use crate::absorbing::{Absorbing, absorbs};
+use crate::pairs::Pairs;
+use crate::side::{Here, Side, constant, split, top};
+use letter_diagram::{Diagrams, Node};
+use limits::MOST_TRACKS;
+use std::alloc::AllocError;
+use std::collections::HashMap;
+use std::marker::Model;
+
+/// Both sides of a product, and which of their values absorb the other's.
+#[derive(Drop)]
+pub(crate) struct TwoSides<S: Side> {
+    pub(crate) left: S,
+    pub(crate) right: S,
+    pub(crate) absorbing: Absorbing,
+}
+
+impl<S: Side> Model for TwoSides<S> {
+    ghost use Rattle.diagram_product.specs.Sided.{Sides};
+
+    ghost Value = { Sides };
+
+    ghost view = { λ s. record { left = S.reading s.left; right = S.reading s.right; absorbing = s.absorbing } };
+}
+
+impl TwoSides<Here> {
+    /// Two nodes of the `Diagrams` to which nodes are added.
+    pub(crate) fn together(absorbing: Absorbing) -> Self
+        ensures { result ≡ together absorbing }
+    {
+        TwoSides {
+            left: Here,
+            right: Here,
+            absorbing,
+        }
+    }
+}
+
+impl<S: Side> TwoSides<S> {
+    /// The node in `to` of the map of the absorbed pairs, where the memo has pairs of nodes of these sides.
+    #[cycle(paired)]
+    pub(crate) fn paired(
+        &self,
+        a: Node,
+        b: Node,
+        to: &mut Diagrams,
+        pairs: &mut Pairs,
+        memo: &mut HashMap<(Node, Node), Node>,
+    ) -> Result<Node, AllocError>
+        requires read { CanBePaired self.now to.old a b }
+        requires room { length pairs.old + room_from (pair_top self.now to.old a b) < 2 ^ 32 }
+        requires remembered { RemembersPaired self.now to.old pairs.old memo.old }
+        ensures paired { IfOk result (IsPaired self.now to.new pairs.new a b) }
+        ensures remembered { OnOk result (RemembersPaired self.now to.new pairs.new memo.new) }
+        ensures room { OnOk result
+            (length pairs.new ≤ length pairs.old + room_from (pair_top self.now to.old a b)) }
+        ensures answers { OnOk result
+            (ArePairs self.now.absorbing (length pairs.old) pairs.new (read_at self.now.left to.old a)
+            (read_at self.now.right to.old b)) }
+        ensures pairs { PairsKept pairs.old pairs.new }
+        ensures grows { Grows to.old to.new }
+    {
+        if let Some(node) = memo.get(&(a, b)) {
+            return Ok(*node);
+        }
+        let node = match self.one_pair(to, a, b) {
+            Some((left, right)) => to.leaf(pairs.add(left, right)?)?,
+            None => self.paired_sides(a, b, to, pairs, memo)?,
+        };
+        memo.insert((a, b), node)?;
+        Ok(node)
+    }
+
+    /// The absorbed pair of both values, where it is plainly the same at each letter.
+    fn one_pair(&self, to: &Diagrams, a: Node, b: Node) -> Option<(u32, u32)>
+        requires { CanBePaired self.now to.now a b }
+        ensures one { IfSome result (λ pair. (letter : ℕ) → pair_at self.now to.now a b letter ≡ pair) }
+        ensures low { result ≡ None → pair_top self.now to.now a b < MOST_TRACKS }
+        ensures small { pair_top self.now to.now a b ≤ MOST_TRACKS }
+    {
+        let left = constant(&self.left, to, a);
+        let right = constant(&self.right, to, b);
+        match (left, right) {
+            (Some(left), Some(right)) => Some(self.absorbing.of(left, right)),
+            (Some(value), None) if absorbs(self.absorbing.left, value) => {
+                Some(self.absorbing.stand_in())
+            }
+            (None, Some(value)) if absorbs(self.absorbing.right, value) => {
+                Some(self.absorbing.stand_in())
+            }
+            _ => None,
+        }
+    }
+
+    #[cycle(paired)]
+    fn paired_sides(
+        &self,
+        a: Node,
+        b: Node,
+        to: &mut Diagrams,
+        pairs: &mut Pairs,
+        memo: &mut HashMap<(Node, Node), Node>,
+    ) -> Result<Node, AllocError>
+        requires read { CanBePaired self.now to.old a b }
+        requires low { pair_top self.now to.old a b < MOST_TRACKS }
+        requires room { length pairs.old + room_from (pair_top self.now to.old a b) < 2 ^ 32 }
+        requires remembered { RemembersPaired self.now to.old pairs.old memo.old }
+        ensures paired { IfOk result (IsPaired self.now to.new pairs.new a b) }
+        ensures remembered { OnOk result (RemembersPaired self.now to.new pairs.new memo.new) }
+        ensures room { OnOk result
+            (length pairs.new ≤ length pairs.old + room_from (pair_top self.now to.old a b)) }
+        ensures answers { OnOk result
+            (ArePairs self.now.absorbing (length pairs.old) pairs.new (read_at self.now.left to.old a)
+            (read_at self.now.right to.old b)) }
+        ensures pairs { PairsKept pairs.old pairs.new }
+        ensures grows { Grows to.old to.new }
+    {
+        let track = self.top(to, a, b);
+        let (low, high) = self.split(to, a, b, track);
+        let low = self.paired(low.0, low.1, to, pairs, memo)?;
+        let high = self.paired(high.0, high.1, to, pairs, memo)?;
+        let node = to.node(track, low, high)?;
+        Ok(node)
+    }
+
+    /// The least track that one of both maps looks at, or 20 where both are constant.
+    fn top(&self, to: &Diagrams, a: Node, b: Node) -> u8
+        requires { CanBePaired self.now to.now a b }
+        ensures { result ≡ pair_top self.now to.now a b }
+    {
+        top(&self.left, to, a).min(top(&self.right, to, b))
+    }
+
+    /// Both maps where the bit of a track is 0, and where it is 1.
+    fn split(&self, to: &Diagrams, a: Node, b: Node, track: u8) -> ((Node, Node), (Node, Node))
+        requires read { CanBePaired self.now to.now a b }
+        requires track_low { track < MOST_TRACKS }
+        requires below { track ≤ pair_top self.now to.now a b }
+        ensures left { IsReadSplit self.now.left to.now a track result.0.0 result.1.0 }
+        ensures right { IsReadSplit self.now.right to.now b track result.0.1 result.1.1 }
+    {
+        let (a_low, a_high) = split(&self.left, to, a, track);
+        let (b_low, b_high) = split(&self.right, to, b, track);
+        ((a_low, b_low), (a_high, b_high))
+    }
+}

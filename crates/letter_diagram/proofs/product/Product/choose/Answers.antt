@@ -1,9 +1,0 @@
-use Rattle.letter_diagram.proofs.PairNumbers.{PairsKept-refl}
-use Rattle.letter_diagram.proofs.SidedPairs.{RemembersPaired-grows}
-use Rattle.letter_diagram.proofs.product.Product.choose.Goals as goal
-
-pub invariant_of-self : goal.invariant_of-self
-invariant_of-self c = RemembersPaired-grows _ _ _ _ _ _ c.choose.ensures.grows (PairsKept-refl _) c.self.invariant
-
-pub invariant_of-self-2 : goal.invariant_of-self-2
-invariant_of-self-2 c = RemembersPaired-grows _ _ _ _ _ _ c.choose.ensures.grows (PairsKept-refl _) c.self.invariant

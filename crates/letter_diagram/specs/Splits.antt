@@ -1,0 +1,34 @@
+-- Maps by the bit of a track, and two maps side by side.
+use Rattle.std.specs.Prelude.{◌≡◌, ℕ, ◌<◌, ◌≤◌, ◌-◌, ◌^◌, min, List, length, nat_eq, ◌&&◌, Bool}
+use Rattle.letter_diagram.specs.declared.diagrams.Shape.{Shape}
+use Rattle.letter_diagram.specs.Diagram.{map_at, top_track, chosen}
+
+-- the node's map by the bit of a track at or before its top
+pub record IsSplit (shapes : List Shape) (node track low high : ℕ) : Type 0 where
+  pub low_known : low < length shapes
+  pub high_known : high < length shapes
+  pub map : (letter : ℕ) → map_at shapes node letter ≡ chosen shapes track low high letter
+  pub low_above : track < top_track shapes low
+  pub high_above : track < top_track shapes high
+  pub low_top : top_track shapes node ≤ top_track shapes low
+  pub high_top : top_track shapes node ≤ top_track shapes high
+  pub low_within : low ≤ node
+  pub high_within : high ≤ node
+  pub low_smaller : top_track shapes node ≡ track → low < node
+  pub high_smaller : top_track shapes node ≡ track → high < node
+
+-- the least track that one of two nodes looks at, or 20
+abbrev pub top_of_both : List Shape → ℕ → ℕ → ℕ
+top_of_both shapes a b = min (top_track shapes a) (top_track shapes b)
+
+-- at most so many letters are told apart by maps that look only at tracks from a bound on
+unfoldable pub room_from : ℕ → ℕ
+room_from track = 2 ^ (20 - track)
+
+-- at most so many letters are told apart by two nodes
+abbrev pub room_for : List Shape → ℕ → ℕ → ℕ
+room_for shapes a b = room_from (top_of_both shapes a b)
+
+-- whether two pairs are equal
+abbrev pub pair_eq : ℕ × ℕ → ℕ × ℕ → Bool
+pair_eq p q = nat_eq p.0 q.0 && nat_eq p.1 q.1
