@@ -19,7 +19,8 @@ use Rattle.letter_diagram.proofs.Maps.{Grows-refl}
 -- a track takes the bit of its place, and later tracks have later places
 pub record IsReading (reading : Reading) : Type 0 where
   pub bits : (letter track : ℕ) → track < read_tracks reading → bit_at (read_letter reading letter) track ≡ bit_at letter (read_track reading track)
-  pub agree : (a b top : ℕ) → ((k : ℕ) → read_track reading top ≤ k → bit_at a k ≡ bit_at b k) → (k : ℕ) → top ≤ k → bit_at (read_letter reading a) k ≡ bit_at (read_letter reading b) k
+  pub agree : (a b top : ℕ) → ((k : ℕ) → read_track reading top ≤ k → bit_at a k ≡ bit_at b k)
+      → (k : ℕ) → top ≤ k → bit_at (read_letter reading a) k ≡ bit_at (read_letter reading b) k
   pub low : (track : ℕ) → track < read_tracks reading → read_track reading track < 20
   pub rise : (track later : ℕ) → track < later → track < read_tracks reading → read_track reading track < read_track reading later
   pub most : read_track reading 20 ≡ 20
@@ -130,7 +131,9 @@ module _ (reading : Reading) (law : IsReading reading) (shapes : List Shape) (is
     split = record {
       low_read = record { known = low_known; narrow = λ few. LooksBelow-low _ is node track low high at fits (read_tracks reading) (read.narrow few) };
       high_read = record { known = high_known; narrow = λ few. LooksBelow-high _ is node track low high at fits (read_tracks reading) (read.narrow few) };
-      map = λ letter. at.map (read_letter reading letter) ∙ (λ i. if nat_eq (law.bits letter track tested-within i) 0 then read_at reading shapes low letter else read_at reading shapes high letter);
+      map = λ letter.
+          at.map (read_letter reading letter)
+          ∙ (λ i. if nat_eq (law.bits letter track tested-within i) 0 then read_at reading shapes low letter else read_at reading shapes high letter);
       low_above = law.rise track (top_track (read_shapes reading shapes) low) fits.low_above tested-within;
       high_above = law.rise track (top_track (read_shapes reading shapes) high) fits.high_above tested-within;
       low_from = LooksFrom-read reading law shapes is low low_known;

@@ -52,7 +52,8 @@ pub RemembersPaired-grows : {S : Type 0} (sides : Sides) (old new : List Shape) 
     → RemembersPaired sides old pairs memo → RemembersPaired sides new pairs' memo
 RemembersPaired-grows sides old new pairs pairs' memo grows kept all = record { paired = λ a b r at. IsPaired-grows sides old new pairs pairs' a b r grows kept (all.paired a b r at) }
 
-pub RemembersPaired-insert : {S : Type 0} (sides : Sides) (shapes : List Shape) (pairs : List (ℕ × ℕ)) (memo new : HashMap (ℕ × ℕ) ℕ S) (a b r : ℕ) → RemembersPaired sides shapes pairs memo
+pub RemembersPaired-insert : {S : Type 0} (sides : Sides) (shapes : List Shape) (pairs : List (ℕ × ℕ)) (memo new : HashMap (ℕ × ℕ) ℕ S) (a b r : ℕ)
+    → RemembersPaired sides shapes pairs memo
     → Updates pair_eq memo new (a, b) (Some r) → IsPaired sides shapes pairs a b r → RemembersPaired sides shapes pairs new
 RemembersPaired-insert sides shapes pairs memo new a b r all updates is = record { paired = pair_answers-insert (IsPaired sides shapes pairs) memo new a b r all.paired updates is }
 
@@ -69,7 +70,8 @@ IsPaired-leaf sides old new pairs a b r number pair read grows known one at map 
 }
 
 -- one pair that was added
-pub ArePairs-leaf : (g : Absorbing) (old new : List (ℕ × ℕ)) (left right : ℕ → ℕ) (pair : ℕ × ℕ) → ((letter : ℕ) → absorbed g (left letter) (right letter) ≡ pair) → Numbers old new pair
+pub ArePairs-leaf : (g : Absorbing) (old new : List (ℕ × ℕ)) (left right : ℕ → ℕ) (pair : ℕ × ℕ)
+    → ((letter : ℕ) → absorbed g (left letter) (right letter) ≡ pair) → Numbers old new pair
     → ArePairs g (length old) new left right
 ArePairs-leaf g old new left right pair one (inl e) = record { answer = λ n from below. let l = ap length e in absurd (omega (arith, l, from, below)) }
 ArePairs-leaf g old new left right pair one (inr (e, absent)) = record {
@@ -89,10 +91,12 @@ pick false g pairs x y xa ya xb yb p q = q
 
 -- a part at letters with one bit of the track
 module _ (reading : Reading) (shapes : List Shape) (track : ℕ) where
-  clear : (node low high : ℕ) → IsReadSplit reading shapes node track low high → (letter : ℕ) → bit_at letter track ≡ 0 → read_at reading shapes node letter ≡ read_at reading shapes low letter
+  clear : (node low high : ℕ) → IsReadSplit reading shapes node track low high → (letter : ℕ)
+      → bit_at letter track ≡ 0 → read_at reading shapes node letter ≡ read_at reading shapes low letter
   clear node low high split letter z = split.map letter ∙ ap (λ n. if nat_eq n 0 then read_at reading shapes low letter else read_at reading shapes high letter) z
 
-  set : (node low high : ℕ) → IsReadSplit reading shapes node track low high → (letter : ℕ) → bit_at letter track ≡ 1 → read_at reading shapes node letter ≡ read_at reading shapes high letter
+  set : (node low high : ℕ) → IsReadSplit reading shapes node track low high → (letter : ℕ)
+      → bit_at letter track ≡ 1 → read_at reading shapes node letter ≡ read_at reading shapes high letter
   set node low high split letter o = split.map letter ∙ ap (λ n. if nat_eq n 0 then read_at reading shapes low letter else read_at reading shapes high letter) o
 
   steady : (part : ℕ) → track < read_top reading shapes part → LooksFrom (read_at reading shapes part) (read_top reading shapes part) → (letter : ℕ)

@@ -21,15 +21,7 @@ absorbed absorbing left right =
     if absorbs absorbing.left left || absorbs absorbing.right right then stand_in absorbing.left absorbing.right
     else (left, right)
 
--- the absorbed pair of the values of a and b at a letter
-abbrev pub absorbed_at : Absorbing → List Shape → ℕ → ℕ → ℕ → ℕ × ℕ
-absorbed_at absorbing shapes a b letter = absorbed absorbing (map_at shapes a letter) (map_at shapes b letter)
-
 -- each pair from a number on is an absorbed pair of the values of two maps
 pub record ArePairs (absorbing : Absorbing) (from : ℕ) (pairs : List (ℕ × ℕ)) (left right : ℕ → ℕ) : Type 0 where
   pub answer : (number : ℕ) → from ≤ number → number < length pairs
       → (letter : ℕ) × (slice_get pairs number ≡ Some (absorbed absorbing (left letter) (right letter)))
-
--- each pair from a number on is an absorbed pair of values of a and b
-abbrev pub AreAbsorbed : Absorbing → List Shape → ℕ → List (ℕ × ℕ) → ℕ → ℕ → Type 0
-AreAbsorbed absorbing shapes from pairs a b = ArePairs absorbing from pairs (map_at shapes a) (map_at shapes b)

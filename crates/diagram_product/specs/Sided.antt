@@ -1,5 +1,5 @@
 -- Maps of pairs of the values of two maps, each of which is read where it stands.
-use Rattle.std.specs.Prelude.{◌≡◌, ℕ, ◌<◌, ◌≤◌, min, List, Option, length, slice_get, slice_index_or, Some, None, nat_eq, if◌then◌else◌}
+use Rattle.std.specs.Prelude.{◌≡◌, ℕ, ◌<◌, ◌≤◌, min, List, Option, length, slice_index_or, Some, None, nat_eq, if◌then◌else◌}
 use Rattle.std.specs.Int.{bit_at}
 use Rattle.std.specs.HashMap.{HashMap, get}
 use Rattle.limits.specs.declared.numbers.TheConstants.{MOST_TRACKS}
@@ -9,7 +9,8 @@ use Rattle.diagram_product.specs.declared.absorbing.Absorbing.{Absorbing}
 use Rattle.letter_diagram.specs.Diagram.{map_at, top_track, LooksBelow}
 use Rattle.letter_diagram.specs.Relabelled.{relabelled}
 use Rattle.letter_diagram.specs.Splits.{pair_eq}
-use Rattle.diagram_product.specs.Absorbed.{absorbed}
+use Rattle.diagram_product.specs.Paired.{NumbersPairs}
+use Rattle.diagram_product.specs.Absorbed.{absorbed, ArePairs}
 
 -- nodes of another table that are lent, each track of which takes its bit from a given track
 pub record LentNodes : Type 0 where
@@ -110,6 +111,11 @@ pair_at sides shapes a b letter =
 abbrev pub pair_top : Sides → List Shape → ℕ → ℕ → ℕ
 pair_top sides shapes a b = min (read_top sides.left shapes a) (read_top sides.right shapes b)
 
+-- each pair from a number on is an absorbed pair of values that are read of a and b
+abbrev pub AreReadPairs : Sides → List Shape → ℕ → List (ℕ × ℕ) → ℕ → ℕ → Type 0
+AreReadPairs sides shapes from pairs a b =
+    ArePairs sides.absorbing from pairs (read_at sides.left shapes a) (read_at sides.right shapes b)
+
 -- a node of either side that can be read
 pub record CanBePaired (sides : Sides) (shapes : List Shape) (a b : ℕ) : Type 0 where
   pub left : CanBeRead sides.left shapes a
@@ -119,7 +125,7 @@ pub record CanBePaired (sides : Sides) (shapes : List Shape) (a b : ℕ) : Type 
 pub record IsPaired (sides : Sides) (shapes : List Shape) (pairs : List (ℕ × ℕ)) (a b r : ℕ) : Type 0 where
   pub read : CanBePaired sides shapes a b
   pub known : r < length shapes
-  pub map : (letter : ℕ) → slice_get pairs (map_at shapes r letter) ≡ Some (pair_at sides shapes a b letter)
+  pub map : NumbersPairs shapes pairs (pair_at sides shapes a b) r
   pub top : pair_top sides shapes a b ≤ top_track shapes r
 
 -- the pairs of nodes in a memo are paired

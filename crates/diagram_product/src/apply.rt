@@ -1,9 +1,9 @@
 //! The map of the pairs of two maps' values.
-ghost use Rattle.std.specs.Prelude.{◌≡◌, ◌<◌, ◌≤◌, ◌+◌, ◌^◌, ℕ, length, slice_get, Some, IfOk, OnOk};
-ghost use Rattle.letter_diagram.specs.Diagram.{map_at, top_track, Grows};
+ghost use Rattle.std.specs.Prelude.{◌<◌, ◌≤◌, ◌+◌, ◌^◌, length, IfOk, OnOk};
+ghost use Rattle.letter_diagram.specs.Diagram.{top_track, Grows};
 ghost use Rattle.letter_diagram.specs.Numbering.{PairsKept};
 ghost use Rattle.letter_diagram.specs.Splits.{top_of_both};
-ghost use Rattle.diagram_product.specs.Paired.{AreAnswers};
+ghost use Rattle.diagram_product.specs.Paired.{NumbersPairs, both_at, AreAnswers};
 
 use crate::absorbing::Absorbing;
 use crate::pairs::Pairs;
@@ -24,10 +24,7 @@ pub fn apply2(
     requires b_known { b < length diagrams.old }
     requires room { length pairs.old < 2 ^ 31 }
     ensures known { IfOk result (λ node. node < length diagrams.new) }
-    ensures map { IfOk result
-        (λ node. (letter : ℕ)
-        → slice_get pairs.new (map_at diagrams.new node letter) ≡ Some
-        (map_at diagrams.old a letter, map_at diagrams.old b letter)) }
+    ensures map { IfOk result (NumbersPairs diagrams.new pairs.new (both_at diagrams.old a b)) }
     ensures top { IfOk result (λ node. top_of_both diagrams.old a b ≤ top_track diagrams.new node) }
     ensures answers { OnOk result (AreAnswers diagrams.old (length pairs.old) pairs.new a b) }
     ensures few { OnOk result (length pairs.new ≤ length pairs.old + 2 ^ MOST_TRACKS) }

@@ -1,6 +1,6 @@
 //! Pairs, numbered in the order in which they were first seen.
-ghost use Rattle.std.specs.Prelude.{◌≡◌, ◌≢◌, ◌≤◌, ◌<◌, ◌^◌, ◌+◌, ◌-◌, [], ◌∷◌, ◌++◌, List, ℕ, length, slice_get, Some, None, IfOk, OnOk, OnErr, AllPairs, Contains, ◌↔◌};
-ghost use Rattle.letter_diagram.specs.Numbering.{Numbers, PairsKept};
+ghost use Rattle.std.specs.Prelude.{◌≡◌, ◌≢◌, ◌≤◌, ◌<◌, ◌^◌, ◌+◌, ◌-◌, [], List, ℕ, length, slice_get, Some, IfOk, OnOk, OnErr, AllPairs, ◌↔◌};
+ghost use Rattle.letter_diagram.specs.Numbering.{Numbers, PairsKept, HasNoNumberLeft};
 
 use indexmap::IndexSet;
 use letter_diagram::NumberingError;
@@ -65,7 +65,7 @@ impl Pairs {
     pub fn number(&mut self, a: u32, b: u32) -> Result<u32, NumberingError>
         ensures number { IfOk result (λ number. slice_get self.new number ≡ Some (a, b)) }
         ensures pairs { OnOk result (Numbers self.old self.new (a, b)) }
-        ensures full { (result ≡ Err NumberingError.Full) ↔ ((length self.old ≡ 2 ^ 32 - 1) × ¬ Contains self.old (a, b)) }
+        ensures full { (result ≡ Err NumberingError.Full) ↔ HasNoNumberLeft self.old (a, b) }
         ensures err { OnErr result (self.new ≡ self.old) }
     {
         if let Some(number) = self.seen.get_index_of(&(a, b)) {

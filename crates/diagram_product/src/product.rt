@@ -1,9 +1,10 @@
 //! Maps of pairs over one table of nodes, with a memo that is kept from call to call.
-ghost use Rattle.std.specs.Prelude.{◌≡◌, ◌<◌, ◌≤◌, ◌+◌, ◌^◌, ℕ, length, slice_get, Some, IfOk, OnOk};
-ghost use Rattle.letter_diagram.specs.Diagram.{map_at, top_track, chosen, Grows};
+ghost use Rattle.std.specs.Prelude.{◌≡◌, ◌<◌, ◌≤◌, ◌+◌, ◌^◌, length, IfOk, OnOk};
+ghost use Rattle.letter_diagram.specs.Diagram.{top_track, HasMap, chosen, Grows};
 ghost use Rattle.letter_diagram.specs.Numbering.{PairsKept};
 ghost use Rattle.letter_diagram.specs.Splits.{top_of_both};
-ghost use Rattle.diagram_product.specs.Absorbed.{absorbed_at, AreAbsorbed};
+ghost use Rattle.diagram_product.specs.Paired.{NumbersPairs};
+ghost use Rattle.diagram_product.specs.Product.{absorbed_at, AddsAbsorbed};
 
 use crate::absorbing::Absorbing;
 use crate::pairs::Pairs;
@@ -86,13 +87,9 @@ impl Product {
         requires b_known { b < length self.old.shapes }
         requires room { length self.old.pairs < 2 ^ 31 }
         ensures known { IfOk result (λ node. node < length self.new.shapes) }
-        ensures map { IfOk result
-            (λ node. (letter : ℕ)
-            → slice_get self.new.pairs (map_at self.new.shapes node letter) ≡ Some
-            (absorbed_at self.old.absorbing self.old.shapes a b letter)) }
+        ensures map { IfOk result (NumbersPairs self.new.shapes self.new.pairs (absorbed_at self.old a b)) }
         ensures top { IfOk result (λ node. top_of_both self.old.shapes a b ≤ top_track self.new.shapes node) }
-        ensures answers { OnOk result
-            (AreAbsorbed self.old.absorbing self.old.shapes (length self.old.pairs) self.new.pairs a b) }
+        ensures answers { OnOk result (AddsAbsorbed self.old self.new.pairs a b) }
         ensures few { OnOk result (length self.new.pairs ≤ length self.old.pairs + 2 ^ MOST_TRACKS) }
         ensures pairs { PairsKept self.old.pairs self.new.pairs }
         ensures grows { Grows self.old.shapes self.new.shapes }
@@ -116,8 +113,7 @@ impl Product {
         requires low_known { low < length self.old.shapes }
         requires high_known { high < length self.old.shapes }
         ensures known { IfOk result (λ node. node < length self.new.shapes) }
-        ensures map { IfOk result
-            (λ node. (letter : ℕ) → map_at self.new.shapes node letter ≡ chosen self.old.shapes track low high letter) }
+        ensures map { IfOk result (HasMap self.new.shapes (chosen self.old.shapes track low high)) }
         ensures pairs { self.new.pairs ≡ self.old.pairs }
         ensures absorbing { self.new.absorbing ≡ self.old.absorbing }
         ensures grows { Grows self.old.shapes self.new.shapes }

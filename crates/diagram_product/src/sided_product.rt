@@ -1,9 +1,10 @@
 //! Maps of pairs of the values of two sides that are read where they stand, with a memo that is kept from call to call.
-ghost use Rattle.std.specs.Prelude.{◌≡◌, ◌<◌, ◌≤◌, ◌+◌, ◌^◌, [], ℕ, length, slice_get, Some, IfOk, OnOk};
-ghost use Rattle.letter_diagram.specs.Diagram.{map_at, top_track, Grows};
+ghost use Rattle.std.specs.Prelude.{◌≡◌, ◌<◌, ◌≤◌, ◌+◌, ◌^◌, [], length, Some, IfOk, OnOk};
+ghost use Rattle.letter_diagram.specs.Diagram.{top_track, Grows};
 ghost use Rattle.letter_diagram.specs.Numbering.{PairsKept};
-ghost use Rattle.diagram_product.specs.Absorbed.{ArePairs};
-ghost use Rattle.diagram_product.specs.Sided.{read_at, pair_at, pair_top, CanBePaired};
+ghost use Rattle.diagram_product.specs.Paired.{NumbersPairs};
+ghost use Rattle.diagram_product.specs.Sided.{pair_top, CanBePaired};
+ghost use Rattle.diagram_product.specs.Product.{read_pair_at, AddsReadPairs};
 
 use crate::absorbing::Absorbing;
 use crate::pairs::Pairs;
@@ -88,15 +89,9 @@ impl<'a> SidedProduct<'a> {
         requires read { CanBePaired self.old.sides self.old.shapes a b }
         requires room { length self.old.pairs < 2 ^ 31 }
         ensures known { IfOk result (λ node. node < length self.new.shapes) }
-        ensures map { IfOk result
-            (λ node. (letter : ℕ)
-            → slice_get self.new.pairs (map_at self.new.shapes node letter) ≡ Some
-            (pair_at self.old.sides self.old.shapes a b letter)) }
-        ensures top { IfOk result
-            (λ node. pair_top self.old.sides self.old.shapes a b ≤ top_track self.new.shapes node) }
-        ensures answers { OnOk result
-            (ArePairs self.old.sides.absorbing (length self.old.pairs) self.new.pairs
-            (read_at self.old.sides.left self.old.shapes a) (read_at self.old.sides.right self.old.shapes b)) }
+        ensures map { IfOk result (NumbersPairs self.new.shapes self.new.pairs (read_pair_at self.old a b)) }
+        ensures top { IfOk result (λ r. pair_top self.old.sides self.old.shapes a b ≤ top_track self.new.shapes r) }
+        ensures answers { OnOk result (AddsReadPairs self.old self.new.pairs a b) }
         ensures few { OnOk result (length self.new.pairs ≤ length self.old.pairs + 2 ^ MOST_TRACKS) }
         ensures pairs { PairsKept self.old.pairs self.new.pairs }
         ensures grows { Grows self.old.shapes self.new.shapes }

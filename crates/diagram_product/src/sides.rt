@@ -3,8 +3,7 @@ ghost use Rattle.std.specs.Prelude.{◌≡◌, ◌<◌, ◌≤◌, ◌+◌, ◌^
 ghost use Rattle.letter_diagram.specs.Diagram.{Grows};
 ghost use Rattle.letter_diagram.specs.Numbering.{PairsKept};
 ghost use Rattle.letter_diagram.specs.Splits.{room_from};
-ghost use Rattle.diagram_product.specs.Absorbed.{ArePairs};
-ghost use Rattle.diagram_product.specs.Sided.{together, read_at, pair_at, pair_top, IsReadSplit, CanBePaired, IsPaired, RemembersPaired};
+ghost use Rattle.diagram_product.specs.Sided.{together, AreReadPairs, pair_at, pair_top, IsReadSplit, CanBePaired, IsPaired, RemembersPaired};
 
 use crate::absorbing::{Absorbing, absorbs};
 use crate::pairs::Pairs;
@@ -62,9 +61,7 @@ impl<S: Side> TwoSides<S> {
         ensures remembered { OnOk result (RemembersPaired self.now to.new pairs.new memo.new) }
         ensures room { OnOk result
             (length pairs.new ≤ length pairs.old + room_from (pair_top self.now to.old a b)) }
-        ensures answers { OnOk result
-            (ArePairs self.now.absorbing (length pairs.old) pairs.new (read_at self.now.left to.old a)
-            (read_at self.now.right to.old b)) }
+        ensures answers { OnOk result (AreReadPairs self.now to.old (length pairs.old) pairs.new a b) }
         ensures pairs { PairsKept pairs.old pairs.new }
         ensures grows { Grows to.old to.new }
     {
@@ -117,9 +114,7 @@ impl<S: Side> TwoSides<S> {
         ensures remembered { OnOk result (RemembersPaired self.now to.new pairs.new memo.new) }
         ensures room { OnOk result
             (length pairs.new ≤ length pairs.old + room_from (pair_top self.now to.old a b)) }
-        ensures answers { OnOk result
-            (ArePairs self.now.absorbing (length pairs.old) pairs.new (read_at self.now.left to.old a)
-            (read_at self.now.right to.old b)) }
+        ensures answers { OnOk result (AreReadPairs self.now to.old (length pairs.old) pairs.new a b) }
         ensures pairs { PairsKept pairs.old pairs.new }
         ensures grows { Grows to.old to.new }
     {

@@ -27,7 +27,8 @@ FitsBelow-append xs ys bound (Test track low high) h fits =
     }
 
 -- a place in a list with one more is an old one or the last
-get-push : (xs : List Shape) (y : Shape) (i : ℕ) (shape : Shape) → slice_get (xs ++ y ∷ []) i ≡ Some shape → ((i < length xs) × (slice_get xs i ≡ Some shape)) ⊎ ((i ≡ length xs) × (y ≡ shape))
+get-push : (xs : List Shape) (y : Shape) (i : ℕ) (shape : Shape) → slice_get (xs ++ y ∷ []) i ≡ Some shape
+    → ((i < length xs) × (slice_get xs i ≡ Some shape)) ⊎ ((i ≡ length xs) × (y ≡ shape))
 get-push [] y zero shape h = inr (refl, grind (arith, common_steps, h))
 get-push [] y (suc i) shape h = cc
 get-push (x ∷ xs) y zero shape h = inl (omega arith, h)
@@ -67,7 +68,8 @@ insert_key-cases old new shape h = by (list_any (shape_eq shape) old) refl
     by true there = inl (h ∙ ap (λ c. if c then old else old ++ shape ∷ []) there)
     by false none = inr (h ∙ ap (λ c. if c then old else old ++ shape ∷ []) none)
 
-pub IsDiagram-insert : (old new : List Shape) (shape : Shape) → IsDiagram old → FitsBelow old (length old) shape → new ≡ insert_key shape_eq old shape → IsDistinct shape_eq new → IsDiagram new
+pub IsDiagram-insert : (old new : List Shape) (shape : Shape) → IsDiagram old → FitsBelow old (length old) shape
+    → new ≡ insert_key shape_eq old shape → IsDistinct shape_eq new → IsDiagram new
 IsDiagram-insert old new shape is fits h unique = elim (insert_key-cases old new shape h) [
   | inl e ↦ subst IsDiagram (sym e) is
   | inr e ↦ subst IsDiagram (sym e) (IsDiagram-push old shape is fits (subst (IsDistinct shape_eq) e unique))

@@ -10,6 +10,7 @@ use Rattle.track_word.proofs.LetterBits.{bit_cases, low_bits}
 use Rattle.letter_diagram.specs.declared.diagrams.Shape.{Shape}
 use Rattle.letter_diagram.specs.declared.diagrams.Shape.TheVariants.{Leaf, Test}
 use Rattle.letter_diagram.specs.Diagram.{map_at, top_track, IsTest, IsDiagram, FitsBelow, IsAt, HasChildren}
+use Rattle.letter_diagram.specs.Laws.{AgreeFrom}
 use Rattle.letter_diagram.proofs.Maps.{IsAt-get}
 
 -- the letter with one bit changed
@@ -38,11 +39,11 @@ module _ (shapes : List Shape) (is : IsDiagram shapes) where
   is_at node h = IsAt-get shapes node (get_or shapes node (Leaf 0)) (slice_get-get_or shapes node (Leaf 0) h) (is.fits node (get_or shapes node (Leaf 0)) (slice_get-get_or shapes node (Leaf 0) h))
 
   -- a map is the same at letters that agree on the tracks that it may look at
-  agree : (fuel node : ℕ) → node < fuel → node < length shapes → (a b : ℕ) → ((k : ℕ) → top_track shapes node ≤ k → k < 20 → bit_at a k ≡ bit_at b k) → map_at shapes node a ≡ map_at shapes node b
+  agree : (fuel node : ℕ) → node < fuel → node < length shapes → (a b : ℕ) → AgreeFrom (top_track shapes node) a b → map_at shapes node a ≡ map_at shapes node b
   agree zero node lt known a b same = absurd (omega arith)
   agree (suc fuel) node lt known a b same = by (λ n. agree fuel n) (shape_of node) (is_at node known) (fits_at node known)
     where
-      by : ((n : ℕ) → n < fuel → n < length shapes → (x y : ℕ) → ((k : ℕ) → top_track shapes n ≤ k → k < 20 → bit_at x k ≡ bit_at y k) → map_at shapes n x ≡ map_at shapes n y)
+      by : ((n : ℕ) → n < fuel → n < length shapes → (x y : ℕ) → AgreeFrom (top_track shapes n) x y → map_at shapes n x ≡ map_at shapes n y)
           → (shape : Shape) → IsAt shapes node shape → FitsBelow shapes node shape → map_at shapes node a ≡ map_at shapes node b
       by rest (Leaf value) at fits = at.map a ∙ sym (at.map b)
       by rest (Test track low high) at fits =
@@ -57,7 +58,7 @@ module _ (shapes : List Shape) (is : IsDiagram shapes) where
           let h = rest high (omega arith) (omega arith) a b (λ k from below. same k (omega arith) below) in
           at.map a ∙ (λ i. if nat_eq (bit i) 0 then l i else h i) ∙ sym (at.map b)
 
-  pub map_at-agree : (node : ℕ) → node < length shapes → (a b : ℕ) → ((k : ℕ) → top_track shapes node ≤ k → k < 20 → bit_at a k ≡ bit_at b k) → map_at shapes node a ≡ map_at shapes node b
+  pub map_at-agree : (node : ℕ) → node < length shapes → (a b : ℕ) → AgreeFrom (top_track shapes node) a b → map_at shapes node a ≡ map_at shapes node b
   map_at-agree node known a b same = agree (suc node) node (omega arith) known a b same
 
   -- a map does not look at a track below its top
@@ -81,8 +82,14 @@ module _ (shapes : List Shape) (is : IsDiagram shapes) where
       let high_before = fits.high_before in
       let bit = bit_at-flip_same letter track in
       elim (bit_cases letter track) [
-        | inl z ↦ sym (low_is a track low high letter at z) ∙ across ∙ high_is a track low high other at (bit ∙ ap (λ n. (n + 1) % 2) z) ∙ sym (flipped high track letter (omega arith) fits.high_above)
-        | inr o ↦ flipped low track letter (omega arith) fits.low_above ∙ sym (low_is a track low high other at (bit ∙ ap (λ n. (n + 1) % 2) o)) ∙ sym across ∙ high_is a track low high letter at o
+        | inl z ↦
+            let o = bit ∙ ap (λ n. (n + 1) % 2) z in
+            sym (low_is a track low high letter at z) ∙ across ∙ high_is a track low high other at o
+            ∙ sym (flipped high track letter (omega arith) fits.high_above)
+        | inr o ↦
+            let z = bit ∙ ap (λ n. (n + 1) % 2) o in
+            flipped low track letter (omega arith) fits.low_above ∙ sym (low_is a track low high other at z) ∙ sym across
+            ∙ high_is a track low high letter at o
       ]
 
   -- the low sides of two tests of one track with equal maps
@@ -127,7 +134,8 @@ module _ (shapes : List Shape) (is : IsDiagram shapes) where
   equal (suc fuel) a b la lb ka kb same = by (λ x y. equal fuel x y) (shape_of a) (is_at a ka) (fits_at a ka) (shape_of b) (is_at b kb) (fits_at b kb)
     where
       sided : ((x y : ℕ) → x < fuel → y < fuel → x < length shapes → y < length shapes → ((letter : ℕ) → map_at shapes x letter ≡ map_at shapes y letter) → x ≡ y)
-          → (x y track low high : ℕ) → x < suc fuel → x < length shapes → y < length shapes → IsAt shapes x (Test track low high) → IsTest shapes x track low high → track < top_track shapes y
+          → (x y track low high : ℕ) → x < suc fuel → x < length shapes → y < length shapes
+          → IsAt shapes x (Test track low high) → IsTest shapes x track low high → track < top_track shapes y
           → ((l : ℕ) → map_at shapes x l ≡ map_at shapes y l) → ⊥
       sided rest x y track low high lx kx ky at fits above eq =
           let low_before = fits.low_before in

@@ -26,42 +26,13 @@ IsChosen-grows old new track low high r grows is =
       top = omega arith;
     }
 
-pub RemembersChosen-grows : {S : Type 0} (old new : List Shape) (track : ℕ) (memo : HashMap (ℕ × ℕ) ℕ S) → Grows old new → RemembersChosen old track memo → RemembersChosen new track memo
+pub RemembersChosen-grows : {S : Type 0} (old new : List Shape) (track : ℕ) (memo : HashMap (ℕ × ℕ) ℕ S)
+    → Grows old new → RemembersChosen old track memo → RemembersChosen new track memo
 RemembersChosen-grows old new track memo grows all = record { chosen = λ low high r at. IsChosen-grows old new track low high r grows (all.chosen low high r at) }
 
 pub RemembersChosen-insert : {S : Type 0} (shapes : List Shape) (track : ℕ) (memo new : HashMap (ℕ × ℕ) ℕ S) (low high r : ℕ) → RemembersChosen shapes track memo
     → Updates pair_eq memo new (low, high) (Some r) → IsChosen shapes track low high r → RemembersChosen shapes track new
 RemembersChosen-insert shapes track memo new low high r all updates is = record { chosen = pair_answers-insert (IsChosen shapes track) memo new low high r all.chosen updates is }
-
--- both sides of a test of one map
-pub IsChosen-same : (shapes : List Shape) (track a : ℕ) → a < length shapes → top_track shapes a < track → IsChosen shapes track a a a
-IsChosen-same shapes track a known before = record {
-  known = known;
-  low_known = known;
-  high_known = known;
-  map = λ letter. same (nat_eq (bit_at letter track) 0) (map_at shapes a letter);
-  top = omega arith;
-}
-  where
-    same : (bit : Bool) (x : ℕ) → x ≡ (if bit then x else x)
-    same true x = refl
-    same false x = refl
-
--- at the track, a side of each map
-pub IsChosen-at : (shapes : List Shape) (track low high r low_off low_on high_off high_on : ℕ) → low < length shapes → high < length shapes → r < length shapes
-    → IsSplit shapes low track low_off low_on → IsSplit shapes high track high_off high_on → ((letter : ℕ) → map_at shapes r letter ≡ chosen shapes track low_off high_on letter)
-    → track ≤ top_track shapes r → IsChosen shapes track low high r
-IsChosen-at shapes track low high r low_off low_on high_off high_on kl kh kr sl sh map top = record {
-  known = kr;
-  low_known = kl;
-  high_known = kh;
-  map = λ letter. map letter ∙ sides (nat_eq (bit_at letter track) 0) _ _ _ _ _ _ (sl.map letter) (sh.map letter);
-  top = omega arith;
-}
-  where
-    sides : (bit : Bool) (l h lf ln hf hn : ℕ) → l ≡ (if bit then lf else ln) → h ≡ (if bit then hf else hn) → (if bit then lf else hn) ≡ (if bit then l else h)
-    sides true l h lf ln hf hn p q = sym p
-    sides false l h lf ln hf hn p q = sym q
 
 -- before the track, the choices between the sides of both maps
 pub IsChosen-sides : (shapes : List Shape) (track own low high r low_off low_on high_off high_on off on : ℕ) → low < length shapes → high < length shapes → r < length shapes

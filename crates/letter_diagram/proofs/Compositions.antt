@@ -30,12 +30,14 @@ IsComposed-grows old new rows a r grows is =
 pub RemembersComposed-grows : {S : Type 0} (old new : List Shape) (rows : List ℕ) (memo : HashMap ℕ ℕ S) → Grows old new → RemembersComposed old rows memo → RemembersComposed new rows memo
 RemembersComposed-grows old new rows memo grows all = record { composed = λ a r at. IsComposed-grows old new rows a r grows (all.composed a r at) }
 
-pub RemembersComposed-insert : {S : Type 0} (shapes : List Shape) (rows : List ℕ) (memo new : HashMap ℕ ℕ S) (a r : ℕ) → RemembersComposed shapes rows memo → Updates nat_eq memo new a (Some r)
+pub RemembersComposed-insert : {S : Type 0} (shapes : List Shape) (rows : List ℕ) (memo new : HashMap ℕ ℕ S) (a r : ℕ)
+    → RemembersComposed shapes rows memo → Updates nat_eq memo new a (Some r)
     → IsComposed shapes rows a r → RemembersComposed shapes rows new
 RemembersComposed-insert shapes rows memo new a r all updates is = record { composed = answers-insert (IsComposed shapes rows) memo new a r all.composed updates is }
 
 -- at a leaf
-pub IsComposed-leaf : (shapes : List Shape) (rows : List ℕ) (a r value : ℕ) → a < length shapes → All (λ node. node < length shapes) rows → ((letter : ℕ) → map_at shapes a letter ≡ value)
+pub IsComposed-leaf : (shapes : List Shape) (rows : List ℕ) (a r value : ℕ) → a < length shapes
+    → All (λ node. node < length shapes) rows → ((letter : ℕ) → map_at shapes a letter ≡ value)
     → ((letter : ℕ) → map_at shapes a letter < length rows) → r ≡ get_or rows value r → IsComposed shapes rows a r
 IsComposed-leaf shapes rows a r value known all leaf within is =
     let below : value < length rows = subst (λ n. n < length rows) (leaf 0) (within 0) in
@@ -53,7 +55,8 @@ by_bit true x y p q F e f = e
 by_bit false x y p q F e f = f
 
 -- at a test
-pub IsComposed-test : (shapes new : List Shape) (rows : List ℕ) (a r track low high off on : ℕ) → a < length shapes → ((letter : ℕ) → map_at shapes a letter ≡ chosen shapes track low high letter)
+pub IsComposed-test : (shapes new : List Shape) (rows : List ℕ) (a r track low high off on : ℕ)
+    → a < length shapes → ((letter : ℕ) → map_at shapes a letter ≡ chosen shapes track low high letter)
     → IsComposed shapes rows low off → IsComposed shapes rows high on → Grows shapes new → r < length new → ((letter : ℕ) → map_at new r letter ≡ chosen shapes track off on letter)
     → IsComposed new rows a r
 IsComposed-test shapes new rows a r track low high off on known split l h grows r_known map =

@@ -14,7 +14,8 @@ length-more letter [] values = omega arith
 length-more letter (s ∷ shapes) values = let l = length-more letter shapes (values ++ value_of letter values s ∷ []) in let m = length_push values (value_of letter values s) in omega (arith, l, m)
 
 -- the values that are there stay
-kept-more : (letter : ℕ) (shapes : List Shape) (values : List ℕ) (k : ℕ) → k < length values → get_or (fold (λ vs s. vs ++ value_of letter vs s ∷ []) values shapes) k 0 ≡ get_or values k 0
+kept-more : (letter : ℕ) (shapes : List Shape) (values : List ℕ) (k : ℕ) → k < length values
+    → get_or (fold (λ vs s. vs ++ value_of letter vs s ∷ []) values shapes) k 0 ≡ get_or values k 0
 kept-more letter [] values k h = refl
 kept-more letter (s ∷ shapes) values k h =
     let m = length_push values (value_of letter values s) in
@@ -90,9 +91,11 @@ IsAt-get shapes node shape at fits =
       is = at;
       within = within;
       map = λ letter.
+          let P : List Shape → ℕ → Type 0 = λ l n. FitsBelow l n shape in
+          let fits_here = subst (λ n. P (before ++ after) n) (sym size) (subst (λ l. P l node) cut fits) in
           (λ i. map_at (cut i) (sym size i) letter)
           ∙ map_at-push before (drop (node + 1) shapes) shape letter
-          ∙ value_of-append before after shape letter (let P : List Shape → ℕ → Type 0 = λ l n. FitsBelow l n shape in subst (λ n. P (before ++ after) n) (sym size) (subst (λ l. P l node) cut fits))
+          ∙ value_of-append before after shape letter fits_here
           ∙ ap (λ l. value_in l shape letter) (sym cut);
       top = top_at shapes node shape at;
     }

@@ -30,13 +30,15 @@ HasSets-grows old new sets sets' a grows kept has =
       numbered = λ letter. let n = has.numbered letter in let m = grows.map a letter has.known in omega (arith, n, m, more);
     }
 
-pub HasSets-low : (shapes : List Shape) → IsDiagram shapes → (sets : List (List ℕ)) (a track low high : ℕ) → IsSplit shapes a track low high → HasSets shapes sets a → HasSets shapes sets low
+pub HasSets-low : (shapes : List Shape) → IsDiagram shapes → (sets : List (List ℕ)) (a track low high : ℕ)
+    → IsSplit shapes a track low high → HasSets shapes sets a → HasSets shapes sets low
 HasSets-low shapes is sets a track low high s has = record {
   known = s.low_known;
   numbered = λ letter. let m = low_answer shapes is a a track low high low high letter s s in let n = has.numbered m.0 in let e = m.1 in omega (arith, n, e);
 }
 
-pub HasSets-high : (shapes : List Shape) → IsDiagram shapes → (sets : List (List ℕ)) (a track low high : ℕ) → IsSplit shapes a track low high → HasSets shapes sets a → HasSets shapes sets high
+pub HasSets-high : (shapes : List Shape) → IsDiagram shapes → (sets : List (List ℕ)) (a track low high : ℕ)
+    → IsSplit shapes a track low high → HasSets shapes sets a → HasSets shapes sets high
 HasSets-high shapes is sets a track low high s has = record {
   known = s.high_known;
   numbered = λ letter. let m = high_answer shapes is a a track low high low high letter s s in let n = has.numbered m.0 in let e = m.1 in omega (arith, n, e);
@@ -78,7 +80,8 @@ IsUnited-same shapes is sets a b e has = subst (λ n. IsUnited shapes sets a n a
   ignores = λ track below. IgnoresTrack-above shapes is a track has.known (omega arith);
 })
 
-pick : (c : Bool) (sets : List (List ℕ)) (xl xh yl yh nl nh : ℕ) → IsUnion sets xl yl nl → IsUnion sets xh yh nh → IsUnion sets (if c then xl else xh) (if c then yl else yh) (if c then nl else nh)
+pick : (c : Bool) (sets : List (List ℕ)) (xl xh yl yh nl nh : ℕ) → IsUnion sets xl yl nl
+    → IsUnion sets xh yh nh → IsUnion sets (if c then xl else xh) (if c then yl else yh) (if c then nl else nh)
 pick true sets xl xh yl yh nl nh l h = l
 pick false sets xl xh yl yh nl nh l h = h
 
@@ -103,22 +106,6 @@ IsUnited-sides shapes sets a b r track al ah bl bh low high ha hb kr sa sb e ul 
       };
 }
 
-pub IsUnited-leaves : (old shapes : List Shape) (before sets : List (List ℕ)) (a b r number : ℕ) → HasSets old before a → HasSets old before b → Grows old shapes
-    → SetsKept before sets → r < length shapes
-    → ((letter : ℕ) → map_at old a letter ≡ map_at old a 0) → ((letter : ℕ) → map_at old b letter ≡ map_at old b 0)
-    → IsUnion sets (map_at old a 0) (map_at old b 0) number → ((letter : ℕ) → map_at shapes r letter ≡ number) → top_track shapes r ≡ 20 → top_of_both old a b ≡ 20 → IsUnited shapes sets a b r
-IsUnited-leaves old shapes before sets a b r number ha hb grows kept kr ca cb union map top both =
-    let ta = grows.top a ha.known in
-    let tb = grows.top b hb.known in
-    record {
-      a_sets = HasSets-grows old shapes before sets a grows kept ha;
-      b_sets = HasSets-grows old shapes before sets b grows kept hb;
-      known = kr;
-      map = λ letter. IsUnion-at sets _ _ _ _ _ _ (sym (grows.map a letter ha.known ∙ ca letter)) (sym (grows.map b letter hb.known ∙ cb letter)) (sym (map letter)) union;
-      top = omega arith;
-      ignores = λ track below. record { same = λ x y agree. map x ∙ sym (map y) };
-    }
-
 pub RemembersUnited-grows : {S : Type 0} (old new : List Shape) (sets sets' : List (List ℕ)) (memo : HashMap (ℕ × ℕ) ℕ S) → Grows old new → SetsKept sets sets'
     → RemembersUnited old sets memo → RemembersUnited new sets' memo
 RemembersUnited-grows old new sets sets' memo grows kept all = record { united = λ a b r at. IsUnited-grows old new sets sets' a b r grows kept (all.united a b r at) }
@@ -127,15 +114,9 @@ pub RemembersUnited-insert : {S : Type 0} (shapes : List Shape) (sets : List (Li
     → Updates pair_eq memo new (a, b) (Some r) → IsUnited shapes sets a b r → RemembersUnited shapes sets new
 RemembersUnited-insert shapes sets memo new a b r all updates is = record { united = pair_answers-insert (IsUnited shapes sets) memo new a b r all.united updates is }
 
-pub AreUnions-none : (shapes : List Shape) (sets : List (List ℕ)) (a b : ℕ) → AreUnions shapes (length sets) sets a b
-AreUnions-none shapes sets a b = record { answer = λ number from below. absurd (omega arith) }
-
-pub AreUnions-leaves : (shapes : List Shape) (old new : List (List ℕ)) (a b : ℕ)
-    → ((number : ℕ) → length old ≤ number → number < length new → IsUnion new (map_at shapes a 0) (map_at shapes b 0) number) → AreUnions shapes (length old) new a b
-AreUnions-leaves shapes old new a b all = record { answer = λ number from below. (0, all number from below) }
-
 -- the sets that two sides added are unions of sets of both nodes
-pub AreUnions-sides : (shapes mid : List Shape) → IsDiagram shapes → (first second third : List (List ℕ)) (a b track al ah bl bh : ℕ) → Grows shapes mid → SetsKept first second → SetsKept second third
+pub AreUnions-sides : (shapes mid : List Shape) → IsDiagram shapes → (first second third : List (List ℕ)) (a b track al ah bl bh : ℕ)
+    → Grows shapes mid → SetsKept first second → SetsKept second third
     → IsSplit shapes a track al ah → IsSplit shapes b track bl bh → HasSets shapes first a → HasSets shapes first b → AreUnions shapes (length first) second al bl
     → AreUnions mid (length second) third ah bh
     → AreUnions shapes (length first) third a b
@@ -212,7 +193,8 @@ IsMerged-at old shapes is before sets track a low high r grows kept has top_a s 
       known = u.known;
       map = λ letter off on z o.
           IsUnion-at sets _ _ _ _ _ _
-          (grows.map low letter s.low_known ∙ side_map old is track 0 low letter off s.low_known s.low_above z ∙ sym (grows.map a off has.known ∙ s.map off ∙ clear old track low high off z.at))
+          (grows.map low letter s.low_known ∙ side_map old is track 0 low letter off s.low_known s.low_above z
+          ∙ sym (grows.map a off has.known ∙ s.map off ∙ clear old track low high off z.at))
           (grows.map high letter s.high_known ∙ side_map old is track 1 high letter on s.high_known s.high_above o ∙ sym (grows.map a on has.known ∙ s.map on ∙ set old track low high on o.at))
           refl (u.map letter);
       ignores = u.ignores track (omega arith);
@@ -239,9 +221,6 @@ IsMerged-test shapes sets track a r own low high low' high' has kr before s l h 
   };
   top = subst (λ t. t ≤ top_track shapes r) (sym top_a) top;
 }
-
-pub AreMerged-none : (shapes : List Shape) (sets : List (List ℕ)) (track a : ℕ) → AreMerged shapes (length sets) sets track a
-AreMerged-none shapes sets track a = record { answer = λ number from below. absurd (omega arith) }
 
 -- the unions of both sides are unions of the sets at two letters
 pub AreMerged-at : (shapes : List Shape) → IsDiagram shapes → (from : ℕ) (sets : List (List ℕ)) (track a low high : ℕ) → IsSplit shapes a track low high
@@ -274,14 +253,16 @@ AreMerged-at shapes is from sets track a low high s all = record {
 }
 
 -- two letters that differ in one track still do so after another track's bit is turned
-flipped_pair : (off on own track : ℕ) → own ≢ track → bit_at off track ≡ 0 → IsWithBit on off track 1 → (bit_at (flip off own) track ≡ 0) × IsWithBit (flip on own) (flip off own) track 1
+flipped_pair : (off on own track : ℕ) → own ≢ track → bit_at off track ≡ 0 → IsWithBit on off track 1
+    → (bit_at (flip off own) track ≡ 0) × IsWithBit (flip on own) (flip off own) track 1
 flipped_pair off on own track ne z with =
     let back : track ≢ own = λ e. ne (sym e) in (
       bit_at-flip_other off own track back ∙ z,
       record {
         same = λ k other. elim (cases_eq k own) [
           | inl e ↦
-              ap (λ n. bit_at (flip on own) n) e ∙ bit_at-flip_same on own ∙ ap (λ n. (n + 1) % 2) (with.same own ne) ∙ sym (bit_at-flip_same off own) ∙ ap (λ n. bit_at (flip off own) n) (sym e)
+              ap (λ n. bit_at (flip on own) n) e ∙ bit_at-flip_same on own ∙ ap (λ n. (n + 1) % 2) (with.same own ne)
+              ∙ sym (bit_at-flip_same off own) ∙ ap (λ n. bit_at (flip off own) n) (sym e)
           | inr differ ↦ bit_at-flip_other on own k differ ∙ with.same k other ∙ sym (bit_at-flip_other off own k differ)
         ];
         at = bit_at-flip_other on own track back ∙ with.at;

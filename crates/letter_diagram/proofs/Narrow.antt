@@ -114,7 +114,3 @@ pub chosen-relabelled : (shapes : List Shape) (tracks : List ℕ) (track low hig
 chosen-relabelled shapes tracks track low high letter within =
     let bit : bit_at letter (get_or tracks track 0) ≡ bit_at (relabelled tracks letter) track = sym (bit_at-relabelled tracks letter track 0 within) in
     λ i. if nat_eq (bit i) 0 then map_at shapes low letter else map_at shapes high letter
-
--- no map looks at a track past the twentieth
-pub LooksBelow-all : (shapes : List Shape) → IsDiagram shapes → (node bound : ℕ) → node < length shapes → 20 ≤ bound → LooksBelow shapes node bound
-LooksBelow-all shapes is node bound known enough = record { same = λ a b agree. map_at-agree shapes is node known a b (λ k from below. agree k (omega arith)) }

@@ -34,7 +34,8 @@ pub room_for-le : (shapes : List Shape) (a b : ℕ) → room_for shapes a b ≤ 
 room_for-le shapes a b = room_from-le (top_of_both shapes a b)
 
 -- nodes that look only at later tracks need no more room
-pub room_for-below : (shapes : List Shape) (a low high : ℕ) → top_track shapes a ≤ top_track shapes low → top_track shapes a ≤ top_track shapes high → room_for shapes low high ≤ room_for shapes a a
+pub room_for-below : (shapes : List Shape) (a low high : ℕ) → top_track shapes a ≤ top_track shapes low
+    → top_track shapes a ≤ top_track shapes high → room_for shapes low high ≤ room_for shapes a a
 unfolding room_from
 room_for-below shapes a low high l h = pow_mono {i = 20 - top_of_both shapes low high} {j = 20 - top_of_both shapes a a} (omega arith)
 
@@ -57,7 +58,8 @@ room_for-sides shapes a b track al ah bl bh small sa sb e =
     subst (λ t. room_for shapes al bl + room_for shapes ah bh ≤ room_from t) e
     (room_from-sides track (top_track shapes al) (top_track shapes ah) (top_track shapes bl) (top_track shapes bh) small sa.low_above sa.high_above sb.low_above sb.high_above)
 
-pub chosen-grows : (old new : List Shape) (track low high letter : ℕ) → low < length old → high < length old → Grows old new → chosen new track low high letter ≡ chosen old track low high letter
+pub chosen-grows : (old new : List Shape) (track low high letter : ℕ) → low < length old
+    → high < length old → Grows old new → chosen new track low high letter ≡ chosen old track low high letter
 chosen-grows old new track low high letter kl kh grows = λ i. if nat_eq (bit_at letter track) 0 then grows.map low letter kl i else grows.map high letter kh i
 
 pub IsSplit-grows : (old new : List Shape) (node track low high : ℕ) → node < length old → Grows old new → IsSplit old node track low high → IsSplit new node track low high
@@ -111,7 +113,8 @@ high_answer shapes is a b track al ah bl bh letter sa sb = elim (bit_cases lette
     set low high l o = ap (λ n. if nat_eq n 0 then map_at shapes low l else map_at shapes high l) o
 
 -- one side at least of two nodes stands before its node
-pub sides-fall : (top top' track a b a_side b_side : ℕ) → track ≡ min top top' → a_side ≤ a → b_side ≤ b → (top ≡ track → a_side < a) → (top' ≡ track → b_side < b) → a_side + b_side < a + b
+pub sides-fall : (top top' track a b a_side b_side : ℕ) → track ≡ min top top' → a_side ≤ a
+    → b_side ≤ b → (top ≡ track → a_side < a) → (top' ≡ track → b_side < b) → a_side + b_side < a + b
 sides-fall top top' track a b a_side b_side e within within' smaller smaller' = elim (cases_lt top' top) [
   | inl lt ↦ let s = smaller' (omega arith) in omega arith
   | inr le ↦ let s = smaller (omega arith) in omega arith

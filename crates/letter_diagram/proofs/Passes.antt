@@ -71,7 +71,8 @@ pub record IsPopped (old new : BTreeMap ℕ ℕ) (node letter : ℕ) : Type 0 wh
   pub others : (n l : ℕ) → (node ≡ n → ⊥) → get nat_cmp old n ≡ Some l → get nat_cmp new n ≡ Some l
   pub before : (n l : ℕ) → get nat_cmp new n ≡ Some l → n < node
 
-pub popped : (old new : BTreeMap ℕ ℕ) (node letter : ℕ) → get nat_cmp old node ≡ Some letter → Updates nat_cmp old new node None → IsUpperBound nat_cmp old node → IsPopped old new node letter
+pub popped : (old new : BTreeMap ℕ ℕ) (node letter : ℕ) → get nat_cmp old node ≡ Some letter
+    → Updates nat_cmp old new node None → IsUpperBound nat_cmp old node → IsPopped old new node letter
 popped old new node letter at updates last = record {
   at = at;
   kept = kept;
@@ -89,14 +90,6 @@ popped old new node letter at updates last = record {
     ]
 
 -- ---- a node that is met
-
-pub Meets-again : (m : BTreeMap ℕ ℕ) (node letter earlier : ℕ) → get nat_cmp m node ≡ Some earlier → earlier ≤ letter → Meets m m node letter
-Meets-again m node letter earlier at le = record {
-  here = (earlier, at, le);
-  kept = λ n l e. (l, e, omega arith);
-  only = λ n l e. inl e;
-  below = λ bound under all. all;
-}
 
 pub Meets-insert : (old new : BTreeMap ℕ ℕ) (node letter : ℕ) → ((l : ℕ) → get nat_cmp old node ≡ Some l → letter ≤ l) → Updates nat_cmp old new node (Some letter)
     → new.entries ≡ insert_entry nat_cmp old.entries node letter → Meets old new node letter
@@ -175,7 +168,8 @@ IsPass-start shapes root empty met firsts known none none_first updates = record
   each = λ letter. inl (record { node = root; first = 0; at = get-same empty met root (Some 0) updates; early = omega arith; gives = refl });
 }
 
-module _ (shapes : List Shape) (is : IsDiagram shapes) (root node letter : ℕ) (before met firsts : BTreeMap ℕ ℕ) (pass : IsPass shapes root before firsts) (out : IsPopped before met node letter) where
+module _ (shapes : List Shape) (is : IsDiagram shapes) (root node letter : ℕ) (before met firsts : BTreeMap ℕ ℕ)
+    (pass : IsPass shapes root before firsts) (out : IsPopped before met node letter) where
   here : IsMet shapes root node letter
   here = pass.met_at node letter out.at
 
@@ -319,7 +313,8 @@ module _ (shapes : List Shape) (is : IsDiagram shapes) (root node letter : ℕ) 
         | inl w ↦ elim (cases_eq node w.node) [
           | inl same ↦
               let first_is = some-same _ w.first letter w.at (ap (get nat_cmp before) (sym same) ∙ out.at) in
-              let early : letter ≤ l % 2 ^ track = subst (λ t. letter ≤ l % 2 ^ t) (ap (top_track shapes) (sym same) ∙ at.top) (subst (λ f. f ≤ l % 2 ^ top_track shapes w.node) first_is w.early) in
+              let top = ap (top_track shapes) (sym same) ∙ at.top in
+              let early : letter ≤ l % 2 ^ track = subst (λ t. letter ≤ l % 2 ^ t) top (subst (λ f. f ≤ l % 2 ^ top_track shapes w.node) first_is w.early) in
               let gives : map_at shapes node l ≡ map_at shapes root l = ap (λ n. map_at shapes n l) same ∙ w.gives in
               elim (bit_cases l track) [
                 | inl zero_bit ↦
@@ -329,14 +324,26 @@ module _ (shapes : List Shape) (is : IsDiagram shapes) (root node letter : ℕ) 
                     let le_b = b.2 in
                     let above_track = fits.low_above in
                     let more = mod-grows l track (top_track shapes low) (omega arith) in
-                    inl (record { node = low; first = b.0; at = b.1; early = omega (arith, le_a, le_b, early, more); gives = sym (low_is shapes is node track low high l at zero_bit) ∙ gives })
+                    inl (record {
+                      node = low;
+                      first = b.0;
+                      at = b.1;
+                      early = omega (arith, le_a, le_b, early, more);
+                      gives = sym (low_is shapes is node track low high l at zero_bit) ∙ gives;
+                    })
                 | inr one_bit ↦
                     let a = second.here in
                     let le_a = a.2 in
                     let above_track = fits.high_above in
                     let more = mod-grows l (1 + track) (top_track shapes high) (omega arith) in
                     let whole_bits = by-bit l track ∙ ap (λ bit. bit * 2 ^ track + l % 2 ^ track) one_bit in
-                    inl (record { node = high; first = a.0; at = a.1; early = omega (arith, le_a, early, more, whole_bits); gives = sym (high_is shapes is node track low high l at one_bit) ∙ gives })
+                    inl (record {
+                      node = high;
+                      first = a.0;
+                      at = a.1;
+                      early = omega (arith, le_a, early, more, whole_bits);
+                      gives = sym (high_is shapes is node track low high l at one_bit) ∙ gives;
+                    })
               ]
           | inr ne ↦
               let a = still w.node w.first (out.others w.node w.first ne w.at) in

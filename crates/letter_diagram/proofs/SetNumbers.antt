@@ -30,7 +30,8 @@ list_any-map items test (k ∷ keys) = ap (λ b. test (items k) || b) (list_any-
 pub map-insert : {X : Type 0} (items : X → List ℕ) (keys : List X) (k : X) → map items (insert_key (λ a b. set_eq (items a) (items b)) keys k) ≡ insert_key set_eq (map items keys) (items k)
 map-insert {X} items keys k = by (list_any (λ b. set_eq (items k) (items b)) keys) refl
   where
-    by : (there : Bool) → list_any (λ b. set_eq (items k) (items b)) keys ≡ there → map items (insert_key (λ a b. set_eq (items a) (items b)) keys k) ≡ insert_key set_eq (map items keys) (items k)
+    by : (there : Bool) → list_any (λ b. set_eq (items k) (items b)) keys ≡ there
+        → map items (insert_key (λ a b. set_eq (items a) (items b)) keys k) ≡ insert_key set_eq (map items keys) (items k)
     by true e =
         ap (λ c. map items (if c then keys else keys ++ k ∷ [])) e
         ∙ sym (ap (λ c. if c then map items keys else map items keys ++ items k ∷ []) (list_any-map items (set_eq (items k)) keys ∙ e))
@@ -52,7 +53,8 @@ set_found items (k ∷ keys) set i h =
     ∙ ap (option_map items) (slice_get-get_or (k ∷ keys) i k found.0)
     ∙ ap Some (sym ((set_eq-Decides set (items (get_or (k ∷ keys) i k))).0 found.1))
 
-pub set_stored : {X : Type 0} (items : X → List ℕ) (keys : List X) (k : X) (set : List ℕ) (i : ℕ) → slice_get keys i ≡ Some k → set_eq set (items k) ≡ true → slice_get (map items keys) i ≡ Some set
+pub set_stored : {X : Type 0} (items : X → List ℕ) (keys : List X) (k : X) (set : List ℕ) (i : ℕ)
+    → slice_get keys i ≡ Some k → set_eq set (items k) ≡ true → slice_get (map items keys) i ≡ Some set
 set_stored items keys k set i at same = slice_get-map items keys i ∙ ap (option_map items) at ∙ ap Some (sym ((set_eq-Decides set (items k)).0 same))
 
 pub NumbersSet-insert : (old new : List (List ℕ)) (set : List ℕ) → new ≡ insert_key set_eq old set → NumbersSet old new set

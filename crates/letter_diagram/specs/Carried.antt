@@ -4,6 +4,7 @@ use Rattle.std.specs.Int.{bit_at}
 use Rattle.limits.specs.declared.numbers.TheConstants.{MOST_TRACKS}
 use Rattle.letter_diagram.specs.declared.diagrams.Shape.{Shape}
 use Rattle.letter_diagram.specs.Diagram.{map_at, top_track, LooksBelow}
+use Rattle.letter_diagram.specs.Listed.{EachAnswers}
 
 -- each letter stays as it is
 abbrev pub KeepsLetters : (ℕ → ℕ) → Type 0
@@ -16,6 +17,10 @@ pub record IsCarried (from shapes : List Shape) (letters values : ℕ → ℕ) (
   pub source_known : a < length from
   pub map : (letter : ℕ) → map_at shapes r letter ≡ values (map_at from a (letters letter))
   pub top : KeepsLetters letters → top_track from a ≤ top_track shapes r
+
+-- nodes are carried to others in their order, with their values as they are
+abbrev pub AreCarried : List Shape → List Shape → (ℕ → ℕ) → List ℕ → List ℕ → Type 0
+AreCarried from shapes letters nodes made = EachAnswers (IsCarried from shapes letters (λ value. value)) nodes made
 
 -- the nodes that are carried, or none where they are those that others are added to; the letter at which an old map is
 -- read, what a value becomes, and a bound of the tracks that old maps look at

@@ -1,5 +1,5 @@
 -- The maps of nodes.
-use Rattle.std.specs.Prelude.{◌≡◌, ◌≢◌, ℕ, ◌<◌, ◌≤◌, List, [], ◌∷◌, ◌++◌, length, fold, slice_index, slice_index_or, slice_get, Some, nat_eq, if◌then◌else◌}
+use Rattle.std.specs.Prelude.{◌≡◌, ◌≢◌, ℕ, ◌<◌, ◌≤◌, ◌^◌, List, [], ◌∷◌, ◌++◌, length, fold, slice_index, slice_index_or, slice_get, Some, nat_eq, if◌then◌else◌}
 use Rattle.std.specs.Int.{bit_at}
 use Rattle.limits.specs.declared.numbers.TheConstants.{MOST_TRACKS}
 use Rattle.letter_diagram.specs.declared.diagrams.Shape.{Shape}
@@ -27,6 +27,14 @@ track_of (Test track low high) = track
 -- the least track that a node's map looks at, or 20
 unfoldable pub top_track : List Shape → ℕ → ℕ
 top_track shapes node = track_of (slice_index_or shapes node (Leaf 0))
+
+-- a node's map has these values
+abbrev pub HasMap : List Shape → (ℕ → ℕ) → ℕ → Type 0
+HasMap shapes values node = (letter : ℕ) → map_at shapes node letter ≡ values letter
+
+-- two nodes' maps have the same value at each letter of the tracks
+abbrev pub HaveOneMap : List Shape → ℕ → ℕ → Type 0
+HaveOneMap shapes a b = (letter : ℕ) → letter < 2 ^ MOST_TRACKS → map_at shapes a letter ≡ map_at shapes b letter
 
 -- the map that is low where the track's bit is 0, else high
 abbrev pub chosen : List Shape → ℕ → ℕ → ℕ → ℕ → ℕ

@@ -10,6 +10,7 @@ pub mod Least
 pub mod Listed
 pub mod Sets
 pub mod Merged
+pub mod Laws
 pub mod Merger
 pub mod Leaves
 pub mod NodeMemo

@@ -40,13 +40,19 @@ pub record RemembersUnited {S : Type 0} (shapes : List Shape) (sets : List (List
     0 where
   pub united : (a b r : ℕ) → get pair_eq memo (a, b) ≡ Some r → IsUnited shapes sets a b r
 
+-- among new nodes, r's map gives the number of the union of the sets that a's map gave with the bit 0 and with the bit 1
+-- of a track
+abbrev pub UnitesBits : List Shape → List Shape → List (List ℕ) → ℕ → ℕ → ℕ → Type 0
+UnitesBits old new sets track a r =
+    (letter off on : ℕ) → IsWithBit off letter track 0 → IsWithBit on letter track 1
+    → IsUnion sets (map_at old a off) (map_at old a on) (map_at new r letter)
+
 -- the map of r gives the number of the union of the sets that a gives with the bit 0 and with the bit 1 of a track, and
 -- does not look at that track
 pub record IsMerged (shapes : List Shape) (sets : List (List ℕ)) (track a r : ℕ) : Type 0 where
   pub source : HasSets shapes sets a
   pub known : r < length shapes
-  pub map : (letter off on : ℕ) → IsWithBit off letter track 0 → IsWithBit on letter track 1
-      → IsUnion sets (map_at shapes a off) (map_at shapes a on) (map_at shapes r letter)
+  pub map : UnitesBits shapes shapes sets track a r
   pub ignores : IgnoresTrack shapes r track
   pub top : top_track shapes a ≤ top_track shapes r
 

@@ -14,8 +14,15 @@ pub record SetsKept (old new : List (List ℕ)) : Type 0 where
   pub longer : length old ≤ length new
   pub at : (number : ℕ) (set : List ℕ) → slice_get old number ≡ Some set → slice_get new number ≡ Some set
 
+-- a list with the elements of either of two lists, and no others
+abbrev pub HasElementsOfEither : List ℕ → List ℕ → List ℕ → Type 0
+HasElementsOfEither xs ys both = (element : ℕ) → Contains both element ↔ (Contains xs element ⊎ Contains ys element)
+
 -- a number whose set has just what the sets of two numbers have
 pub record IsUnion (sets : List (List ℕ)) (x y number : ℕ) : Type 0 where
   pub known : number < length sets
-  pub members : (element : ℕ)
-      → Contains (set_at sets number) element ↔ (Contains (set_at sets x) element ⊎ Contains (set_at sets y) element)
+  pub members : HasElementsOfEither (set_at sets x) (set_at sets y) (set_at sets number)
+
+-- each set that is new is the union of the sets of two numbers
+abbrev pub AddsOnlyUnion : List (List ℕ) → List (List ℕ) → ℕ → ℕ → Type 0
+AddsOnlyUnion old new x y = (number : ℕ) → length old ≤ number → number < length new → IsUnion new x y number

@@ -1,9 +1,8 @@
 //! Nodes with the maps of nodes of another `Diagrams`.
-ghost use Rattle.std.specs.Prelude.{◌<◌, ℕ, Some, length, All, IfOk};
+ghost use Rattle.std.specs.Prelude.{◌<◌, Some, length, All, IfOk};
 ghost use Rattle.limits.specs.declared.numbers.TheConstants.{MOST_TRACKS};
 ghost use Rattle.letter_diagram.specs.Diagram.{Grows};
-ghost use Rattle.letter_diagram.specs.Carried.{IsCarried};
-ghost use Rattle.letter_diagram.specs.Listed.{EachAnswers};
+ghost use Rattle.letter_diagram.specs.Carried.{AreCarried};
 
 use crate::carry::{Carry, carried_all};
 use crate::diagrams::{Diagrams, Node, Shape};
@@ -52,9 +51,7 @@ impl Diagrams {
     /// The nodes here that have the maps of nodes of `from`, in their order.
     pub fn bring(&mut self, from: &Diagrams, nodes: &[Node]) -> Result<Vec<Node>, AllocError>
         requires { All (λ node. node < length from.now) nodes.now }
-        ensures brought { IfOk result
-            (λ made. EachAnswers (IsCarried from.now self.new (λ letter. letter) (λ value. value)) nodes.now
-            made.items) }
+        ensures brought { IfOk result (λ made. AreCarried from.now self.new (λ letter. letter) nodes.now made.items) }
         ensures grows { Grows self.old self.new }
     {
         let mut memo = NodeMemo::new(self.alloc(), from.len())?;

@@ -1,6 +1,6 @@
 //! Maps that are carried over from node to node, each node once.
 ghost use Rattle.std.specs.Prelude.{◌≡◌, ◌<◌, ◌≤◌, ℕ, length, All, IfOk, OnOk};
-ghost use Rattle.letter_diagram.specs.Diagram.{map_at, top_track, Grows, FitsBelow, IsAt, IsDiagram};
+ghost use Rattle.letter_diagram.specs.Diagram.{map_at, top_track, HasMap, Grows, FitsBelow, IsAt, IsDiagram};
 ghost use Rattle.letter_diagram.specs.Carried.{Carrier, KeepsLetters, source_of, side_at, IsSide, Carries, CanBeCarried, RemembersCarried};
 ghost use Rattle.letter_diagram.specs.Listed.{EachAnswers};
 
@@ -38,9 +38,7 @@ pub trait Carry: Drop {
         requires low { IsSide (carrier self.now) to.old track low }
         requires high { IsSide (carrier self.now) to.old track high }
         ensures known { IfOk result (λ node. node < length to.new) }
-        ensures map { IfOk result
-            (λ node. (letter : ℕ)
-            → map_at to.new node letter ≡ side_at (carrier self.now) to.old track low high letter) }
+        ensures map { IfOk result (HasMap to.new (side_at (carrier self.now) to.old track low high)) }
         ensures top { IfOk result (λ node. KeepsLetters (carrier self.now).letters → track ≤ top_track to.new node) }
         ensures grows { Grows to.old to.new };
 }

@@ -1,6 +1,6 @@
 //! The choice between two maps by the bit of a track.
-ghost use Rattle.std.specs.Prelude.{◌≡◌, ◌<◌, ◌≤◌, ℕ, length, IfOk, OnOk};
-ghost use Rattle.letter_diagram.specs.Diagram.{map_at, chosen, Grows};
+ghost use Rattle.std.specs.Prelude.{◌<◌, ◌≤◌, length, IfOk, OnOk};
+ghost use Rattle.letter_diagram.specs.Diagram.{HasMap, chosen, Grows};
 ghost use Rattle.letter_diagram.specs.Splits.{top_of_both};
 ghost use Rattle.letter_diagram.specs.Chosen.{IsChosen, RemembersChosen};
 
@@ -17,8 +17,7 @@ impl Diagrams {
         requires low_known { low < length self.old }
         requires high_known { high < length self.old }
         ensures known { IfOk result (λ node. node < length self.new) }
-        ensures map { IfOk result
-            (λ node. (letter : ℕ) → map_at self.new node letter ≡ chosen self.old track low high letter) }
+        ensures map { IfOk result (HasMap self.new (chosen self.old track low high)) }
         ensures grows { Grows self.old self.new }
     {
         if track <= self.top(low).min(self.top(high)) {

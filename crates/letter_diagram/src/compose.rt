@@ -1,5 +1,5 @@
 //! Maps that read a letter twice: for the number of a row, and in that row.
-ghost use Rattle.std.specs.Prelude.{◌≡◌, ◌<◌, ℕ, All, length, IfOk, OnOk};
+ghost use Rattle.std.specs.Prelude.{◌<◌, ℕ, All, length, IfOk, OnOk};
 ghost use Rattle.letter_diagram.specs.Diagram.{map_at, Grows};
 ghost use Rattle.letter_diagram.specs.Composed.{IsComposed, RemembersComposed};
 

@@ -1,6 +1,6 @@
 //! Nodes, numbered in the order in which they were made.
-ghost use Rattle.std.specs.Prelude.{◌≡◌, ◌<◌, ◌≤◌, ◌^◌, ◌++◌, [], ◌∷◌, List, ℕ, length, slice_get, Some, IfOk, OnErr, IsTrue, ◌↔◌};
-ghost use Rattle.letter_diagram.specs.Diagram.{map_at, top_track, Grows, FitsBelow, IsAt, IsDiagram, HasChildren, chosen};
+ghost use Rattle.std.specs.Prelude.{◌≡◌, ◌<◌, ◌≤◌, ◌^◌, [], List, ℕ, length, IfOk, IsTrue, ◌↔◌};
+ghost use Rattle.letter_diagram.specs.Diagram.{map_at, top_track, HasMap, HaveOneMap, Grows, FitsBelow, IsAt, IsDiagram, HasChildren, chosen};
 ghost use Rattle.letter_diagram.specs.Splits.{IsSplit};
 ghost use Rattle.std.specs.Cmp.Rules.{hashing};
 ghost use Rattle.std.proofs.Common.{rules};
@@ -146,8 +146,7 @@ impl Diagrams {
         requires low_above { track < top_track self.old low }
         requires high_above { track < top_track self.old high }
         ensures known { IfOk result (λ node. node < length self.new) }
-        ensures map { IfOk result
-            (λ node. (letter : ℕ) → map_at self.new node letter ≡ chosen self.old track low high letter) }
+        ensures map { IfOk result (HasMap self.new (chosen self.old track low high)) }
         ensures top { IfOk result (λ node. track ≤ top_track self.new node) }
         ensures grows { Grows self.old self.new }
     {
@@ -224,8 +223,7 @@ impl Diagrams {
         requires a_known { a < length self.now }
         requires b_known { b < length self.now }
         ensures equal { IsTrue result ↔ (a ≡ b) }
-        ensures map { IsTrue result
-            ↔ ((letter : ℕ) → letter < 2 ^ MOST_TRACKS → map_at self.now a letter ≡ map_at self.now b letter) }
+        ensures map { IsTrue result ↔ HaveOneMap self.now a b }
     {
         let _ = &self.shapes; // for its invariant
         a == b

@@ -1,10 +1,9 @@
 //! The map of the unions of the sets that a map gives at both bits of a track.
 ghost use Rattle.std.specs.Prelude.{◌≡◌, ◌<◌, ◌≤◌, ◌+◌, ◌^◌, ℕ, length, IfOk, OnOk};
 ghost use Rattle.letter_diagram.specs.Diagram.{map_at, top_track, Grows};
-ghost use Rattle.letter_diagram.specs.Sets.{SetsKept, IsUnion};
-ghost use Rattle.letter_diagram.specs.Splits.{IsSplit, top_of_both, room_for};
-ghost use Rattle.letter_diagram.specs.Merged.{IsWithBit};
-ghost use Rattle.letter_diagram.specs.Merged.{HasSets, IsUnited, AreUnions, RemembersUnited, IgnoresTrack, IsMerged, AreMerged, RemembersMerged};
+ghost use Rattle.letter_diagram.specs.Sets.{SetsKept};
+ghost use Rattle.letter_diagram.specs.Splits.{top_of_both, room_for};
+ghost use Rattle.letter_diagram.specs.Merged.{UnitesBits, HasSets, IsUnited, AreUnions, RemembersUnited, IgnoresTrack, IsMerged, AreMerged, RemembersMerged};
 
 use crate::diagrams::{Diagrams, Node};
 use crate::sets::Sets;
@@ -21,9 +20,7 @@ impl Diagrams {
         requires leaves { (letter : ℕ) → map_at self.old a letter < length sets.old }
         requires room { length sets.old < 2 ^ 31 }
         ensures known { IfOk result (λ node. node < length self.new) }
-        ensures map { IfOk result
-            (λ node. (letter off on : ℕ) → IsWithBit off letter track 0 → IsWithBit on letter track 1
-            → IsUnion sets.new (map_at self.old a off) (map_at self.old a on) (map_at self.new node letter)) }
+        ensures map { IfOk result (UnitesBits self.old self.new sets.new track a) }
         ensures ignores { IfOk result (λ node. IgnoresTrack self.new node track) }
         ensures top { IfOk result (λ node. top_track self.old a ≤ top_track self.new node) }
         ensures answers { OnOk result (AreMerged self.old (length sets.old) sets.new track a) }

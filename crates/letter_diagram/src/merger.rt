@@ -2,9 +2,9 @@
 ghost use Rattle.std.specs.Prelude.{◌≡◌, ◌<◌, ◌≤◌, ◌+◌, ◌^◌, ℕ, length, IfOk, OnOk};
 ghost use Rattle.limits.specs.declared.numbers.TheConstants.{MOST_TRACKS};
 ghost use Rattle.letter_diagram.specs.Diagram.{map_at, top_track, Grows};
-ghost use Rattle.letter_diagram.specs.Sets.{SetsKept, IsUnion};
-ghost use Rattle.letter_diagram.specs.Merged.{IsWithBit};
-ghost use Rattle.letter_diagram.specs.Merged.{HasSets, IsUnited, AreUnions, IgnoresTrack, AreMerged};
+ghost use Rattle.letter_diagram.specs.Sets.{SetsKept};
+ghost use Rattle.letter_diagram.specs.Merged.{UnitesBits, HasSets, IsUnited, AreUnions, IgnoresTrack};
+ghost use Rattle.letter_diagram.specs.Merger.{AddsMerged};
 
 use crate::diagrams::{Diagrams, Node};
 use crate::sets::Sets;
@@ -92,14 +92,10 @@ impl Merger {
         requires leaves { (letter : ℕ) → map_at self.old.shapes a letter < length self.old.sets }
         requires room { length self.old.sets < 2 ^ 31 }
         ensures known { IfOk result (λ node. node < length self.new.shapes) }
-        ensures map { IfOk result
-            (λ node. (letter off on : ℕ) → IsWithBit off letter self.old.track 0 → IsWithBit on letter self.old.track 1
-            → IsUnion self.new.sets (map_at self.old.shapes a off) (map_at self.old.shapes a on)
-            (map_at self.new.shapes node letter)) }
+        ensures map { IfOk result (UnitesBits self.old.shapes self.new.shapes self.new.sets self.old.track a) }
         ensures ignores { IfOk result (λ node. IgnoresTrack self.new.shapes node self.old.track) }
         ensures top { IfOk result (λ node. top_track self.old.shapes a ≤ top_track self.new.shapes node) }
-        ensures answers { OnOk result
-            (AreMerged self.old.shapes (length self.old.sets) self.new.sets self.old.track a) }
+        ensures answers { OnOk result (AddsMerged self.old self.new.sets a) }
         ensures few { OnOk result (length self.new.sets ≤ length self.old.sets + 2 ^ MOST_TRACKS) }
         ensures sets { SetsKept self.old.sets self.new.sets }
         ensures grows { Grows self.old.shapes self.new.shapes }

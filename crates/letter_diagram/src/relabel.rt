@@ -1,10 +1,8 @@
 //! Maps whose tracks take their bits from other tracks.
-ghost use Rattle.std.specs.Prelude.{◌≡◌, ◌<◌, ℕ, length, option_copied, All, IfOk, IsTrue};
+ghost use Rattle.std.specs.Prelude.{◌<◌, length, option_copied, All, IfOk, IsTrue};
 ghost use Rattle.limits.specs.declared.numbers.TheConstants.{MOST_TRACKS};
-ghost use Rattle.letter_diagram.specs.Diagram.{map_at, Grows, LooksBelow};
-ghost use Rattle.letter_diagram.specs.Carried.{IsCarried};
-ghost use Rattle.letter_diagram.specs.Listed.{EachAnswers};
-ghost use Rattle.letter_diagram.specs.Relabelled.{relabelled, KeepsTracks};
+ghost use Rattle.letter_diagram.specs.Diagram.{map_at, HasMap, Grows, LooksBelow};
+ghost use Rattle.letter_diagram.specs.Relabelled.{relabelled, KeepsTracks, AreRelabelled};
 
 use crate::carry::{Carry, carried, carried_all};
 use crate::diagrams::{Diagrams, Node, Shape};
@@ -73,8 +71,7 @@ impl Diagrams {
         requires narrow { LooksBelow self.old a (length tracks.now) }
         requires tracks { All (λ track. track < MOST_TRACKS) tracks.now }
         ensures known { IfOk result (λ node. node < length self.new) }
-        ensures map { IfOk result
-            (λ node. (letter : ℕ) → map_at self.new node letter ≡ map_at self.old a (relabelled tracks.now letter)) }
+        ensures map { IfOk result (HasMap self.new (λ letter. map_at self.old a (relabelled tracks.now letter))) }
         ensures grows { Grows self.old self.new }
     {
         let mut memo = NodeMemo::new(self.alloc(), self.len())?;
@@ -94,9 +91,7 @@ impl Diagrams {
         requires known { All (λ node. node < length from.now) nodes.now }
         requires narrow { All (λ node. LooksBelow from.now node (length tracks.now)) nodes.now }
         requires tracks { All (λ track. track < MOST_TRACKS) tracks.now }
-        ensures brought { IfOk result
-            (λ made. EachAnswers (IsCarried from.now self.new (relabelled tracks.now) (λ value. value)) nodes.now
-            made.items) }
+        ensures brought { IfOk result (λ made. AreRelabelled from.now self.new tracks.now nodes.now made.items) }
         ensures grows { Grows self.old self.new }
     {
         if self.is_empty() && keeps_tracks(tracks) {

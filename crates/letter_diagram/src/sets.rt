@@ -1,7 +1,8 @@
 //! Sets of numbers, numbered in the order in which they were first seen.
-ghost use Rattle.std.specs.Prelude.{◌≡◌, ◌≢◌, ◌≤◌, ◌<◌, ◌^◌, ◌+◌, ◌-◌, ◌⊎◌, [], List, ℕ, length, map, slice_get, Some, IfOk, IfSome, OnOk, OnErr, IsSome, IsTrue, All, AllPairs, Contains, ◌↔◌};
+ghost use Rattle.std.specs.Prelude.{◌≡◌, ◌≢◌, ◌≤◌, ◌<◌, ◌^◌, ◌+◌, ◌-◌, [], List, ℕ, length, map, slice_get, Some, IfOk, IfSome, OnOk, OnErr, IsSome, IsTrue, All, AllPairs, ◌↔◌};
 ghost use Rattle.std.specs.List.Sorted.{IsStrictlyIncreasing};
-ghost use Rattle.letter_diagram.specs.Sets.{NumbersSet, SetsKept, IsUnion};
+ghost use Rattle.letter_diagram.specs.Numbering.{HasNoNumberLeft};
+ghost use Rattle.letter_diagram.specs.Sets.{NumbersSet, SetsKept, HasElementsOfEither, IsUnion, AddsOnlyUnion};
 
 use crate::numbering::NumberingError;
 use indexmap::IndexSet;
@@ -11,8 +12,7 @@ use std::marker::Model;
 /// The elements of either of two lists, in ascending order and without repeats.
 fn union(alloc: Global, a: &[u32], b: &[u32]) -> Result<Vec<u32>, AllocError>
     ensures ascends { IfOk result (λ both. IsStrictlyIncreasing both.items) }
-    ensures members { IfOk result
-        (λ both. (element : ℕ) → Contains both.items element ↔ (Contains a.now element ⊎ Contains b.now element)) }
+    ensures members { IfOk result (λ both. HasElementsOfEither a.now b.now both.items) }
 {
     let mut both = a.to_vec(alloc)?;
     both.extend_from_slice(b)?;
@@ -76,7 +76,7 @@ impl Sets {
         requires { IsStrictlyIncreasing set.now }
         ensures number { IfOk result (λ number. slice_get self.new number ≡ Some set.now) }
         ensures sets { OnOk result (NumbersSet self.old self.new set.now) }
-        ensures full { (result ≡ Err NumberingError.Full) ↔ ((length self.old ≡ 2 ^ 32 - 1) × ¬ Contains self.old set.now) }
+        ensures full { (result ≡ Err NumberingError.Full) ↔ HasNoNumberLeft self.old set.now }
         ensures err { OnErr result (self.new ≡ self.old) }
     {
         if let Some(number) = self.seen.get_index_of(set) {
@@ -109,8 +109,7 @@ impl Sets {
         requires b_known { b < length self.old }
         requires room { length self.old < 2 ^ 32 - 1 }
         ensures union { IfOk result (λ number. IsUnion self.new a b number) }
-        ensures answers { OnOk result
-            ((number : ℕ) → length self.old ≤ number → number < length self.new → IsUnion self.new a b number) }
+        ensures answers { OnOk result (AddsOnlyUnion self.old self.new a b) }
         ensures kept { SetsKept self.old self.new }
         ensures room { length self.new ≤ length self.old + 1 }
         ensures unchanged { OnErr result (self.new ≡ self.old) }

@@ -1,9 +1,8 @@
 //! Maps at the letters with the other bit on a track.
-ghost use Rattle.std.specs.Prelude.{◌≡◌, ◌<◌, ℕ, None, length, All, IfOk};
+ghost use Rattle.std.specs.Prelude.{◌<◌, None, length, All, IfOk};
 ghost use Rattle.limits.specs.declared.numbers.TheConstants.{MOST_TRACKS};
-ghost use Rattle.letter_diagram.specs.Diagram.{map_at, Grows};
-ghost use Rattle.letter_diagram.specs.Carried.{IsCarried};
-ghost use Rattle.letter_diagram.specs.Listed.{EachAnswers};
+ghost use Rattle.letter_diagram.specs.Diagram.{map_at, HasMap, Grows};
+ghost use Rattle.letter_diagram.specs.Carried.{AreCarried};
 ghost use Rattle.letter_diagram.specs.Turned.{turned};
 
 use crate::carry::{Carry, carried, carried_all};
@@ -62,8 +61,7 @@ impl Diagrams {
         requires known { a < length self.old }
         requires track_low { track < MOST_TRACKS }
         ensures known { IfOk result (λ node. node < length self.new) }
-        ensures map { IfOk result
-            (λ node. (letter : ℕ) → map_at self.new node letter ≡ map_at self.old a (turned track letter)) }
+        ensures map { IfOk result (HasMap self.new (λ letter. map_at self.old a (turned track letter))) }
         ensures grows { Grows self.old self.new }
     {
         let mut memo = NodeMemo::new(self.alloc(), self.len())?;
@@ -75,8 +73,7 @@ impl Diagrams {
     pub fn turn_all(&mut self, nodes: &[Node], track: u8) -> Result<Vec<Node>, AllocError>
         requires known { All (λ node. node < length self.old) nodes.now }
         requires track_low { track < MOST_TRACKS }
-        ensures turned { IfOk result
-            (λ made. EachAnswers (IsCarried self.new self.new (turned track) (λ value. value)) nodes.now made.items) }
+        ensures turned { IfOk result (λ made. AreCarried self.new self.new (turned track) nodes.now made.items) }
         ensures grows { Grows self.old self.new }
     {
         let mut memo = NodeMemo::new(self.alloc(), self.len())?;

@@ -9,7 +9,9 @@ first c =
     let l = ap length c.self.view_is in
     let m = length-map c.self.inside.seen.keys (λ s. s.items) in
     let known = c.requires.a_known in
-    rw (← c.self.view_is) (set_read (λ s. s.items) c.self.inside.seen.keys c.args.a c.index-as_slice-a.result (omega (arith, l, m, known)) (rw (← c.as_slice.ensures.keys) c.index-as_slice-a.is))
+    rw (← c.self.view_is) (
+    set_read (λ s. s.items) c.self.inside.seen.keys c.args.a c.index-as_slice-a.result
+    (omega (arith, l, m, known)) (rw (← c.as_slice.ensures.keys) c.index-as_slice-a.is))
     ∙ sym c.as_slice-2.ensures.value
 
 second : (c : goal.In_ok-number) → set_at c.args.self.now c.args.b ≡ c.as_slice-4.result.now
@@ -17,7 +19,9 @@ second c =
     let l = ap length c.self.view_is in
     let m = length-map c.self.inside.seen.keys (λ s. s.items) in
     let known = c.requires.b_known in
-    rw (← c.self.view_is) (set_read (λ s. s.items) c.self.inside.seen.keys c.args.b c.index-as_slice-b.result (omega (arith, l, m, known)) (rw (← c.as_slice-3.ensures.keys) c.index-as_slice-b.is))
+    rw (← c.self.view_is) (
+    set_read (λ s. s.items) c.self.inside.seen.keys c.args.b c.index-as_slice-b.result
+    (omega (arith, l, m, known)) (rw (← c.as_slice-3.ensures.keys) c.index-as_slice-b.is))
     ∙ sym c.as_slice-4.ensures.value
 
 pub returns-clause-union : goal.returns-clause-union
