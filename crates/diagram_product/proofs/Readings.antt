@@ -114,7 +114,7 @@ module _ (reading : Reading) (law : IsReading reading) (shapes : List Shape) (is
     (read : CanBeRead reading shapes node) (at : IsAt (read_shapes reading shapes) node (Test track low high)) (fits : IsTest (read_shapes reading shapes) node track low high) where
   pub tested-within : track < read_tracks reading
   tested-within = elim (cases_lt (read_tracks reading) 20) [
-    | inl few ↦ track-below _ is node track low high at fits (read_tracks reading) (read.narrow few)
+    | inl few ↦ track-below is at fits (read.narrow few)
     | inr all ↦ let t = fits.track_low in omega (arith, t, all)
   ]
 
@@ -129,8 +129,8 @@ module _ (reading : Reading) (law : IsReading reading) (shapes : List Shape) (is
     track_low = law.low track tested-within;
     top = ap (read_track reading) at.top;
     split = record {
-      low_read = record { known = low_known; narrow = λ few. LooksBelow-low _ is node track low high at fits (read_tracks reading) (read.narrow few) };
-      high_read = record { known = high_known; narrow = λ few. LooksBelow-high _ is node track low high at fits (read_tracks reading) (read.narrow few) };
+      low_read = record { known = low_known; narrow = λ few. LooksBelow-low is at fits (read.narrow few) };
+      high_read = record { known = high_known; narrow = λ few. LooksBelow-high is at fits (read.narrow few) };
       map = λ letter.
           at.map (read_letter reading letter)
           ∙ (λ i. if nat_eq (law.bits letter track tested-within i) 0 then read_at reading shapes low letter else read_at reading shapes high letter);

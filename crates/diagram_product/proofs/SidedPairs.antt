@@ -12,13 +12,13 @@ use Rattle.letter_diagram.specs.Diagram.{map_at, top_track, chosen, Grows}
 use Rattle.letter_diagram.specs.Numbering.{Numbers, PairsKept}
 use Rattle.letter_diagram.specs.Splits.{room_from, pair_eq}
 use Rattle.diagram_product.specs.Absorbed.{absorbed, ArePairs}
-use Rattle.diagram_product.specs.Sided.{Reading, Sides, read_at, read_top, LooksFrom, IsReadSplit, pair_at, pair_top, CanBePaired, IsPaired, RemembersPaired}
+use Rattle.diagram_product.specs.Sided.{Reading, Sides, read_at, read_top, LooksFrom, IsReadSplit, pair_at, pair_top, AreReadPairs, CanBePaired, IsPaired, RemembersPaired}
 use Rattle.letter_diagram.proofs.Canonical.{flip, bit_at-flip_same, bit_at-flip_other}
 use Rattle.letter_diagram.proofs.Memos.{pair_answers-insert}
 use Rattle.diagram_product.proofs.Readings.{CanBeRead-grows, read_at-grows, read_top-grows}
 
 -- two sides as nodes are added
-module _ (sides : Sides) (old new : List Shape) (a b : ℕ) (grows : Grows old new) (read : CanBePaired sides old a b) where
+module _ {sides : Sides} {old new : List Shape} {a b : ℕ} (grows : Grows old new) (read : CanBePaired sides old a b) where
   pub CanBePaired-grows : CanBePaired sides new a b
   CanBePaired-grows = record { left = CanBeRead-grows sides.left old new a grows read.left; right = CanBeRead-grows sides.right old new b grows read.right }
 
@@ -31,31 +31,31 @@ module _ (sides : Sides) (old new : List Shape) (a b : ℕ) (grows : Grows old n
   pub room-grows : room_from (pair_top sides new a b) ≡ room_from (pair_top sides old a b)
   room-grows = ap room_from pair_top-grows
 
-pub IsPaired-grows : (sides : Sides) (old new : List Shape) (pairs pairs' : List (ℕ × ℕ)) (a b r : ℕ) → Grows old new → PairsKept pairs pairs' → IsPaired sides old pairs a b r
+pub IsPaired-grows : {sides : Sides} {old new : List Shape} {pairs pairs' : List (ℕ × ℕ)} {a b r : ℕ} → Grows old new → PairsKept pairs pairs' → IsPaired sides old pairs a b r
     → IsPaired sides new pairs' a b r
-IsPaired-grows sides old new pairs pairs' a b r grows kept is =
+IsPaired-grows {pairs'} {r} grows kept is =
     let longer = grows.longer in
     let known = is.known in
     let top = is.top in
-    let tops = pair_top-grows sides old new a b grows is.read in
+    let tops = pair_top-grows grows is.read in
     let top_r = grows.top r is.known in
     record {
-      read = CanBePaired-grows sides old new a b grows is.read;
+      read = CanBePaired-grows grows is.read;
       known = omega (arith, longer, known);
       map =
           λ letter. ap (λ n. slice_get pairs' n) (grows.map r letter is.known) ∙ kept.at _ _ (is.map letter)
-          ∙ ap Some (sym (pair_at-grows sides old new a b grows is.read letter));
+          ∙ ap Some (sym (pair_at-grows grows is.read letter));
       top = rw (tops, top_r) top;
     }
 
-pub RemembersPaired-grows : {S : Type 0} (sides : Sides) (old new : List Shape) (pairs pairs' : List (ℕ × ℕ)) (memo : HashMap (ℕ × ℕ) ℕ S) → Grows old new → PairsKept pairs pairs'
-    → RemembersPaired sides old pairs memo → RemembersPaired sides new pairs' memo
-RemembersPaired-grows sides old new pairs pairs' memo grows kept all = record { paired = λ a b r at. IsPaired-grows sides old new pairs pairs' a b r grows kept (all.paired a b r at) }
+pub RemembersPaired-grows : {S : Type 0} {sides : Sides} {old new : List Shape} {pairs pairs' : List (ℕ × ℕ)} {memo : HashMap (ℕ × ℕ) ℕ S} → Grows old new
+    → PairsKept pairs pairs' → RemembersPaired sides old pairs memo → RemembersPaired sides new pairs' memo
+RemembersPaired-grows grows kept all = record { paired = λ a b r at. IsPaired-grows grows kept (all.paired a b r at) }
 
-pub RemembersPaired-insert : {S : Type 0} (sides : Sides) (shapes : List Shape) (pairs : List (ℕ × ℕ)) (memo new : HashMap (ℕ × ℕ) ℕ S) (a b r : ℕ)
+pub RemembersPaired-insert : {S : Type 0} {sides : Sides} {shapes : List Shape} {pairs : List (ℕ × ℕ)} {memo new : HashMap (ℕ × ℕ) ℕ S} {a b r : ℕ}
     → RemembersPaired sides shapes pairs memo
     → Updates pair_eq memo new (a, b) (Some r) → IsPaired sides shapes pairs a b r → RemembersPaired sides shapes pairs new
-RemembersPaired-insert sides shapes pairs memo new a b r all updates is = record { paired = pair_answers-insert (IsPaired sides shapes pairs) memo new a b r all.paired updates is }
+RemembersPaired-insert {sides} {shapes} {pairs} {memo} {new} {a} {b} {r} all updates is = record { paired = pair_answers-insert (IsPaired sides shapes pairs) memo new a b r all.paired updates is }
 
 -- one pair at each letter
 pub IsPaired-leaf : (sides : Sides) (old new : List Shape) (pairs : List (ℕ × ℕ)) (a b r number : ℕ) (pair : ℕ × ℕ) → CanBePaired sides old a b → Grows old new → r < length new
@@ -63,10 +63,10 @@ pub IsPaired-leaf : (sides : Sides) (old new : List Shape) (pairs : List (ℕ ×
     → ((letter : ℕ) → map_at new r letter ≡ number) → top_track new r ≡ 20 → pair_top sides old a b ≤ 20
     → IsPaired sides new pairs a b r
 IsPaired-leaf sides old new pairs a b r number pair read grows known one at map top small = record {
-  read = CanBePaired-grows sides old new a b grows read;
+  read = CanBePaired-grows grows read;
   known = known;
-  map = λ letter. ap (λ n. slice_get pairs n) (map letter) ∙ at ∙ ap Some (sym (pair_at-grows sides old new a b grows read letter ∙ one letter));
-  top = rw (pair_top-grows sides old new a b grows read, top) small;
+  map = λ letter. ap (λ n. slice_get pairs n) (map letter) ∙ at ∙ ap Some (sym (pair_at-grows grows read letter ∙ one letter));
+  top = rw (pair_top-grows grows read, top) small;
 }
 
 -- one pair that was added
@@ -90,21 +90,22 @@ pick true g pairs x y xa ya xb yb p q = p
 pick false g pairs x y xa ya xb yb p q = q
 
 -- a part at letters with one bit of the track
-module _ (reading : Reading) (shapes : List Shape) (track : ℕ) where
-  clear : (node low high : ℕ) → IsReadSplit reading shapes node track low high → (letter : ℕ)
+module _ {reading : Reading} {shapes : List Shape} {track : ℕ} where
+  clear : {node low high : ℕ} → IsReadSplit reading shapes node track low high → (letter : ℕ)
       → bit_at letter track ≡ 0 → read_at reading shapes node letter ≡ read_at reading shapes low letter
-  clear node low high split letter z = split.map letter ∙ ap (λ n. if nat_eq n 0 then read_at reading shapes low letter else read_at reading shapes high letter) z
+  clear {low} {high} split letter z = split.map letter ∙ ap (λ n. if nat_eq n 0 then read_at reading shapes low letter else read_at reading shapes high letter) z
 
-  set : (node low high : ℕ) → IsReadSplit reading shapes node track low high → (letter : ℕ)
+  set : {node low high : ℕ} → IsReadSplit reading shapes node track low high → (letter : ℕ)
       → bit_at letter track ≡ 1 → read_at reading shapes node letter ≡ read_at reading shapes high letter
-  set node low high split letter o = split.map letter ∙ ap (λ n. if nat_eq n 0 then read_at reading shapes low letter else read_at reading shapes high letter) o
+  set {low} {high} split letter o = split.map letter ∙ ap (λ n. if nat_eq n 0 then read_at reading shapes low letter else read_at reading shapes high letter) o
 
-  steady : (part : ℕ) → track < read_top reading shapes part → LooksFrom (read_at reading shapes part) (read_top reading shapes part) → (letter : ℕ)
-      → read_at reading shapes part letter ≡ read_at reading shapes part (flip letter track)
-  steady part above from letter = from.same letter (flip letter track) (λ k past. sym (bit_at-flip_other letter track k (let ne : k ≢ track = omega (arith, above, past) in ne)))
+-- a part that looks only at later tracks is the same with the other bit of the track
+steady : (reading : Reading) (shapes : List Shape) (track part : ℕ) → track < read_top reading shapes part → LooksFrom (read_at reading shapes part) (read_top reading shapes part) → (letter : ℕ)
+    → read_at reading shapes part letter ≡ read_at reading shapes part (flip letter track)
+steady reading shapes track part above from letter = from.same letter (flip letter track) (λ k past. sym (bit_at-flip_other letter track k (let ne : k ≢ track = omega (arith, above, past) in ne)))
 
 -- the parts of two sides by the bit of a track
-module _ (sides : Sides) (shapes : List Shape) (a b track al ah bl bh : ℕ) (read : CanBePaired sides shapes a b)
+module _ {sides : Sides} {shapes : List Shape} {a b track al ah bl bh : ℕ} (read : CanBePaired sides shapes a b)
     (left : IsReadSplit sides.left shapes a track al ah) (right : IsReadSplit sides.right shapes b track bl bh) where
   pub CanBePaired-low : CanBePaired sides shapes al bl
   CanBePaired-low = record { left = left.low_read; right = right.low_read }
@@ -112,49 +113,48 @@ module _ (sides : Sides) (shapes : List Shape) (a b track al ah bl bh : ℕ) (re
   pub CanBePaired-high : CanBePaired sides shapes ah bh
   CanBePaired-high = record { left = left.high_read; right = right.high_read }
 
-  pub IsPaired-parts : (new : List Shape) (pairs : List (ℕ × ℕ)) (r low high : ℕ) → Grows shapes new → r < length new → track ≡ pair_top sides shapes a b
+  pub IsPaired-parts : {new : List Shape} {pairs : List (ℕ × ℕ)} {r low high : ℕ} → Grows shapes new → r < length new → track ≡ pair_top sides shapes a b
       → IsPaired sides new pairs al bl low → IsPaired sides new pairs ah bh high → ((letter : ℕ) → map_at new r letter ≡ chosen new track low high letter) → track ≤ top_track new r
       → IsPaired sides new pairs a b r
-  IsPaired-parts new pairs r low high grows known e pl ph map top = record {
-    read = CanBePaired-grows sides shapes new a b grows read;
+  IsPaired-parts {new} {pairs} {r} grows known e pl ph map top = record {
+    read = CanBePaired-grows grows read;
     known = known;
     map = λ letter.
-        let below = pl.map letter ∙ ap Some (pair_at-grows sides shapes new al bl grows CanBePaired-low letter) in
-        let above = ph.map letter ∙ ap Some (pair_at-grows sides shapes new ah bh grows CanBePaired-high letter) in
+        let below = pl.map letter ∙ ap Some (pair_at-grows grows CanBePaired-low letter) in
+        let above = ph.map letter ∙ ap Some (pair_at-grows grows CanBePaired-high letter) in
         ap (λ n. slice_get pairs n) (map letter)
         ∙ pick (nat_eq (bit_at letter track) 0) sides.absorbing pairs _ _ _ _ _ _ below above
         ∙ (λ i. Some (absorbed sides.absorbing (sym (left.map letter) i) (sym (right.map letter) i)))
-        ∙ ap Some (sym (pair_at-grows sides shapes new a b grows read letter));
-    top = subst (λ t. t ≤ top_track new r) (e ∙ sym (pair_top-grows sides shapes new a b grows read)) top;
+        ∙ ap Some (sym (pair_at-grows grows read letter));
+    top = subst (λ t. t ≤ top_track new r) (e ∙ sym (pair_top-grows grows read)) top;
   }
 
   -- the values of the parts at a letter are values of the sides
   low_answer : (letter : ℕ) → (l : ℕ) × (pair_at sides shapes al bl letter ≡ pair_at sides shapes a b l)
   low_answer letter = elim (bit_cases letter track) [
-    | inl z ↦ (letter, λ i. absorbed sides.absorbing (sym (clear sides.left shapes track a al ah left letter z) i) (sym (clear sides.right shapes track b bl bh right letter z) i))
+    | inl z ↦ (letter, λ i. absorbed sides.absorbing (sym (clear left letter z) i) (sym (clear right letter z) i))
     | inr o ↦
         let z = bit_at-flip_same letter track ∙ ap (λ n. (n + 1) % 2) o in
-        let same = steady sides.left shapes track al left.low_above left.low_from letter ∙ sym (clear sides.left shapes track a al ah left (flip letter track) z) in
-        let same' = steady sides.right shapes track bl right.low_above right.low_from letter ∙ sym (clear sides.right shapes track b bl bh right (flip letter track) z) in
+        let same = steady sides.left shapes track al left.low_above left.low_from letter ∙ sym (clear left (flip letter track) z) in
+        let same' = steady sides.right shapes track bl right.low_above right.low_from letter ∙ sym (clear right (flip letter track) z) in
         (flip letter track, λ i. absorbed sides.absorbing (same i) (same' i))
   ]
 
   high_answer : (letter : ℕ) → (l : ℕ) × (pair_at sides shapes ah bh letter ≡ pair_at sides shapes a b l)
   high_answer letter = elim (bit_cases letter track) [
-    | inr o ↦ (letter, λ i. absorbed sides.absorbing (sym (set sides.left shapes track a al ah left letter o) i) (sym (set sides.right shapes track b bl bh right letter o) i))
+    | inr o ↦ (letter, λ i. absorbed sides.absorbing (sym (set left letter o) i) (sym (set right letter o) i))
     | inl z ↦
         let o = bit_at-flip_same letter track ∙ ap (λ n. (n + 1) % 2) z in
-        let same = steady sides.left shapes track ah left.high_above left.high_from letter ∙ sym (set sides.left shapes track a al ah left (flip letter track) o) in
-        let same' = steady sides.right shapes track bh right.high_above right.high_from letter ∙ sym (set sides.right shapes track b bl bh right (flip letter track) o) in
+        let same = steady sides.left shapes track ah left.high_above left.high_from letter ∙ sym (set left (flip letter track) o) in
+        let same' = steady sides.right shapes track bh right.high_above right.high_from letter ∙ sym (set right (flip letter track) o) in
         (flip letter track, λ i. absorbed sides.absorbing (same i) (same' i))
   ]
 
   -- the pairs that both parts added are pairs of the sides
-  pub ArePairs-parts : (mid : List Shape) (first second third : List (ℕ × ℕ)) → Grows shapes mid → PairsKept second third
-      → ArePairs sides.absorbing (length first) second (read_at sides.left shapes al) (read_at sides.right shapes bl)
-      → ArePairs sides.absorbing (length second) third (read_at sides.left mid ah) (read_at sides.right mid bh)
-      → ArePairs sides.absorbing (length first) third (read_at sides.left shapes a) (read_at sides.right shapes b)
-  ArePairs-parts mid first second third grows kept low high = record {
+  pub ArePairs-parts : {mid : List Shape} (first : List (ℕ × ℕ)) {second third : List (ℕ × ℕ)} → Grows shapes mid → PairsKept second third
+      → AreReadPairs sides shapes (length first) second al bl → AreReadPairs sides mid (length second) third ah bh
+      → AreReadPairs sides shapes (length first) third a b
+  ArePairs-parts first {second} grows kept low high = record {
     answer = λ number from below. elim (cases_lt number (length second)) [
       | inl early ↦
           let l = low.answer number from early in
@@ -163,6 +163,6 @@ module _ (sides : Sides) (shapes : List Shape) (a b track al ah bl bh : ℕ) (re
       | inr late ↦
           let h = high.answer number late below in
           let m = high_answer h.0 in
-          (m.0, h.1 ∙ ap Some (pair_at-grows sides shapes mid ah bh grows CanBePaired-high h.0 ∙ m.1))
+          (m.0, h.1 ∙ ap Some (pair_at-grows grows CanBePaired-high h.0 ∙ m.1))
     ];
   }

@@ -36,8 +36,8 @@ IsCarried-grows from source old new letters values a r from_grows grows is =
 pub Carries-grows : (c : Carrier) (old new : List Shape) (a r : ℕ) → Grows old new → Carries c old a r → Carries c new a r
 Carries-grows c old new a r grows is = IsCarried-grows _ _ _ _ c.letters c.values a r (source-grows c old new grows) grows is
 
-pub RemembersCarried-grows : (c : Carrier) (old new : List Shape) (answers : ℕ → Option ℕ) → Grows old new → RemembersCarried c old answers → RemembersCarried c new answers
-RemembersCarried-grows c old new answers grows all = record { carried = λ a r at. Carries-grows c old new a r grows (all.carried a r at) }
+pub RemembersCarried-grows : {c : Carrier} {old new : List Shape} {answers : ℕ → Option ℕ} → Grows old new → RemembersCarried c old answers → RemembersCarried c new answers
+RemembersCarried-grows {c} {old} {new} grows all = record { carried = λ a r at. Carries-grows c old new a r grows (all.carried a r at) }
 
 pub RemembersCarried-learns : (c : Carrier) (shapes : List Shape) (old new : ℕ → Option ℕ) (node made : ℕ) → Learns old new node made → Carries c shapes node made
     → RemembersCarried c shapes old → RemembersCarried c shapes new
@@ -48,8 +48,8 @@ RemembersCarried-learns c shapes old new node made learns is all = record {
   ];
 }
 
-pub CanBeCarried-grows : (c : Carrier) (Can : ℕ → Type 0) (old new : List Shape) (a : ℕ) → Grows old new → CanBeCarried c Can old a → CanBeCarried c Can new a
-CanBeCarried-grows c Can old new a grows can =
+pub CanBeCarried-grows : {c : Carrier} {Can : ℕ → Type 0} {old new : List Shape} {a : ℕ} → Grows old new → CanBeCarried c Can old a → CanBeCarried c Can new a
+CanBeCarried-grows {c} {Can} {old} {new} {a} grows can =
     let more = source-grows c old new grows in
     let known = can.known in
     let longer = more.longer in
@@ -60,7 +60,7 @@ CanBeCarried-grows c Can old new a grows can =
     }
 
 -- a test that is carried: its sides, and the nodes that are made of them
-module _ (c : Carrier) (Can : ℕ → Type 0) (shapes : List Shape) (a track low high : ℕ)
+module _ {c : Carrier} {Can : ℕ → Type 0} {shapes : List Shape} {a : ℕ} (track low high : ℕ)
     (is : IsDiagram (source_of c shapes)) (at : IsAt (source_of c shapes) a (Test track low high)) (fits : IsTest (source_of c shapes) a track low high) (can : CanBeCarried c Can shapes a) where
   children : HasChildren (source_of c shapes) a (Test track low high)
   children = HasChildren-at (source_of c shapes) is a (Test track low high) at fits
@@ -71,7 +71,7 @@ module _ (c : Carrier) (Can : ℕ → Type 0) (shapes : List Shape) (a track low
       let before = fits.low_before in
       record {
         known = omega (arith, within, before);
-        narrow = λ few. LooksBelow-low _ is _ _ _ _ at fits _ (can.narrow few);
+        narrow = λ few. LooksBelow-low is at fits (can.narrow few);
         values = λ letter. let v = (children letter).0 in subst Can v.1 (can.values v.0);
       }
 
@@ -81,14 +81,14 @@ module _ (c : Carrier) (Can : ℕ → Type 0) (shapes : List Shape) (a track low
       let before = fits.high_before in
       record {
         known = omega (arith, within, before);
-        narrow = λ few. LooksBelow-high _ is _ _ _ _ at fits _ (can.narrow few);
+        narrow = λ few. LooksBelow-high is at fits (can.narrow few);
         values = λ letter. let v = (children letter).1 in subst Can v.1 (can.values v.0);
       }
 
   -- the track of a test that can be carried is below the bound
   pub track-within : track < c.tracks
   track-within = elim (cases_lt c.tracks 20) [
-    | inl few ↦ track-below _ is _ _ _ _ at fits _ (can.narrow few)
+    | inl few ↦ track-below is at fits (can.narrow few)
     | inr all ↦ let track_low = fits.track_low in omega (arith, all, track_low)
   ]
 

@@ -6,11 +6,11 @@ use Rattle.letter_diagram.specs.declared.diagrams.Shape.{Shape}
 use Rattle.letter_diagram.specs.Diagram.{map_at, top_track, chosen, Grows}
 use Rattle.letter_diagram.specs.Splits.{IsSplit, top_of_both, pair_eq}
 use Rattle.letter_diagram.specs.Chosen.{IsChosen, RemembersChosen}
-use Rattle.letter_diagram.proofs.Pairings.{top_of_both-grows, chosen-grows}
+use Rattle.letter_diagram.proofs.Splittings.{top_of_both-grows, chosen-grows}
 use Rattle.letter_diagram.proofs.Memos.{pair_answers-insert}
 
-pub IsChosen-grows : (old new : List Shape) (track low high r : ℕ) → Grows old new → IsChosen old track low high r → IsChosen new track low high r
-IsChosen-grows old new track low high r grows is =
+pub IsChosen-grows : {old new : List Shape} {track low high r : ℕ} → Grows old new → IsChosen old track low high r → IsChosen new track low high r
+IsChosen-grows {old} {new} {track} {low} {high} {r} grows is =
     let longer = grows.longer in
     let known = is.known in
     let low_known = is.low_known in
@@ -26,13 +26,13 @@ IsChosen-grows old new track low high r grows is =
       top = omega arith;
     }
 
-pub RemembersChosen-grows : {S : Type 0} (old new : List Shape) (track : ℕ) (memo : HashMap (ℕ × ℕ) ℕ S)
+pub RemembersChosen-grows : {S : Type 0} {old new : List Shape} {track : ℕ} {memo : HashMap (ℕ × ℕ) ℕ S}
     → Grows old new → RemembersChosen old track memo → RemembersChosen new track memo
-RemembersChosen-grows old new track memo grows all = record { chosen = λ low high r at. IsChosen-grows old new track low high r grows (all.chosen low high r at) }
+RemembersChosen-grows grows all = record { chosen = λ low high r at. IsChosen-grows grows (all.chosen low high r at) }
 
-pub RemembersChosen-insert : {S : Type 0} (shapes : List Shape) (track : ℕ) (memo new : HashMap (ℕ × ℕ) ℕ S) (low high r : ℕ) → RemembersChosen shapes track memo
+pub RemembersChosen-insert : {S : Type 0} {shapes : List Shape} {track : ℕ} {memo new : HashMap (ℕ × ℕ) ℕ S} {low high r : ℕ} → RemembersChosen shapes track memo
     → Updates pair_eq memo new (low, high) (Some r) → IsChosen shapes track low high r → RemembersChosen shapes track new
-RemembersChosen-insert shapes track memo new low high r all updates is = record { chosen = pair_answers-insert (IsChosen shapes track) memo new low high r all.chosen updates is }
+RemembersChosen-insert {shapes} {track} {memo} {new} {low} {high} {r} all updates is = record { chosen = pair_answers-insert (IsChosen shapes track) memo new low high r all.chosen updates is }
 
 -- before the track, the choices between the sides of both maps
 pub IsChosen-sides : (shapes : List Shape) (track own low high r low_off low_on high_off high_on off on : ℕ) → low < length shapes → high < length shapes → r < length shapes

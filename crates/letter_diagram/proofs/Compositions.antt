@@ -11,8 +11,8 @@ use Rattle.letter_diagram.proofs.Memos.{answers-insert}
 pub rows-grow : (old new : List Shape) (rows : List ℕ) → Grows old new → All (λ node. node < length old) rows → All (λ node. node < length new) rows
 rows-grow old new rows grows all i d h = let k = all i d h in let l = grows.longer in omega (arith, k, l)
 
-pub IsComposed-grows : (old new : List Shape) (rows : List ℕ) (a r : ℕ) → Grows old new → IsComposed old rows a r → IsComposed new rows a r
-IsComposed-grows old new rows a r grows is =
+pub IsComposed-grows : {old new : List Shape} {rows : List ℕ} {a r : ℕ} → Grows old new → IsComposed old rows a r → IsComposed new rows a r
+IsComposed-grows {old} {new} {rows} {a} {r} grows is =
     let longer = grows.longer in
     let known = is.known in
     let source_known = is.source_known in
@@ -27,13 +27,13 @@ IsComposed-grows old new rows a r grows is =
           ∙ ap (λ n. map_at new (get_or rows n 0) letter) (sym (grows.map a letter is.source_known));
     }
 
-pub RemembersComposed-grows : {S : Type 0} (old new : List Shape) (rows : List ℕ) (memo : HashMap ℕ ℕ S) → Grows old new → RemembersComposed old rows memo → RemembersComposed new rows memo
-RemembersComposed-grows old new rows memo grows all = record { composed = λ a r at. IsComposed-grows old new rows a r grows (all.composed a r at) }
+pub RemembersComposed-grows : {S : Type 0} {old new : List Shape} {rows : List ℕ} {memo : HashMap ℕ ℕ S} → Grows old new → RemembersComposed old rows memo → RemembersComposed new rows memo
+RemembersComposed-grows grows all = record { composed = λ a r at. IsComposed-grows grows (all.composed a r at) }
 
-pub RemembersComposed-insert : {S : Type 0} (shapes : List Shape) (rows : List ℕ) (memo new : HashMap ℕ ℕ S) (a r : ℕ)
+pub RemembersComposed-insert : {S : Type 0} {shapes : List Shape} {rows : List ℕ} {memo new : HashMap ℕ ℕ S} {a r : ℕ}
     → RemembersComposed shapes rows memo → Updates nat_eq memo new a (Some r)
     → IsComposed shapes rows a r → RemembersComposed shapes rows new
-RemembersComposed-insert shapes rows memo new a r all updates is = record { composed = answers-insert (IsComposed shapes rows) memo new a r all.composed updates is }
+RemembersComposed-insert {shapes} {rows} {memo} {new} {a} {r} all updates is = record { composed = answers-insert (IsComposed shapes rows) memo new a r all.composed updates is }
 
 -- at a leaf
 pub IsComposed-leaf : (shapes : List Shape) (rows : List ℕ) (a r value : ℕ) → a < length shapes

@@ -4,7 +4,7 @@ pub mod Added
 pub mod Canonical
 pub mod Memos
 pub mod PairNumbers
-pub mod Pairings
+pub mod Splittings
 pub mod Choices
 pub mod Narrow
 pub mod Kept

@@ -11,7 +11,7 @@ use Rattle.letter_diagram.specs.Sets.{SetsKept, IsUnion}
 use Rattle.letter_diagram.specs.Merged.{IsWithBit, HasSets, IsUnited, AreUnions, RemembersUnited, IgnoresTrack, IsMerged, AreMerged, RemembersMerged}
 use Rattle.letter_diagram.proofs.Canonical.{flip, bit_at-flip_same, bit_at-flip_other, flipped, map_at-agree}
 use Rattle.letter_diagram.proofs.Memos.{answers-insert, pair_answers-insert}
-use Rattle.letter_diagram.proofs.Pairings.{top_of_both-grows, low_answer, high_answer}
+use Rattle.letter_diagram.proofs.Splittings.{top_of_both-grows, low_answer, high_answer}
 use Rattle.letter_diagram.proofs.SetNumbers.{IsUnion-kept, IsUnion-same, IsUnion-at}
 
 -- a side of a split does not look at the track
@@ -30,32 +30,32 @@ HasSets-grows old new sets sets' a grows kept has =
       numbered = λ letter. let n = has.numbered letter in let m = grows.map a letter has.known in omega (arith, n, m, more);
     }
 
-pub HasSets-low : (shapes : List Shape) → IsDiagram shapes → (sets : List (List ℕ)) (a track low high : ℕ)
+pub HasSets-low : {shapes : List Shape} {sets : List (List ℕ)} {a track low high : ℕ} → IsDiagram shapes
     → IsSplit shapes a track low high → HasSets shapes sets a → HasSets shapes sets low
-HasSets-low shapes is sets a track low high s has = record {
+HasSets-low is s has = record {
   known = s.low_known;
-  numbered = λ letter. let m = low_answer shapes is a a track low high low high letter s s in let n = has.numbered m.0 in let e = m.1 in omega (arith, n, e);
+  numbered = λ letter. let m = low_answer is letter s s in let n = has.numbered m.0 in let e = m.1 in omega (arith, n, e);
 }
 
-pub HasSets-high : (shapes : List Shape) → IsDiagram shapes → (sets : List (List ℕ)) (a track low high : ℕ)
+pub HasSets-high : {shapes : List Shape} {sets : List (List ℕ)} {a track low high : ℕ} → IsDiagram shapes
     → IsSplit shapes a track low high → HasSets shapes sets a → HasSets shapes sets high
-HasSets-high shapes is sets a track low high s has = record {
+HasSets-high is s has = record {
   known = s.high_known;
-  numbered = λ letter. let m = high_answer shapes is a a track low high low high letter s s in let n = has.numbered m.0 in let e = m.1 in omega (arith, n, e);
+  numbered = λ letter. let m = high_answer is letter s s in let n = has.numbered m.0 in let e = m.1 in omega (arith, n, e);
 }
 
 -- a union at values of nodes stays as nodes and sets are added
-union-grows : (old new : List Shape) (sets sets' : List (List ℕ)) (a b la lb n n' : ℕ) → Grows old new → SetsKept sets sets' → HasSets old sets a → HasSets old sets b → n' ≡ n
+union-grows : {old new : List Shape} {sets sets' : List (List ℕ)} {a b : ℕ} (la lb : ℕ) {n n' : ℕ} → Grows old new → SetsKept sets sets' → HasSets old sets a → HasSets old sets b → n' ≡ n
     → IsUnion sets (map_at old a la) (map_at old b lb) n → IsUnion sets' (map_at new a la) (map_at new b lb) n'
-union-grows old new sets sets' a b la lb n n' grows kept ha hb en is =
-    IsUnion-at sets' _ _ _ _ _ _ (sym (grows.map a la ha.known)) (sym (grows.map b lb hb.known)) (sym en) (IsUnion-kept sets sets' _ _ _ kept (ha.numbered la) (hb.numbered lb) is)
+union-grows {a} {b} la lb grows kept ha hb en is =
+    IsUnion-at (sym (grows.map a la ha.known)) (sym (grows.map b lb hb.known)) (sym en) (IsUnion-kept kept (ha.numbered la) (hb.numbered lb) is)
 
 -- a node that looks only at tracks above one ignores that one
 IgnoresTrack-above : (shapes : List Shape) → IsDiagram shapes → (node track : ℕ) → node < length shapes → track < top_track shapes node → IgnoresTrack shapes node track
 IgnoresTrack-above shapes is node track known above = record { same = λ x y agree. map_at-agree shapes is node known x y (λ k from small. agree k (let ne : k ≢ track = omega arith in ne)) }
 
-pub IsUnited-grows : (old new : List Shape) (sets sets' : List (List ℕ)) (a b r : ℕ) → Grows old new → SetsKept sets sets' → IsUnited old sets a b r → IsUnited new sets' a b r
-IsUnited-grows old new sets sets' a b r grows kept is =
+pub IsUnited-grows : {old new : List Shape} {sets sets' : List (List ℕ)} {a b r : ℕ} → Grows old new → SetsKept sets sets' → IsUnited old sets a b r → IsUnited new sets' a b r
+IsUnited-grows {old} {new} {sets} {sets'} {a} {b} {r} grows kept is =
     let longer = grows.longer in
     let k = is.known in
     let top = is.top in
@@ -65,7 +65,7 @@ IsUnited-grows old new sets sets' a b r grows kept is =
       a_sets = HasSets-grows old new sets sets' a grows kept is.a_sets;
       b_sets = HasSets-grows old new sets sets' b grows kept is.b_sets;
       known = omega arith;
-      map = λ letter. union-grows old new sets sets' a b letter letter _ _ grows kept is.a_sets is.b_sets (grows.map r letter is.known) (is.map letter);
+      map = λ letter. union-grows letter letter grows kept is.a_sets is.b_sets (grows.map r letter is.known) (is.map letter);
       top = omega arith;
       ignores = λ track below. record { same = λ x y agree. grows.map r x is.known ∙ (is.ignores track (omega arith)).same x y agree ∙ sym (grows.map r y is.known) };
     }
@@ -92,7 +92,7 @@ IsUnited-sides shapes sets a b r track al ah bl bh low high ha hb kr sa sb e ul 
   a_sets = ha;
   b_sets = hb;
   known = kr;
-  map = λ letter. IsUnion-at sets _ _ _ _ _ _ (sym (sa.map letter)) (sym (sb.map letter)) (sym (map letter)) (pick (nat_eq (bit_at letter track) 0) sets _ _ _ _ _ _ (ul.map letter) (uh.map letter));
+  map = λ letter. IsUnion-at (sym (sa.map letter)) (sym (sb.map letter)) (sym (map letter)) (pick (nat_eq (bit_at letter track) 0) sets _ _ _ _ _ _ (ul.map letter) (uh.map letter));
   top = subst (λ t. t ≤ top_track shapes r) e top;
   ignores = λ other below.
       let a_low = sa.low_above in
@@ -106,13 +106,13 @@ IsUnited-sides shapes sets a b r track al ah bl bh low high ha hb kr sa sb e ul 
       };
 }
 
-pub RemembersUnited-grows : {S : Type 0} (old new : List Shape) (sets sets' : List (List ℕ)) (memo : HashMap (ℕ × ℕ) ℕ S) → Grows old new → SetsKept sets sets'
+pub RemembersUnited-grows : {S : Type 0} {old new : List Shape} {sets sets' : List (List ℕ)} {memo : HashMap (ℕ × ℕ) ℕ S} → Grows old new → SetsKept sets sets'
     → RemembersUnited old sets memo → RemembersUnited new sets' memo
-RemembersUnited-grows old new sets sets' memo grows kept all = record { united = λ a b r at. IsUnited-grows old new sets sets' a b r grows kept (all.united a b r at) }
+RemembersUnited-grows grows kept all = record { united = λ a b r at. IsUnited-grows grows kept (all.united a b r at) }
 
-pub RemembersUnited-insert : {S : Type 0} (shapes : List Shape) (sets : List (List ℕ)) (memo new : HashMap (ℕ × ℕ) ℕ S) (a b r : ℕ) → RemembersUnited shapes sets memo
+pub RemembersUnited-insert : {S : Type 0} {shapes : List Shape} {sets : List (List ℕ)} {memo new : HashMap (ℕ × ℕ) ℕ S} {a b r : ℕ} → RemembersUnited shapes sets memo
     → Updates pair_eq memo new (a, b) (Some r) → IsUnited shapes sets a b r → RemembersUnited shapes sets new
-RemembersUnited-insert shapes sets memo new a b r all updates is = record { united = pair_answers-insert (IsUnited shapes sets) memo new a b r all.united updates is }
+RemembersUnited-insert {shapes} {sets} {memo} {new} {a} {b} {r} all updates is = record { united = pair_answers-insert (IsUnited shapes sets) memo new a b r all.united updates is }
 
 -- the sets that two sides added are unions of sets of both nodes
 pub AreUnions-sides : (shapes mid : List Shape) → IsDiagram shapes → (first second third : List (List ℕ)) (a b track al ah bl bh : ℕ)
@@ -124,15 +124,15 @@ AreUnions-sides shapes mid is first second third a b track al ah bl bh grows kep
   answer = λ number from below. elim (cases_lt number (length second)) [
     | inl early ↦
         let l = low.answer number from early in
-        let m = low_answer shapes is a b track al ah bl bh l.0 sa sb in
+        let m = low_answer is l.0 sa sb in
         let more = kept.longer in
         let na = ha.numbered m.0 in
         let nb = hb.numbered m.0 in
-        (m.0, IsUnion-kept second third _ _ number kept' (omega (arith, na, more)) (omega (arith, nb, more)) (IsUnion-at second _ _ _ _ _ _ m.1 m.2 refl l.1))
+        (m.0, IsUnion-kept kept' (omega (arith, na, more)) (omega (arith, nb, more)) (IsUnion-at m.1 m.2 refl l.1))
     | inr late ↦
         let h = high.answer number late below in
-        let m = high_answer shapes is a b track al ah bl bh h.0 sa sb in
-        (m.0, IsUnion-at third _ _ _ _ _ _ (grows.map ah h.0 sa.high_known ∙ m.1) (grows.map bh h.0 sb.high_known ∙ m.2) refl h.1)
+        let m = high_answer is h.0 sa sb in
+        (m.0, IsUnion-at (grows.map ah h.0 sa.high_known ∙ m.1) (grows.map bh h.0 sb.high_known ∙ m.2) refl h.1)
   ];
 }
 
@@ -146,18 +146,18 @@ IsMerged-grows old new sets sets' track a r grows kept is =
     record {
       source = HasSets-grows old new sets sets' a grows kept is.source;
       known = omega arith;
-      map = λ letter off on z o. union-grows old new sets sets' a a off on _ _ grows kept is.source is.source (grows.map r letter is.known) (is.map letter off on z o);
+      map = λ letter off on z o. union-grows off on grows kept is.source is.source (grows.map r letter is.known) (is.map letter off on z o);
       ignores = record { same = λ x y agree. grows.map r x is.known ∙ is.ignores.same x y agree ∙ sym (grows.map r y is.known) };
       top = omega arith;
     }
 
-pub RemembersMerged-grows : {S : Type 0} (old new : List Shape) (sets sets' : List (List ℕ)) (track : ℕ) (memo : HashMap ℕ ℕ S) → Grows old new → SetsKept sets sets'
+pub RemembersMerged-grows : {S : Type 0} {old new : List Shape} {sets sets' : List (List ℕ)} {track : ℕ} {memo : HashMap ℕ ℕ S} → Grows old new → SetsKept sets sets'
     → RemembersMerged old sets track memo → RemembersMerged new sets' track memo
-RemembersMerged-grows old new sets sets' track memo grows kept all = record { merged = λ a r at. IsMerged-grows old new sets sets' track a r grows kept (all.merged a r at) }
+RemembersMerged-grows {old} {new} {sets} {sets'} {track} grows kept all = record { merged = λ a r at. IsMerged-grows old new sets sets' track a r grows kept (all.merged a r at) }
 
-pub RemembersMerged-insert : {S : Type 0} (shapes : List Shape) (sets : List (List ℕ)) (track : ℕ) (memo new : HashMap ℕ ℕ S) (a r : ℕ) → RemembersMerged shapes sets track memo
+pub RemembersMerged-insert : {S : Type 0} {shapes : List Shape} {sets : List (List ℕ)} {track : ℕ} {memo new : HashMap ℕ ℕ S} {a r : ℕ} → RemembersMerged shapes sets track memo
     → Updates nat_eq memo new a (Some r) → IsMerged shapes sets track a r → RemembersMerged shapes sets track new
-RemembersMerged-insert shapes sets track memo new a r all updates is = record { merged = answers-insert (IsMerged shapes sets track) memo new a r all.merged updates is }
+RemembersMerged-insert {shapes} {sets} {track} {memo} {new} {a} {r} all updates is = record { merged = answers-insert (IsMerged shapes sets track) memo new a r all.merged updates is }
 
 -- a map that looks only at tracks above is merged already
 pub IsMerged-above : (shapes : List Shape) → IsDiagram shapes → (sets : List (List ℕ)) (track a : ℕ) → track < top_track shapes a → HasSets shapes sets a → IsMerged shapes sets track a a
@@ -165,7 +165,7 @@ IsMerged-above shapes is sets track a above has = record {
   source = has;
   known = has.known;
   map = λ letter off on z o.
-      IsUnion-at sets _ _ _ _ _ _ (side_map shapes is track 0 a letter off has.known above z)
+      IsUnion-at (side_map shapes is track 0 a letter off has.known above z)
       (side_map shapes is track 1 a letter on has.known above o) refl (IsUnion-same sets (map_at shapes a letter) (has.numbered letter));
   ignores = IgnoresTrack-above shapes is a track has.known above;
   top = omega arith;
@@ -192,7 +192,7 @@ IsMerged-at old shapes is before sets track a low high r grows kept has top_a s 
       source = HasSets-grows old shapes before sets a grows kept has;
       known = u.known;
       map = λ letter off on z o.
-          IsUnion-at sets _ _ _ _ _ _
+          IsUnion-at
           (grows.map low letter s.low_known ∙ side_map old is track 0 low letter off s.low_known s.low_above z
           ∙ sym (grows.map a off has.known ∙ s.map off ∙ clear old track low high off z.at))
           (grows.map high letter s.high_known ∙ side_map old is track 1 high letter on s.high_known s.high_above o ∙ sym (grows.map a on has.known ∙ s.map on ∙ set old track low high on o.at))
@@ -210,7 +210,7 @@ IsMerged-test shapes sets track a r own low high low' high' has kr before s l h 
   known = kr;
   map = λ letter off on z o.
       let ne : own ≢ track = omega arith in
-      IsUnion-at sets _ _ _ _ _ _
+      IsUnion-at
       ((λ i. if nat_eq (sym (z.same own ne) i) 0 then map_at shapes low off else map_at shapes high off) ∙ sym (s.map off))
       ((λ i. if nat_eq (sym (o.same own ne) i) 0 then map_at shapes low on else map_at shapes high on) ∙ sym (s.map on))
       (sym (map letter)) (pick (nat_eq (bit_at letter own) 0) sets _ _ _ _ _ _ (l.map letter off on z o) (h.map letter off on z o));
@@ -236,7 +236,7 @@ AreMerged-at shapes is from sets track a low high s all = record {
               other,
               z,
               record { same = λ k ne. bit_at-flip_other u.0 track k ne; at = o },
-              IsUnion-at sets _ _ _ _ _ _ (sym (s.map u.0 ∙ clear shapes track low high u.0 z))
+              IsUnion-at (sym (s.map u.0 ∙ clear shapes track low high u.0 z))
                   (flipped shapes is high track u.0 s.high_known s.high_above ∙ sym (s.map other ∙ set shapes track low high other o)) refl u.1,
             )
         | inr o ↦
@@ -245,7 +245,7 @@ AreMerged-at shapes is from sets track a low high s all = record {
               u.0,
               z,
               record { same = λ k ne. sym (bit_at-flip_other u.0 track k ne); at = o },
-              IsUnion-at sets _ _ _ _ _ _
+              IsUnion-at
                   (flipped shapes is low track u.0 s.low_known s.low_above ∙ sym (s.map other ∙ clear shapes track low high other z))
                   (sym (s.map u.0 ∙ set shapes track low high u.0 o)) refl u.1,
             )
@@ -275,7 +275,7 @@ module _ (shapes : List Shape) (is : IsDiagram shapes) (sets : List (List ℕ)) 
       → (z o : ℕ) × (bit_at z track ≡ 0) × IsWithBit o z track 1 × IsUnion sets (map_at shapes a z) (map_at shapes a o) n
   low_pair off on n bit with union = elim (bit_cases off own) [
     | inl z ↦
-        (off, on, bit, with, IsUnion-at sets _ _ _ _ _ _ (sym (s.map off ∙ clear shapes own low high off z)) (sym (s.map on ∙ clear shapes own low high on (with.same own ne ∙ z))) refl union)
+        (off, on, bit, with, IsUnion-at (sym (s.map off ∙ clear shapes own low high off z)) (sym (s.map on ∙ clear shapes own low high on (with.same own ne ∙ z))) refl union)
     | inr o ↦
         let p = flipped_pair off on own track ne bit with in
         let z = bit_at-flip_same off own ∙ ap (λ n. (n + 1) % 2) o in
@@ -284,7 +284,7 @@ module _ (shapes : List Shape) (is : IsDiagram shapes) (sets : List (List ℕ)) 
           flip on own,
           p.0,
           p.1,
-          IsUnion-at sets _ _ _ _ _ _
+          IsUnion-at
               (flipped shapes is low own off s.low_known s.low_above ∙ sym (s.map (flip off own) ∙ clear shapes own low high (flip off own) z))
               (flipped shapes is low own on s.low_known s.low_above ∙ sym (s.map (flip on own) ∙ clear shapes own low high (flip on own) z'))
               refl union,
@@ -295,7 +295,7 @@ module _ (shapes : List Shape) (is : IsDiagram shapes) (sets : List (List ℕ)) 
       → (z o : ℕ) × (bit_at z track ≡ 0) × IsWithBit o z track 1 × IsUnion sets (map_at shapes a z) (map_at shapes a o) n
   high_pair off on n bit with union = elim (bit_cases off own) [
     | inr o ↦
-        (off, on, bit, with, IsUnion-at sets _ _ _ _ _ _ (sym (s.map off ∙ set shapes own low high off o)) (sym (s.map on ∙ set shapes own low high on (with.same own ne ∙ o))) refl union)
+        (off, on, bit, with, IsUnion-at (sym (s.map off ∙ set shapes own low high off o)) (sym (s.map on ∙ set shapes own low high on (with.same own ne ∙ o))) refl union)
     | inl z ↦
         let p = flipped_pair off on own track ne bit with in
         let o = bit_at-flip_same off own ∙ ap (λ n. (n + 1) % 2) z in
@@ -304,7 +304,7 @@ module _ (shapes : List Shape) (is : IsDiagram shapes) (sets : List (List ℕ)) 
           flip on own,
           p.0,
           p.1,
-          IsUnion-at sets _ _ _ _ _ _
+          IsUnion-at
               (flipped shapes is high own off s.high_known s.high_above ∙ sym (s.map (flip off own) ∙ set shapes own low high (flip off own) o))
               (flipped shapes is high own on s.high_known s.high_above ∙ sym (s.map (flip on own) ∙ set shapes own low high (flip on own) o'))
               refl union,
@@ -326,9 +326,9 @@ AreMerged-sides shapes mid is first second third track a own low high before gro
             let more = kept.longer in
             let n0 = has.numbered m.0 in
             let n1 = has.numbered m.1 in
-            (m.0, m.1, m.2, m.3, IsUnion-kept second third _ _ number kept' (omega (arith, n0, more)) (omega (arith, n1, more)) m.4)
+            (m.0, m.1, m.2, m.3, IsUnion-kept kept' (omega (arith, n0, more)) (omega (arith, n1, more)) m.4)
         | inr late ↦
             let u = h.answer number late below in
-            high_pair shapes is third track a own low high ne s u.0 u.1 number u.2 u.3 (IsUnion-at third _ _ _ _ _ _ (grows.map high u.0 s.high_known) (grows.map high u.1 s.high_known) refl u.4)
+            high_pair shapes is third track a own low high ne s u.0 u.1 number u.2 u.3 (IsUnion-at (grows.map high u.0 s.high_known) (grows.map high u.1 s.high_known) refl u.4)
       ];
 }

@@ -12,7 +12,7 @@ use Rattle.letter_diagram.specs.Carried.{KeepsLetters}
 use Rattle.letter_diagram.proofs.Lists.{one_place}
 use Rattle.letter_diagram.proofs.Canonical.{flip, bit_at-flip_same, bit_at-flip_other, flipped, low_is, high_is, node-from_map, map_at-agree}
 
-module _ (shapes : List Shape) (is : IsDiagram shapes) (node track low high : ℕ) (at : IsAt shapes node (Test track low high)) (fits : IsTest shapes node track low high) where
+module _ {shapes : List Shape} {node track low high : ℕ} (is : IsDiagram shapes) (at : IsAt shapes node (Test track low high)) (fits : IsTest shapes node track low high) where
   -- a side's value at a letter is the node's at a letter with that bit
   pub low_at : (letter : ℕ) → (l : ℕ) × (bit_at l track ≡ 0) × ((k : ℕ) → k ≢ track → bit_at l k ≡ bit_at letter k) × (map_at shapes low letter ≡ map_at shapes node l)
   low_at letter =
@@ -45,8 +45,8 @@ module _ (shapes : List Shape) (is : IsDiagram shapes) (node track low high : �
       ]
 
   -- the sides look at no other tracks than the node
-  pub LooksBelow-low : (bound : ℕ) → LooksBelow shapes node bound → LooksBelow shapes low bound
-  LooksBelow-low bound narrow = record {
+  pub LooksBelow-low : {bound : ℕ} → LooksBelow shapes node bound → LooksBelow shapes low bound
+  LooksBelow-low narrow = record {
     same = λ a b agree.
         let p = low_at a in
         let q = low_at b in
@@ -56,8 +56,8 @@ module _ (shapes : List Shape) (is : IsDiagram shapes) (node track low high : �
         ]) ∙ sym q.3;
   }
 
-  pub LooksBelow-high : (bound : ℕ) → LooksBelow shapes node bound → LooksBelow shapes high bound
-  LooksBelow-high bound narrow = record {
+  pub LooksBelow-high : {bound : ℕ} → LooksBelow shapes node bound → LooksBelow shapes high bound
+  LooksBelow-high narrow = record {
     same = λ a b agree.
         let p = high_at a in
         let q = high_at b in
@@ -68,8 +68,8 @@ module _ (shapes : List Shape) (is : IsDiagram shapes) (node track low high : �
   }
 
   -- a node looks at the track of its test
-  pub track-below : (bound : ℕ) → LooksBelow shapes node bound → track < bound
-  track-below bound narrow = elim (cases_lt track bound) [
+  pub track-below : {bound : ℕ} → LooksBelow shapes node bound → track < bound
+  track-below {bound} narrow = elim (cases_lt track bound) [
     | inl lt ↦ lt
     | inr past ↦
         let within = at.within in

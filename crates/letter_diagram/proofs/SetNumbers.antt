@@ -101,8 +101,8 @@ unrepeated_still old new set (inr (e, absent)) all =
 pub set_at-kept : (old new : List (List ℕ)) (n : ℕ) → SetsKept old new → n < length old → set_at new n ≡ set_at old n
 set_at-kept old new n kept below = get_or_from_slice_get new n (get_or old n []) [] (kept.at n (get_or old n []) (slice_get-get_or old n [] below))
 
-pub IsUnion-kept : (old new : List (List ℕ)) (x y n : ℕ) → SetsKept old new → x < length old → y < length old → IsUnion old x y n → IsUnion new x y n
-IsUnion-kept old new x y n kept kx ky is =
+pub IsUnion-kept : {old new : List (List ℕ)} {x y n : ℕ} → SetsKept old new → x < length old → y < length old → IsUnion old x y n → IsUnion new x y n
+IsUnion-kept {old} {new} {x} {y} {n} kept kx ky is =
     let known = is.known in
     let longer = kept.longer in
     let en = set_at-kept old new n kept is.known in
@@ -114,10 +114,10 @@ pub IsUnion-same : (sets : List (List ℕ)) (x : ℕ) → x < length sets → Is
 IsUnion-same sets x known = record { known = known; members = λ element. (λ h. inl h, λ e. elim e [ inl h ↦ h | inr h ↦ h ]) }
 
 -- the number of a set that has what two sets had
-pub IsUnion-numbered : (old new : List (List ℕ)) (x y n : ℕ) (both xs ys : List ℕ) → SetsKept old new → x < length old → y < length old → slice_get new n ≡ Some both
+pub IsUnion-numbered : {old new : List (List ℕ)} {x y n : ℕ} {both xs ys : List ℕ} → SetsKept old new → x < length old → y < length old → slice_get new n ≡ Some both
     → set_at old x ≡ xs → set_at old y ≡ ys
     → ((element : ℕ) → (Contains both element → Contains xs element ⊎ Contains ys element) × (Contains xs element ⊎ Contains ys element → Contains both element)) → IsUnion new x y n
-IsUnion-numbered old new x y n both xs ys kept kx ky at ex ey members =
+IsUnion-numbered {old} {new} {x} {y} {n} {both} kept kx ky at ex ey members =
     let en = get_or_from_slice_get new n both [] at in
     let fx = set_at-kept old new x kept kx ∙ ex in
     let fy = set_at-kept old new y kept ky ∙ ey in
@@ -138,5 +138,5 @@ slice_get-last old new set n (inr (e, absent)) from below =
     let l = ap length e ∙ length_push old set in
     slice_get-get_or new n set below ∙ ap Some (ap (λ k. get_or k n set) e ∙ get_or_push old set set n (omega (arith, l, from, below)))
 
-pub IsUnion-at : (sets : List (List ℕ)) (x x' y y' n n' : ℕ) → x ≡ x' → y ≡ y' → n ≡ n' → IsUnion sets x y n → IsUnion sets x' y' n'
-IsUnion-at sets x x' y y' n n' ex ey en is = subst (λ k. IsUnion sets k y' n') ex (subst (λ k. IsUnion sets x k n') ey (subst (IsUnion sets x y) en is))
+pub IsUnion-at : {sets : List (List ℕ)} {x x' y y' n n' : ℕ} → x ≡ x' → y ≡ y' → n ≡ n' → IsUnion sets x y n → IsUnion sets x' y' n'
+IsUnion-at {sets} {x} {y} {y'} {n'} ex ey en is = subst (λ k. IsUnion sets k y' n') ex (subst (λ k. IsUnion sets x k n') ey (subst (IsUnion sets x y) en is))

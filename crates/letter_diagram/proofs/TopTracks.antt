@@ -18,8 +18,8 @@ by_shape shapes is node (Test track lower higher) at fits low ignores =
     let high_before = fits.high_before in
     let none = subst (IgnoresTrack shapes node) at.top ignores in
     fits.differ (node-from_map shapes is lower higher (omega arith) (omega arith) (λ letter.
-    let p = low_at shapes is node track lower higher at fits letter in
-    let q = high_at shapes is node track lower higher at fits letter in
+    let p = low_at is at fits letter in
+    let q = high_at is at fits letter in
     p.3 ∙ none.same p.0 q.0 (λ k ne. p.2 k ne ∙ sym (q.2 k ne)) ∙ sym q.3))
 
 pub looks_at_top : (shapes : List Shape) → IsDiagram shapes → (node : ℕ) → node < length shapes → top_track shapes node < 20 → IgnoresTrack shapes node (top_track shapes node) → ⊥

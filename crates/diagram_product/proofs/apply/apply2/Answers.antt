@@ -1,7 +1,7 @@
 use Rattle.std.proofs.Common.{arith, ap, ◌∙◌, Some}
 use Rattle.diagram_product.specs.Sided.{pair_top}
 use Rattle.diagram_product.proofs.Absorptions.{absorbed-nothing}
-use Rattle.letter_diagram.proofs.Pairings.{room_from-le}
+use Rattle.letter_diagram.proofs.Splittings.{room_from-le}
 use Rattle.diagram_product.proofs.apply.apply2.Goals as goal
 
 pub paired-requires-clause-room : goal.paired-requires-clause-room

@@ -18,7 +18,7 @@ pub carried-requires : goal.carried-requires
 carried-requires g t c κs within =
     let e = c.in-Test.ensures in
     let before = e.fits.low_before in
-    (omega (arith, before, c.decreases), (within.0, (within.1, (CanBeCarried-low _ _ _ _ c.in-Test.track c.in-Test.low c.in-Test.high e.diagram e.at e.fits c.requires.can, c.requires.remembered))))
+    (omega (arith, before, c.decreases), (within.0, (within.1, (CanBeCarried-low c.in-Test.track c.in-Test.low c.in-Test.high e.diagram e.at e.fits c.requires.can, c.requires.remembered))))
 
 pub carried-requires-in-Test : goal.carried-requires-in-Test
 carried-requires-in-Test g t c κs within =
@@ -26,13 +26,13 @@ carried-requires-in-Test g t c κs within =
     let before = e.fits.high_before in
     let low = c.in_ok-low-in-Test.ensures in (
       omega (arith, before, c.decreases),
-      (within.0, (within.1, (CanBeCarried-grows _ _ _ _ _ low.grows (CanBeCarried-high _ _ _ _ c.in-Test.track c.in-Test.low c.in-Test.high e.diagram e.at e.fits c.requires.can), low.remembered))),
+      (within.0, (within.1, (CanBeCarried-grows low.grows (CanBeCarried-high c.in-Test.track c.in-Test.low c.in-Test.high e.diagram e.at e.fits c.requires.can), low.remembered))),
     )
 
 pub test-requires-clause-within : goal.test-requires-clause-within
 test-requires-clause-within g t c =
     let e = c.in-Test.ensures in
-    track-within _ _ _ _ c.in-Test.track c.in-Test.low c.in-Test.high e.diagram e.at e.fits c.requires.can
+    track-within c.in-Test.track c.in-Test.low c.in-Test.high e.diagram e.at e.fits c.requires.can
 
 made : (g : Over) (t : ℕ) (c : In_ok-remember g t) → Carries (g.C.Carry.carrier c.args.carry.now) c.match-shape.to c.args.node c.match-shape.made
 made g t c = elim c.match-shape.branch [
@@ -56,8 +56,8 @@ returns-clause-carried g t c = made g t c
 pub returns-clause-remembered : goal.returns-clause-remembered
 returns-clause-remembered g t c =
     let before : RemembersCarried (g.C.Carry.carrier c.args.carry.now) c.match-shape.to (g.M.Memo.answers c.match-shape.memo) = elim c.match-shape.branch [
-      | in-Leaf+in_ok-made-in-Leaf w ↦ rw (w.to-is, w.memo-is) (RemembersCarried-grows _ _ _ _ w.in_ok-made-in-Leaf.ensures.grows c.requires.remembered)
+      | in-Leaf+in_ok-made-in-Leaf w ↦ rw (w.to-is, w.memo-is) (RemembersCarried-grows w.in_ok-made-in-Leaf.ensures.grows c.requires.remembered)
       | in-Test+in_ok-low-in-Test+in_ok-high-in-Test+in_ok-made-in-Test w ↦ rw (w.to-is, w.memo-is) (
-          RemembersCarried-grows _ _ _ _ w.in_ok-made-in-Test.ensures.grows w.in_ok-high-in-Test.ensures.remembered)
+          RemembersCarried-grows w.in_ok-made-in-Test.ensures.grows w.in_ok-high-in-Test.ensures.remembered)
     ] in
     RemembersCarried-learns _ _ _ _ _ _ c.in_ok-remember.ensures (made g t c) before

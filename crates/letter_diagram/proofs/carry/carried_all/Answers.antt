@@ -40,7 +40,7 @@ carried-requires g c =
     let can = c.requires.can c.loop-node.node-index c.node-item.result c.loop-node-test.true in
     record {
       can =
-          CanBeCarried-grows _ _ _ _ _ c.loop-node.invariant.grows
+          CanBeCarried-grows c.loop-node.invariant.grows
           (subst (CanBeCarried (g.C.Carry.carrier c.args.carry.now) (g.C.Carry.can c.args.carry.now) c.args.to.now) (sym c.node-item.is) can);
       remembered = c.loop-node.invariant.remembered;
     }

@@ -3,7 +3,7 @@ use Rattle.letter_diagram.specs.Diagram.{map_at}
 use Rattle.diagram_product.specs.Product.{ProductTables}
 use Rattle.diagram_product.specs.Absorbed.{ArePairs}
 use Rattle.diagram_product.specs.Sided.{pair_top}
-use Rattle.letter_diagram.proofs.Pairings.{room_from-le}
+use Rattle.letter_diagram.proofs.Splittings.{room_from-le}
 use Rattle.diagram_product.proofs.product.Product.apply.Goals as goal
 
 pub paired-requires-clause-room : goal.paired-requires-clause-room

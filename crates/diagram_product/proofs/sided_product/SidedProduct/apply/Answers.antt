@@ -1,7 +1,7 @@
 use Rattle.std.proofs.Common.{length, ap, arith}
 use Rattle.diagram_product.specs.Product.{SidedTables}
 use Rattle.diagram_product.specs.Sided.{pair_top}
-use Rattle.letter_diagram.proofs.Pairings.{room_from-le}
+use Rattle.letter_diagram.proofs.Splittings.{room_from-le}
 use Rattle.diagram_product.proofs.sided_product.SidedProduct.apply.Goals as goal
 
 pub paired-requires-clause-room : goal.paired-requires-clause-room

@@ -3,7 +3,7 @@ use Rattle.letter_diagram.specs.Splits.{room_from}
 use Rattle.diagram_product.specs.Sided.{pair_top, IsPaired, RemembersPaired}
 use Rattle.letter_diagram.proofs.Maps.{Grows-trans}
 use Rattle.letter_diagram.proofs.PairNumbers.{PairsKept-refl, PairsKept-trans}
-use Rattle.letter_diagram.proofs.Pairings.{room_from-some, room_from-sides, chosen-grows, sides-fall}
+use Rattle.letter_diagram.proofs.Splittings.{room_from-some, room_from-sides, chosen-grows, sides-fall}
 use Rattle.diagram_product.proofs.SidedPairs.{IsPaired-grows, IsPaired-leaf, IsPaired-parts, RemembersPaired-grows, RemembersPaired-insert, CanBePaired-low, CanBePaired-high, CanBePaired-grows, room-grows, ArePairs-leaf, ArePairs-parts}
 use Rattle.diagram_product.proofs.sides.TwoSides.+paired.Given.{Over}
 use Rattle.diagram_product.proofs.sides.TwoSides.+paired.Goals as goal
@@ -39,10 +39,10 @@ pub paired-returns-clause-remembered : goal.paired-returns-clause-remembered
 paired-returns-clause-remembered g t c =
     let before : RemembersPaired c.args.self.now c.match-one_pair.to c.match-one_pair.pairs c.match-one_pair.memo = elim c.match-one_pair.branch [
       | paired-in-Some-one_pair+in_ok-add-in-Some-one_pair+in_ok-node-in-Some-one_pair w ↦ rw (w.to-is, w.pairs-is, w.memo-is)
-          (RemembersPaired-grows _ _ _ _ _ _ w.in_ok-node-in-Some-one_pair.ensures.grows w.in_ok-add-in-Some-one_pair.ensures.kept c.requires.remembered)
+          (RemembersPaired-grows w.in_ok-node-in-Some-one_pair.ensures.grows w.in_ok-add-in-Some-one_pair.ensures.kept c.requires.remembered)
       | paired-in-None+in_ok-node-in-None w ↦ rw (w.to-is, w.pairs-is, w.memo-is) w.in_ok-node-in-None.ensures.remembered
     ] in
-    RemembersPaired-insert _ _ _ _ _ _ _ _ before c.in_ok-insert.ensures.updates (made g t c)
+    RemembersPaired-insert before c.in_ok-insert.ensures.updates (made g t c)
 
 pub paired-returns-clause-room : goal.paired-returns-clause-room
 paired-returns-clause-room g t c =
@@ -74,7 +74,7 @@ paired_sides-paired-requires g t c κs within =
     let fall = sides-fall _ _ _ _ _ _ _ track left.low_within right.low_within left.low_smaller right.low_smaller in
     let parts = room_from-sides _ _ _ _ _ (omega (arith, track, small)) left.low_above left.high_above right.low_above right.high_above in (
       omega (arith, fall),
-      (within, (CanBePaired-low _ _ _ _ _ _ _ _ _ c.requires.read left right, (omega (arith, parts, room, whole), c.requires.remembered))),
+      (within, (CanBePaired-low c.requires.read left right, (omega (arith, parts, room, whole), c.requires.remembered))),
     )
 
 pub paired_sides-paired-requires-2 : goal.paired_sides-paired-requires-2
@@ -87,12 +87,12 @@ paired_sides-paired-requires-2 g t c κs within =
     let whole = ap room_from track in
     let fall = sides-fall _ _ _ _ _ _ _ track left.high_within right.high_within left.high_smaller right.high_smaller in
     let parts = room_from-sides _ _ _ _ _ (omega (arith, track, small)) left.low_above left.high_above right.low_above right.high_above in
-    let high = CanBePaired-high _ _ _ _ _ _ _ _ _ c.requires.read left right in
+    let high = CanBePaired-high c.requires.read left right in
     let low = c.in_ok-low.ensures in
     let used = low.room in
-    let same = room-grows _ _ _ _ _ low.grows high in (
+    let same = room-grows low.grows high in (
       omega (arith, fall),
-      (within, (CanBePaired-grows _ _ _ _ _ low.grows high, (omega (arith, parts, room, whole, used, same), low.remembered))),
+      (within, (CanBePaired-grows low.grows high, (omega (arith, parts, room, whole, used, same), low.remembered))),
     )
 
 pub paired_sides-returns-clause-paired : goal.paired_sides-returns-clause-paired
@@ -104,13 +104,13 @@ paired_sides-returns-clause-paired g t c =
     let high = c.in_ok-high.ensures.paired in
     let low_known = low.known in
     let longer = c.in_ok-high.ensures.grows.longer in
-    IsPaired-parts _ _ _ _ _ _ _ _ _ c.requires.read c.split-low.ensures.left c.split-low.ensures.right
-    _ _ _ _ _ grows c.in_ok-node.ensures.known c.top-track.ensures
-    (IsPaired-grows _ _ _ _ _ _ _ _ from_low c.in_ok-high.ensures.pairs low) (IsPaired-grows _ _ _ _ _ _ _ _ from_high (PairsKept-refl _) high)
+    IsPaired-parts c.requires.read c.split-low.ensures.left c.split-low.ensures.right
+    grows c.in_ok-node.ensures.known c.top-track.ensures
+    (IsPaired-grows from_low c.in_ok-high.ensures.pairs low) (IsPaired-grows from_high (PairsKept-refl _) high)
     (λ letter. c.in_ok-node.ensures.map letter ∙ sym (chosen-grows _ _ c.top-track.result _ _ letter (omega (arith, low_known, longer)) high.known from_high)) c.in_ok-node.ensures.top
 
 pub paired_sides-returns-clause-remembered : goal.paired_sides-returns-clause-remembered
-paired_sides-returns-clause-remembered g t c = RemembersPaired-grows _ _ _ _ _ _ c.in_ok-node.ensures.grows (PairsKept-refl _) c.in_ok-high.ensures.remembered
+paired_sides-returns-clause-remembered g t c = RemembersPaired-grows c.in_ok-node.ensures.grows (PairsKept-refl _) c.in_ok-high.ensures.remembered
 
 pub paired_sides-returns-clause-room : goal.paired_sides-returns-clause-room
 paired_sides-returns-clause-room g t c =
@@ -120,15 +120,15 @@ paired_sides-returns-clause-room g t c =
     let small = c.requires.low in
     let whole = ap room_from track in
     let parts = room_from-sides _ _ _ _ _ (omega (arith, track, small)) left.low_above left.high_above right.low_above right.high_above in
-    let same = room-grows _ _ _ _ _ c.in_ok-low.ensures.grows (CanBePaired-high _ _ _ _ _ _ _ _ _ c.requires.read left right) in
+    let same = room-grows c.in_ok-low.ensures.grows (CanBePaired-high c.requires.read left right) in
     let low_used = c.in_ok-low.ensures.room in
     let high_used = c.in_ok-high.ensures.room in
     omega (arith, parts, same, whole, low_used, high_used)
 
 pub paired_sides-returns-clause-answers : goal.paired_sides-returns-clause-answers
 paired_sides-returns-clause-answers g t c =
-    ArePairs-parts _ _ _ _ _ _ _ _ _ c.requires.read c.split-low.ensures.left c.split-low.ensures.right
-    _ _ _ _ c.in_ok-low.ensures.grows c.in_ok-high.ensures.pairs c.in_ok-low.ensures.answers c.in_ok-high.ensures.answers
+    ArePairs-parts c.requires.read c.split-low.ensures.left c.split-low.ensures.right
+    _ c.in_ok-low.ensures.grows c.in_ok-high.ensures.pairs c.in_ok-low.ensures.answers c.in_ok-high.ensures.answers
 
 pub paired_sides-returns-clause-pairs : goal.paired_sides-returns-clause-pairs
 paired_sides-returns-clause-pairs g t c = PairsKept-trans _ _ _ c.in_ok-low.ensures.pairs c.in_ok-high.ensures.pairs

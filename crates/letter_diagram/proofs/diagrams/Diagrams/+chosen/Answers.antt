@@ -2,12 +2,12 @@ use Rattle.std.proofs.Common.{rules, arith, ◌≡◌, ◌<◌, ℕ, sym, ◌∙
 use Rattle.letter_diagram.specs.Splits.{top_of_both}
 use Rattle.letter_diagram.specs.Chosen.{IsChosen}
 use Rattle.letter_diagram.proofs.Maps.{Grows-trans}
-use Rattle.letter_diagram.proofs.Pairings.{IsSplit-grows, chosen-grows, top_of_both-grows}
+use Rattle.letter_diagram.proofs.Splittings.{IsSplit-grows, chosen-grows, top_of_both-grows}
 use Rattle.letter_diagram.proofs.Choices.{IsChosen-grows, IsChosen-sides, RemembersChosen-grows, RemembersChosen-insert}
 use Rattle.letter_diagram.proofs.diagrams.Diagrams.+chosen.Goals as goal
 
 pub returns-then-track-own-clause-remembered : goal.returns-then-track-own-clause-remembered
-returns-then-track-own-clause-remembered t c = RemembersChosen-grows _ _ _ _ c.in_ok-node.ensures.grows c.requires.remembered
+returns-then-track-own-clause-remembered t c = RemembersChosen-grows c.in_ok-node.ensures.grows c.requires.remembered
 
 pub returns-in-Some-clause-chosen : goal.returns-in-Some-clause-chosen
 returns-in-Some-clause-chosen t c = c.requires.remembered.chosen _ _ _ (sym c.in-Some.ensures.value)
@@ -28,8 +28,8 @@ made t c =
     let before : c.min-own.result < c.args.track = search rules in
     IsChosen-sides _ _ c.min-own.result _ _ _ _ _ _ _ c.in_ok-off.off c.in_ok-on.on (omega arith) (omega arith) c.in_ok-node-2.ensures.known before
     (own ∙ sym (top_of_both-grows _ _ _ _ grows c.requires.low_known c.requires.high_known))
-    (IsSplit-grows _ _ _ _ _ _ c.requires.low_known grows c.split-low_off.ensures.sides) (IsSplit-grows _ _ _ _ _ _ c.requires.high_known grows c.split-high_off.ensures.sides)
-    (IsChosen-grows _ _ _ _ _ _ from_off off) (IsChosen-grows _ _ _ _ _ _ from_on on)
+    (IsSplit-grows c.requires.low_known grows c.split-low_off.ensures.sides) (IsSplit-grows c.requires.high_known grows c.split-high_off.ensures.sides)
+    (IsChosen-grows from_off off) (IsChosen-grows from_on on)
     (λ letter. c.in_ok-node-2.ensures.map letter ∙ sym (chosen-grows _ _ c.min-own.result _ _ letter (omega arith) on.known from_on)) c.in_ok-node-2.ensures.top
 
 pub returns-clause-chosen : goal.returns-clause-chosen
@@ -37,7 +37,7 @@ returns-clause-chosen t c = made t c
 
 pub returns-clause-remembered : goal.returns-clause-remembered
 returns-clause-remembered t c =
-    RemembersChosen-insert _ _ _ _ _ _ _ (RemembersChosen-grows _ _ _ _ c.in_ok-node-2.ensures.grows c.in_ok-on.ensures.remembered)
+    RemembersChosen-insert (RemembersChosen-grows c.in_ok-node-2.ensures.grows c.in_ok-on.ensures.remembered)
     c.in_ok-insert.ensures.updates (made t c)
 
 pub returns-in_err-on-clause-grows : goal.returns-in_err-on-clause-grows

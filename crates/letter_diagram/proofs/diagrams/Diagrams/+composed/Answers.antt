@@ -1,7 +1,7 @@
 use Rattle.std.proofs.Common.{arith, ◌<◌, ℕ, length, sym, ◌∙◌}
 use Rattle.letter_diagram.specs.Composed.{IsComposed, RemembersComposed}
 use Rattle.letter_diagram.proofs.Maps.{Grows-trans}
-use Rattle.letter_diagram.proofs.Pairings.{chosen-grows}
+use Rattle.letter_diagram.proofs.Splittings.{chosen-grows}
 use Rattle.letter_diagram.proofs.Compositions.{IsComposed-leaf, IsComposed-test, IsComposed-grows, RemembersComposed-grows, RemembersComposed-insert, rows-grow}
 use Rattle.letter_diagram.proofs.diagrams.Diagrams.+composed.Goals as goal
 use Rattle.letter_diagram.proofs.diagrams.Diagrams.+composed.Goals.{in-Leaf, in-Test+in_ok-low-in-Test+in_ok-high-in-Test+in_ok-node-in-Test}
@@ -55,7 +55,7 @@ made t c = elim c.match-shape.branch [
       let same =
       λ (letter : ℕ). chosen-grows _ _ w.in-Test.track w.in-Test.low w.in-Test.high letter (omega (arith, low_before, known)) (omega (arith, high_before, known)) both in
       IsComposed-test _ _ _ _ _ w.in-Test.track w.in-Test.low w.in-Test.high _ _ (omega (arith, longer, known))
-      (λ letter. both.map c.args.a letter c.requires.known ∙ w.in-Test.ensures.at.map letter ∙ sym (same letter)) (IsComposed-grows _ _ _ _ _ g2 low) high e.grows e.known e.map)
+      (λ letter. both.map c.args.a letter c.requires.known ∙ w.in-Test.ensures.at.map letter ∙ sym (same letter)) (IsComposed-grows g2 low) high e.grows e.known e.map)
 ]
 
 pub returns-clause-composed : goal.returns-clause-composed
@@ -66,6 +66,6 @@ returns-clause-remembered t c =
     let before : RemembersComposed c.match-shape.self c.args.rows.now c.match-shape.memo = elim c.match-shape.branch [
       | in-Leaf w ↦ rw (w.self-is, w.memo-is) c.requires.remembered
       | in-Test+in_ok-low-in-Test+in_ok-high-in-Test+in_ok-node-in-Test w ↦
-          rw (w.self-is, w.memo-is) (RemembersComposed-grows _ _ _ _ w.in_ok-node-in-Test.ensures.grows w.in_ok-high-in-Test.ensures.remembered)
+          rw (w.self-is, w.memo-is) (RemembersComposed-grows w.in_ok-node-in-Test.ensures.grows w.in_ok-high-in-Test.ensures.remembered)
     ] in
-    RemembersComposed-insert _ _ _ _ _ _ before c.in_ok-insert.ensures.updates (made t c)
+    RemembersComposed-insert before c.in_ok-insert.ensures.updates (made t c)

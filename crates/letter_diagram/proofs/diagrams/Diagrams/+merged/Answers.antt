@@ -3,7 +3,7 @@ use Rattle.letter_diagram.specs.Splits.{top_of_both}
 use Rattle.letter_diagram.specs.Merged.{IsMerged}
 use Rattle.letter_diagram.proofs.Maps.{Grows-trans}
 use Rattle.letter_diagram.proofs.SetNumbers.{SetsKept-refl, SetsKept-trans}
-use Rattle.letter_diagram.proofs.Pairings.{room_for-grows, room_for-sides, room_for-below, IsSplit-grows, chosen-grows}
+use Rattle.letter_diagram.proofs.Splittings.{room_for-grows, room_for-sides, room_for-below, IsSplit-grows, chosen-grows}
 use Rattle.letter_diagram.proofs.Mergings.{HasSets-grows, HasSets-low, HasSets-high, IsMerged-grows, IsMerged-above, IsMerged-at, IsMerged-test, RemembersMerged-grows, RemembersMerged-insert, RemembersUnited-grows, AreMerged-at, AreMerged-sides}
 use Rattle.letter_diagram.proofs.diagrams.Diagrams.+merged.Goals as goal
 
@@ -17,10 +17,10 @@ pub returns-in-Some-clause-merged : goal.returns-in-Some-clause-merged
 returns-in-Some-clause-merged t c = c.requires.merged.merged _ _ (sym c.in-Some.ensures.value)
 
 pub united-requires-clause-a_sets : goal.united-requires-clause-a_sets
-united-requires-clause-a_sets t c = HasSets-low _ c.top-own.ensures.diagram _ _ _ _ _ c.split-low.ensures.sides c.requires.source
+united-requires-clause-a_sets t c = HasSets-low c.top-own.ensures.diagram c.split-low.ensures.sides c.requires.source
 
 pub united-requires-clause-b_sets : goal.united-requires-clause-b_sets
-united-requires-clause-b_sets t c = HasSets-high _ c.top-own.ensures.diagram _ _ _ _ _ c.split-low.ensures.sides c.requires.source
+united-requires-clause-b_sets t c = HasSets-high c.top-own.ensures.diagram c.split-low.ensures.sides c.requires.source
 
 pub united-requires-clause-room : goal.united-requires-clause-room
 united-requires-clause-room t c =
@@ -44,7 +44,7 @@ returns-then-own-track-clause-merged t c = made t c
 
 pub returns-then-own-track-clause-remembered : goal.returns-then-own-track-clause-remembered
 returns-then-own-track-clause-remembered t c =
-    RemembersMerged-insert _ _ _ _ _ _ _ (RemembersMerged-grows _ _ _ _ _ _ c.in_ok-node.ensures.grows c.in_ok-node.ensures.sets c.requires.merged) c.in_ok-insert.ensures.updates (made t c)
+    RemembersMerged-insert (RemembersMerged-grows c.in_ok-node.ensures.grows c.in_ok-node.ensures.sets c.requires.merged) c.in_ok-insert.ensures.updates (made t c)
 
 pub returns-then-own-track-clause-room : goal.returns-then-own-track-clause-room
 returns-then-own-track-clause-room t c =
@@ -63,7 +63,7 @@ merged-requires t c =
     let fall = s.low_smaller (sym c.top-own.ensures.top) in
     let less = room_for-below _ c.args.a c.split-low.result.0 c.split-low.result.0 s.low_top s.low_top in
     let room = c.requires.room in
-    (omega arith, (c.requires.track_low, (HasSets-low _ c.top-own.ensures.diagram _ _ _ _ _ s c.requires.source, (omega (arith, less, room), (c.requires.merged, c.requires.united)))))
+    (omega arith, (c.requires.track_low, (HasSets-low c.top-own.ensures.diagram s c.requires.source, (omega (arith, less, room), (c.requires.merged, c.requires.united)))))
 
 pub merged-requires-2 : goal.merged-requires-2
 merged-requires-2 t c =
@@ -73,7 +73,7 @@ merged-requires-2 t c =
     let both : c.top-own.result ≡ top_of_both c.args.self.now c.args.a c.args.a = omega arith in
     let not_above = c.if-track-own.false in
     let track_low = c.requires.track_low in
-    let sides = room_for-sides _ c.args.a c.args.a _ _ _ _ _ (omega (arith, not_above, track_low)) s s both in
+    let sides = room_for-sides (omega (arith, not_above, track_low)) s s both in
     let same = room_for-grows _ _ c.split-low.result.1 c.split-low.result.1 c.in_ok-low.ensures.grows s.high_known s.high_known in
     let room = c.requires.room in
     let used = c.in_ok-low.ensures.room in
@@ -82,7 +82,7 @@ merged-requires-2 t c =
       (
         c.requires.track_low,
         (
-          HasSets-grows _ _ _ _ _ e.grows e.sets (HasSets-high _ c.top-own.ensures.diagram _ _ _ _ _ s c.requires.source),
+          HasSets-grows _ _ _ _ _ e.grows e.sets (HasSets-high c.top-own.ensures.diagram s c.requires.source),
           (omega (arith, sides, same, room, used), (e.remembered, e.united)),
         ),
       ),
@@ -102,7 +102,7 @@ joined t c =
     let not_here = c.if-own-track.false in
     IsMerged-test _ _ _ _ _ c.top-own.result _ _ c.in_ok-low.low c.in_ok-high.high (HasSets-grows _ _ _ _ _ grows kept c.requires.source)
     c.in_ok-node-2.ensures.known (omega (arith, not_above, not_here))
-    (IsSplit-grows _ _ _ _ _ _ c.requires.source.known grows c.split-low.ensures.sides)
+    (IsSplit-grows c.requires.source.known grows c.split-low.ensures.sides)
     (IsMerged-grows _ _ _ _ _ _ _ from_low c.in_ok-high.ensures.sets low) (IsMerged-grows _ _ _ _ _ _ _ from_high (SetsKept-refl _) high)
     (λ letter. c.in_ok-node-2.ensures.map letter ∙ sym (chosen-grows _ _ c.top-own.result _ _ letter (omega arith) high.known from_high))
     (grows.top c.args.a c.requires.source.known ∙ sym c.top-own.ensures.top)
@@ -113,12 +113,12 @@ returns-clause-merged t c = joined t c
 
 pub returns-clause-remembered : goal.returns-clause-remembered
 returns-clause-remembered t c =
-    RemembersMerged-insert _ _ _ _ _ _ _
-    (RemembersMerged-grows _ _ _ _ _ _ c.in_ok-node-2.ensures.grows (SetsKept-refl _) c.in_ok-high.ensures.remembered)
+    RemembersMerged-insert
+    (RemembersMerged-grows c.in_ok-node-2.ensures.grows (SetsKept-refl _) c.in_ok-high.ensures.remembered)
     c.in_ok-insert-2.ensures.updates (joined t c)
 
 pub returns-clause-united : goal.returns-clause-united
-returns-clause-united t c = RemembersUnited-grows _ _ _ _ _ c.in_ok-node-2.ensures.grows (SetsKept-refl _) c.in_ok-high.ensures.united
+returns-clause-united t c = RemembersUnited-grows c.in_ok-node-2.ensures.grows (SetsKept-refl _) c.in_ok-high.ensures.united
 
 pub returns-clause-room : goal.returns-clause-room
 returns-clause-room t c =
@@ -127,7 +127,7 @@ returns-clause-room t c =
     let both : c.top-own.result ≡ top_of_both c.args.self.now c.args.a c.args.a = omega arith in
     let not_above = c.if-track-own.false in
     let track_low = c.requires.track_low in
-    let sides = room_for-sides _ c.args.a c.args.a _ _ _ _ _ (omega (arith, not_above, track_low)) s s both in
+    let sides = room_for-sides (omega (arith, not_above, track_low)) s s both in
     let same = room_for-grows _ _ c.split-low.result.1 c.split-low.result.1 c.in_ok-low.ensures.grows s.high_known s.high_known in
     let low_used = c.in_ok-low.ensures.room in
     let high_used = c.in_ok-high.ensures.room in

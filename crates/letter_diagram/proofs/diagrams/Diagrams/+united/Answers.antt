@@ -3,7 +3,7 @@ use Rattle.letter_diagram.specs.Splits.{top_of_both}
 use Rattle.letter_diagram.specs.Merged.{IsUnited, RemembersUnited}
 use Rattle.letter_diagram.proofs.Maps.{Grows-trans}
 use Rattle.letter_diagram.proofs.SetNumbers.{SetsKept-refl, SetsKept-trans}
-use Rattle.letter_diagram.proofs.Pairings.{room_for-constant, room_for-grows, room_for-sides, top_of_both-grows, IsSplit-grows, chosen-grows, sides-fall}
+use Rattle.letter_diagram.proofs.Splittings.{room_for-constant, room_for-grows, room_for-sides, top_of_both-grows, IsSplit-grows, chosen-grows, sides-fall}
 use Rattle.letter_diagram.proofs.Mergings.{HasSets-grows, HasSets-low, HasSets-high, IsUnited-grows, IsUnited-same, IsUnited-sides, RemembersUnited-grows, RemembersUnited-insert, AreUnions-sides}
 use Rattle.letter_diagram.proofs.diagrams.Diagrams.+united.Goals as goal
 use Rattle.letter_diagram.proofs.diagrams.Diagrams.+united.Goals.{united-then-track-eq-MOST_TRACKS+in_ok-node, united-else-track-eq-MOST_TRACKS+in_ok-node-2}
@@ -32,10 +32,10 @@ united-returns-clause-remembered t c =
     let before : RemembersUnited c.if-track-eq-MOST_TRACKS.self c.if-track-eq-MOST_TRACKS.sets c.if-track-eq-MOST_TRACKS.memo = elim c.if-track-eq-MOST_TRACKS.branch [
       | united-then-track-eq-MOST_TRACKS+in_ok-node w ↦
           rw (w.self-is, w.sets-is, w.memo-is)
-          (RemembersUnited-grows _ _ _ _ _ w.in_ok-node.ensures.grows w.in_ok-node.ensures.sets c.requires.remembered)
+          (RemembersUnited-grows w.in_ok-node.ensures.grows w.in_ok-node.ensures.sets c.requires.remembered)
       | united-else-track-eq-MOST_TRACKS+in_ok-node-2 w ↦ rw (w.self-is, w.sets-is, w.memo-is) w.in_ok-node-2.ensures.remembered
     ] in
-    RemembersUnited-insert _ _ _ _ _ _ _ before c.in_ok-insert.ensures.updates (made t c)
+    RemembersUnited-insert before c.in_ok-insert.ensures.updates (made t c)
 
 pub united-returns-clause-room : goal.united-returns-clause-room
 united-returns-clause-room t c =
@@ -61,9 +61,9 @@ united_sides-united-requires t c =
     let b = c.split-b_low.ensures.sides in
     let is = c.split-a_low.ensures.diagram in
     let fall = sides-fall _ _ _ _ _ _ _ c.requires.track a.low_within b.low_within a.low_smaller b.low_smaller in
-    let sides = room_for-sides _ _ _ _ _ _ _ _ c.requires.track_low a b c.requires.track in
+    let sides = room_for-sides c.requires.track_low a b c.requires.track in
     let room = c.requires.room in
-    (omega arith, (HasSets-low _ is _ _ _ _ _ a c.requires.a_sets, (HasSets-low _ is _ _ _ _ _ b c.requires.b_sets, (omega (arith, sides, room), c.requires.remembered))))
+    (omega arith, (HasSets-low is a c.requires.a_sets, (HasSets-low is b c.requires.b_sets, (omega (arith, sides, room), c.requires.remembered))))
 
 pub united_sides-united-requires-2 : goal.united_sides-united-requires-2
 united_sides-united-requires-2 t c =
@@ -73,15 +73,15 @@ united_sides-united-requires-2 t c =
     let fall = sides-fall _ _ _ _ _ _ _ c.requires.track a.high_within b.high_within a.high_smaller b.high_smaller in
     let grows = c.in_ok-low.ensures.grows in
     let kept = c.in_ok-low.ensures.sets in
-    let sides = room_for-sides _ _ _ _ _ _ _ _ c.requires.track_low a b c.requires.track in
+    let sides = room_for-sides c.requires.track_low a b c.requires.track in
     let same = room_for-grows _ _ c.split-a_low.result.1 c.split-b_low.result.1 grows a.high_known b.high_known in
     let room = c.requires.room in
     let used = c.in_ok-low.ensures.room in (
       omega arith,
       (
-        HasSets-grows _ _ _ _ _ grows kept (HasSets-high _ is _ _ _ _ _ a c.requires.a_sets),
+        HasSets-grows _ _ _ _ _ grows kept (HasSets-high is a c.requires.a_sets),
         (
-          HasSets-grows _ _ _ _ _ grows kept (HasSets-high _ is _ _ _ _ _ b c.requires.b_sets),
+          HasSets-grows _ _ _ _ _ grows kept (HasSets-high is b c.requires.b_sets),
           (omega (arith, sides, room, same, used), c.in_ok-low.ensures.remembered),
         ),
       ),
@@ -102,19 +102,19 @@ united_sides-returns-clause-united t c =
     let high_longer = c.in_ok-high.ensures.grows.longer in
     IsUnited-sides _ _ _ _ _ c.args.track _ _ _ _ c.in_ok-low.low c.in_ok-high.high (HasSets-grows _ _ _ _ _ grows kept c.requires.a_sets)
     (HasSets-grows _ _ _ _ _ grows kept c.requires.b_sets) c.in_ok-node.ensures.known
-    (IsSplit-grows _ _ _ _ _ _ c.requires.a_sets.known grows a) (IsSplit-grows _ _ _ _ _ _ c.requires.b_sets.known grows b)
+    (IsSplit-grows c.requires.a_sets.known grows a) (IsSplit-grows c.requires.b_sets.known grows b)
     (c.requires.track ∙ sym (top_of_both-grows _ _ _ _ grows c.requires.a_sets.known c.requires.b_sets.known))
-    (IsUnited-grows _ _ _ _ _ _ _ from_low c.in_ok-high.ensures.sets low) (IsUnited-grows _ _ _ _ _ _ _ from_high (SetsKept-refl _) high)
+    (IsUnited-grows from_low c.in_ok-high.ensures.sets low) (IsUnited-grows from_high (SetsKept-refl _) high)
     (λ letter. c.in_ok-node.ensures.map letter ∙ sym (chosen-grows _ _ c.args.track _ _ letter (omega arith) high.known from_high)) c.in_ok-node.ensures.top
 
 pub united_sides-returns-clause-remembered : goal.united_sides-returns-clause-remembered
-united_sides-returns-clause-remembered t c = RemembersUnited-grows _ _ _ _ _ c.in_ok-node.ensures.grows (SetsKept-refl _) c.in_ok-high.ensures.remembered
+united_sides-returns-clause-remembered t c = RemembersUnited-grows c.in_ok-node.ensures.grows (SetsKept-refl _) c.in_ok-high.ensures.remembered
 
 pub united_sides-returns-clause-room : goal.united_sides-returns-clause-room
 united_sides-returns-clause-room t c =
     let a = c.split-a_low.ensures.sides in
     let b = c.split-b_low.ensures.sides in
-    let sides = room_for-sides _ _ _ _ _ _ _ _ c.requires.track_low a b c.requires.track in
+    let sides = room_for-sides c.requires.track_low a b c.requires.track in
     let same = room_for-grows _ _ c.split-a_low.result.1 c.split-b_low.result.1 c.in_ok-low.ensures.grows a.high_known b.high_known in
     let low_used = c.in_ok-low.ensures.room in
     let high_used = c.in_ok-high.ensures.room in

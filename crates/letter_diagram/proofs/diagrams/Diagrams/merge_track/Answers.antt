@@ -1,6 +1,6 @@
 use Rattle.std.proofs.Common.{arith}
 use Rattle.std.proofs.lemmas.Result.{on_ok_weaker}
-use Rattle.letter_diagram.proofs.Pairings.{room_for-le}
+use Rattle.letter_diagram.proofs.Splittings.{room_for-le}
 use Rattle.letter_diagram.proofs.diagrams.Diagrams.merge_track.Goals as goal
 
 pub merged-requires-clause-room : goal.merged-requires-clause-room

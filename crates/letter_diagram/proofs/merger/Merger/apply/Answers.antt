@@ -1,6 +1,6 @@
 use Rattle.std.proofs.Common.{length, ap, arith}
 use Rattle.letter_diagram.specs.Merger.{MergerTables}
-use Rattle.letter_diagram.proofs.Pairings.{room_for-le}
+use Rattle.letter_diagram.proofs.Splittings.{room_for-le}
 use Rattle.letter_diagram.proofs.merger.Merger.apply.Goals as goal
 
 pub merged-requires-clause-room : goal.merged-requires-clause-room

@@ -1,6 +1,6 @@
 use Rattle.std.proofs.Common.{length, ap, arith}
 use Rattle.letter_diagram.specs.Merger.{MergerTables}
-use Rattle.letter_diagram.proofs.Pairings.{room_for-le}
+use Rattle.letter_diagram.proofs.Splittings.{room_for-le}
 use Rattle.letter_diagram.proofs.Mergings.{RemembersMerged-grows}
 use Rattle.letter_diagram.proofs.merger.Merger.unite.Goals as goal
 
@@ -19,4 +19,4 @@ returns-in-Ok-clause-few c =
     omega (arith, room, same, used)
 
 pub invariant_of-self : goal.invariant_of-self
-invariant_of-self c = (c.self.invariant.0, RemembersMerged-grows _ _ _ _ _ _ c.in-Ok.ensures.grows c.in-Ok.ensures.sets c.self.invariant.1, c.in-Ok.ensures.remembered)
+invariant_of-self c = (c.self.invariant.0, RemembersMerged-grows c.in-Ok.ensures.grows c.in-Ok.ensures.sets c.self.invariant.1, c.in-Ok.ensures.remembered)

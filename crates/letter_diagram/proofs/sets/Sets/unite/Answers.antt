@@ -26,9 +26,9 @@ second c =
 
 pub returns-clause-union : goal.returns-clause-union
 returns-clause-union c =
-    IsUnion-numbered _ _ _ _ _ _ _ _ c.in_ok-number.ensures.kept c.requires.a_known c.requires.b_known c.in_ok-number.ensures.number (first c) (second c) c.in_ok-both.ensures.members
+    IsUnion-numbered c.in_ok-number.ensures.kept c.requires.a_known c.requires.b_known c.in_ok-number.ensures.number (first c) (second c) c.in_ok-both.ensures.members
 
 pub returns-clause-answers : goal.returns-clause-answers
 returns-clause-answers c = λ number from below.
-    IsUnion-numbered _ _ _ _ _ _ _ _ c.in_ok-number.ensures.kept c.requires.a_known c.requires.b_known
+    IsUnion-numbered c.in_ok-number.ensures.kept c.requires.a_known c.requires.b_known
     (slice_get-last _ _ _ number c.in_ok-number.ensures.sets from below) (first c) (second c) c.in_ok-both.ensures.members

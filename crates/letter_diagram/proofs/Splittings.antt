@@ -1,4 +1,4 @@
--- Maps of pairs, as nodes and pairs are added.
+-- Maps by the bit of a track, and two maps side by side, as nodes are added.
 use Rattle.std.proofs.Common.{◌≡◌, ℕ, ◌<◌, ◌≤◌, ◌+◌, ◌-◌, ◌%◌, ◌^◌, min, List, length, nat_eq, suc, arith, sym, ap, ◌∙◌, subst, inl, inr, if◌then◌else◌}
 use Rattle.std.specs.Int.{bit_at}
 use Rattle.std.proofs.lemmas.Grind.{common_steps}
@@ -52,9 +52,9 @@ pub room_from-sides : (track low high low' high' : ℕ) → track < 20 → track
 unfolding room_from
 room_from-sides track low high low' high' small l h l' h' = half track (min low low') (min high high') small (omega arith) (omega arith)
 
-pub room_for-sides : (shapes : List Shape) (a b track al ah bl bh : ℕ) → track < 20 → IsSplit shapes a track al ah → IsSplit shapes b track bl bh → track ≡ top_of_both shapes a b
+pub room_for-sides : {shapes : List Shape} {a b track al ah bl bh : ℕ} → track < 20 → IsSplit shapes a track al ah → IsSplit shapes b track bl bh → track ≡ top_of_both shapes a b
     → room_for shapes al bl + room_for shapes ah bh ≤ room_for shapes a b
-room_for-sides shapes a b track al ah bl bh small sa sb e =
+room_for-sides {shapes} {track} {al} {ah} {bl} {bh} small sa sb e =
     subst (λ t. room_for shapes al bl + room_for shapes ah bh ≤ room_from t) e
     (room_from-sides track (top_track shapes al) (top_track shapes ah) (top_track shapes bl) (top_track shapes bh) small sa.low_above sa.high_above sb.low_above sb.high_above)
 
@@ -62,8 +62,8 @@ pub chosen-grows : (old new : List Shape) (track low high letter : ℕ) → low 
     → high < length old → Grows old new → chosen new track low high letter ≡ chosen old track low high letter
 chosen-grows old new track low high letter kl kh grows = λ i. if nat_eq (bit_at letter track) 0 then grows.map low letter kl i else grows.map high letter kh i
 
-pub IsSplit-grows : (old new : List Shape) (node track low high : ℕ) → node < length old → Grows old new → IsSplit old node track low high → IsSplit new node track low high
-IsSplit-grows old new node track low high known grows s =
+pub IsSplit-grows : {old new : List Shape} {node track low high : ℕ} → node < length old → Grows old new → IsSplit old node track low high → IsSplit new node track low high
+IsSplit-grows {old} {new} {node} {track} {low} {high} known grows s =
     let longer = grows.longer in
     let l = s.low_known in
     let h = s.high_known in
@@ -82,9 +82,9 @@ IsSplit-grows old new node track low high known grows s =
     }
 
 -- the sides of two nodes give at a letter what the nodes give at one letter
-pub low_answer : (shapes : List Shape) → IsDiagram shapes → (a b track al ah bl bh letter : ℕ) → IsSplit shapes a track al ah → IsSplit shapes b track bl bh
+pub low_answer : {shapes : List Shape} {a b track al ah bl bh : ℕ} → IsDiagram shapes → (letter : ℕ) → IsSplit shapes a track al ah → IsSplit shapes b track bl bh
     → (l : ℕ) × (map_at shapes al letter ≡ map_at shapes a l) × (map_at shapes bl letter ≡ map_at shapes b l)
-low_answer shapes is a b track al ah bl bh letter sa sb = elim (bit_cases letter track) [
+low_answer {shapes} {track} {al} {ah} {bl} {bh} is letter sa sb = elim (bit_cases letter track) [
   | inl z ↦ (letter, sym (sa.map letter ∙ clear al ah letter z), sym (sb.map letter ∙ clear bl bh letter z))
   | inr o ↦
       let z = bit_at-flip_same letter track ∙ ap (λ n. (n + 1) % 2) o in (
@@ -97,9 +97,9 @@ low_answer shapes is a b track al ah bl bh letter sa sb = elim (bit_cases letter
     clear : (low high l : ℕ) → bit_at l track ≡ 0 → chosen shapes track low high l ≡ map_at shapes low l
     clear low high l z = ap (λ n. if nat_eq n 0 then map_at shapes low l else map_at shapes high l) z
 
-pub high_answer : (shapes : List Shape) → IsDiagram shapes → (a b track al ah bl bh letter : ℕ) → IsSplit shapes a track al ah → IsSplit shapes b track bl bh
+pub high_answer : {shapes : List Shape} {a b track al ah bl bh : ℕ} → IsDiagram shapes → (letter : ℕ) → IsSplit shapes a track al ah → IsSplit shapes b track bl bh
     → (l : ℕ) × (map_at shapes ah letter ≡ map_at shapes a l) × (map_at shapes bh letter ≡ map_at shapes b l)
-high_answer shapes is a b track al ah bl bh letter sa sb = elim (bit_cases letter track) [
+high_answer {shapes} {track} {al} {ah} {bl} {bh} is letter sa sb = elim (bit_cases letter track) [
   | inr o ↦ (letter, sym (sa.map letter ∙ set al ah letter o), sym (sb.map letter ∙ set bl bh letter o))
   | inl z ↦
       let o = bit_at-flip_same letter track ∙ ap (λ n. (n + 1) % 2) z in (
