@@ -38,7 +38,8 @@ none_gone Gone h = refl
 none_gone (At x y) h = cc
 
 -- the first king is the only one, and live
-pub one_king : (p : Position) (s : Side) (i : ℕ) → IsKingAt p s i → ((k : ℕ) → k < i → IsKingAt p s k → ⊥) → ((k : ℕ) → i < k → IsKingAt p s k → ⊥) → (IsGoneAt p i → ⊥) → HasOneKing p s
+pub one_king : (p : Position) (s : Side) (i : ℕ) → IsKingAt p s i → ((k : ℕ) → k < i → IsKingAt p s k → ⊥)
+    → ((k : ℕ) → i < k → IsKingAt p s k → ⊥) → (IsGoneAt p i → ⊥) → HasOneKing p s
 one_king p s i king first last live =
     let w = man_of_some (man_at p i) _ king in
     record {
@@ -55,7 +56,8 @@ one_king p s i king first last live =
           ];
     }
 
-pub apart_from : (p : Position) → ((i k : ℕ) → i < k → AreTwins p i k → ⊥) → (i j : ℕ) (m n : Man) (z : Square) → man_at p i ≡ Some m → man_at p j ≡ Some n → StandsOn m z → StandsOn n z → i ≡ j
+pub apart_from : (p : Position) → ((i k : ℕ) → i < k → AreTwins p i k → ⊥) → (i j : ℕ) (m n : Man) (z : Square)
+    → man_at p i ≡ Some m → man_at p j ≡ Some n → StandsOn m z → StandsOn n z → i ≡ j
 apart_from p none i j m n z is_m is_n s t =
     elim (number_cases i j) [
       | inl lt ↦ absurd (none i j lt (z, rw is_m s, rw is_n t))
@@ -108,7 +110,8 @@ not_many p s i first last (a, b, lt, ka, kb) =
       | inr r ↦ elim r [ inl same ↦ last b (omega arith) kb | inr gt ↦ last a gt ka ]
     ]
 
-not_gone : (p : Position) (s : Side) (i : ℕ) → ((k : ℕ) → k < i → IsKingAt p s k → ⊥) → ((k : ℕ) → i < k → IsKingAt p s k → ⊥) → (IsGoneAt p i → ⊥) → IsUnsoundFor p (KingGone s) → ⊥
+not_gone : (p : Position) (s : Side) (i : ℕ) → ((k : ℕ) → k < i → IsKingAt p s k → ⊥)
+    → ((k : ℕ) → i < k → IsKingAt p s k → ⊥) → (IsGoneAt p i → ⊥) → IsUnsoundFor p (KingGone s) → ⊥
 not_gone p s i first last live (a, ka, gone) =
     elim (number_cases a i) [
       | inl less ↦ first a less ka

@@ -37,7 +37,8 @@ rising t x e =
     (λ h. rw far h, λ h. rw far at h)
 
 -- steps of -1, seen from the other end
-pub falling : (t : ℕ) (x y : Axis) → x.step ≡ negsuc 0 → y.at ≡ neg_ℤ x.at → y.low ≡ neg_ℤ x.high → y.high ≡ neg_ℤ x.low → IsWithin y (y.at +ℤ pos t) t ↔ IsWithinAfter x t
+pub falling : (t : ℕ) (x y : Axis) → x.step ≡ negsuc 0 → y.at ≡ neg_ℤ x.at → y.low ≡ neg_ℤ x.high
+    → y.high ≡ neg_ℤ x.low → IsWithin y (y.at +ℤ pos t) t ↔ IsWithinAfter x t
 falling t x y e at low high =
     let once : pos t *ℤ negsuc 0 ≡ neg_ℤ (pos t) = grind (arith, ints) in
     let far : pos t *ℤ x.step ≡ neg_ℤ (pos t) = rw e once in (

@@ -1,5 +1,5 @@
 -- A check, and the rays along which it may be answered.
-use Rattle.std.specs.Prelude.{◌≡◌, ◌≤◌, ◌^◌, ℕ, unsigned_abs}
+use Rattle.std.specs.Prelude.{◌≡◌, ◌≤◌, ◌^◌, ℕ, unsigned_abs, IsSomeAnd}
 use Rattle.std.specs.List.{Any}
 use Rattle.game_rules.specs.Game.{Position, Attacked, Bears, IsLiveAnd, StandsOn, other}
 use Rattle.game_rules.specs.declared.men.Kind.TheVariants.{King}
@@ -7,6 +7,7 @@ use Rattle.game_rules.specs.declared.men.Man.{Man}
 use Rattle.game_rules.specs.declared.men.Ray.{Ray}
 use Rattle.game_rules.specs.declared.men.Side.{Side}
 use Rattle.game_rules.specs.declared.men.Square.{Square}
+use Rattle.game_rules.specs.Rays.{ray_of}
 use Rattle.game_laws.specs.Answer.{CanGo, HasAnswer, IsCheckFrom, answer_square}
 use Rattle.chess_game.specs.declared.answers.Check.{Check}
 use Rattle.chess_game.specs.declared.answers.Standing.{Standing}
@@ -28,6 +29,10 @@ IsCheckOf p check = IsCloseCheck check × IsCheckFrom p check.from check.king
 -- the man who stands there can answer the check along the ray
 abbrev pub AnswersAlong : Position → Check → Standing → Ray → Type 0
 AnswersAlong p check man r = CanGo p man.number (answer_square check.from check.king man.square r)
+
+-- the man who stands there has a ray of this number, and can answer the check along it
+abbrev pub AnswersAlongNth : Position → Check → Man → Standing → ℕ → Type 0
+AnswersAlongNth p check m man n = IsSomeAnd (ray_of m.kind m.side n) (AnswersAlong p check man)
 
 -- no man can answer the check from a of the king at k
 abbrev pub IsUnanswered : Position → Square → Square → Type 0

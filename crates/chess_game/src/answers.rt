@@ -3,11 +3,11 @@
 ghost use Rattle.std.specs.Prelude.{◌≡◌, ◌↔◌, ◌≤◌, ◌<◌, ◌*◌, ◌+◌, ◌+ℤ◌, ◌*ℤ◌, ◌-ℤ◌, ◌^◌, pos, unsigned_abs, IsSomeAnd, IsTrue, MatchOption, ℕ};
 ghost use Rattle.std.specs.List.{Any};
 ghost use Rattle.game_rules.specs.Game.{Attacked, InCheck, Mate, Sound, other};
-ghost use Rattle.game_rules.specs.Rays.{ray_of, rays_of};
+ghost use Rattle.game_rules.specs.Rays.{rays_of};
 ghost use Rattle.game_laws.specs.Answer.{HasAnswer, answer_square, answer_steps, cross, distance, off_line, steps_to, toward_x, toward_y};
 ghost use Rattle.chess_game.specs.Along.{IsStepwise};
 ghost use Rattle.chess_game.specs.Near.{IsNarrowPosition, IsNear};
-ghost use Rattle.chess_game.specs.Check.{AnswersAlong, IsCheckOf, IsCheckedFrom, IsClose, IsCloseCheck, IsKingOn, IsUnanswered};
+ghost use Rattle.chess_game.specs.Check.{AnswersAlong, AnswersAlongNth, IsCheckOf, IsCheckedFrom, IsClose, IsCloseCheck, IsKingOn, IsUnanswered};
 
 use crate::attack::attacks;
 use crate::board::Board;
@@ -157,8 +157,7 @@ fn answers_along_nth(
 ) -> bool
     requires check { IsCloseCheck check }
     requires from { IsClose standing.square }
-    ensures { IsTrue result
-        ↔ IsSomeAnd (ray_of man.now.kind man.now.side index) (AnswersAlong board.now check standing) }
+    ensures { IsTrue result ↔ AnswersAlongNth board.now check man.now standing index }
 {
     match ray(man.kind(), man.side(), index) {
         None => false,

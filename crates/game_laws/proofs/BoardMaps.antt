@@ -74,7 +74,8 @@ direction_like : (u v x y : ℤ) → unsigned_abs x ≡ unsigned_abs u → unsig
 direction_like u v x y ex ey h = rw (ex, ey) h
 
 -- reach goes by how long an offset is, and by the pawns' way
-reach_like : (s t : Side) (k : Kind) (u v x y : ℤ) → unsigned_abs x ≡ unsigned_abs u → unsigned_abs y ≡ unsigned_abs v → (v ≡ forward s → y ≡ forward t) → HasReach s k u v → HasReach t k x y
+reach_like : (s t : Side) (k : Kind) (u v x y : ℤ) → unsigned_abs x ≡ unsigned_abs u → unsigned_abs y ≡ unsigned_abs v
+    → (v ≡ forward s → y ≡ forward t) → HasReach s k u v → HasReach t k x y
 reach_like s t King u v x y ex ey ahead h = direction_like u v x y ex ey h
 reach_like s t Queen u v x y ex ey ahead (inl h) = inl (straight_like u v x y ex ey h)
 reach_like s t Queen u v x y ex ey ahead (inr h) = inr (diagonal_like u v x y ex ey h)
@@ -97,7 +98,8 @@ module _ (fx ux fy uy : ℤ → ℤ) (side : Side → Side) (across : IsAxisMap 
       (ap unsigned_abs (along.offset a.y z.y) ∙ along.long (z.y -ℤ a.y))
       (λ e. along.offset a.y z.y ∙ ap uy e ∙ ahead s) h
 
-  axes_steps : (a b : Square) (t : ℕ) (dx dy : ℤ) → b ≡ after_steps a t dx dy → ◌≡◌ {A = Square} (record { x = fx b.x; y = fy b.y }) (after_steps (record { x = fx a.x; y = fy a.y }) t (ux dx) (uy dy))
+  axes_steps : (a b : Square) (t : ℕ) (dx dy : ℤ) → b ≡ after_steps a t dx dy
+      → ◌≡◌ {A = Square} (record { x = fx b.x; y = fy b.y }) (after_steps (record { x = fx a.x; y = fy a.y }) t (ux dx) (uy dy))
   axes_steps a b t dx dy h =
       square_is (record { x = fx b.x; y = fy b.y }) (fx a.x +ℤ (pos t *ℤ ux dx)) (fy a.y +ℤ (pos t *ℤ uy dy))
       (across.steps a.x b.x dx t (ap (λ c. c.x) h)) (along.steps a.y b.y dy t (ap (λ c. c.y) h))

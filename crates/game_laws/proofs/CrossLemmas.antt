@@ -44,7 +44,8 @@ cross_steps t u v ex ey d e =
     ap unsigned_abs is ∙ unsigned_abs-mul (pos t) (cross u v ex ey)
 
 -- who goes some way to the line is that far off it
-pub cross_off : (x y u v ex ey : ℤ) (j : ℕ) → IsDirection ex ey → x +ℤ u ≡ pos j *ℤ ex → y +ℤ v ≡ pos j *ℤ ey → unsigned_abs (cross x y ex ey) ≡ unsigned_abs (cross u v ex ey)
+pub cross_off : (x y u v ex ey : ℤ) (j : ℕ) → IsDirection ex ey → x +ℤ u ≡ pos j *ℤ ex → y +ℤ v ≡ pos j *ℤ ey
+    → unsigned_abs (cross x y ex ey) ≡ unsigned_abs (cross u v ex ey)
 cross_off x y u v ex ey j d h k =
     let hx = direction_small_x ex ey d in
     let hy = direction_small_y ex ey d in
@@ -109,7 +110,11 @@ parallel_from u v d ex ey hx hy e =
     let hv = direction_small_y u v d in
     each_unit (λ ex. max (unsigned_abs ex) (unsigned_abs ey) ≡ 1 → IsParallel ex ey u v)
     (λ e. parallel_left ey u v hu)
-    (each_unit (λ ey. max (unsigned_abs (pos 0)) (unsigned_abs ey) ≡ 1 → IsParallel (pos 0) ey u v) (λ e. parallel_down u v hv) (λ e. absurd (omega (arith, e))) (λ e. parallel_up u v hv) ey hy)
+    (each_unit (λ ey. max (unsigned_abs (pos 0)) (unsigned_abs ey) ≡ 1 → IsParallel (pos 0) ey u v)
+    (λ e. parallel_down u v hv)
+    (λ e. absurd (omega (arith, e)))
+    (λ e. parallel_up u v hv)
+    ey hy)
     (λ e. parallel_right ey u v hu)
     ex hx e
 
@@ -134,7 +139,8 @@ facing z b a d e t j small o x y =
     (λ x y. omega (arith, ints, x, y)) (λ x y. omega (arith, ints, x, y)) (λ x y. omega (arith, ints, x, y)) d small x
     (subst (λ e. z ≡ a +ℤ (pos j *ℤ e)) is y))
 
-pub steps_facing : (z b a : Square) (u v ex ey : ℤ) (t j : ℕ) → IsDirection u v → IsOpposite u v ex ey → z ≡ after_steps b t u v → z ≡ after_steps a j ex ey → b ≡ after_steps a (j + t) ex ey
+pub steps_facing : (z b a : Square) (u v ex ey : ℤ) (t j : ℕ) → IsDirection u v → IsOpposite u v ex ey
+    → z ≡ after_steps b t u v → z ≡ after_steps a j ex ey → b ≡ after_steps a (j + t) ex ey
 steps_facing z b a u v ex ey t j d o x y =
     square_is b _ _
     (facing z.x b.x a.x u ex t j (direction_small_x u v d) o.0 (ap (λ s. s.x) x) (ap (λ s. s.x) y))

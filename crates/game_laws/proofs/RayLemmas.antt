@@ -40,7 +40,8 @@ pub slider_far : (s : Side) (k : Kind) (n : ℕ) (r : Ray) → ray_of k s n ≡ 
 slider_far s k n r is slider = elim (true_or_not r.far) [ inl far ↦ far | inr near ↦ absurd ((ray_is s k n r is).leaper near slider) ]
 
 -- a man reaches what his rays of captures lead to
-pub reach_at : (s : Side) (k : Kind) (n : ℕ) (r : Ray) (t : ℕ) (a z : Square) → ray_of k s n ≡ Some r → IsTrue (serves_captures k n) → IsAt r t a z → HasReach s k (z.x -ℤ a.x) (z.y -ℤ a.y)
+pub reach_at : (s : Side) (k : Kind) (n : ℕ) (r : Ray) (t : ℕ) (a z : Square) → ray_of k s n ≡ Some r
+    → IsTrue (serves_captures k n) → IsAt r t a z → HasReach s k (z.x -ℤ a.x) (z.y -ℤ a.y)
 reach_at s k n r t a z is serves h =
     subst (λ d. HasReach s k d (z.y -ℤ a.y)) (sym (offset_of a.x z.x (pos t *ℤ r.dx) (ap (λ b. b.x) h.leads)))
     (subst (λ d. HasReach s k (pos t *ℤ r.dx) d) (sym (offset_of a.y z.y (pos t *ℤ r.dy) (ap (λ b. b.y) h.leads))) ((ray_is s k n r is).reaches serves t h.begun h.one))

@@ -29,7 +29,8 @@ leap_is s k n dx dy never reach =
       reaches = λ c t low one. subst (λ j. HasReach s k (pos j *ℤ dx) (pos j *ℤ dy)) (sym (one refl)) (reach c);
     }
 
-slide_is : (s : Side) (k : Kind) (n : ℕ) (dx dy : ℤ) → IsDirection dx dy → IsSlider k → ((t : ℕ) → 1 ≤ t → HasReach s k (pos t *ℤ dx) (pos t *ℤ dy)) → IsRayOf s k n (slide dx dy)
+slide_is : (s : Side) (k : Kind) (n : ℕ) (dx dy : ℤ) → IsDirection dx dy → IsSlider k
+    → ((t : ℕ) → 1 ≤ t → HasReach s k (pos t *ℤ dx) (pos t *ℤ dy)) → IsRayOf s k n (slide dx dy)
 slide_is s k n dx dy direction slider reach =
     record {
       slider = λ e. slider;
