@@ -24,7 +24,8 @@ map_choice : (b : Bool) (bytes : Vec ℕ Global) (other : Option (Vec ℕ Global
 map_choice true bytes other = refl
 map_choice false bytes other = refl
 
-found_in : (entries : List (String Global × Vec ℕ Global)) (name : List ℕ) → finite.get (files_of entries) name ≡ bytes_of (lookup (is_at (λ k. slice_cmp nat_cmp name (string_bytes k))) entries)
+found_in : (entries : List (String Global × Vec ℕ Global)) (name : List ℕ)
+    → finite.get (files_of entries) name ≡ bytes_of (lookup (is_at (λ k. slice_cmp nat_cmp name (string_bytes k))) entries)
 found_in [] name = finite.get-empty (slice_cmp nat_cmp) name
 found_in (e ∷ es) name =
     finite.get-insert nat_list_cmp_total (files_of es) (string_bytes e.0) e.1.items name

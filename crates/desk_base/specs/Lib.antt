@@ -1,4 +1,5 @@
 pub mod Calls
+pub mod Failing
 pub mod Faults
 pub mod Files
 pub mod Found

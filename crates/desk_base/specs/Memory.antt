@@ -1,8 +1,8 @@
 -- What a source, a sink and a store in memory hold.
-use Rattle.std.specs.Prelude.{ℕ, List, refl}
+use Rattle.std.specs.Prelude.{◌≡◌, ℕ, ◌-◌, ◌<◌, List, [], ◌++◌, length, drop, min, refl}
 use Rattle.std.specs.Coded.{Coded, code_by, coded×, coded_ℕ, coded_list}
 use Rattle.std.specs.FinMap as finite
-use Rattle.desk_base.specs.Calls.{Calls}
+use Rattle.desk_base.specs.Calls.{Calls, no_calls, one_more, one_more_failed}
 use Rattle.desk_base.specs.Files.{Files}
 
 -- a source: the bytes still to come, how many a call moves at most, and its calls
@@ -22,6 +22,52 @@ pub record Output : Type 0 where
 pub record Store : Type 0 where
   pub files : Files
   pub calls : Calls
+
+-- how many bytes a call moves to a buffer of this size, where it does not fail
+abbrev pub take_count : Input → (size : ℕ) → ℕ
+take_count source size = min (min (length source.left) size) source.most
+
+-- the source after a call that moved so many bytes
+abbrev pub after_take : Input → (count : ℕ) → Input
+after_take source count =
+    record { left = drop count source.left; most = source.most; calls = one_more source.calls }
+
+-- the source after a call that failed
+abbrev pub after_failed_take : Input → Input
+after_failed_take source = record source { calls = one_more_failed source.calls }
+
+-- a sink to which nothing was written
+abbrev pub empty_output : (most room : ℕ) → (fail : List ℕ) → Output
+empty_output most room fail = record { written = []; most = most; room = room; calls = no_calls fail }
+
+-- the sink has no room left, and the piece is not empty
+abbrev pub LacksRoom : Output → (piece : List ℕ) → Type 0
+LacksRoom sink piece = (length sink.written ≡ sink.room) × (0 < length piece)
+
+-- how many bytes of the piece a call writes, where it does not fail
+abbrev pub put_count : Output → (piece : List ℕ) → ℕ
+put_count sink piece = min (min (length piece) sink.most) (sink.room - length sink.written)
+
+-- the sink after a call that wrote these bytes
+abbrev pub after_put : Output → (bytes : List ℕ) → Output
+after_put sink bytes =
+    record { written = sink.written ++ bytes; most = sink.most; room = sink.room; calls = one_more sink.calls }
+
+-- the sink after a call that failed
+abbrev pub after_failed_put : Output → Output
+after_failed_put sink = record sink { calls = one_more_failed sink.calls }
+
+-- the store where the file of this name has these bytes
+abbrev pub with_file : Store → (name bytes : List ℕ) → Store
+with_file store name bytes = record store { files = finite.insert store.files name bytes }
+
+-- the store after a call that changed no file
+abbrev pub after_call : Store → Store
+after_call store = record store { calls = one_more store.calls }
+
+-- the store after a call that failed
+abbrev pub after_failed_call : Store → Store
+after_failed_call store = record store { calls = one_more_failed store.calls }
 
 -- a store is coded as the tuple of what it holds
 abbrev pub store_code : Coded Store

@@ -1,6 +1,6 @@
 ghost use Rattle.std.specs.Prelude.{◌≡◌, ℕ, ◌+◌, ◌<◌, ◌≤◌, List, [], length, take, drop, IfOk, OnOk, OnErr};
 ghost use Rattle.std.specs.Io.KnownBytes.{IsAtEnd, Keeps};
-ghost use Rattle.desk_base.specs.Faults.{HasRisen};
+ghost use Rattle.desk_base.specs.Failing.{SourceFailed};
 ghost use Rattle.desk_base.specs.Moves.{Grows};
 
 use crate::source::{Failed, Source};
@@ -63,7 +63,7 @@ impl Buffer {
         ensures taken { OnOk result (Grows self.old self.new (S.left source.old) (S.left source.new)) }
         ensures end { result ≡ Ok 0 → (self.new ≡ self.old) × IsAtEnd (S.left source.new) }
         ensures err { OnErr result ((self.new ≡ self.old) × Keeps (S.left source.old) (S.left source.new)) }
-        ensures failed { OnErr result (HasRisen (S.faults source.old) (S.faults source.new)) }
+        ensures failed { OnErr result (SourceFailed S.Source source.old source.new) }
         ensures never_falls { S.faults source.old ≤ S.faults source.new }
     {
         self.end = move_to_front(&mut self.items[..], self.start, self.end);

@@ -1,6 +1,6 @@
 ghost use Rattle.std.specs.Prelude.{◌≡◌, ◌≢◌, ℕ, ◌<◌, ◌≤◌, List, Option, length, IfOk, OnOk, IsErrOf, IfSome, IsSomeAnd};
 ghost use Rattle.std.specs.FinMap as map;
-ghost use Rattle.desk_base.specs.Files.{Files, Go, contents};
+ghost use Rattle.desk_base.specs.Files.{Files, FilesGain, FilesStay, HasFileOver, OtherFilesStay, contents};
 ghost use Rattle.desk_base.specs.Faults.{HasRisen};
 
 use std::alloc::{AllocError, Global};
@@ -70,22 +70,17 @@ pub trait Shelf {
     ) -> Result<Option<Vec<u8>>, FetchError>
         ensures found { IfOk result (λ file. IfSome (files self.old) (λ kept. contents file ≡ map.get kept name.now)) }
         ensures short { IfOk result (λ file. IfSome file (λ bytes. length bytes.items ≤ limit)) }
-        ensures too_long { IsErrOf result FetchError.TooLong
-            → IfSome (files self.old) (λ kept. IsSomeAnd (map.get kept name.now) (λ bytes. limit < length bytes)) }
-        ensures same { Go (files self.old) (files self.new) (λ before after. after ≡ before) }
+        ensures too_long { IsErrOf result FetchError.TooLong → IfSome (files self.old) (λ kept. HasFileOver kept name.now limit) }
+        ensures same { FilesStay (files self.old) (files self.new) }
         ensures failed { IsErrOf result FetchError.Failed → HasRisen (faults self.old) (faults self.new) }
         ensures never_falls { faults self.old ≤ faults self.new };
 
     /// Keeps the bytes under the name, in place of what it had. Where the store fails, the file of that name is unknown, and each
     /// other one is as before.
     fn keep(&mut self, alloc: Global, name: &str, bytes: &[u8]) -> Result<(), KeepError>
-        ensures kept { OnOk result
-            (Go (files self.old) (files self.new) (λ before after. after ≡ map.insert before name.now bytes.now)) }
-        ensures others { IsErrOf result KeepError.Failed
-            → Go (files self.old) (files self.new)
-            (λ before after. (other : List ℕ) → other ≢ name.now → map.get after other ≡ map.get before other) }
-        ensures memory { IsErrOf result KeepError.Memory
-            → Go (files self.old) (files self.new) (λ before after. after ≡ before) }
+        ensures kept { OnOk result (FilesGain (files self.old) (files self.new) name.now bytes.now) }
+        ensures others { IsErrOf result KeepError.Failed → OtherFilesStay (files self.old) (files self.new) name.now }
+        ensures memory { IsErrOf result KeepError.Memory → FilesStay (files self.old) (files self.new) }
         ensures failed { IsErrOf result KeepError.Failed → HasRisen (faults self.old) (faults self.new) }
         ensures never_falls { faults self.old ≤ faults self.new };
 }

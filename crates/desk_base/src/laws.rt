@@ -1,23 +1,19 @@
 //! Laws of the lines of an input. The three say together what the lines of any bytes are.
 
 ghost use Rattle.std.specs.Prelude.{◌≡◌, ◌+◌, ◌≤◌, ℕ, List, ◌∷◌, ◌++◌, length};
-ghost use Rattle.desk_base.specs.Lines.{full, long, part_of, lines_of, HasNoLf};
-
-use limits::MOST_LINE_BYTES;
+ghost use Rattle.desk_base.specs.Lines.{IsLine, IsTooLong, full, long, part_of, lines_of};
 
 /// A line of at most 200 bytes and its LF are the next line, and the lines of what comes behind it follow.
 pub fn full_line()
-    ensures { (line rest : List ℕ) → HasNoLf line → length line ≤ MOST_LINE_BYTES
-        → lines_of (line ++ 10 ∷ rest) ≡ full line (lines_of rest) }
+    ensures { (line rest : List ℕ) → IsLine line → lines_of (line ++ 10 ∷ rest) ≡ full line (lines_of rest) }
 {}
 
 /// Where an input has at most 200 bytes, none of which is LF, it ends within a line, or at the start of one if it has none.
 pub fn part_of_line()
-    ensures { (bytes : List ℕ) → HasNoLf bytes → length bytes ≤ MOST_LINE_BYTES → lines_of bytes ≡ part_of bytes }
+    ensures { (bytes : List ℕ) → IsLine bytes → lines_of bytes ≡ part_of bytes }
 {}
 
 /// 201 bytes without LF are too long a line, whatever comes behind them.
 pub fn long_line()
-    ensures { (bytes rest : List ℕ) → HasNoLf bytes → length bytes ≡ MOST_LINE_BYTES + 1
-        → lines_of (bytes ++ rest) ≡ long }
+    ensures { (bytes rest : List ℕ) → IsTooLong bytes → lines_of (bytes ++ rest) ≡ long }
 {}

@@ -2,7 +2,8 @@ ghost use Rattle.std.specs.Prelude.{◌≡◌, ◌≢◌, ◌↔◌, ℕ, ◌+�
 ghost use Rattle.std.specs.FinMap as map;
 ghost use Rattle.desk_base.specs.Calls.{IsListed, no_calls, one_more, one_more_failed};
 ghost use Rattle.desk_base.specs.Faults.{HasRisen};
-ghost use Rattle.desk_base.specs.Files.{contents, no_files};
+ghost use Rattle.desk_base.specs.Files.{HasFileOver, HasFileWithin, contents, no_files};
+ghost use Rattle.desk_base.specs.Memory.{after_call, after_failed_call, with_file};
 
 use crate::calls::CallCount;
 use crate::files::{FetchError, KeepError, Shelf};
@@ -53,8 +54,7 @@ impl MemShelf {
 
     /// Gives the file of this name these bytes, in place of what it had. No call is counted.
     pub fn set_file(&mut self, name: String, bytes: Vec<u8>) -> Result<(), AllocError>
-        ensures ok { OnOk result
-            (self.new ≡ record self.old { files = map.insert self.old.files (string_bytes name) bytes.items }) }
+        ensures ok { OnOk result (self.new ≡ with_file self.old (string_bytes name) bytes.items) }
         ensures err { OnErr result (self.new ≡ self.old) }
     {
         let _ = self.files.insert(name, bytes)?;
@@ -81,15 +81,13 @@ impl Shelf for MemShelf {
 
         // It fails exactly at the calls that are to fail, and counts no other fault.
         ensures listed { IsErrOf result FetchError.Failed ↔ IsListed self.old.calls }
-        ensures failing { IsListed self.old.calls
-            → self.new ≡ record self.old { calls = one_more_failed self.old.calls } }
-        ensures passing { ¬ IsListed self.old.calls → self.new ≡ record self.old { calls = one_more self.old.calls } }
+        ensures failing { IsListed self.old.calls → self.new ≡ after_failed_call self.old }
+        ensures passing { ¬ IsListed self.old.calls → self.new ≡ after_call self.old }
 
         // At each other call a file is too long exactly where it exceeds the limit, and memory is wanting only where one is short enough.
-        ensures too_long { IsErrOf result FetchError.TooLong ↔ ¬ IsListed self.old.calls
-            × IsSomeAnd (map.get self.old.files name.now) (λ bytes. limit < length bytes) }
-        ensures memory { IsErrOf result FetchError.Memory
-            → IsSomeAnd (map.get self.old.files name.now) (λ bytes. length bytes ≤ limit) }
+        ensures too_long { IsErrOf result FetchError.TooLong
+            ↔ ¬ IsListed self.old.calls × HasFileOver self.old.files name.now limit }
+        ensures memory { IsErrOf result FetchError.Memory → HasFileWithin self.old.files name.now limit }
     {
         if self.calls.fails() {
             return Err(FetchError::Failed);
@@ -112,8 +110,7 @@ impl Shelf for MemShelf {
 
         // It fails exactly at the calls that are to fail, and counts no other fault.
         ensures listed { IsErrOf result KeepError.Failed ↔ IsListed self.old.calls }
-        ensures failing { IsListed self.old.calls
-            → self.new ≡ record self.old { calls = one_more_failed self.old.calls } }
+        ensures failing { IsListed self.old.calls → self.new ≡ after_failed_call self.old }
         ensures passing { ¬ IsListed self.old.calls → self.new.calls ≡ one_more self.old.calls }
     {
         if self.calls.fails() {

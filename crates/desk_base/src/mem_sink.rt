@@ -2,6 +2,7 @@ ghost use Rattle.std.specs.Prelude.{◌≡◌, ◌↔◌, ◌⊎◌, ℕ, ◌-�
 ghost use Rattle.std.specs.Io.KnownBytes.{WriteAppends};
 ghost use Rattle.desk_base.specs.Calls.{IsListed, no_calls, one_more, one_more_failed};
 ghost use Rattle.desk_base.specs.Faults.{HasRisen};
+ghost use Rattle.desk_base.specs.Memory.{LacksRoom, after_failed_put, after_put, empty_output, put_count};
 
 use crate::calls::CallCount;
 use crate::sink::Sink;
@@ -34,8 +35,7 @@ impl MemSink {
     /// are to fail; calls after the one of number 2^32 - 1 have no number.
     pub fn new(alloc: Global, fail: Vec<u32>, most: usize, room: usize) -> Result<Self, AllocError>
         requires { 0 < most }
-        ensures { IfOk result
-            (λ sink. sink ≡ record { written = []; most = most; room = room; calls = no_calls fail.items }) }
+        ensures { IfOk result (λ sink. sink ≡ empty_output most room fail.items) }
     {
         Ok(MemSink {
             bytes: Vec::with_capacity(alloc, room)?,
@@ -68,20 +68,10 @@ impl Sink for MemSink {
         ensures never_falls { self.old.calls.faults ≤ self.new.calls.faults }
 
         // It fails exactly at the calls that are to fail, and where its room is full and the piece is not empty.
-        ensures fails { IsErr result
-            ↔ (IsListed self.old.calls ⊎ ((length self.old.written ≡ self.old.room) × (0 < length piece.now))) }
-        ensures count { IfOk result
-            (λ k. k ≡ min (min (length piece.now) self.old.most) (self.old.room - length self.old.written)) }
-        ensures ok { IfOk result
-            (λ k.
-            self.new
-            ≡ record {
-              written = self.old.written ++ take k piece.now;
-              most = self.old.most;
-              room = self.old.room;
-              calls = one_more self.old.calls;
-            }) }
-        ensures err { OnErr result (self.new ≡ record self.old { calls = one_more_failed self.old.calls }) }
+        ensures fails { IsErr result ↔ (IsListed self.old.calls ⊎ LacksRoom self.old piece.now) }
+        ensures count { IfOk result (λ k. k ≡ put_count self.old piece.now) }
+        ensures ok { IfOk result (λ k. self.new ≡ after_put self.old (take k piece.now)) }
+        ensures err { OnErr result (self.new ≡ after_failed_put self.old) }
         ensures within { length self.new.written ≤ self.new.room }
     {
         if self.calls.fails() {

@@ -2,6 +2,7 @@ ghost use Rattle.std.specs.Prelude.{◌≡◌, ◌↔◌, ℕ, ◌<◌, ◌≤�
 ghost use Rattle.std.specs.Io.KnownBytes.{ReadConsumes};
 ghost use Rattle.desk_base.specs.Calls.{IsListed, no_calls, one_more, one_more_failed};
 ghost use Rattle.desk_base.specs.Faults.{HasRisen};
+ghost use Rattle.desk_base.specs.Memory.{after_failed_take, after_take, take_count};
 
 use crate::calls::CallCount;
 use crate::source::{Failed, Source};
@@ -57,12 +58,9 @@ impl Source for MemSource {
 
         // It fails exactly at the calls that are to fail, and counts no other fault.
         ensures listed { IsErr result ↔ IsListed self.old.calls }
-        ensures count { IfOk result (λ k. k ≡ min (min (length self.old.left) (length buffer.old)) self.old.most) }
-        ensures ok { IfOk result
-            (λ k.
-            self.new
-            ≡ record { left = drop k self.old.left; most = self.old.most; calls = one_more self.old.calls }) }
-        ensures err { OnErr result (self.new ≡ record self.old { calls = one_more_failed self.old.calls }) }
+        ensures count { IfOk result (λ k. k ≡ take_count self.old (length buffer.old)) }
+        ensures ok { IfOk result (λ k. self.new ≡ after_take self.old k) }
+        ensures err { OnErr result (self.new ≡ after_failed_take self.old) }
     {
         if self.calls.fails() {
             return Err(Failed);

@@ -1,6 +1,6 @@
 ghost use Rattle.std.specs.Prelude.{◌≡◌, ◌≢◌, ℕ, ◌+◌, ◌-◌, ◌^◌, ◌<◌, ◌≤◌, ◌↔◌, List, [], ◌∷◌, ◌++◌, length, IsTrue, IsNone, IfSome, None, IsErrOf};
-ghost use Rattle.desk_base.specs.Faults.{HasRisen};
-ghost use Rattle.desk_base.specs.Reading.{Reading, Takes, KeepsLine, stop_after};
+ghost use Rattle.desk_base.specs.Failing.{SourceFailed};
+ghost use Rattle.desk_base.specs.Reading.{GoesOn, KeepsLine, Reading, StaysStopped, Takes, TakesAs, stop_after};
 
 use crate::buffer::{Buffer, LineBytes};
 use crate::line::{Line, LineError};
@@ -49,16 +49,13 @@ impl LineReader {
     /// Reads the next line. After any other answer than a whole line it gives that answer for good, and takes nothing more. It may take up
     /// to 256 bytes past the line, which it keeps for the next call.
     pub fn next_line<S: Source>(&mut self, source: &mut S) -> Result<Line, LineError>
-        ensures stopped { IfSome self.old.stopped
-            (λ answer. (result ≡ answer) × (self.new ≡ self.old) × (source.new ≡ source.old)) }
-        ensures line { self.old.stopped ≡ None → KeepsLine result self.old.line self.new.line }
-        ensures stops { self.old.stopped ≡ None → self.new.stopped ≡ stop_after result }
+        ensures stopped { StaysStopped result self.old self.new source.old source.new }
+        ensures line { GoesOn self.old → KeepsLine result self.old.line self.new.line }
+        ensures stops { GoesOn self.old → self.new.stopped ≡ stop_after result }
         // The lines are those of the bytes that are taken, which are those of the source where it tells them.
-        ensures lines { self.old.stopped ≡ None
-            → Takes result self.old.pending self.new.line self.new.pending (S.left source.old) (S.left source.new) }
+        ensures lines { GoesOn self.old → TakesAs result self.old self.new (S.left source.old) (S.left source.new) }
         ensures within { length self.new.pending ≤ 256 }
-        ensures failed { self.old.stopped ≡ None → IsErrOf result LineError.Read
-            → HasRisen (S.faults source.old) (S.faults source.new) }
+        ensures failed { GoesOn self.old → IsErrOf result LineError.Read → SourceFailed S.Source source.old source.new }
         ensures never_falls { S.faults source.old ≤ S.faults source.new }
     {
         if let Some(answer) = self.stopped {
@@ -82,7 +79,7 @@ fn read_line<S: Source>(
     ensures line { KeepsLine result line.old line.new }
     ensures lines { Takes result held.old line.new held.new (S.left source.old) (S.left source.new) }
     ensures within { length held.new ≤ 256 }
-    ensures failed { IsErrOf result LineError.Read → HasRisen (S.faults source.old) (S.faults source.new) }
+    ensures failed { IsErrOf result LineError.Read → SourceFailed S.Source source.old source.new }
     ensures never_falls { S.faults source.old ≤ S.faults source.new }
 {
     let mut scanned = 0;
