@@ -11,7 +11,7 @@ use Rattle.letter_diagram.specs.Sets.{SetsKept, IsUnion}
 use Rattle.letter_diagram.specs.Merged.{IsWithBit, HasSets, IsUnited, AreUnions, RemembersUnited, IgnoresTrack, IsMerged, AreMerged, RemembersMerged}
 use Rattle.letter_diagram.proofs.Canonical.{flip, bit_at-flip_same, bit_at-flip_other, flipped, map_at-agree}
 use Rattle.letter_diagram.proofs.Memos.{answers-insert, pair_answers-insert}
-use Rattle.letter_diagram.proofs.Splittings.{top_of_both-grows, low_answer, high_answer}
+use Rattle.letter_diagram.proofs.Splittings.{top_of_both-grows, chosen-low, chosen-high, low_answer, high_answer}
 use Rattle.letter_diagram.proofs.SetNumbers.{IsUnion-kept, IsUnion-same, IsUnion-at}
 
 -- a side of a split does not look at the track
@@ -171,12 +171,6 @@ IsMerged-above shapes is sets track a above has = record {
   top = omega arith;
 }
 
-clear : (shapes : List Shape) (track low high l : ℕ) → bit_at l track ≡ 0 → chosen shapes track low high l ≡ map_at shapes low l
-clear shapes track low high l z = ap (λ n. if nat_eq n 0 then map_at shapes low l else map_at shapes high l) z
-
-set : (shapes : List Shape) (track low high l : ℕ) → bit_at l track ≡ 1 → chosen shapes track low high l ≡ map_at shapes high l
-set shapes track low high l o = ap (λ n. if nat_eq n 0 then map_at shapes low l else map_at shapes high l) o
-
 -- at the track, the sides are united: old has the sides, shapes their union
 pub IsMerged-at : (old shapes : List Shape) → IsDiagram old → (before sets : List (List ℕ)) (track a low high r : ℕ) → Grows old shapes → SetsKept before sets
     → HasSets old before a → top_track old a ≡ track
@@ -194,8 +188,8 @@ IsMerged-at old shapes is before sets track a low high r grows kept has top_a s 
       map = λ letter off on z o.
           IsUnion-at
           (grows.map low letter s.low_known ∙ side_map old is track 0 low letter off s.low_known s.low_above z
-          ∙ sym (grows.map a off has.known ∙ s.map off ∙ clear old track low high off z.at))
-          (grows.map high letter s.high_known ∙ side_map old is track 1 high letter on s.high_known s.high_above o ∙ sym (grows.map a on has.known ∙ s.map on ∙ set old track low high on o.at))
+          ∙ sym (grows.map a off has.known ∙ s.map off ∙ chosen-low old track low high off z.at))
+          (grows.map high letter s.high_known ∙ side_map old is track 1 high letter on s.high_known s.high_above o ∙ sym (grows.map a on has.known ∙ s.map on ∙ chosen-high old track low high on o.at))
           refl (u.map letter);
       ignores = u.ignores track (omega arith);
       top = omega arith;
@@ -236,8 +230,8 @@ AreMerged-at shapes is from sets track a low high s all = record {
               other,
               z,
               record { same = λ k ne. bit_at-flip_other u.0 track k ne; at = o },
-              IsUnion-at (sym (s.map u.0 ∙ clear shapes track low high u.0 z))
-                  (flipped shapes is high track u.0 s.high_known s.high_above ∙ sym (s.map other ∙ set shapes track low high other o)) refl u.1,
+              IsUnion-at (sym (s.map u.0 ∙ chosen-low shapes track low high u.0 z))
+                  (flipped shapes is high track u.0 s.high_known s.high_above ∙ sym (s.map other ∙ chosen-high shapes track low high other o)) refl u.1,
             )
         | inr o ↦
             let z = bit_at-flip_same u.0 track ∙ ap (λ n. (n + 1) % 2) o in (
@@ -246,8 +240,8 @@ AreMerged-at shapes is from sets track a low high s all = record {
               z,
               record { same = λ k ne. sym (bit_at-flip_other u.0 track k ne); at = o },
               IsUnion-at
-                  (flipped shapes is low track u.0 s.low_known s.low_above ∙ sym (s.map other ∙ clear shapes track low high other z))
-                  (sym (s.map u.0 ∙ set shapes track low high u.0 o)) refl u.1,
+                  (flipped shapes is low track u.0 s.low_known s.low_above ∙ sym (s.map other ∙ chosen-low shapes track low high other z))
+                  (sym (s.map u.0 ∙ chosen-high shapes track low high u.0 o)) refl u.1,
             )
       ];
 }
@@ -275,7 +269,7 @@ module _ (shapes : List Shape) (is : IsDiagram shapes) (sets : List (List ℕ)) 
       → (z o : ℕ) × (bit_at z track ≡ 0) × IsWithBit o z track 1 × IsUnion sets (map_at shapes a z) (map_at shapes a o) n
   low_pair off on n bit with union = elim (bit_cases off own) [
     | inl z ↦
-        (off, on, bit, with, IsUnion-at (sym (s.map off ∙ clear shapes own low high off z)) (sym (s.map on ∙ clear shapes own low high on (with.same own ne ∙ z))) refl union)
+        (off, on, bit, with, IsUnion-at (sym (s.map off ∙ chosen-low shapes own low high off z)) (sym (s.map on ∙ chosen-low shapes own low high on (with.same own ne ∙ z))) refl union)
     | inr o ↦
         let p = flipped_pair off on own track ne bit with in
         let z = bit_at-flip_same off own ∙ ap (λ n. (n + 1) % 2) o in
@@ -285,8 +279,8 @@ module _ (shapes : List Shape) (is : IsDiagram shapes) (sets : List (List ℕ)) 
           p.0,
           p.1,
           IsUnion-at
-              (flipped shapes is low own off s.low_known s.low_above ∙ sym (s.map (flip off own) ∙ clear shapes own low high (flip off own) z))
-              (flipped shapes is low own on s.low_known s.low_above ∙ sym (s.map (flip on own) ∙ clear shapes own low high (flip on own) z'))
+              (flipped shapes is low own off s.low_known s.low_above ∙ sym (s.map (flip off own) ∙ chosen-low shapes own low high (flip off own) z))
+              (flipped shapes is low own on s.low_known s.low_above ∙ sym (s.map (flip on own) ∙ chosen-low shapes own low high (flip on own) z'))
               refl union,
         )
   ]
@@ -295,7 +289,7 @@ module _ (shapes : List Shape) (is : IsDiagram shapes) (sets : List (List ℕ)) 
       → (z o : ℕ) × (bit_at z track ≡ 0) × IsWithBit o z track 1 × IsUnion sets (map_at shapes a z) (map_at shapes a o) n
   high_pair off on n bit with union = elim (bit_cases off own) [
     | inr o ↦
-        (off, on, bit, with, IsUnion-at (sym (s.map off ∙ set shapes own low high off o)) (sym (s.map on ∙ set shapes own low high on (with.same own ne ∙ o))) refl union)
+        (off, on, bit, with, IsUnion-at (sym (s.map off ∙ chosen-high shapes own low high off o)) (sym (s.map on ∙ chosen-high shapes own low high on (with.same own ne ∙ o))) refl union)
     | inl z ↦
         let p = flipped_pair off on own track ne bit with in
         let o = bit_at-flip_same off own ∙ ap (λ n. (n + 1) % 2) z in
@@ -305,8 +299,8 @@ module _ (shapes : List Shape) (is : IsDiagram shapes) (sets : List (List ℕ)) 
           p.0,
           p.1,
           IsUnion-at
-              (flipped shapes is high own off s.high_known s.high_above ∙ sym (s.map (flip off own) ∙ set shapes own low high (flip off own) o))
-              (flipped shapes is high own on s.high_known s.high_above ∙ sym (s.map (flip on own) ∙ set shapes own low high (flip on own) o'))
+              (flipped shapes is high own off s.high_known s.high_above ∙ sym (s.map (flip off own) ∙ chosen-high shapes own low high (flip off own) o))
+              (flipped shapes is high own on s.high_known s.high_above ∙ sym (s.map (flip on own) ∙ chosen-high shapes own low high (flip on own) o'))
               refl union,
         )
   ]

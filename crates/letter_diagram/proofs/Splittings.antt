@@ -81,36 +81,37 @@ IsSplit-grows {old} {new} {node} {track} {low} {high} known grows s =
       high_smaller = λ e. s.high_smaller (sym (grows.top node known) ∙ e);
     }
 
+-- the side that is chosen, by the bit
+pub chosen-low : (shapes : List Shape) (track low high letter : ℕ) → bit_at letter track ≡ 0 → chosen shapes track low high letter ≡ map_at shapes low letter
+chosen-low shapes track low high letter z = ap (λ n. if nat_eq n 0 then map_at shapes low letter else map_at shapes high letter) z
+
+pub chosen-high : (shapes : List Shape) (track low high letter : ℕ) → bit_at letter track ≡ 1 → chosen shapes track low high letter ≡ map_at shapes high letter
+chosen-high shapes track low high letter o = ap (λ n. if nat_eq n 0 then map_at shapes low letter else map_at shapes high letter) o
+
 -- the sides of two nodes give at a letter what the nodes give at one letter
 pub low_answer : {shapes : List Shape} {a b track al ah bl bh : ℕ} → IsDiagram shapes → (letter : ℕ) → IsSplit shapes a track al ah → IsSplit shapes b track bl bh
     → (l : ℕ) × (map_at shapes al letter ≡ map_at shapes a l) × (map_at shapes bl letter ≡ map_at shapes b l)
 low_answer {shapes} {track} {al} {ah} {bl} {bh} is letter sa sb = elim (bit_cases letter track) [
-  | inl z ↦ (letter, sym (sa.map letter ∙ clear al ah letter z), sym (sb.map letter ∙ clear bl bh letter z))
+  | inl z ↦ (letter, sym (sa.map letter ∙ chosen-low shapes track al ah letter z), sym (sb.map letter ∙ chosen-low shapes track bl bh letter z))
   | inr o ↦
       let z = bit_at-flip_same letter track ∙ ap (λ n. (n + 1) % 2) o in (
         flip letter track,
-        flipped shapes is al track letter sa.low_known sa.low_above ∙ sym (sa.map (flip letter track) ∙ clear al ah (flip letter track) z),
-        flipped shapes is bl track letter sb.low_known sb.low_above ∙ sym (sb.map (flip letter track) ∙ clear bl bh (flip letter track) z),
+        flipped shapes is al track letter sa.low_known sa.low_above ∙ sym (sa.map (flip letter track) ∙ chosen-low shapes track al ah (flip letter track) z),
+        flipped shapes is bl track letter sb.low_known sb.low_above ∙ sym (sb.map (flip letter track) ∙ chosen-low shapes track bl bh (flip letter track) z),
       )
 ]
-  where
-    clear : (low high l : ℕ) → bit_at l track ≡ 0 → chosen shapes track low high l ≡ map_at shapes low l
-    clear low high l z = ap (λ n. if nat_eq n 0 then map_at shapes low l else map_at shapes high l) z
 
 pub high_answer : {shapes : List Shape} {a b track al ah bl bh : ℕ} → IsDiagram shapes → (letter : ℕ) → IsSplit shapes a track al ah → IsSplit shapes b track bl bh
     → (l : ℕ) × (map_at shapes ah letter ≡ map_at shapes a l) × (map_at shapes bh letter ≡ map_at shapes b l)
 high_answer {shapes} {track} {al} {ah} {bl} {bh} is letter sa sb = elim (bit_cases letter track) [
-  | inr o ↦ (letter, sym (sa.map letter ∙ set al ah letter o), sym (sb.map letter ∙ set bl bh letter o))
+  | inr o ↦ (letter, sym (sa.map letter ∙ chosen-high shapes track al ah letter o), sym (sb.map letter ∙ chosen-high shapes track bl bh letter o))
   | inl z ↦
       let o = bit_at-flip_same letter track ∙ ap (λ n. (n + 1) % 2) z in (
         flip letter track,
-        flipped shapes is ah track letter sa.high_known sa.high_above ∙ sym (sa.map (flip letter track) ∙ set al ah (flip letter track) o),
-        flipped shapes is bh track letter sb.high_known sb.high_above ∙ sym (sb.map (flip letter track) ∙ set bl bh (flip letter track) o),
+        flipped shapes is ah track letter sa.high_known sa.high_above ∙ sym (sa.map (flip letter track) ∙ chosen-high shapes track al ah (flip letter track) o),
+        flipped shapes is bh track letter sb.high_known sb.high_above ∙ sym (sb.map (flip letter track) ∙ chosen-high shapes track bl bh (flip letter track) o),
       )
 ]
-  where
-    set : (low high l : ℕ) → bit_at l track ≡ 1 → chosen shapes track low high l ≡ map_at shapes high l
-    set low high l o = ap (λ n. if nat_eq n 0 then map_at shapes low l else map_at shapes high l) o
 
 -- one side at least of two nodes stands before its node
 pub sides-fall : (top top' track a b a_side b_side : ℕ) → track ≡ min top top' → a_side ≤ a
