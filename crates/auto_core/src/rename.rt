@@ -1,12 +1,11 @@
 //! Automata whose tracks take their bits from other variables.
-ghost use Rattle.std.specs.Prelude.{◌≡◌, ◌≢◌, ◌≤◌, ◌<◌, [], length, map, All, AllPairs, IfOk};
-ghost use Rattle.track_word.specs.Tracks.{with_vars, place, IsAscending};
-ghost use Rattle.letter_diagram.specs.Relabelled.{relabelled};
-ghost use Rattle.auto_core.specs.Automaton.{IsAutomaton, Accepts};
+ghost use Rattle.std.specs.Prelude.{◌≡◌, ◌≢◌, ◌≤◌, ◌<◌, [], length, All, AllPairs, IfOk};
+ghost use Rattle.track_word.specs.Tracks.{with_vars, IsAscending};
+ghost use Rattle.auto_core.specs.Automaton.{IsAutomaton};
 ghost use Rattle.auto_core.specs.Integers.{DecidesIntegers};
 ghost use Rattle.auto_core.specs.Reduced.{IsReduced};
 ghost use Rattle.auto_core.specs.Rows.{IsOverNodes, AreReadAt};
-ghost use Rattle.auto_core.specs.Words.{AcceptsWhere, AcceptsRenamed};
+ghost use Rattle.auto_core.specs.Words.{AcceptsReadAt, AcceptsRenamed};
 
 use crate::auto::Auto;
 use letter_diagram::{Diagrams, Node};
@@ -61,8 +60,7 @@ impl Auto {
         requires count { length places.now ≡ length self.now.tracks }
         requires places { All (λ place. place < length tracks.items) places.now }
         ensures tracks { IfOk result (λ r. r.tracks ≡ tracks.items) }
-        ensures words { IfOk result
-            (AcceptsWhere tracks.items (λ word. Accepts self.now (map (relabelled places.now) word))) }
+        ensures words { IfOk result (AcceptsReadAt self.now tracks.items places.now) }
         ensures accept { IfOk result (λ r. r.accept ≡ self.now.accept) }
         ensures integers { DecidesIntegers self.now → IfOk result (λ r. DecidesIntegers r) }
         ensures reduced { IsReduced self.now → AllPairs (λ x y. x ≢ y) places.now → IfOk result (λ r. IsReduced r) }
