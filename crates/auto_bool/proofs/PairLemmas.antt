@@ -65,7 +65,8 @@ module _ (tracks : List Var) (a b : Automaton) (connective : Connective) where
   fold-pair (letter ∷ letters) p q = fold-pair letters (next_state a p (restrict tracks a.tracks letter)) (next_state b q (restrict tracks b.tracks letter))
 
   -- a word leads to the pair of the states to which it leads on either side
-  pub place_of-pair : (word : List ℕ) → word ≢ [] → place_of (walker_over tracks a b connective) word ≡ state_of a (part_of tracks a.tracks word) ∷ state_of b (part_of tracks b.tracks word) ∷ []
+  pub place_of-pair : (word : List ℕ) → word ≢ []
+      → place_of (walker_over tracks a b connective) word ≡ state_of a (part_of tracks a.tracks word) ∷ state_of b (part_of tracks b.tracks word) ∷ []
   place_of-pair [] nonempty = absurd (nonempty refl)
   place_of-pair (sign ∷ letters) nonempty = fold-pair letters _ _
 

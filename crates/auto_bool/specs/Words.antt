@@ -1,8 +1,9 @@
--- What the automaton made of two accepts, over the tracks of both: each word is read on the argument's own tracks.
+-- What the automaton made of one or two others accepts: over the tracks of both, each reads a word on its own tracks.
 use Rattle.std.specs.Prelude.{◌↔◌, ◌⊎◌, ℕ, List, length}
 use Rattle.track_word.specs.Word.{IsWord}
 use Rattle.track_word.specs.Tracks.{part_of}
 use Rattle.auto_core.specs.Automaton.{Automaton, Accepts}
+use Rattle.auto_core.specs.Words.{AcceptsWhere}
 use Rattle.auto_core.specs.Spread.{BothSpreadExceeds}
 use Rattle.auto_bool.specs.declared.connective.Connective.{Connective}
 use Rattle.auto_bool.specs.declared.connective.Connective.TheVariants.{And, Or, AndNot}
@@ -24,6 +25,10 @@ abbrev pub AcceptsFirstOnly : Automaton → Automaton → Automaton → Type 0
 AcceptsFirstOnly a b m =
     (word : List ℕ) → IsWord (length m.tracks) word
     → Accepts m word ↔ (Accepts a (part_of m.tracks a.tracks word) × ¬ Accepts b (part_of m.tracks b.tracks word))
+
+-- the words over its tracks that it does not accept
+abbrev pub AcceptsComplement : Automaton → Automaton → Type 0
+AcceptsComplement a m = AcceptsWhere a.tracks (λ word. ¬ Accepts a word) m
 
 -- the words that the connective takes
 abbrev pub AcceptsBy : Connective → Automaton → Automaton → Automaton → Type 0

@@ -1,9 +1,7 @@
 //! The complement of an automaton.
-ghost use Rattle.std.specs.Prelude.{◌≡◌, ◌↔◌, List, ℕ, IfOk, length, map, not as not_bool};
-ghost use Rattle.track_word.specs.Word.{IsWord};
-ghost use Rattle.auto_core.specs.Automaton.{Accepts};
+ghost use Rattle.std.specs.Prelude.{◌≡◌, IfOk, map, not as not_bool};
 ghost use Rattle.auto_core.specs.Reduced.{IsReduced};
-ghost use Rattle.auto_core.specs.Rows.{IsOverNodes};
+ghost use Rattle.auto_bool.specs.Words.{AcceptsComplement};
 
 use auto_core::Auto;
 use letter_diagram::Node;
@@ -15,8 +13,7 @@ pub fn not(alloc: Global, a: &Auto) -> Result<Auto, AllocError>
     ensures first { IfOk result (λ n. n.first ≡ a.now.first) }
     ensures next { IfOk result (λ n. n.next ≡ a.now.next) }
     ensures accept { IfOk result (λ n. n.accept ≡ map not_bool a.now.accept) }
-    ensures words { IfOk result
-        (λ n. (word : List ℕ) → IsWord (length a.now.tracks) word → Accepts n word ↔ (¬ Accepts a.now word)) }
+    ensures words { IfOk result (AcceptsComplement a.now) }
     ensures reduced { IfOk result (λ n. IsReduced a.now → IsReduced n) }
 {
     let tracks = a.tracks().to_vec(alloc)?;

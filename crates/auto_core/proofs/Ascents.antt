@@ -33,7 +33,8 @@ rise-after : (x y : Var) (ys : List Var) → y.0 < x.0 → Rising (y ∷ ys) →
 rise-after x y [] h rising with_x = (h, tt)
 rise-after x y (z ∷ ys) h rising with_x = by (nat_lt x.0 z.0) (x.0 == z.0) with_x
   where
-    by : (b e : Bool) → Rising (if b then x ∷ z ∷ ys else (if e then z ∷ ys else z ∷ with_var x ys)) → Rising (y ∷ (if b then x ∷ z ∷ ys else (if e then z ∷ ys else z ∷ with_var x ys)))
+    by : (b e : Bool) → Rising (if b then x ∷ z ∷ ys else (if e then z ∷ ys else z ∷ with_var x ys))
+        → Rising (y ∷ (if b then x ∷ z ∷ ys else (if e then z ∷ ys else z ∷ with_var x ys)))
     by true e r = (h, r)
     by false true r = (rising.0, r)
     by false false r = (rising.0, r)

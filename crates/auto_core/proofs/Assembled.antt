@@ -83,7 +83,8 @@ pub flag-is : (rel : Rel) (bound : ℤ) (span : Span) (state : ℕ) (value : ℤ
     → IsTrue b ↔ Compares rel (to_z w32 (of_z w32 value)) bound → IsTrue b ↔ Compares rel (span.low +ℤ pos state) bound
 flag-is rel bound span state value b is within same tells = subst (λ v. IsTrue b ↔ Compares rel v bound) (roundtrip value span state is within same) tells
   where
-    roundtrip : (value : ℤ) (span : Span) (state : ℕ) → IsSpan span → (span.low +ℤ pos state) ≤ℤ span.high → value ≡ span.low +ℤ pos state → to_z w32 (of_z w32 value) ≡ span.low +ℤ pos state
+    roundtrip : (value : ℤ) (span : Span) (state : ℕ) → IsSpan span → (span.low +ℤ pos state) ≤ℤ span.high
+        → value ≡ span.low +ℤ pos state → to_z w32 (of_z w32 value) ≡ span.low +ℤ pos state
     roundtrip value span state is within same = let low = is.low in let high = is.high in omega (arith, ints, low, high, within, same)
 
 pub SFits-small : (w : ℤ) → IsSmall w → SFits w32 w
@@ -95,7 +96,8 @@ summed z r m g e f ms gs = omega (arith, ints, e, f, ms, gs)
 
 -- the values lie around the bound, and beyond what letters can bring back
 pub IsSpanOf-made : (weights : List ℤ) (bound low high : ℤ) → negsuc 999 ≤ℤ bound → bound ≤ℤ pos 1000 → sum_by gain weights ≤ 512 → sum_by loss weights ≤ 512
-    → low ≡ int_min (bound -ℤ pos 1) (neg_ℤ (pos (sum_by gain weights))) → high ≡ int_max (bound +ℤ pos 1) (pos (sum_by loss weights)) → IsSpanOf weights bound (record { low = low; high = high })
+    → low ≡ int_min (bound -ℤ pos 1) (neg_ℤ (pos (sum_by gain weights))) → high ≡ int_max (bound +ℤ pos 1) (pos (sum_by loss weights))
+    → IsSpanOf weights bound (record { low = low; high = high })
 IsSpanOf-made weights bound low high b c g l e f = record {
   is_span = record { some = omega (arith, ints, clamps, b, c, g, l, e, f); low = omega (arith, ints, clamps, b, c, g, l, e); high = omega (arith, ints, clamps, b, c, g, l, f) };
   below = omega (arith, ints, clamps, e);
@@ -122,8 +124,10 @@ IsSpanOf-cast weights bound most least low high fits b c g l m n e f =
     IsSpanOf-made weights bound (to_z w32 (of_z w32 low)) (to_z w32 (of_z w32 high)) b c g l
     (same low (sum_by gain weights) bound b c g low_is ∙ low_is) (same-high high (sum_by loss weights) bound b c l high_is ∙ high_is)
   where
-    same : (low : ℤ) (m : ℕ) (bound : ℤ) → negsuc 999 ≤ℤ bound → bound ≤ℤ pos 1000 → m ≤ 512 → low ≡ int_min (bound -ℤ pos 1) (neg_ℤ (pos m)) → to_z w32 (of_z w32 low) ≡ low
+    same : (low : ℤ) (m : ℕ) (bound : ℤ) → negsuc 999 ≤ℤ bound → bound ≤ℤ pos 1000 → m ≤ 512
+        → low ≡ int_min (bound -ℤ pos 1) (neg_ℤ (pos m)) → to_z w32 (of_z w32 low) ≡ low
     same low m bound b c g e = omega (arith, ints, clamps, b, c, g, e)
 
-    same-high : (high : ℤ) (m : ℕ) (bound : ℤ) → negsuc 999 ≤ℤ bound → bound ≤ℤ pos 1000 → m ≤ 512 → high ≡ int_max (bound +ℤ pos 1) (pos m) → to_z w32 (of_z w32 high) ≡ high
+    same-high : (high : ℤ) (m : ℕ) (bound : ℤ) → negsuc 999 ≤ℤ bound → bound ≤ℤ pos 1000 → m ≤ 512
+        → high ≡ int_max (bound +ℤ pos 1) (pos m) → to_z w32 (of_z w32 high) ≡ high
     same-high high m bound b c g e = omega (arith, ints, clamps, b, c, g, e)

@@ -80,7 +80,8 @@ division i width = grind (arith, common_steps)
 quotient_within : (i width count : ℕ) → 0 < width → i < count * width → i / width < count
 quotient_within i width count some h = (div-lt_iff_lt-mul some).1 h
 
-pub rows_of-is : (shapes : List Shape) (width : ℕ) (table nodes : List ℕ) → 0 < width → length table ≡ length nodes * width → AreRowsFrom shapes width table nodes → rows_of shapes width nodes ≡ table
+pub rows_of-is : (shapes : List Shape) (width : ℕ) (table nodes : List ℕ) → 0 < width → length table ≡ length nodes * width
+    → AreRowsFrom shapes width table nodes → rows_of shapes width nodes ≡ table
 rows_of-is shapes width table nodes some size are =
     let l = length-rows_of shapes width nodes in
     ext_get_or 0 (rows_of shapes width nodes) table (l ∙ sym size) (λ i h.

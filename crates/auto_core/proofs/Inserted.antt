@@ -7,7 +7,8 @@ use Rattle.track_word.specs.Tracks.{with_var, with_vars, place}
 eq-same : (x y : ℕ) → (x == y) ≡ true → y ≡ x
 eq-same x y h = grind (arith, common_steps, h)
 
-length-cons : (x y : Var) (ys : List Var) (b e : Bool) → length (with_var x ys) ≤ suc (length ys) → length (if b then x ∷ y ∷ ys else (if e then y ∷ ys else y ∷ with_var x ys)) ≤ suc (suc (length ys))
+length-cons : (x y : Var) (ys : List Var) (b e : Bool) → length (with_var x ys) ≤ suc (length ys)
+    → length (if b then x ∷ y ∷ ys else (if e then y ∷ ys else y ∷ with_var x ys)) ≤ suc (suc (length ys))
 length-cons x y ys true e h = omega arith
 length-cons x y ys false true h = omega arith
 length-cons x y ys false false h = omega (arith, h)
@@ -38,7 +39,8 @@ kept-tail : (v x y : Var) (ys : List Var) → (HasVar v ys → HasVar v (with_va
 kept-tail v x y ys rest (inl e) = inl e
 kept-tail v x y ys rest (inr h) = inr (rest h)
 
-kept-cons : (v x y : Var) (ys : List Var) (b e : Bool) → (HasVar v ys → HasVar v (with_var x ys)) → HasVar v (y ∷ ys) → HasVar v (if b then x ∷ y ∷ ys else (if e then y ∷ ys else y ∷ with_var x ys))
+kept-cons : (v x y : Var) (ys : List Var) (b e : Bool) → (HasVar v ys → HasVar v (with_var x ys)) → HasVar v (y ∷ ys)
+    → HasVar v (if b then x ∷ y ∷ ys else (if e then y ∷ ys else y ∷ with_var x ys))
 kept-cons v x y ys true e rest has = inr has
 kept-cons v x y ys false true rest has = has
 kept-cons v x y ys false false rest has = kept-tail v x y ys rest has

@@ -16,7 +16,8 @@ halved : (letter n : ℕ) → letter < 2 ^ suc n → letter / 2 < 2 ^ n
 halved letter n small = omega (arith, small)
 
 -- a letter is read where each of its bits stands at its place
-relabelled-is : (places : List ℕ) (from letter : ℕ) → letter < 2 ^ length places → ((i : ℕ) → i < length places → bit_at from (get_or places i 0) ≡ bit_at letter i) → relabelled places from ≡ letter
+relabelled-is : (places : List ℕ) (from letter : ℕ) → letter < 2 ^ length places
+    → ((i : ℕ) → i < length places → bit_at from (get_or places i 0) ≡ bit_at letter i) → relabelled places from ≡ letter
 relabelled-is [] from letter small bits = omega (arith, small)
 relabelled-is (p ∷ places) from letter small bits =
     let low = bits 0 (omega arith) in

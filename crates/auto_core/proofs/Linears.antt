@@ -1,21 +1,20 @@
 -- The automaton of sums decides its atom.
-use Rattle.std.proofs.Common.{◌≡◌, ◌↔◌, ℕ, zero, suc, ℤ, pos, negsuc, neg_ℤ, ◌+ℤ◌, ◌*ℤ◌, ◌+◌, ◌*◌, ◌<◌, ◌≤◌, Bool, true, false, List, [], ◌∷◌, length, map, get_or, slice_index, All, unsigned_abs, nat_lt, if◌then◌else◌, arith, refl, sym, ap, ◌∙◌, subst}
-use Rattle.std.specs.List.{sum_by}
+use Rattle.std.proofs.Common.{◌≡◌, ℕ, zero, suc, ℤ, pos, negsuc, neg_ℤ, ◌+ℤ◌, ◌*ℤ◌, ◌+◌, ◌*◌, ◌<◌, ◌≤◌, Bool, true, false, List, [], ◌∷◌, length, map, get_or, slice_index, All, unsigned_abs, nat_lt, if◌then◌else◌, arith, refl, sym, ap, ◌∙◌, subst}
 use Rattle.std.specs.Int.{bit_at}
 use Rattle.std.proofs.lemmas.Int.{ints}
 use Rattle.std.proofs.lemmas.List.Sums.{sum_by-cons}
 use Rattle.std.proofs.lemmas.List.{get_or_default, length-map}
 use Rattle.track_word.specs.declared.tracks.Var.{Var}
 use Rattle.track_word.specs.declared.atoms.Rel.{Rel}
-use Rattle.track_word.specs.Word.{IsWord}
 use Rattle.track_word.specs.Tracks.{IsAscending, place, word_values}
-use Rattle.track_word.specs.Atom.{Compares, IsAtom, IsCoefficient, sum_of, term_vars, atom_tracks}
+use Rattle.track_word.specs.Atom.{IsAtom, IsCoefficient, sum_of, term_vars, atom_tracks}
 use Rattle.letter_diagram.specs.declared.diagrams.Shape.{Shape}
 use Rattle.letter_diagram.specs.Diagram.{map_at, LooksBelow}
 use Rattle.auto_core.specs.declared.sums.Span.{Span}
-use Rattle.auto_core.specs.Automaton.{Automaton, IsAutomaton, width, first_state, next_state, state_of, Accepts}
+use Rattle.auto_core.specs.Automaton.{Automaton, IsAutomaton, width, first_state, next_state, state_of}
+use Rattle.auto_core.specs.Words.{AcceptsWhere}
 use Rattle.auto_core.specs.Rows.{AreRows, row_of, rows_of}
-use Rattle.auto_core.specs.Sums.{with_term, ordered_terms, gain, loss, weight_from, total, IsSmall, AreWeights, IsSpan, IsSpanOf, StandsFor, IsSumRow, AreSumRows, AreFlagsOf}
+use Rattle.auto_core.specs.Sums.{with_term, ordered_terms, gain, loss, reach_of, sizes_of, weight_from, total, SumCompares, IsSmall, AreWeights, IsSpan, IsSpanOf, StandsFor, IsSumRow, AreSumRows, AreFlagsOf}
 use Rattle.auto_core.proofs.Ascents.{IsAscending-with_vars, place-at}
 use Rattle.auto_core.proofs.Orders.{Each, Each-all, each-ordered, sum-ordered, length-ordered, vars-ordered, term_vars-map}
 use Rattle.auto_core.proofs.RowLemmas.{get_or-row_of, get_or-rows_of}
@@ -74,7 +73,8 @@ module _ (terms ordered : List (ℤ × Var)) (tracks : List Var) (weights : List
   pub total-is : (word : List ℕ) → total (weight_from 0 weights) word ≡ sum_of terms (word_values (atom_tracks terms) word)
   total-is word =
       ap (λ w. total w word) (sym same-weights)
-      ∙ total-sum tracks ordered word ∙ ap (λ l. sum_of l (word_values tracks word)) are.is ∙ sum-ordered terms (word_values tracks word) ∙ ap (λ t. sum_of terms (word_values t word)) tracks-atom
+      ∙ total-sum tracks ordered word ∙ ap (λ l. sum_of l (word_values tracks word)) are.is
+      ∙ sum-ordered terms (word_values tracks word) ∙ ap (λ t. sum_of terms (word_values t word)) tracks-atom
 
 stands-within : (span : Span) (x : ℤ) (s states : ℕ) → StandsFor span x s → pos states +ℤ span.low ≡ span.high +ℤ pos 1 → s < states
 stands-within span x s states is count = let w = is.within in omega (arith, ints, w, count)
@@ -84,7 +84,8 @@ row-narrow : (shapes : List Shape) (weights : List ℤ) (span : Span) (sum : ℤ
 row-narrow shapes weights span sum node tracks is size row = record {
   same = λ a b bits.
       let e = weight-same weights 0 a b (λ k h. bits k (omega (arith, h, size))) in
-      StandsFor-one span (sum +ℤ weight_from 0 weights b) (map_at shapes node a) (map_at shapes node b) is (subst (λ w. StandsFor span (sum +ℤ w) (map_at shapes node a)) e (row.map a)) (row.map b);
+      StandsFor-one span (sum +ℤ weight_from 0 weights b) (map_at shapes node a) (map_at shapes node b) is
+      (subst (λ w. StandsFor span (sum +ℤ w) (map_at shapes node a)) e (row.map a)) (row.map b);
 }
 
 -- the nodes of the rows of sums are rows of an automaton
@@ -136,8 +137,7 @@ module _ (a : Automaton) (shapes : List Shape) (weights opposite : List ℤ) (bo
       zero-add : (z : ℤ) → pos 0 +ℤ z ≡ z
       zero-add z = omega (arith, ints)
 
-  pub sum_words : (rel : Rel) → IsAutomaton a → AreFlagsOf rel bound span a.accept → (word : List ℕ) → IsWord (length a.tracks) word
-      → Accepts a word ↔ Compares rel (total (weight_from 0 weights) word) bound
+  pub sum_words : (rel : Rel) → IsAutomaton a → AreFlagsOf rel bound span a.accept → AcceptsWhere a.tracks (SumCompares weights rel bound) a
   sum_words rel is flags word word_is =
       let reads = stands-state_of a (weight_from 0 weights) (StandsFor span) is sum_reads word word_is in
       let tells = flags.tells (state_of a word) reads.1 in
@@ -171,7 +171,7 @@ magnitude : (z : ℤ) → gain z + loss z ≡ unsigned_abs z
 magnitude (pos n) = omega (arith, ints)
 magnitude (negsuc n) = omega (arith, ints)
 
-magnitudes : (terms : List (ℤ × Var)) → sum_by gain (map (λ t. t.0) terms) + sum_by loss (map (λ t. t.0) terms) ≡ sum_by (λ t. unsigned_abs t.0) terms
+magnitudes : (terms : List (ℤ × Var)) → reach_of (map (λ t. t.0) terms) ≡ sizes_of terms
 magnitudes [] = refl
 magnitudes (t ∷ terms) =
     let a = sum_by-cons gain t.0 (map (λ (t : ℤ × Var). t.0) terms) in
@@ -181,19 +181,19 @@ magnitudes (t ∷ terms) =
     let e = magnitudes terms in
     omega (arith, a, b, c, m, e)
 
-abs-cons : (b : Bool) (t u : ℤ × Var) (terms : List (ℤ × Var)) → sum_by (λ t. unsigned_abs t.0) (with_term t terms) ≡ unsigned_abs t.0 + sum_by (λ t. unsigned_abs t.0) terms
-    → sum_by (λ t. unsigned_abs t.0) (if b then t ∷ u ∷ terms else u ∷ with_term t terms) ≡ unsigned_abs t.0 + sum_by (λ t. unsigned_abs t.0) (u ∷ terms)
+abs-cons : (b : Bool) (t u : ℤ × Var) (terms : List (ℤ × Var)) → sizes_of (with_term t terms) ≡ unsigned_abs t.0 + sizes_of terms
+    → sizes_of (if b then t ∷ u ∷ terms else u ∷ with_term t terms) ≡ unsigned_abs t.0 + sizes_of (u ∷ terms)
 abs-cons true t u terms e = sum_by-cons (λ (t : ℤ × Var). unsigned_abs t.0) t (u ∷ terms)
 abs-cons false t u terms e =
     let a = sum_by-cons (λ (t : ℤ × Var). unsigned_abs t.0) u (with_term t terms) in
     let b = sum_by-cons (λ (t : ℤ × Var). unsigned_abs t.0) u terms in
     omega (arith, a, b, e)
 
-abs-with_term : (t : ℤ × Var) (terms : List (ℤ × Var)) → sum_by (λ t. unsigned_abs t.0) (with_term t terms) ≡ unsigned_abs t.0 + sum_by (λ t. unsigned_abs t.0) terms
+abs-with_term : (t : ℤ × Var) (terms : List (ℤ × Var)) → sizes_of (with_term t terms) ≡ unsigned_abs t.0 + sizes_of terms
 abs-with_term t [] = sum_by-cons (λ (t : ℤ × Var). unsigned_abs t.0) t []
 abs-with_term t (u ∷ terms) = abs-cons (nat_lt t.1.0 u.1.0) t u terms (abs-with_term t terms)
 
-abs-ordered : (terms : List (ℤ × Var)) → sum_by (λ t. unsigned_abs t.0) (ordered_terms terms) ≡ sum_by (λ t. unsigned_abs t.0) terms
+abs-ordered : (terms : List (ℤ × Var)) → sizes_of (ordered_terms terms) ≡ sizes_of terms
 abs-ordered [] = refl
 abs-ordered (t ∷ terms) =
     let a = abs-with_term t (ordered_terms terms) in
@@ -203,7 +203,7 @@ abs-ordered (t ∷ terms) =
 
 -- the weights' magnitudes are those of the terms
 pub weights-size : (terms ordered : List (ℤ × Var)) (tracks : List Var) (weights : List ℤ) → AreOrdered terms ordered tracks weights
-    → sum_by gain weights + sum_by loss weights ≡ sum_by (λ t. unsigned_abs t.0) terms
+    → reach_of weights ≡ sizes_of terms
 weights-size terms ordered tracks weights are =
-    ap (λ w. sum_by gain w + sum_by loss w) (are.weights_are ∙ ap (map (λ (t : ℤ × Var). t.0)) are.is) ∙ magnitudes (ordered_terms terms)
+    ap reach_of (are.weights_are ∙ ap (map (λ (t : ℤ × Var). t.0)) are.is) ∙ magnitudes (ordered_terms terms)
     ∙ abs-ordered terms

@@ -9,6 +9,7 @@ use Rattle.track_word.specs.declared.tracks.Var.{Var}
 use Rattle.track_word.specs.Word.{IsWord, val, repeat_first, repeated, spelled, letters_below, letter_of, FitsBelow, BitsSpell, RepeatKeepsValues, EqualValuesEqualWords}
 use Rattle.track_word.specs.Tracks.{IsAscending, Values, place, word_values, values_at}
 use Rattle.auto_core.specs.Automaton.{Automaton, IsAutomaton, Accepts, run, first_state, next_state, state_of, is_final}
+use Rattle.auto_core.specs.Words.{AcceptsWhere}
 use Rattle.auto_core.specs.Integers.{DecidesIntegers, IsWordOf, IsAccepted, IsLeft, word_of}
 use Rattle.auto_core.proofs.Ascents.{place-at}
 
@@ -88,7 +89,7 @@ module _ (a : Automaton) (values : List ℤ) (is : IsAutomaton a) (count : lengt
 
 -- an automaton that decides what holds of values decides a set of integers
 pub DecidesIntegers-values : RepeatKeepsValues → (a : Automaton) (tracks : List Var) (P : Values → Type 0) → a.tracks ≡ tracks
-    → ((word : List ℕ) → IsWord (length tracks) word → Accepts a word ↔ P (word_values tracks word)) → DecidesIntegers a
+    → AcceptsWhere tracks (λ word. P (word_values tracks word)) a → DecidesIntegers a
 DecidesIntegers-values keeps a tracks P same decides = record {
   stable = λ word is.
       let own = decides word (rw (← same) is) in

@@ -73,7 +73,8 @@ pub same-var : (x y : Var) → x.0 ≡ y.0 → x ≡ y
 same-var x y e = grind (arith, e)
 
 vars-cons : (b e : Bool) (t u : ℤ × Var) (terms : List (ℤ × Var)) → nat_lt t.1.0 u.1.0 ≡ b → e ≡ false → term_vars (with_term t terms) ≡ with_var t.1 (term_vars terms)
-    → term_vars (if b then t ∷ u ∷ terms else u ∷ with_term t terms) ≡ (if b then t.1 ∷ u.1 ∷ term_vars terms else (if e then u.1 ∷ term_vars terms else u.1 ∷ with_var t.1 (term_vars terms)))
+    → term_vars (if b then t ∷ u ∷ terms else u ∷ with_term t terms)
+    ≡ (if b then t.1 ∷ u.1 ∷ term_vars terms else (if e then u.1 ∷ term_vars terms else u.1 ∷ with_var t.1 (term_vars terms)))
 vars-cons true e t u terms at differ rest = refl
 vars-cons false true t u terms at differ rest = absurd (true≢false differ)
 vars-cons false false t u terms at differ rest = ap (λ l. u.1 ∷ l) rest

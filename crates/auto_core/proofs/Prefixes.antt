@@ -18,6 +18,7 @@ use Rattle.std.proofs.lemmas.List.{get_or_default}
 use Rattle.track_word.specs.declared.tracks.Var.{Var}
 use Rattle.track_word.specs.Tracks.{place, IsAscending}
 use Rattle.track_word.specs.Atom.{ValueHolds}
+use Rattle.auto_core.specs.Words.{AcceptsWhere}
 use Rattle.auto_core.specs.Rows.{AreTables}
 use Rattle.auto_core.specs.Prefix.{IsPrefixState, ArePrefixRows, AreAllPrefixRows, IsFirstFlag}
 
@@ -122,7 +123,8 @@ module _ (a : Automaton) (value : ℤ) (fits : SFits w64 value) (one : width a �
         rw (weight-below letter small) (
         elim (cases_lt state 64) [
           | inl left ↦ subst (λ r. IsPrefixState value (r +ℤ r +ℤ pos letter) (next_state a state letter)) (here.found left)
-              (subst (λ k. IsPrefixState value (int_shr value state +ℤ int_shr value state +ℤ pos letter) (slice_index a.next k)) (sym (place state)) (rows.prefixes.after state letter left small))
+              (subst (λ k. IsPrefixState value (int_shr value state +ℤ int_shr value state +ℤ pos letter) (slice_index a.next k))
+              (sym (place state)) (rows.prefixes.after state letter left small))
           | inr past ↦
               let end : state ≡ 64 = omega (arith, past, inside) in
               let there : next_state a state letter ≡ 64 =
@@ -192,9 +194,9 @@ AreTables-prefix var value s t rows flags zero_read sign_read are flag =
     two s t n hs ht (suc (suc i)) d h = absurd (omega (arith, h))
 
 -- the automaton of these tables decides whether the variable has the value
-pub value_words : (a : Automaton) (var : Var) (value : ℤ) (s t : ℕ) → SFits w64 value → IsAutomaton a → a.tracks ≡ var ∷ [] → a.first ≡ s ∷ t ∷ [] → AreAllPrefixRows value a.next
-    → IsFirstFlag a.accept
-    → IsPrefixState value (pos 0) s → IsPrefixState value (negsuc 0) t → (word : List ℕ) → IsWord 1 word → Accepts a word ↔ ValueHolds var value word
+pub value_words : (a : Automaton) (var : Var) (value : ℤ) (s t : ℕ) → SFits w64 value → IsAutomaton a
+    → a.tracks ≡ var ∷ [] → a.first ≡ s ∷ t ∷ [] → AreAllPrefixRows value a.next
+    → IsFirstFlag a.accept → IsPrefixState value (pos 0) s → IsPrefixState value (negsuc 0) t → AcceptsWhere (var ∷ []) (ValueHolds var value) a
 value_words a var value s t fits is tracks first rows flag zero_read sign_read word are =
     let one : length a.tracks ≡ 1 = ap length tracks in
     let words = prefix_words a value fits (ap (λ n. 2 ^ n) one) flag.size
@@ -203,8 +205,8 @@ value_words a var value s t fits is tracks first rows flag zero_read sign_read w
 
 -- the same, where the tables were made for a number that is the value
 pub value_words-same : (a : Automaton) (var : Var) (value made : ℤ) (s t : ℕ) → made ≡ value → SFits w64 value → IsAutomaton a → a.tracks ≡ var ∷ [] → a.first ≡ s ∷ t ∷ []
-    → AreAllPrefixRows made a.next → IsFirstFlag a.accept
-    → IsPrefixState made (pos 0) s → IsPrefixState made (negsuc 0) t → (word : List ℕ) → IsWord 1 word → Accepts a word ↔ ValueHolds var value word
+    → AreAllPrefixRows made a.next → IsFirstFlag a.accept → IsPrefixState made (pos 0) s → IsPrefixState made (negsuc 0) t
+    → AcceptsWhere (var ∷ []) (ValueHolds var value) a
 value_words-same a var value made s t same fits is tracks first rows flag zero_read sign_read =
     value_words a var value s t fits is tracks first (subst (λ v. AreAllPrefixRows v a.next) same rows) flag
     (subst (λ v. IsPrefixState v (pos 0) s) same zero_read) (subst (λ v. IsPrefixState v (negsuc 0) t) same sign_read)

@@ -10,13 +10,11 @@ use Rattle.track_word.specs.Tracks.{IsAscending, place, part_of}
 use Rattle.letter_diagram.specs.declared.diagrams.Shape.{Shape}
 use Rattle.letter_diagram.specs.Diagram.{map_at, LooksBelow}
 use Rattle.letter_diagram.specs.Relabelled.{relabelled}
-use Rattle.letter_diagram.specs.Carried.{IsCarried}
-use Rattle.letter_diagram.specs.Listed.{EachAnswers}
 use Rattle.letter_diagram.proofs.Narrow.{relabelled-below}
 use Rattle.auto_core.specs.Automaton.{Automaton, width, first_state, next_state, run, state_of, is_final, Accepts}
 use Rattle.auto_core.specs.Integers.{DecidesIntegers}
 use Rattle.auto_core.specs.Reduced.{IsReduced}
-use Rattle.auto_core.specs.Rows.{AreRows, IsOverNodes}
+use Rattle.auto_core.specs.Rows.{AreRows, IsOverNodes, AreReadAt}
 use Rattle.auto_core.proofs.NodeMaps.{first-map, row-map}
 use Rattle.auto_core.proofs.Restricted.{relabelled-places}
 
@@ -40,7 +38,7 @@ pub record AreRenamed (a : Automaton) (shapes : List Shape) (places : List ℕ) 
 
 -- the nodes that were brought for an automaton's rows, that of the first row apart
 pub AreRenamed-brought : (a : Automaton) (shapes : List Shape) (places answers : List ℕ) (first : ℕ) (rows : List ℕ)
-    → EachAnswers (IsCarried a.shapes shapes (relabelled places) (λ value. value)) (a.first_node ∷ a.row_nodes) answers → first ≡ slice_index_or answers 0 first
+    → AreReadAt a places shapes answers → first ≡ slice_index_or answers 0 first
     → rows ≡ remove answers 0
     → AreRenamed a shapes places first rows
 AreRenamed-brought a shapes places [] first rows brought is rest = let size = brought.size in absurd (omega (arith, size))

@@ -30,7 +30,8 @@ module _ (shapes : List Shape) (width : ℕ) where
       let rest = length-rows_of nodes in
       omega (arith, l, r, rest)
 
-  pub get_or-rows_of : (nodes : List ℕ) (i letter d : ℕ) → i < length nodes → letter < width → get_or (rows_of shapes width nodes) (i * width + letter) 0 ≡ map_at shapes (get_or nodes i d) letter
+  pub get_or-rows_of : (nodes : List ℕ) (i letter d : ℕ) → i < length nodes → letter < width
+      → get_or (rows_of shapes width nodes) (i * width + letter) 0 ≡ map_at shapes (get_or nodes i d) letter
   unfolding rows_of
   get_or-rows_of [] i letter d h l = absurd (omega arith)
   get_or-rows_of (n ∷ nodes) zero letter d h l =

@@ -61,7 +61,8 @@ StandsFor-one span x s t is a b =
     (λ high. let p = a.between low high in let q = b.between low high in omega (arith, ints, p, q)))
 
 -- one more letter after a sum, from the value of its state
-pub StandsFor-more : (weights : List ℤ) (bound : ℤ) (span : Span) (x d : ℤ) (s t : ℕ) → IsSpanOf weights bound span → IsBetween (sum_by loss weights) (sum_by gain weights) d → StandsFor span x s
+pub StandsFor-more : (weights : List ℤ) (bound : ℤ) (span : Span) (x d : ℤ) (s t : ℕ) → IsSpanOf weights bound span
+    → IsBetween (sum_by loss weights) (sum_by gain weights) d → StandsFor span x s
     → StandsFor span (((span.low +ℤ pos s) +ℤ (span.low +ℤ pos s)) +ℤ d) t → StandsFor span (x +ℤ x +ℤ d) t
 StandsFor-more weights bound span x d s t is between here there =
     let gains = is.gains in

@@ -83,7 +83,8 @@ next_within a state letter is known below =
         mul-below : (state states width : ℕ) → state < states → state * width + width ≤ states * width
         mul-below state states width h = grind (arith, h)
 
-stands-run : (a : Automaton) (weight : ℕ → ℤ) (Stands : ℤ → ℕ → Type 0) → IsAutomaton a → ReadsTotals a weight Stands → (letters : List ℕ) (x : ℤ) (state : ℕ) → state < length a.accept
+stands-run : (a : Automaton) (weight : ℕ → ℤ) (Stands : ℤ → ℕ → Type 0) → IsAutomaton a → ReadsTotals a weight Stands
+    → (letters : List ℕ) (x : ℤ) (state : ℕ) → state < length a.accept
     → All (λ letter. letter < width a) letters → Stands x state → Stands (fold (step weight) x letters) (run a state letters) × (run a state letters < length a.accept)
 stands-run a weight Stands is reads [] x state known all here = (here, known)
 stands-run a weight Stands is reads (letter ∷ letters) x state known all here =

@@ -3,6 +3,7 @@ pub use Rattle.track_word.specs.Tracks
 pub use Rattle.track_word.specs.Atom
 pub use Rattle.letter_diagram.specs.Diagram
 pub mod Automaton
+pub mod Words
 pub mod Rows
 pub mod Dense
 pub mod Prefix

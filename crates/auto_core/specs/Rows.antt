@@ -1,12 +1,15 @@
 -- Rows of an automaton as nodes of diagrams.
-use Rattle.std.specs.Prelude.{◌≡◌, ℕ, ◌*◌, ◌^◌, ◌<◌, ◌≤◌, Bool, List, length, All, map}
+use Rattle.std.specs.Prelude.{◌≡◌, ℕ, ◌*◌, ◌^◌, ◌<◌, ◌≤◌, Bool, List, ◌∷◌, length, All, map}
 use Rattle.std.specs.List.{range_with_len, flat_map}
 use Rattle.limits.specs.declared.numbers.TheConstants.{MOST_TRACKS}
 use Rattle.track_word.specs.declared.tracks.Var.{Var}
 use Rattle.track_word.specs.Tracks.{IsAscending}
 use Rattle.letter_diagram.specs.declared.diagrams.Shape.{Shape}
 use Rattle.letter_diagram.specs.Diagram.{map_at, LooksBelow}
-use Rattle.auto_core.specs.Automaton.{Automaton}
+use Rattle.letter_diagram.specs.Carried.{IsCarried}
+use Rattle.letter_diagram.specs.Listed.{EachAnswers}
+use Rattle.letter_diagram.specs.Relabelled.{relabelled}
+use Rattle.auto_core.specs.Automaton.{Automaton, width}
 
 -- the values of a node's map at the letters below a width
 unfoldable pub row_of : List Shape → ℕ → ℕ → List ℕ
@@ -15,6 +18,19 @@ row_of shapes width node = map (map_at shapes node) (range_with_len 0 width)
 -- the rows of some nodes, one after another
 unfoldable pub rows_of : List Shape → ℕ → List ℕ → List ℕ
 rows_of shapes width nodes = flat_map (row_of shapes width) nodes
+
+-- the node's map leads each letter to the state that a row has for it
+abbrev pub IsNodeOfRow : Automaton → (ℕ → ℕ) → ℕ → Type 0
+IsNodeOfRow a row node = (letter : ℕ) → letter < width a → map_at a.shapes node letter ≡ row letter
+
+-- the node of the first row, then the nodes of the states' rows
+abbrev pub all_nodes : Automaton → List ℕ
+all_nodes a = a.first_node ∷ a.row_nodes
+
+-- nodes of other shapes, one for each of the automaton's, that read each letter by its bits at the places
+abbrev pub AreReadAt : Automaton → List ℕ → List Shape → List ℕ → Type 0
+AreReadAt a places shapes nodes =
+    EachAnswers (IsCarried a.shapes shapes (relabelled places) (λ value. value)) (all_nodes a) nodes
 
 -- the automaton whose rows these nodes are
 abbrev pub dense : List Var → List Shape → ℕ → List ℕ → List Bool → Automaton

@@ -34,6 +34,14 @@ abbrev pub loss : ℤ → ℕ
 loss (pos n) = 0
 loss (negsuc n) = suc n
 
+-- how far the weights reach, up and down together
+abbrev pub reach_of : List ℤ → ℕ
+reach_of weights = sum_by gain weights + sum_by loss weights
+
+-- what the coefficients come to without their signs
+abbrev pub sizes_of : List (ℤ × Var) → ℕ
+sizes_of terms = sum_by (λ t. unsigned_abs t.0) terms
+
 -- the weights of a letter's bits, by the tracks from a track on
 abbrev pub weight_from : ℕ → List ℤ → ℕ → ℤ
 weight_from track [] letter = pos 0
@@ -48,6 +56,10 @@ step weight x letter = x +ℤ x +ℤ weight letter
 abbrev pub total : (ℕ → ℤ) → List ℕ → ℤ
 total weight [] = pos 0
 total weight (sign ∷ letters) = fold (step weight) (neg_ℤ (weight sign)) letters
+
+-- what the weights of a word's letters come to compares with the bound
+abbrev pub SumCompares : List ℤ → Rel → ℤ → List ℕ → Type 0
+SumCompares weights rel bound word = Compares rel (total (weight_from 0 weights) word) bound
 
 -- small weights of ascending tracks, and those of a sign letter
 pub record AreWeights (tracks : List Var) (weights opposite : List ℤ) : Type 0 where
@@ -75,7 +87,7 @@ pub record IsSpanOf (weights : List ℤ) (bound : ℤ) (span : Span) : Type 0 wh
   pub above : (bound +ℤ pos 1) ≤ℤ span.high
   pub gains : (span.low +ℤ pos (sum_by gain weights)) ≤ℤ pos 0
   pub losses : pos (sum_by loss weights) ≤ℤ span.high
-  pub size : span.high ≤ℤ (span.low +ℤ pos (sum_by gain weights + sum_by loss weights + unsigned_abs bound + 2))
+  pub size : span.high ≤ℤ (span.low +ℤ pos (reach_of weights + unsigned_abs bound + 2))
 
 -- the state of the sum: its distance from the lowest value, or an end
 pub record StandsFor (span : Span) (sum : ℤ) (state : ℕ) : Type 0 where

@@ -1,7 +1,7 @@
 //! The automaton, and its rows as nodes.
-ghost use Rattle.std.specs.Prelude.{◌≡◌, ◌<◌, ◌^◌, ◌∷◌, ℕ, length, slice_get, Some, IfOk};
+ghost use Rattle.std.specs.Prelude.{◌≡◌, ◌<◌, ◌^◌, ℕ, length, slice_get, Some, IfOk};
 ghost use Rattle.auto_core.specs.Automaton.{first_state, next_state, IsAutomaton};
-ghost use Rattle.auto_core.specs.Rows.{AreRows, IsOverNodes, row_of, rows_of};
+ghost use Rattle.auto_core.specs.Rows.{AreRows, IsOverNodes, IsNodeOfRow, all_nodes, row_of, rows_of};
 ghost use Rattle.letter_diagram.specs.Diagram.{map_at, LooksBelow, IsDiagram};
 
 use letter_diagram::{Diagrams, Node};
@@ -71,8 +71,7 @@ impl Auto {
         ensures is { result ≡ self.now.first_node }
         ensures known { result < length self.now.shapes }
         ensures narrow { LooksBelow self.now.shapes result (length self.now.tracks) }
-        ensures map { (letter : ℕ) → letter < 2 ^ length self.now.tracks
-            → map_at self.now.shapes result letter ≡ first_state self.now letter }
+        ensures map { IsNodeOfRow self.now (first_state self.now) result }
         ensures within { (letter : ℕ) → map_at self.now.shapes result letter < length self.now.accept }
     {
         self.first
@@ -84,8 +83,7 @@ impl Auto {
         ensures is { slice_get self.now.row_nodes state ≡ Some result }
         ensures known { result < length self.now.shapes }
         ensures narrow { LooksBelow self.now.shapes result (length self.now.tracks) }
-        ensures map { (letter : ℕ) → letter < 2 ^ length self.now.tracks
-            → map_at self.now.shapes result letter ≡ next_state self.now state letter }
+        ensures map { IsNodeOfRow self.now (next_state self.now state) result }
         ensures within { (letter : ℕ) → map_at self.now.shapes result letter < length self.now.accept }
     {
         self.rows[state as usize]
@@ -100,7 +98,7 @@ impl Auto {
 
     /// The node of the first row, then the nodes of the states' rows.
     pub fn all_nodes(&self, alloc: Global) -> Result<Vec<Node>, AllocError>
-        ensures nodes { IfOk result (λ nodes. nodes.items ≡ self.now.first_node ∷ self.now.row_nodes) }
+        ensures nodes { IfOk result (λ nodes. nodes.items ≡ all_nodes self.now) }
         ensures over { IsOverNodes self.now }
     {
         let mut nodes = vec![in alloc; self.first]?;

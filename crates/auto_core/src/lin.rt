@@ -3,14 +3,14 @@
 //! After each letter the sum comes to twice what it was and the coefficients of the letter's bits, after the sign letter to
 //! minus these (Büchi 1960). A state stands for one value of the sum, the first and the last state also for all values beyond:
 //! from these no further letter leads back.
-ghost use Rattle.std.specs.Prelude.{◌≡◌, ◌↔◌, ◌≤◌, ◌<◌, ◌+◌, ◌≤ℤ◌, ◌<ℤ◌, ℕ, List, pos, negsuc, length, map, neg_ℤ, ◌+ℤ◌, All, IfOk, IsTrue, unsigned_abs};
+ghost use Rattle.std.specs.Prelude.{◌≡◌, ◌↔◌, ◌≤◌, ◌<◌, ◌+◌, ◌≤ℤ◌, ◌<ℤ◌, ℕ, pos, negsuc, length, map, neg_ℤ, ◌+ℤ◌, All, IfOk, IsTrue, unsigned_abs};
 ghost use Rattle.std.specs.List.{sum_by};
-ghost use Rattle.track_word.specs.Word.{IsWord};
 ghost use Rattle.track_word.specs.Atom.{IsAtom, AtomHolds, Compares, atom_tracks, term_vars};
 ghost use Rattle.letter_diagram.specs.Diagram.{Grows};
-ghost use Rattle.auto_core.specs.Automaton.{IsAutomaton, Accepts};
+ghost use Rattle.auto_core.specs.Automaton.{IsAutomaton};
 ghost use Rattle.auto_core.specs.Integers.{DecidesIntegers};
-ghost use Rattle.auto_core.specs.Sums.{ordered_terms, IsSmall, IsSumRow, AreSumRows, AreFlagsOf, StandsFor, IsSpan, IsSpanOf, AreWeights, weight_from, total, gain, loss};
+ghost use Rattle.auto_core.specs.Sums.{ordered_terms, IsSmall, IsSumRow, AreSumRows, AreFlagsOf, StandsFor, IsSpan, IsSpanOf, AreWeights, SumCompares, reach_of, sizes_of, gain, loss};
+ghost use Rattle.auto_core.specs.Words.{AcceptsWhere};
 
 use crate::auto::Auto;
 use crate::sums::{Span, row};
@@ -26,11 +26,8 @@ impl Auto {
     pub fn lin(alloc: Global, terms: &[(i8, Var)], rel: Rel, bound: i32) -> Result<Auto, AllocError>
         requires { IsAtom terms.now bound }
         ensures tracks { IfOk result (λ a. a.tracks ≡ atom_tracks terms.now) }
-        ensures words { IfOk result
-            (λ a. (word : List ℕ) → IsWord (length (atom_tracks terms.now)) word
-            → Accepts a word ↔ AtomHolds terms.now rel bound word) }
-        ensures few { IfOk result
-            (λ a. length a.accept ≤ sum_by (λ t. unsigned_abs t.0) terms.now + unsigned_abs bound + 3) }
+        ensures words { IfOk result (AcceptsWhere (atom_tracks terms.now) (AtomHolds terms.now rel bound)) }
+        ensures few { IfOk result (λ a. length a.accept ≤ sizes_of terms.now + unsigned_abs bound + 3) }
         ensures integers { IfOk result (λ a. DecidesIntegers a) }
         ensures valid { IfOk result (λ a. IsAutomaton a) }
     {
@@ -64,11 +61,8 @@ fn sum_automaton(
     requires low { negsuc 999 ≤ℤ bound }
     requires high { bound ≤ℤ pos 1000 }
     ensures tracks { IfOk result (λ a. a.tracks ≡ tracks.items) }
-    ensures words { IfOk result
-        (λ a. (word : List ℕ) → IsWord (length tracks.items) word
-        → Accepts a word ↔ Compares rel (total (weight_from 0 weights.now) word) bound) }
-    ensures few { IfOk result
-        (λ a. length a.accept ≤ sum_by gain weights.now + sum_by loss weights.now + unsigned_abs bound + 3) }
+    ensures words { IfOk result (AcceptsWhere tracks.items (SumCompares weights.now rel bound)) }
+    ensures few { IfOk result (λ a. length a.accept ≤ reach_of weights.now + unsigned_abs bound + 3) }
     ensures valid { IfOk result (λ a. IsAutomaton a) }
 {
     let span = span_of(weights, bound);

@@ -1,14 +1,11 @@
 //! Automata whose tracks take their bits from other variables.
-ghost use Rattle.std.specs.Prelude.{◌≡◌, ◌≢◌, ◌↔◌, ◌≤◌, ◌<◌, ◌^◌, ◌∷◌, [], ℕ, List, length, map, slice_index, All, AllPairs, IfOk, IsTrue};
-ghost use Rattle.track_word.specs.Word.{IsWord};
-ghost use Rattle.track_word.specs.Tracks.{with_vars, place, part_of, IsAscending};
-ghost use Rattle.letter_diagram.specs.Carried.{IsCarried};
-ghost use Rattle.letter_diagram.specs.Listed.{EachAnswers};
-ghost use Rattle.letter_diagram.specs.Relabelled.{relabelled};
-ghost use Rattle.auto_core.specs.Automaton.{IsAutomaton, Accepts};
+ghost use Rattle.std.specs.Prelude.{◌≡◌, ◌≢◌, ◌≤◌, ◌<◌, [], length, All, AllPairs, IfOk};
+ghost use Rattle.track_word.specs.Tracks.{with_vars, IsAscending};
+ghost use Rattle.auto_core.specs.Automaton.{IsAutomaton};
 ghost use Rattle.auto_core.specs.Integers.{DecidesIntegers};
 ghost use Rattle.auto_core.specs.Reduced.{IsReduced};
-ghost use Rattle.auto_core.specs.Rows.{IsOverNodes};
+ghost use Rattle.auto_core.specs.Rows.{IsOverNodes, AreReadAt};
+ghost use Rattle.auto_core.specs.Words.{AcceptsReadAt, AcceptsRenamed};
 
 use crate::auto::Auto;
 use letter_diagram::{Diagrams, Node};
@@ -23,9 +20,7 @@ impl Auto {
     pub fn rename(&self, alloc: Global, vars: &[Var]) -> Result<Auto, AllocError>
         requires { length vars.now ≡ length self.now.tracks }
         ensures tracks { IfOk result (λ r. r.tracks ≡ with_vars vars.now []) }
-        ensures words { IfOk result
-            (λ r. (word : List ℕ) → IsWord (length r.tracks) word
-            → Accepts r word ↔ Accepts self.now (part_of r.tracks vars.now word)) }
+        ensures words { IfOk result (AcceptsRenamed self.now vars.now) }
         ensures accept { IfOk result (λ r. r.accept ≡ self.now.accept) }
         ensures integers { DecidesIntegers self.now → IfOk result (λ r. DecidesIntegers r) }
         ensures reduced { IsReduced self.now → AllPairs (λ x y. x ≢ y) vars.now → IfOk result (λ r. IsReduced r) }
@@ -45,9 +40,7 @@ impl Auto {
         requires count { length places.now ≡ length self.now.tracks }
         requires places { All (λ place. place < MOST_TRACKS) places.now }
         ensures over { IsOverNodes self.now }
-        ensures brought { IfOk result
-            (λ made. EachAnswers (IsCarried self.now.shapes made.0 (relabelled places.now) (λ value. value))
-            (self.now.first_node ∷ self.now.row_nodes) made.1.items) }
+        ensures brought { IfOk result (λ made. AreReadAt self.now places.now made.0 made.1.items) }
     {
         let nodes = self.all_nodes(alloc)?;
         let mut diagrams = Diagrams::with_capacity(alloc, self.diagrams().len())?;
@@ -67,9 +60,7 @@ impl Auto {
         requires count { length places.now ≡ length self.now.tracks }
         requires places { All (λ place. place < length tracks.items) places.now }
         ensures tracks { IfOk result (λ r. r.tracks ≡ tracks.items) }
-        ensures words { IfOk result
-            (λ r. (word : List ℕ) → IsWord (length tracks.items) word
-            → Accepts r word ↔ Accepts self.now (map (relabelled places.now) word)) }
+        ensures words { IfOk result (AcceptsReadAt self.now tracks.items places.now) }
         ensures accept { IfOk result (λ r. r.accept ≡ self.now.accept) }
         ensures integers { DecidesIntegers self.now → IfOk result (λ r. DecidesIntegers r) }
         ensures reduced { IsReduced self.now → AllPairs (λ x y. x ≢ y) places.now → IfOk result (λ r. IsReduced r) }

@@ -1,11 +1,11 @@
 //! Automata that decide whether a variable has a value.
-ghost use Rattle.std.specs.Prelude.{◌≡◌, ◌↔◌, ◌≤◌, ◌<◌, ◌+ℤ◌, pos, ◌∷◌, [], List, ℕ, length, IfOk};
+ghost use Rattle.std.specs.Prelude.{◌≡◌, ◌≤◌, ◌<◌, ◌+ℤ◌, pos, ◌∷◌, [], length, IfOk};
 ghost use Rattle.std.specs.Int.{int_shr};
-ghost use Rattle.track_word.specs.Word.{IsWord};
 ghost use Rattle.track_word.specs.Atom.{ValueHolds};
-ghost use Rattle.auto_core.specs.Automaton.{IsAutomaton, Accepts};
+ghost use Rattle.auto_core.specs.Automaton.{IsAutomaton};
 ghost use Rattle.auto_core.specs.Integers.{DecidesIntegers};
 ghost use Rattle.auto_core.specs.Prefix.{IsPrefixState, AreAllPrefixRows, IsFirstFlag};
+ghost use Rattle.auto_core.specs.Words.{AcceptsWhere};
 
 use crate::auto::Auto;
 use std::alloc::{AllocError, Global};
@@ -19,8 +19,7 @@ impl Auto {
     /// Decides `var = value`. A state stands for what has been read so far, where that is the value without some of its last bits.
     pub fn value(alloc: Global, var: Var, value: i64) -> Result<Auto, AllocError>
         ensures tracks { IfOk result (λ a. a.tracks ≡ var ∷ []) }
-        ensures words { IfOk result
-            (λ a. (word : List ℕ) → IsWord 1 word → Accepts a word ↔ ValueHolds var value word) }
+        ensures words { IfOk result (AcceptsWhere (var ∷ []) (ValueHolds var value)) }
         ensures few { IfOk result (λ a. length a.accept ≤ 66) }
         ensures integers { IfOk result (λ a. DecidesIntegers a) }
         ensures valid { IfOk result (λ a. IsAutomaton a) }

@@ -1,5 +1,5 @@
 -- The walk over residues.
-use Rattle.std.proofs.Common.{◌≡◌, ◌↔◌, ℕ, suc, ◌+◌, ◌-◌, ◌*◌, ◌%◌, ◌^◌, ◌<◌, pos, ◌+ℤ◌, ◌-ℤ◌, true, List, [], ◌∷◌, length, get_or, slice_get, Some, nat_eq, if◌then◌else◌, arith, refl, sym, ap, ◌∙◌, subst, inl, inr}
+use Rattle.std.proofs.Common.{◌≡◌, ℕ, suc, ◌+◌, ◌-◌, ◌*◌, ◌%◌, ◌^◌, ◌<◌, pos, ◌+ℤ◌, ◌-ℤ◌, true, List, [], ◌∷◌, length, get_or, slice_get, Some, nat_eq, if◌then◌else◌, arith, refl, sym, ap, ◌∙◌, subst, inl, inr}
 use Rattle.std.specs.List.{fold}
 use Rattle.std.specs.Int.{bit_at, int_rem_euclid}
 use Rattle.std.proofs.lemmas.Int.{int_rem_euclid_is}
@@ -14,7 +14,8 @@ use Rattle.track_word.specs.Tracks.{word_values}
 use Rattle.letter_diagram.specs.declared.diagrams.Shape.{Shape}
 use Rattle.letter_diagram.specs.Diagram.{map_at}
 use Rattle.letter_diagram.proofs.Lists.{one_place}
-use Rattle.auto_core.specs.Automaton.{Automaton, Accepts}
+use Rattle.auto_core.specs.Automaton.{Automaton}
+use Rattle.auto_core.specs.Words.{AcceptsWhere}
 use Rattle.auto_core.specs.Integers.{DecidesIntegers}
 use Rattle.auto_core.proofs.Prefixes.{alone}
 use Rattle.auto_core.proofs.Members.{DecidesIntegers-values}
@@ -118,7 +119,7 @@ same_residue a b e = cc
 
 -- a word is accepted just if its value leaves the residue
 pub residue_words : (a : Automaton) (tracks : List Var) (var : Var) (modulus wanted : ℕ) → 0 < modulus → tracks ≡ var ∷ [] → IsWalked (residue_walker tracks modulus wanted) a
-    → (word : List ℕ) → IsWord 1 word → Accepts a word ↔ ResidueHolds var modulus wanted word
+    → AcceptsWhere (var ∷ []) (ResidueHolds var modulus wanted) a
 residue_words a tracks var modulus wanted positive one walked [] is_word = absurd (is_word.nonempty refl)
 residue_words a tracks var modulus wanted positive one walked (sign ∷ letters) is_word =
     let n : ℕ = read_on (bit_at sign 0 * (modulus - 1)) letters % modulus in

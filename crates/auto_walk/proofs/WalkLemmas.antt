@@ -86,7 +86,8 @@ module _ (w : Walker) where
       let at = λ (k : ℕ) (l : k < length words). get_or_default (map (place_of w) words) k d (place_of w []) (rw length-map l) ∙ get_or-map_words words k [] l in
       λ e. h i j [] less inside (sym (at i below) ∙ e ∙ at j inside)
 
-  apart_in_take : (n : ℕ) (words : List (List ℕ)) → n ≤ length words → AllPairs (λ u v. place_of w u ≢ place_of w v) words → AllPairs (λ u v. place_of w u ≢ place_of w v) (take n words)
+  apart_in_take : (n : ℕ) (words : List (List ℕ)) → n ≤ length words → AllPairs (λ u v. place_of w u ≢ place_of w v) words
+      → AllPairs (λ u v. place_of w u ≢ place_of w v) (take n words)
   apart_in_take n words most h i j d less within =
       let size = length-take n words in
       let few : j < n = grind (arith, common_steps) in

@@ -1,5 +1,5 @@
 -- Places in the order in which they were numbered, and nodes whose maps lead letters to the numbers of places.
-use Rattle.std.specs.Prelude.{◌≡◌, ◌≢◌, ℕ, ◌^◌, ◌<◌, ◌≤◌, List, length, All, AllPairs, slice_get, Some}
+use Rattle.std.specs.Prelude.{◌≡◌, ◌≢◌, ℕ, ◌^◌, ◌<◌, ◌≤◌, Bool, List, length, All, AllPairs, slice_get, Some}
 use Rattle.letter_diagram.specs.declared.diagrams.Shape.{Shape}
 use Rattle.letter_diagram.specs.Diagram.{map_at, LooksBelow}
 use Rattle.auto_walk.specs.Walker.{Walker, IsReached}
@@ -34,6 +34,20 @@ pub record IsRowOf (w : Walker) (shapes : List Shape) (old new : List (List ℕ)
   pub place : List ℕ
   pub is : slice_get old number ≡ Some place
   pub row : IsRow w shapes old new (w.next place) node
+
+-- the row of the sign letters, of a walk that was the old one before the row was made and is the new one after that
+abbrev pub IsFirstRowIn : {S : Type 0} → (S → Walker) → (S → List Shape) → (S → List (List ℕ)) → S → S → ℕ → Type 0
+IsFirstRowIn walker shapes places old new node =
+    IsRow (walker old) (shapes new) (places old) (places new) ((walker old).first) node
+
+-- the row of the place of a number, of such a walk
+abbrev pub IsNextRowIn : {S : Type 0} → (S → Walker) → (S → List Shape) → (S → List (List ℕ)) → S → S → ℕ → ℕ → Type 0
+IsNextRowIn walker shapes places old new number node =
+    IsRowOf (walker old) (shapes new) (places old) (places new) number node
+
+-- the flag tells whether the place of a number is accepting
+abbrev pub IsFlagOf : Walker → List (List ℕ) → ℕ → Bool → Type 0
+IsFlagOf w places number flag = (place : List ℕ) × (slice_get places number ≡ Some place) × (flag ≡ w.final place)
 
 -- the node's map leads each letter from the place of one number to the place of another
 pub record LeadsOn (w : Walker) (shapes : List Shape) (places : List (List ℕ)) (number node : ℕ) : Type 0 where

@@ -1,7 +1,7 @@
 //! The worklist: rows until each numbered place has its own.
 ghost use Rattle.std.specs.Prelude.{◌≡◌, ◌<◌, ◌≤◌, ◌^◌, ◌+◌, [], List, ℕ, length, IfOk, OnOk, vec_len, map};
 ghost use Rattle.auto_walk.specs.Walker.{MoreThan, IsWalked};
-ghost use Rattle.auto_walk.specs.Rows.{AreNumbered, IsRow, IsRowOf, Extends, AreRows};
+ghost use Rattle.auto_walk.specs.Rows.{AreNumbered, IsFirstRowIn, IsNextRowIn, Extends, AreRows};
 ghost use Rattle.letter_diagram.specs.Diagram.{Grows};
 
 use crate::grown::Grown;
@@ -17,9 +17,7 @@ fn first_row<W: Walk>(walk: &mut W, budget: Budget) -> Result<Node, Grown>
     ensures walker { W.walker walk.new ≡ W.walker walk.old }
     ensures numbered { OnOk result (AreNumbered (W.walker walk.old) (W.places walk.new)) }
     ensures room { OnOk result (length (W.places walk.new) ≤ budget) }
-    ensures row { IfOk result
-        (IsRow (W.walker walk.old) (W.shapes walk.new) (W.places walk.old) (W.places walk.new)
-        ((W.walker walk.old).first)) }
+    ensures row { IfOk result (IsFirstRowIn W.walker W.shapes W.places walk.old walk.new) }
     ensures over { result ≡ Err Grown.Over → MoreThan (W.walker walk.old) budget }
 {
     let node = walk.first_row()?;
@@ -39,8 +37,7 @@ fn next_row<W: Walk>(walk: &mut W, number: u32, budget: Budget) -> Result<Node, 
     ensures grows { Grows (W.shapes walk.old) (W.shapes walk.new) }
     ensures numbered { OnOk result (AreNumbered (W.walker walk.old) (W.places walk.new)) }
     ensures room { OnOk result (length (W.places walk.new) ≤ budget) }
-    ensures row { IfOk result
-        (IsRowOf (W.walker walk.old) (W.shapes walk.new) (W.places walk.old) (W.places walk.new) number) }
+    ensures row { IfOk result (IsNextRowIn W.walker W.shapes W.places walk.old walk.new number) }
     ensures over { result ≡ Err Grown.Over → MoreThan (W.walker walk.old) budget }
 {
     let node = walk.next_row(number)?;
@@ -59,8 +56,7 @@ fn all_rows<W: Walk>(alloc: Global, walk: &mut W, budget: Budget) -> Result<Vec<
     ensures grows { Grows (W.shapes walk.old) (W.shapes walk.new) }
     ensures numbered { OnOk result (AreNumbered (W.walker walk.old) (W.places walk.new)) }
     ensures room { OnOk result (length (W.places walk.new) ≤ budget) }
-    ensures rows { IfOk result
-        (λ rows. AreRows (W.walker walk.old) (W.shapes walk.new) (W.places walk.new) rows.items) }
+    ensures rows { IfOk result (λ all. AreRows (W.walker walk.old) (W.shapes walk.new) (W.places walk.new) all.items) }
     ensures size { IfOk result (λ rows. vec_len rows ≡ length (W.places walk.new)) }
     ensures over { result ≡ Err Grown.Over → MoreThan (W.walker walk.old) budget }
 {

@@ -1,9 +1,8 @@
 //! Residues of the value of a track: a walk whose places are residues.
-ghost use Rattle.std.specs.Prelude.{◌≡◌, ◌↔◌, ◌<◌, ◌^◌, ◌+◌, ◌-◌, ◌*◌, ◌%◌, [], ◌∷◌, List, ℕ, length, slice_get, slice_index, Some, IfOk, OnOk};
-ghost use Rattle.track_word.specs.Word.{IsWord};
+ghost use Rattle.std.specs.Prelude.{◌≡◌, ◌<◌, ◌^◌, ◌+◌, ◌-◌, ◌*◌, ◌%◌, [], ◌∷◌, List, ℕ, length, slice_get, slice_index, Some, IfOk, OnOk};
 ghost use Rattle.letter_diagram.specs.Diagram.{Grows};
 ghost use Rattle.letter_diagram.specs.Sets.{NumbersSet};
-ghost use Rattle.auto_core.specs.Automaton.{Accepts};
+ghost use Rattle.auto_core.specs.Words.{AcceptsWhere};
 ghost use Rattle.auto_core.specs.Integers.{DecidesIntegers};
 ghost use Rattle.auto_walk.specs.Walker.{MoreThan};
 ghost use Rattle.auto_walk.specs.Rows.{Extends};
@@ -155,8 +154,7 @@ pub fn residue(
 ) -> Result<Auto, Grown>
     requires modulus { 0 < modulus }
     ensures tracks { IfOk result (λ a. a.tracks ≡ var ∷ []) }
-    ensures words { IfOk result
-        (λ a. (word : List ℕ) → IsWord 1 word → Accepts a word ↔ ResidueHolds var modulus residue word) }
+    ensures words { IfOk result (AcceptsWhere (var ∷ []) (ResidueHolds var modulus residue)) }
     ensures integers { IfOk result (λ a. DecidesIntegers a) }
     ensures within { OnOk result (¬ MoreThan (residue_walker (var ∷ []) modulus residue) budget) }
     ensures over { result ≡ Err Grown.Over → MoreThan (residue_walker (var ∷ []) modulus residue) budget }

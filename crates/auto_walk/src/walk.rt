@@ -1,9 +1,9 @@
 //! What a walk needs of the places that it goes over.
-ghost use Rattle.std.specs.Prelude.{◌≡◌, ◌<◌, ◌^◌, [], List, ℕ, length, slice_get, Some, IfOk};
+ghost use Rattle.std.specs.Prelude.{◌≡◌, ◌<◌, ◌^◌, [], List, ℕ, length, IfOk};
 ghost use Rattle.letter_diagram.specs.declared.diagrams.Shape.{Shape};
 ghost use Rattle.letter_diagram.specs.Diagram.{Grows};
 ghost use Rattle.auto_walk.specs.Walker.{Walker, AreTracks};
-ghost use Rattle.auto_walk.specs.Rows.{AreNumbered, Extends, IsRow, IsRowOf};
+ghost use Rattle.auto_walk.specs.Rows.{AreNumbered, Extends, IsFirstRowIn, IsNextRowIn, IsFlagOf};
 
 use letter_diagram::{Diagrams, Node};
 use std::alloc::AllocError;
@@ -31,8 +31,7 @@ pub trait Walk: Drop {
     /// The node that leads each sign letter to the number of its place. New places are numbered.
     fn first_row(&mut self) -> Result<Node, AllocError>
         requires { places self.old ≡ [] }
-        ensures row { IfOk result
-            (IsRow (walker self.old) (shapes self.new) (places self.old) (places self.new) ((walker self.old).first)) }
+        ensures row { IfOk result (IsFirstRowIn walker shapes places self.old self.new) }
         ensures walker { walker self.new ≡ walker self.old };
 
     /// The node that leads each further letter from a numbered place to the number of the next one. New places are numbered.
@@ -40,8 +39,7 @@ pub trait Walk: Drop {
         requires numbered { AreNumbered (walker self.old) (places self.old) }
         requires known { number < length (places self.old) }
         requires room { length (places self.old) < 2 ^ 31 }
-        ensures row { IfOk result
-            (IsRowOf (walker self.old) (shapes self.new) (places self.old) (places self.new) number) }
+        ensures row { IfOk result (IsNextRowIn walker shapes places self.old self.new number) }
         ensures kept { Extends (places self.old) (places self.new) }
         ensures grows { Grows (shapes self.old) (shapes self.new) }
         ensures walker { walker self.new ≡ walker self.old };
@@ -50,8 +48,7 @@ pub trait Walk: Drop {
     fn is_final(&self, number: u32) -> bool
         requires numbered { AreNumbered (walker self.now) (places self.now) }
         requires known { number < length (places self.now) }
-        ensures { (place : List ℕ) × (slice_get (places self.now) number ≡ Some place)
-            × (result ≡ (walker self.now).final place) };
+        ensures { IsFlagOf (walker self.now) (places self.now) number result };
 
     /// The diagrams that the rows are nodes of.
     fn into_diagrams(self) -> Diagrams

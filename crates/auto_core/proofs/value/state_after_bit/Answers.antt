@@ -6,7 +6,8 @@ use mir.Val.{SFits}
 use Rattle.auto_core.specs.Prefix.{IsPrefixState}
 use Rattle.auto_core.proofs.value.state_after_bit.Goals as goal
 
-casts : (s : ℤ) (bit : ℕ) → SFits w64 s → bit < 2 → to_z w128 (of_z w128 (to_z w128 (of_z w128 (pos 2 *ℤ to_z w128 (of_z w128 (to_z w64 (of_z w64 s))))) +ℤ to_z w128 bit)) ≡ s +ℤ s +ℤ pos bit
+casts : (s : ℤ) (bit : ℕ) → SFits w64 s → bit < 2
+    → to_z w128 (of_z w128 (to_z w128 (of_z w128 (pos 2 *ℤ to_z w128 (of_z w128 (to_z w64 (of_z w64 s))))) +ℤ to_z w128 bit)) ≡ s +ℤ s +ℤ pos bit
 casts s bit fits below = omega (arith, ints)
 
 shifted : (z : ℤ) (k : ℕ) → SFits w64 z → SFits w64 (int_shr z k)
