@@ -66,8 +66,8 @@ off_below : (on : Bool) {mark : Bool} → (on ≡ true → mark ≡ true) → ma
 off_below true sets off = sym (sets refl) ∙ off
 off_below false sets off = refl
 
-pub IsPlaced-leaf : {shapes : List Shape} {ways : List Way} {node state : ℕ} → IsAt shapes node (Leaf state) → IsPlaced shapes (ways ++ State state ∷ []) node (length ways)
-IsPlaced-leaf {ways = ways} {state = state} at = record {
+pub IsPlaced-leaf : (shapes : List Shape) (ways : List Way) (node state : ℕ) → IsAt shapes node (Leaf state) → IsPlaced shapes (ways ++ State state ∷ []) node (length ways)
+IsPlaced-leaf shapes ways node state at = record {
   within = let l = length_push ways (State state) in omega (arith, l);
   none = λ states marks m off letter. ap states (at.map letter) ∙ off_below (states state) (m.up (length ways) (State state) (last_way ways (State state))) off;
 }
@@ -122,10 +122,10 @@ RemembersPlaced-set states shapes ways places node place all within is = record 
   ];
 }
 
-pub RemembersPlaced-next : {states : ℕ} {shapes : List Shape} {ways new : List Way} {places more : List (Option ℕ)} {way : Way} {node : ℕ}
+pub RemembersPlaced-next : (states : ℕ) (shapes : List Shape) (ways new : List Way) (places more : List (Option ℕ)) (way : Way) (node : ℕ)
     → RemembersPlaced states shapes ways places → FitsAt states (length ways) way → node < length shapes
     → IsPlaced shapes (ways ++ way ∷ []) node (length ways) → new ≡ ways ++ way ∷ [] → more ≡ set places node (Some (length ways)) → RemembersPlaced states shapes new more
-RemembersPlaced-next {states} {shapes} {ways} {new} {places} {more} {way} {node} remembered fits known placed are updates =
+RemembersPlaced-next states shapes ways new places more way node remembered fits known placed are updates =
     let grown = RemembersPlaced-grows states shapes ways (ways ++ way ∷ []) places (KeepsWays-push ways way) (AreWays-push states ways way remembered.fits fits) remembered in
     let size = remembered.size in
     rw (are, updates) (RemembersPlaced-set states shapes (ways ++ way ∷ []) places node (length ways) grown (omega (arith, known, size)) placed)
