@@ -223,8 +223,8 @@ module _ (size : ℕ) (current nodes own : List ℕ) (count : ℕ) (signatures :
         within = All-append (λ state. state < length classes) own firsts (All-weaker (λ state. state < length current)
             (λ state. state < length classes) (λ state less. omega (arith, less, same_size)) own members.within)
             (All-from_get_or (λ state. state < length classes) firsts 0 (λ place inside.
-                let within = (m.first place (omega (arith, inside, firsts_size))).within in
-                omega (arith, within, same_size)));
+            let within = (m.first place (omega (arith, inside, firsts_size))).within in
+            omega (arith, within, same_size)));
         has = λ class within. elim (cases_lt class count) [
           | inl old ↦ rw (get_or_append_left own firsts 0 class (omega (arith, old, own_size))) (keeps_own class old)
           | inr new ↦ rw (get_or-append_right own firsts count class 0 own_size new) (first_has (class - count) (omega (arith, within, new)) ∙ omega (arith, new))
