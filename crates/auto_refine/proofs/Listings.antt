@@ -3,6 +3,7 @@ use Rattle.std.proofs.Common.{◌≡◌, ◌≢◌, ◌⊎◌, ℕ, ◌<◌, ◌
 use Rattle.std.proofs.lemmas.Bool.{cases_lt, cases_eq}
 use Rattle.std.proofs.lemmas.List.{length-set, get_or_default, get_or-map, get_or-set_same, get_or-set_other, length-replicate}
 use Rattle.std.proofs.lemmas.List.Elements.{All-get_or, All-push, All-append, All-from_get_or, Contains-get_or, Contains-push, Contains-push_cases, Contains-append_left, Contains-append_right}
+use Rattle.auto_refine.specs.declared.classes.Partition.{Partition}
 use Rattle.auto_refine.specs.Coarsest.{AreMembers, IsPartition}
 use Rattle.auto_refine.specs.Listing.{IsListing, AreListed, ArePruned}
 use Rattle.auto_refine.specs.Moves.{AreCandidates}
@@ -171,18 +172,19 @@ module _ (size : ℕ) (classes : List ℕ) (count : ℕ) (representatives : List
     ];
   }
 
-pub AreCandidates-to : (classes representatives stale found : List ℕ) → AreCandidatesTo classes representatives stale found (length stale) → AreCandidates classes representatives stale found
-AreCandidates-to classes representatives stale found t = record {
+pub AreCandidates-to : (p : Partition) (representatives stale found : List ℕ)
+    → AreCandidatesTo p.classes.items representatives stale found (length stale) → AreCandidates p representatives stale found
+AreCandidates-to p representatives stale found t = record {
   within = t.within;
   each = λ state there. subst (Contains found) (get_or_default stale there.0 0 state there.1 ∙ there.2) (t.each there.0 there.1);
-  led = λ state within there. t.led there.0 there.1 state within (get_or_default stale there.0 0 (get_or representatives (get_or classes state 0) 0) there.1 ∙ there.2);
+  led = λ state within there. t.led there.0 there.1 state within (get_or_default stale there.0 0 (get_or representatives (get_or p.classes.items state 0) 0) there.1 ∙ there.2);
 }
 
 -- the same states, some of them less often
-pub AreCandidates-once : (classes representatives stale found once : List ℕ) → AreCandidates classes representatives stale found
-    → All (λ state. state < length classes) once → ((state : ℕ) → Contains found state → Contains once state)
-    → AreCandidates classes representatives stale once
-AreCandidates-once classes representatives stale found once c within all = record {
+pub AreCandidates-once : (p : Partition) (representatives stale found once : List ℕ) → AreCandidates p representatives stale found
+    → All (λ state. state < length p.classes.items) once → ((state : ℕ) → Contains found state → Contains once state)
+    → AreCandidates p representatives stale once
+AreCandidates-once p representatives stale found once c within all = record {
   within = within;
   each = λ state there. all state (c.each state there);
   led = λ state known there. all state (c.led state known there);

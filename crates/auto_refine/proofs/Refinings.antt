@@ -8,6 +8,7 @@ use Rattle.letter_diagram.specs.Diagram.{map_at, Grows}
 use Rattle.letter_diagram.proofs.Narrow.{LooksBelow-grows}
 use Rattle.auto_core.specs.Automaton.{Automaton, IsAutomaton, width, next_state}
 use Rattle.auto_refine.proofs.States.{next_within}
+use Rattle.auto_refine.specs.declared.classes.Partition.{Partition}
 use Rattle.auto_refine.specs.declared.partition.Refining.{Refining}
 use Rattle.auto_refine.specs.Coarsest.{IsCoarsest}
 use Rattle.auto_refine.specs.Moves.{IsFiner, KeepsOthers}
@@ -17,13 +18,20 @@ use Rattle.auto_refine.proofs.Counting.{decided}
 use Rattle.auto_refine.proofs.Splits.{none}
 
 -- what leads to classes leads to those of a finer partition where no next state moved
-pub led_to_finer : (a : Automaton) → IsAutomaton a → (shapes : List Shape) (old new moved led : List ℕ) → AreLedRows a shapes old led
-    → length new ≡ length a.accept → IsFiner old new → KeepsOthers old new moved
-    → (state : ℕ) → state < length a.accept → IsShared new state → ¬ LeadsInto a moved state → IsLed a new shapes (get_or led state 0) (next_state a state)
+pub led_to_finer : (a : Automaton) → IsAutomaton a → (shapes : List Shape) (old new : Partition) (moved led : List ℕ)
+    → AreLedRows a shapes old.classes.items led → length new.classes.items ≡ length a.accept
+    → IsFiner old.classes.items new.classes.items → KeepsOthers old new moved
+    → (state : ℕ) → state < length a.accept → IsShared new.classes.items state → ¬ LeadsInto a moved state
+    → IsLed a new.classes.items shapes (get_or led state 0) (next_state a state)
 led_to_finer a is shapes old new moved led l size finer others state within shared apart =
-    let in_new : state < length new = omega (arith, within, size) in
-    let other_in : shared.other < length old = let w = shared.within in let c = l.classes_size in omega (arith, w, c, size) in
-    let before = l.at state within (record { other = shared.other; within = other_in; differ = shared.differ; same = finer.same state shared.other in_new shared.within shared.same }) in
+    let in_new : state < length new.classes.items = omega (arith, within, size) in
+    let other_in : shared.other < length old.classes.items = let w = shared.within in let c = l.classes_size in omega (arith, w, c, size) in
+    let before = l.at state within (record {
+      other = shared.other;
+      within = other_in;
+      differ = shared.differ;
+      same = finer.same state shared.other in_new shared.within shared.same;
+    }) in
     record {
       known = before.known;
       narrow = before.narrow;
@@ -63,8 +71,10 @@ IsRefined-fewer a r but other f within = record {
   led = λ state known shared apart. f.led state known shared (λ h. apart (within state known shared h));
 }
 
-pub IsRefined-stale : (a : Automaton) (r : Refining) (moved stale : List ℕ) → IsRefined a r (LeadsInto a moved) → AreStale a r.partition.classes.items moved stale → IsRefined a r (Contains stale)
-IsRefined-stale a r moved stale f s = IsRefined-fewer a r (LeadsInto a moved) (Contains stale) f (λ state known shared h. s.rest state h.0 known shared h.1 h.2)
+pub IsRefined-stale : (a : Automaton) (r : Refining) (moved stale : List ℕ) → IsRefined a r (LeadsInto a moved)
+    → AreStale a r.partition.classes.items moved stale → IsRefined a r (Contains stale)
+IsRefined-stale a r moved stale f s =
+    IsRefined-fewer a r (LeadsInto a moved) (Contains stale) f (λ state known shared h. s.rest state h.0 known shared h.1 h.2)
 
 -- where no state moved, states of one class lead to one class
 rows_respected : (a : Automaton) (r : Refining) → IsRefined a r (LeadsInto a []) → (j k letter : ℕ) → j < length a.accept → k < length a.accept → letter < width a

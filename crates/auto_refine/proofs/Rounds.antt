@@ -143,7 +143,8 @@ pub HasOther-from : (classes : List ℕ) (both : Bool) → IsAnyAnswer (λ class
 HasOther-from classes true found = (found.0, found.1, (Decides-eqb _ _).0 (found.2 0))
 HasOther-from classes false none = λ k inside e. true≢false (sym ((Decides-eqb _ _).1 e) ∙ none k 0 (omega arith) inside)
 
-IsPartition-flags : (a : Automaton) (classes : List ℕ) (both : Bool) → 0 < length a.accept → IsFlag a classes → HasOther classes both → IsPartition (length a.accept) classes (1 + cond both 1 0)
+IsPartition-flags : (a : Automaton) (classes : List ℕ) (both : Bool) → 0 < length a.accept → IsFlag a classes
+    → HasOther classes both → IsPartition (length a.accept) classes (1 + cond both 1 0)
 IsPartition-flags a classes true some f found = record {
   states = f.states;
   within = f.below;
@@ -154,7 +155,10 @@ IsPartition-flags a classes true some f found = record {
 }
 IsPartition-flags a classes false some f none = record {
   states = f.states;
-  within = All-from_get_or (λ class. class < 1) classes 0 (λ k inside. let below = All-get_or (λ class. class < 2) classes k 0 inside f.below in let not = none k inside in omega (arith, below, not));
+  within = All-from_get_or (λ class. class < 1) classes 0 (λ k inside.
+      let below = All-get_or (λ class. class < 2) classes k 0 inside f.below in
+      let not = none k inside in
+      omega (arith, below, not));
   attained = λ class within. record { state = 0; within = omega (arith, some, f.states); has = f.first ∙ omega (arith, within) };
 }
 

@@ -8,9 +8,10 @@ use Rattle.std.proofs.lemmas.Bool.Decides.{Decides-eqb}
 use Rattle.std.proofs.lemmas.Map.Made.{is_member-Decides}
 use Rattle.letter_diagram.specs.Numbering.{Numbers, PairsKept}
 use Rattle.letter_diagram.proofs.Lists.{one_place}
+use Rattle.auto_refine.specs.declared.classes.Partition.{Partition}
 use Rattle.auto_refine.specs.Coarsest.{AreMembers, IsAttained, IsPartition}
 use Rattle.auto_refine.specs.Listing.{IsListing, AreListed}
-use Rattle.auto_refine.specs.Moves.{IsSplit, AreSettled, AreCandidates, IsMove, AreMoves, chosen_node}
+use Rattle.auto_refine.specs.Moves.{IsSplit, AreSettled, AreCandidates, IsOther, IsMove, AreMoves, chosen_node}
 use Rattle.auto_refine.specs.Put.{IsPut}
 use Rattle.auto_refine.proofs.Counting.{decided, length_le-below}
 
@@ -19,7 +20,8 @@ slice_get-last : {A : Type 0} (xs : List A) (x : A) (place : ℕ) → length xs 
 slice_get-last xs x place here = slice_get-get_or (xs ++ x ∷ []) place x (let l = length_push xs x in omega (arith, l, here)) ∙ ap Some (get_or_push xs x x place here)
 
 -- ---- states that are found to move
-pub AreMoves-none : (classes representatives nodes : List ℕ) (count : ℕ) (signatures : List (ℕ × ℕ)) (states numbers firsts : List ℕ) → signatures ≡ [] → states ≡ [] → numbers ≡ [] → firsts ≡ []
+pub AreMoves-none : (classes representatives nodes : List ℕ) (count : ℕ) (signatures : List (ℕ × ℕ)) (states numbers firsts : List ℕ)
+    → signatures ≡ [] → states ≡ [] → numbers ≡ [] → firsts ≡ []
     → AreMoves classes representatives nodes count signatures states numbers firsts
 AreMoves-none classes representatives nodes count signatures states numbers firsts no_signatures no_states no_numbers no_firsts =
     let signed = ap length no_signatures in
@@ -35,9 +37,9 @@ AreMoves-none classes representatives nodes count signatures states numbers firs
     }
 
 -- a state of each signature: so there are at most as many as states
-pub signatures_few : (classes representatives nodes : List ℕ) (count : ℕ) (signatures : List (ℕ × ℕ)) (states numbers firsts : List ℕ)
+pub signatures_few : {classes representatives nodes : List ℕ} {count : ℕ} {signatures : List (ℕ × ℕ)} {states numbers firsts : List ℕ}
     → AreMoves classes representatives nodes count signatures states numbers firsts → length signatures ≤ length classes
-signatures_few classes representatives nodes count signatures states numbers firsts m =
+signatures_few {classes} {nodes = nodes} {signatures = signatures} {firsts = firsts} m =
     let size = m.firsts_size in
     let most = length_le-below firsts (length classes) distinct (All-from_get_or (λ state. state < length classes) firsts 0 (λ place inside. (m.first place (omega (arith, inside, size))).within)) in
     omega (arith, most, size)
@@ -52,14 +54,15 @@ signatures_few classes representatives nodes count signatures states numbers fir
         omega (arith, place, less)
 
 -- a state that moves has a signature
-pub signatures_some : (classes representatives nodes : List ℕ) (count : ℕ) (signatures : List (ℕ × ℕ)) (states numbers firsts : List ℕ)
+pub signatures_some : {classes representatives nodes : List ℕ} {count : ℕ} {signatures : List (ℕ × ℕ)} {states numbers firsts : List ℕ}
     → AreMoves classes representatives nodes count signatures states numbers firsts
     → 0 < length states → 0 < length signatures
-signatures_some classes representatives nodes count signatures states numbers firsts m some =
+signatures_some {signatures = signatures} m some =
     let inside = slice_get_within signatures _ _ (m.each 0 some).is in
     omega (arith, inside)
 
-module _ (classes representatives nodes : List ℕ) (count : ℕ) (old new : List (ℕ × ℕ)) (states numbers firsts : List ℕ) (m : AreMoves classes representatives nodes count old states numbers firsts)
+module _ (classes representatives nodes : List ℕ) (count : ℕ) (old new : List (ℕ × ℕ)) (states numbers firsts : List ℕ)
+    (m : AreMoves classes representatives nodes count old states numbers firsts)
     (kept : PairsKept old new) (unrepeated : AllPairs (λ p q. p ≢ q) new) (state place class node own : ℕ) (within : state < length classes)
     (class_is : class ≡ get_or classes state 0) (node_is : node ≡ get_or nodes state 0) (own_is : own ≡ chosen_node classes representatives nodes state) (other : node ≢ own)
     (at : slice_get new place ≡ Some (class, node)) where
@@ -80,14 +83,17 @@ module _ (classes representatives nodes : List ℕ) (count : ℕ) (old new : Lis
       let more = length_push states state in
       let size = m.size in
       elim (cases_lt turn (length states)) [
-        | inl before ↦ rw (get_or_append_left states (state ∷ []) 0 turn before, get_or_append_left numbers (number ∷ []) 0 turn (omega (arith, before, size))) (move_kept _ _ (m.each turn before))
+        | inl before ↦
+            let number_stays = get_or_append_left numbers (number ∷ []) 0 turn (omega (arith, before, size)) in
+            rw (get_or_append_left states (state ∷ []) 0 turn before, number_stays) (move_kept _ _ (m.each turn before))
         | inr past ↦
             let here : length states ≡ turn = omega (arith, more, less, past) in
             rw (get_or_push states state 0 turn here, get_or_push numbers number 0 turn (omega (arith, here, size))) (move_new number is)
       ]
 
   -- of a signature that was seen
-  pub AreMoves-again : (number : ℕ) → number ≡ count + place → length new ≤ length firsts → AreMoves classes representatives nodes count new (states ++ state ∷ []) (numbers ++ number ∷ []) firsts
+  pub AreMoves-again : (number : ℕ) → number ≡ count + place → length new ≤ length firsts
+      → AreMoves classes representatives nodes count new (states ++ state ∷ []) (numbers ++ number ∷ []) firsts
   AreMoves-again number is full =
       let longer = kept.longer in
       let size = m.firsts_size in
@@ -123,19 +129,20 @@ module _ (classes representatives nodes : List ℕ) (count : ℕ) (old new : Lis
   ]
 
 -- each candidate that is to move is among the states: so all are, where the rest is settled
-pub all_moved : (classes representatives nodes stale candidates states : List ℕ) → AreSettled classes representatives nodes stale → AreCandidates classes representatives stale candidates
-    → ((state : ℕ) → Contains candidates state → get_or nodes state 0 ≢ chosen_node classes representatives nodes state → Contains states state)
-    → (state : ℕ) → state < length classes → get_or nodes state 0 ≢ chosen_node classes representatives nodes state → Contains states state
-all_moved classes representatives nodes stale candidates states s c moved state within other =
+pub all_moved : (p : Partition) (representatives nodes stale candidates states : List ℕ)
+    → AreSettled p.classes.items representatives nodes stale → AreCandidates p representatives stale candidates
+    → ((state : ℕ) → Contains candidates state → IsOther p.classes.items representatives nodes state → Contains states state)
+    → (state : ℕ) → state < length p.classes.items → IsOther p.classes.items representatives nodes state → Contains states state
+all_moved p representatives nodes stale candidates states s c moved state within other =
     elim (decided _ (is_member-Decides Decides-eqb stale state)) [
       | inl there ↦ moved state (c.each state there) other
-      | inr fresh ↦ elim (decided _ (is_member-Decides Decides-eqb stale (get_or representatives (get_or classes state 0) 0))) [
+      | inr fresh ↦ elim (decided _ (is_member-Decides Decides-eqb stale (get_or representatives (get_or p.classes.items state 0) 0))) [
         | inl led ↦ moved state (c.led state within led) other
         | inr too ↦ absurd (other (s.at state within fresh too))
       ]
     ]
 
-module _ (classes representatives nodes : List ℕ) (count : ℕ) (signatures : List (ℕ × ℕ)) (states numbers firsts : List ℕ)
+module _ {classes representatives nodes : List ℕ} {count : ℕ} {signatures : List (ℕ × ℕ)} {states numbers firsts : List ℕ}
     (m : AreMoves classes representatives nodes count signatures states numbers firsts) where
   pub moved_within : All (λ state. state < length classes) states
   moved_within = All-from_get_or (λ state. state < length classes) states 0 (λ turn inside. (m.each turn inside).within)
@@ -215,7 +222,9 @@ module _ (size : ℕ) (current nodes own : List ℕ) (count : ℕ) (signatures :
         size = length-append own firsts ∙ omega (arith, own_size, firsts_size);
         within = All-append (λ state. state < length classes) own firsts (All-weaker (λ state. state < length current)
             (λ state. state < length classes) (λ state less. omega (arith, less, same_size)) own members.within)
-            (All-from_get_or (λ state. state < length classes) firsts 0 (λ place inside. let within = (m.first place (omega (arith, inside, firsts_size))).within in omega (arith, within, same_size)));
+            (All-from_get_or (λ state. state < length classes) firsts 0 (λ place inside.
+            let within = (m.first place (omega (arith, inside, firsts_size))).within in
+            omega (arith, within, same_size)));
         has = λ class within. elim (cases_lt class count) [
           | inl old ↦ rw (get_or_append_left own firsts 0 class (omega (arith, old, own_size))) (keeps_own class old)
           | inr new ↦ rw (get_or-append_right own firsts count class 0 own_size new) (first_has (class - count) (omega (arith, within, new)) ∙ omega (arith, new))
@@ -310,7 +319,9 @@ module _ (size : ℕ) (current nodes own : List ℕ) (count : ℕ) (signatures :
           size = added.size ∙ length-append lists (replicate (length firsts) []) ∙ ap (λ n. length lists + n) (length-replicate (length firsts) []) ∙ omega (arith, lists_size, firsts_size);
           within = λ class state there. elim (added.only class state there) [
             | inl old ↦ let less = l.within class state (was_list class state old) in omega (arith, less, same_size)
-            | inr new ↦ let less = All-contains (λ s. s < length current) states state (moved_within current own nodes count signatures states numbers firsts m) new in omega (arith, less, same_size)
+            | inr new ↦
+                let less = All-contains (λ s. s < length current) states state (moved_within m) new in
+                omega (arith, less, same_size)
           ];
           listed = λ state inside.
               let within : state < length current = omega (arith, inside, same_size) in

@@ -12,7 +12,7 @@ use Rattle.auto_refine.specs.Listing.{IsListing}
 use Rattle.auto_refine.specs.Moves.{AreSettled}
 use Rattle.auto_ways.specs.RowNodes.{AreRowNodes}
 use Rattle.auto_refine.specs.Picked.{ArePicked}
-use Rattle.auto_refine.specs.Led.{IsLed, IsShared, AreLedRows, AreLedAgain}
+use Rattle.auto_refine.specs.Led.{IsLed, IsShared, HasSharing, AreLedRows, AreLedAgain}
 use Rattle.auto_refine.specs.Put.{IsPut}
 use Rattle.auto_refine.specs.Leading.{IsLedFrom}
 use Rattle.auto_refine.proofs.Rounds.{IsLed-from}
@@ -35,7 +35,8 @@ shared_listed classes count representatives lists state l within h =
 abbrev pub IsSorted : List (List ℕ) → List ℕ → List ℕ → ℕ → Type 0
 IsSorted lists classes stale state = 1 < length (get_or lists (get_or classes state 0) []) → Contains stale state
 
-pub IsSorted-push : (lists : List (List ℕ)) (classes stale found : List ℕ) (turn state : ℕ) → state ≡ get_or found turn 0 → ((k : ℕ) → k < turn → IsSorted lists classes stale (get_or found k 0))
+pub IsSorted-push : (lists : List (List ℕ)) (classes stale found : List ℕ) (turn state : ℕ)
+    → state ≡ get_or found turn 0 → ((k : ℕ) → k < turn → IsSorted lists classes stale (get_or found k 0))
     → (k : ℕ) → k < turn + 1 → IsSorted lists classes (stale ++ state ∷ []) (get_or found k 0)
 IsSorted-push lists classes stale found turn state is before k less more = elim (cases_lt k turn) [
   | inl low ↦ Contains-append_left stale (state ∷ []) (get_or found k 0) (before k low more)
@@ -54,11 +55,12 @@ IsSorted-skip lists classes stale found turn state is alone before k less more =
 
 pub sorted_all : (found stale classes : List ℕ) (count : ℕ) (representatives : List ℕ) (lists : List (List ℕ))
     → IsListing classes count representatives lists → All (λ state. state < length classes) found
-    → ((turn : ℕ) → turn < length found → IsSorted lists classes stale (get_or found turn 0)) → (state : ℕ) → Contains found state → IsShared classes state → Contains stale state
+    → ((turn : ℕ) → turn < length found → IsSorted lists classes stale (get_or found turn 0)) → HasSharing classes found stale
 sorted_all found stale classes count representatives lists l within sorted state there alike =
     let is : get_or found there.0 0 ≡ state = get_or_default found there.0 0 state there.1 ∙ there.2 in
     let known : state < length classes = subst (λ s. s < length classes) is (All-get_or (λ s. s < length classes) found there.0 0 there.1 within) in
-    subst (Contains stale) is (sorted there.0 there.1 (subst (λ s. 1 < length (get_or lists (get_or classes s 0) [])) (sym is) (shared_listed classes count representatives lists state l known alike)))
+    let several = shared_listed classes count representatives lists state l known alike in
+    subst (Contains stale) is (sorted there.0 there.1 (subst (λ s. 1 < length (get_or lists (get_or classes s 0) [])) (sym is) several))
 
 -- ---- values at their places
 -- a place has its value, or what it had if its turn has not come

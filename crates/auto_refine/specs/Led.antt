@@ -11,6 +11,14 @@ pub record IsShared (classes : List ℕ) (state : ℕ) : Type 0 where
   pub differ : state ≢ other
   pub same : slice_index classes state ≡ slice_index classes other
 
+-- all of some states that share their class are found
+abbrev pub HasSharing : List ℕ → List ℕ → List ℕ → Type 0
+HasSharing classes states found = (state : ℕ) → Contains states state → IsShared classes state → Contains found state
+
+-- all states that share their class are found
+abbrev pub HasAllSharing : List ℕ → List ℕ → Type 0
+HasAllSharing classes found = (state : ℕ) → state < length classes → IsShared classes state → Contains found state
+
 -- a node that leads each letter to the class of a state
 pub record IsLed (a : Automaton) (classes : List ℕ) (shapes : List Shape) (node : ℕ) (state : ℕ → ℕ) : Type 0 where
   pub known : node < length shapes

@@ -51,3 +51,12 @@ pub record ArePruned (classes : List ℕ) (old new : List (List ℕ)) : Type 0 w
       → Contains (slice_index_or old class []) state
   pub kept : (class state : ℕ) → Contains (slice_index_or old class []) state → slice_index classes state ≡ class
       → Contains (slice_index_or new class []) state
+
+-- the lists of the classes of a partition were pruned
+abbrev pub WerePruned : Partition → List (Vec ℕ Global) → List (Vec ℕ Global) → Type 0
+WerePruned p old new = ArePruned p.classes.items (lists_of old) (lists_of new)
+
+-- what is listed for a class has this class
+abbrev pub ListsOnly : Partition → ℕ → List (Vec ℕ Global) → Type 0
+ListsOnly p class lists =
+    (state : ℕ) → Contains (slice_index_or (lists_of lists) class []) state → slice_index p.classes.items state ≡ class

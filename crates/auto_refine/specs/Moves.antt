@@ -18,12 +18,16 @@ pub record AreSettled (classes representatives nodes stale : List ℕ) : Type 0 
       → ¬ Contains stale (slice_index representatives (slice_index classes state))
       → slice_index nodes state ≡ chosen_node classes representatives nodes state
 
+-- the states of a partition do
+abbrev pub IsSettled : Partition → Listing → List ℕ → List ℕ → Type 0
+IsSettled p listing nodes stale = AreSettled p.classes.items listing.representatives.items nodes stale
+
 -- some states, and all of a class for which one of these stands
-pub record AreCandidates (classes representatives stale candidates : List ℕ) : Type 0 where
-  pub within : All (λ state. state < length classes) candidates
+pub record AreCandidates (p : Partition) (representatives stale candidates : List ℕ) : Type 0 where
+  pub within : All (λ state. state < length p.classes.items) candidates
   pub each : (state : ℕ) → Contains stale state → Contains candidates state
-  pub led : (state : ℕ) → state < length classes
-      → Contains stale (slice_index representatives (slice_index classes state)) → Contains candidates state
+  pub led : (state : ℕ) → state < length p.classes.items
+      → Contains stale (slice_index representatives (slice_index p.classes.items state)) → Contains candidates state
 
 -- a state whose node is not that of the one that stands for its class
 abbrev pub IsOther : List ℕ → List ℕ → List ℕ → ℕ → Type 0
@@ -54,22 +58,40 @@ abbrev pub AreFound : Partition → List ℕ → List ℕ → Moves → Type 0
 AreFound p representatives nodes m =
     AreMoves p.classes.items representatives nodes p.count m.signatures m.states.items m.numbers.items m.firsts.items
 
+-- what moves before still does
+abbrev pub KeepsMoves : Moves → Moves → Type 0
+KeepsMoves old new = (state : ℕ) → Contains old.states.items state → Contains new.states.items state
+
+-- a state moves if its node is not that of the one that stands for its class
+abbrev pub MovesIfOther : Partition → Listing → List ℕ → Moves → ℕ → Type 0
+MovesIfOther p listing nodes m state =
+    IsOther p.classes.items listing.representatives.items nodes state → Contains m.states.items state
+
+-- each of some states does
+abbrev pub MovesOthers : Partition → Listing → List ℕ → Moves → List ℕ → Type 0
+MovesOthers p listing nodes m states = (state : ℕ) → Contains states state → MovesIfOther p listing nodes m state
+
+-- how many classes a partition has once states moved
+abbrev pub count_with : Partition → Moves → ℕ
+count_with p m = p.count + length m.firsts.items
+
 -- what moves make of a partition and its lists: each signature is a class, and one of its states stands for it
 pub record AreMoved (m : Moves) (old new : Partition) (was listing : Listing) : Type 0 where
   pub classes : IsPut old.classes.items m.states.items m.numbers.items new.classes.items
-  pub count : new.count ≡ old.count + length m.firsts.items
+  pub count : new.count ≡ count_with old m
   pub representatives : listing.representatives.items ≡ was.representatives.items ++ m.firsts.items
   pub lists : AreListed (lists_of was.lists.items ++ replicate (length m.firsts.items) []) m.states.items
       m.numbers.items (lists_of listing.lists.items)
 
 -- no class is lost, and there are more where some states moved
-pub record CountGrows (old new : ℕ) (moved : List ℕ) : Type 0 where
-  pub kept : old ≤ new
-  pub grown : 0 < length moved → old < new
+pub record CountGrows (old new : Partition) (moved : List ℕ) : Type 0 where
+  pub kept : old.count ≤ new.count
+  pub grown : 0 < length moved → old.count < new.count
 
 -- the other states have the classes that they had
-pub record KeepsOthers (old new moved : List ℕ) : Type 0 where
-  pub kept : (state : ℕ) → state < length old → ¬ Contains moved state → slice_index new state ≡ slice_index old state
+pub record KeepsOthers (old new : Partition) (moved : List ℕ) : Type 0 where
+  pub kept : (state : ℕ) → state < length old.classes.items → ¬ Contains moved state
+      → slice_index new.classes.items state ≡ slice_index old.classes.items state
 
 -- states of one class were in one class
 pub record IsFiner (old new : List ℕ) : Type 0 where
@@ -82,3 +104,7 @@ pub record IsSplit (current nodes classes : List ℕ) (count : ℕ) : Type 0 whe
   pub same : (j k : ℕ) → j < length current → k < length current
       → (slice_index classes j ≡ slice_index classes k)
       ↔ ((slice_index current j ≡ slice_index current k) × (slice_index nodes j ≡ slice_index nodes k))
+
+-- a partition is split by nodes
+abbrev pub WasSplit : Partition → List ℕ → Partition → Type 0
+WasSplit old nodes new = IsSplit old.classes.items nodes new.classes.items new.count

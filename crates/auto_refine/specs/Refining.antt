@@ -4,7 +4,7 @@ use Rattle.auto_core.specs.Automaton.{Automaton, width, next_state, is_final}
 use Rattle.auto_core.specs.Reduced.{ToldApart}
 use Rattle.auto_refine.specs.Coarsest.{IsPartition}
 use Rattle.auto_refine.specs.Listing.{AreLists}
-use Rattle.auto_refine.specs.Moves.{AreSettled}
+use Rattle.auto_refine.specs.Moves.{IsSettled}
 use Rattle.auto_refine.specs.Led.{IsShared, IsLed, AreLedRows}
 use Rattle.auto_refine.specs.declared.partition.Refining.{Refining}
 
@@ -43,16 +43,12 @@ pub record IsLedTo (a : Automaton) (r : Refining) : Type 0 where
   pub listing : AreLists r.partition r.listing.representatives.items r.listing.lists.items
   pub led : AreLedRows a r.diagrams r.partition.classes.items r.led.items
 
--- each state has the node of the one that stands for its class, if neither of them is among some states
-abbrev pub IsSettled : Refining → List ℕ → Type 0
-IsSettled r stale = AreSettled r.partition.classes.items r.listing.representatives.items r.led.items stale
-
 -- sound classes with lists of their states, each of which has one node. The rows lead to these classes, but for those
 -- of some states
 pub record IsRefined (a : Automaton) (r : Refining) (but : ℕ → Type 0) : Type 0 where
   pub sound : IsSound a r.partition.classes.items r.partition.count
   pub listing : AreLists r.partition r.listing.representatives.items r.listing.lists.items
-  pub settled : IsSettled r []
+  pub settled : IsSettled r.partition r.listing r.led.items []
   pub size : length r.led.items ≡ length a.accept
   pub led : (state : ℕ) → state < length a.accept → IsShared r.partition.classes.items state → ¬ but state
       → IsLed a r.partition.classes.items r.diagrams (slice_index r.led.items state) (next_state a state)

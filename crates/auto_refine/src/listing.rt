@@ -1,7 +1,7 @@
 //! For each class a list in which all its states are, kept while states move to new classes.
-ghost use Rattle.std.specs.Prelude.{◌≡◌, ◌<◌, ◌^◌, ◌+◌, ◌++◌, [], ℕ, All, Contains, length, replicate, slice_index, slice_index_or, IfOk, OnOk, vec_len};
+ghost use Rattle.std.specs.Prelude.{◌≡◌, ◌<◌, ◌^◌, ◌+◌, ◌++◌, [], ℕ, All, length, replicate, slice_index, IfOk, OnOk, vec_len};
 ghost use Rattle.auto_refine.specs.Coarsest.{AreClasses};
-ghost use Rattle.auto_refine.specs.Listing.{AreBelow, AreLists, AreListed, ArePruned, AreStillIn, IsPutInto, lists_of};
+ghost use Rattle.auto_refine.specs.Listing.{AreBelow, AreLists, AreListed, AreStillIn, IsPutInto, ListsOnly, WerePruned, lists_of};
 
 use crate::classes::{Partition, members};
 use std::alloc::{AllocError, Global};
@@ -109,10 +109,8 @@ pub fn prune(
 ) -> Result<(), AllocError>
     requires class { class < vec_len lists.old }
     requires within { AreBelow (lists_of lists.old.items) (length partition.now.classes.items) }
-    ensures pruned { OnOk result
-        (ArePruned partition.now.classes.items (lists_of lists.old.items) (lists_of lists.new.items)) }
-    ensures only { OnOk result ((state : ℕ) → Contains (slice_index_or (lists_of lists.new.items) class []) state
-        → slice_index partition.now.classes.items state ≡ class) }
+    ensures pruned { OnOk result (WerePruned partition.now lists.old.items lists.new.items) }
+    ensures only { OnOk result (ListsOnly partition.now class lists.new.items) }
     ensures size { OnOk result (vec_len lists.new ≡ vec_len lists.old) }
 {
     let kept = still_in(alloc, partition, class, lists[class as usize].as_slice())?;

@@ -2,7 +2,7 @@
 ghost use Rattle.std.specs.Prelude.{◌<◌, ◌^◌, ◌+◌, ℕ, All, Contains, length, IfOk, OnOk};
 ghost use Rattle.auto_refine.specs.Coarsest.{AreClasses, IsPartition};
 ghost use Rattle.auto_refine.specs.Listing.{AreLists};
-ghost use Rattle.auto_refine.specs.Moves.{AreCandidates, AreFound, IsOther};
+ghost use Rattle.auto_refine.specs.Moves.{AreCandidates, AreFound, KeepsMoves, MovesIfOther, MovesOthers};
 
 use crate::classes::Partition;
 use crate::listing::{Listing, prune};
@@ -47,8 +47,7 @@ fn with_repeats(
     requires partition { AreClasses partition.now }
     requires listing { AreLists partition.now representatives.now lists.old.items }
     requires stale { All (λ state. state < length partition.now.classes.items) stale.now }
-    ensures candidates { IfOk result
-        (λ found. AreCandidates partition.now.classes.items representatives.now stale.now found.items) }
+    ensures candidates { IfOk result (λ found. AreCandidates partition.now representatives.now stale.now found.items) }
     ensures listing { OnOk result (AreLists partition.now representatives.now lists.new.items) }
 {
     let mut found = Vec::with_capacity(alloc, stale.len())?;
@@ -76,8 +75,7 @@ pub fn candidates(
     requires partition { AreClasses partition.now }
     requires listing { AreLists partition.now representatives.now lists.old.items }
     requires stale { All (λ state. state < length partition.now.classes.items) stale.now }
-    ensures candidates { IfOk result
-        (λ found. AreCandidates partition.now.classes.items representatives.now stale.now found.items) }
+    ensures candidates { IfOk result (λ found. AreCandidates partition.now representatives.now stale.now found.items) }
     ensures listing { OnOk result (AreLists partition.now representatives.now lists.new.items) }
 {
     let found = with_repeats(alloc, partition, representatives, lists, stale)?;
@@ -99,10 +97,8 @@ fn sort_state(
     requires within { state < length nodes.now }
     requires moves { AreFound partition.now listing.now.representatives.items nodes.now moves.old }
     ensures moves { OnOk result (AreFound partition.now listing.now.representatives.items nodes.now moves.new) }
-    ensures kept { OnOk result
-        ((other : ℕ) → Contains moves.old.states.items other → Contains moves.new.states.items other) }
-    ensures moved { OnOk result (IsOther partition.now.classes.items listing.now.representatives.items nodes.now state
-        → Contains moves.new.states.items state) }
+    ensures kept { OnOk result (KeepsMoves moves.old moves.new) }
+    ensures moved { OnOk result (MovesIfOther partition.now listing.now nodes.now moves.new state) }
 {
     let class = partition.classes[state as usize];
     let node = nodes[state as usize];
@@ -132,9 +128,7 @@ pub fn find_moves(
     requires few { length nodes.now < 2 ^ 31 }
     requires within { All (λ state. state < length nodes.now) candidates.now }
     ensures moves { IfOk result (λ moves. AreFound partition.now listing.now.representatives.items nodes.now moves) }
-    ensures moved { IfOk result (λ moves. (state : ℕ) → Contains candidates.now state
-        → IsOther partition.now.classes.items listing.now.representatives.items nodes.now state
-        → Contains moves.states.items state) }
+    ensures moved { IfOk result (λ moves. MovesOthers partition.now listing.now nodes.now moves candidates.now) }
 {
     let mut moves = Moves {
         signatures: Signatures::new(alloc),

@@ -1,10 +1,10 @@
 //! The coarsest partition of the states that keeps flags and next states apart.
-ghost use Rattle.std.specs.Prelude.{◌≡◌, ◌<◌, ◌^◌, ◌+◌, [], All, Contains, length, IfOk, OnOk};
+ghost use Rattle.std.specs.Prelude.{◌≡◌, ◌<◌, ◌^◌, [], All, Contains, length, IfOk, OnOk};
 ghost use Rattle.auto_core.specs.Automaton.{IsAutomaton};
 ghost use Rattle.auto_refine.specs.Coarsest.{IsPartition, IsCoarsest};
 ghost use Rattle.auto_refine.specs.Listing.{AreLists};
-ghost use Rattle.auto_refine.specs.Moves.{IsSplit, AreMoved, AreSettled, CountGrows, KeepsOthers};
-ghost use Rattle.auto_refine.specs.Refining.{IsLedTo, IsSettled, LeadsInto, IsRefined, IsFlag, IsSound};
+ghost use Rattle.auto_refine.specs.Moves.{WasSplit, AreMoved, IsSettled, CountGrows, KeepsOthers, count_with};
+ghost use Rattle.auto_refine.specs.Refining.{IsLedTo, LeadsInto, IsRefined, IsFlag, IsSound};
 
 use crate::classes::Partition;
 use crate::listing::{Listing, add_lists, all_states, list_each, list_states};
@@ -26,10 +26,9 @@ fn move_states(
 ) -> Result<(), AllocError>
     requires states { All (λ state. state < length partition.old.classes.items) moves.now.states.items }
     requires size { length moves.now.numbers.items ≡ length moves.now.states.items }
-    requires numbers { All (λ number. number < partition.old.count + length moves.now.firsts.items)
-        moves.now.numbers.items }
+    requires numbers { All (λ number. number < count_with partition.old moves.now) moves.now.numbers.items }
     requires lists { length listing.old.lists.items ≡ partition.old.count }
-    requires few { partition.old.count + length moves.now.firsts.items < 2 ^ 32 }
+    requires few { count_with partition.old moves.now < 2 ^ 32 }
     ensures { OnOk result (AreMoved moves.now partition.old partition.new listing.old listing.new) }
 {
     put(
@@ -62,17 +61,14 @@ fn split(
     requires partition { IsPartition (length nodes.now) partition.old.classes.items partition.old.count }
     requires listing { AreLists partition.old listing.old.representatives.items listing.old.lists.items }
     requires stale { All (λ state. state < length nodes.now) stale.now }
-    requires settled { AreSettled partition.old.classes.items listing.old.representatives.items nodes.now stale.now }
+    requires settled { IsSettled partition.old listing.old nodes.now stale.now }
     requires few { length nodes.now < 2 ^ 31 }
-    ensures split { OnOk result
-        (IsSplit partition.old.classes.items nodes.now partition.new.classes.items partition.new.count) }
-    ensures count { IfOk result (λ moved. CountGrows partition.old.count partition.new.count moved.items) }
+    ensures split { OnOk result (WasSplit partition.old nodes.now partition.new) }
+    ensures count { IfOk result (λ moved. CountGrows partition.old partition.new moved.items) }
     ensures listing { OnOk result (AreLists partition.new listing.new.representatives.items listing.new.lists.items) }
-    ensures settled { OnOk result
-        (AreSettled partition.new.classes.items listing.new.representatives.items nodes.now []) }
+    ensures settled { OnOk result (IsSettled partition.new listing.new nodes.now []) }
     ensures within { IfOk result (λ moved. All (λ state. state < length nodes.now) moved.items) }
-    ensures moved { IfOk result
-        (λ moved. KeepsOthers partition.old.classes.items partition.new.classes.items moved.items) }
+    ensures moved { IfOk result (λ moved. KeepsOthers partition.old partition.new moved.items) }
 {
     let found = candidates(
         alloc,
@@ -149,11 +145,10 @@ fn start(alloc: Global, a: &Auto) -> Result<Refining, AllocError>
 fn round(a: &Auto, refining: &mut Refining, stale: &[u32]) -> Result<Vec<u32>, AllocError>
     requires led { IsLedTo a.now refining.old }
     requires stale { All (λ state. state < length a.now.accept) stale.now }
-    requires settled { IsSettled refining.old stale.now }
+    requires settled { IsSettled refining.old.partition refining.old.listing refining.old.led.items stale.now }
     ensures refined { IfOk result (λ moved. IsRefined a.now refining.new (LeadsInto a.now moved.items)) }
     ensures within { IfOk result (λ moved. All (λ state. state < length a.now.accept) moved.items) }
-    ensures count { IfOk result
-        (λ moved. CountGrows refining.old.partition.count refining.new.partition.count moved.items) }
+    ensures count { IfOk result (λ moved. CountGrows refining.old.partition refining.new.partition moved.items) }
 {
     let _ = a.states(); // for its invariant
     let moved = split(
@@ -172,8 +167,7 @@ fn next_round(a: &Auto, refining: &mut Refining, stale: &[u32]) -> Result<Vec<u3
     requires stale { All (λ state. state < length a.now.accept) stale.now }
     ensures refined { IfOk result (λ moved. IsRefined a.now refining.new (LeadsInto a.now moved.items)) }
     ensures within { IfOk result (λ moved. All (λ state. state < length a.now.accept) moved.items) }
-    ensures count { IfOk result
-        (λ moved. CountGrows refining.old.partition.count refining.new.partition.count moved.items) }
+    ensures count { IfOk result (λ moved. CountGrows refining.old.partition refining.new.partition moved.items) }
 {
     lead_again(
         &mut refining.diagrams,

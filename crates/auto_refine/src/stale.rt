@@ -1,10 +1,10 @@
 //! Nodes that lead the rows to the classes of a partition, kept while no state to which a row leads moves to another class.
-ghost use Rattle.std.specs.Prelude.{◌≡◌, ◌<◌, ◌^◌, ℕ, All, Contains, length, IfOk, OnOk};
+ghost use Rattle.std.specs.Prelude.{◌≡◌, ◌<◌, ◌^◌, All, length, IfOk, OnOk};
 ghost use Rattle.letter_diagram.specs.Diagram.{Grows};
 ghost use Rattle.auto_refine.specs.Coarsest.{AreClasses, IsPartition};
 ghost use Rattle.auto_refine.specs.Listing.{AreLists};
 ghost use Rattle.auto_ways.specs.RowNodes.{AreRowNodes};
-ghost use Rattle.auto_refine.specs.Led.{AreLedRows, IsShared, AreStale, AreLedAgain};
+ghost use Rattle.auto_refine.specs.Led.{AreLedRows, HasSharing, HasAllSharing, AreStale, AreLedAgain};
 ghost use Rattle.auto_ways.specs.Ways.{AreRowWays};
 
 use crate::classes::Partition;
@@ -29,8 +29,7 @@ fn sharing(
     requires listing { AreLists partition.now listing.now.representatives.items listing.now.lists.items }
     requires within { All (λ state. state < length partition.now.classes.items) states.now }
     ensures within { IfOk result (λ sharing. All (λ state. state < length partition.now.classes.items) sharing.items) }
-    ensures all { IfOk result (λ sharing. (state : ℕ) → Contains states.now state
-        → IsShared partition.now.classes.items state → Contains sharing.items state) }
+    ensures all { IfOk result (λ sharing. HasSharing partition.now.classes.items states.now sharing.items) }
 {
     let mut sharing = Vec::new(alloc);
     for state in states {
@@ -52,8 +51,7 @@ pub fn sharing_states(
     requires few { length partition.now.classes.items < 2 ^ 31 }
     requires listing { AreLists partition.now listing.now.representatives.items listing.now.lists.items }
     ensures within { IfOk result (λ sharing. All (λ state. state < length partition.now.classes.items) sharing.items) }
-    ensures all { IfOk result (λ sharing. (state : ℕ) → state < length partition.now.classes.items
-        → IsShared partition.now.classes.items state → Contains sharing.items state) }
+    ensures all { IfOk result (λ sharing. HasAllSharing partition.now.classes.items sharing.items) }
 {
     let states = all_states(alloc, partition.classes.len())?;
     let sharing = sharing(alloc, partition, listing, states.as_slice())?;

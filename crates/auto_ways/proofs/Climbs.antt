@@ -34,17 +34,20 @@ get_set_from xs i k y z ne is =
 
 -- ---- lists that grow
 -- what is at a place is in the list there
-listed_in : (lists : List (SmallVec ℕ)) (at x : ℕ) (list : SmallVec ℕ) → slice_get lists at ≡ Some list → IsListed lists at x → Contains list.items x
+listed_in : (lists : List (SmallVec ℕ)) (at x : ℕ) (list : SmallVec ℕ)
+    → slice_get lists at ≡ Some list → IsListed lists at x → Contains list.items x
 listed_in lists at x list is l = subst (λ v. Contains v.items x) (same_Some l.list list (sym l.is ∙ is)) l.has
 
-pub IsListed-set : (lists : List (SmallVec ℕ)) (at x : ℕ) (list new : SmallVec ℕ) → slice_get lists at ≡ Some list → new.items ≡ list.items ++ x ∷ [] → IsListed (set lists at new) at x
+pub IsListed-set : (lists : List (SmallVec ℕ)) (at x : ℕ) (list new : SmallVec ℕ)
+    → slice_get lists at ≡ Some list → new.items ≡ list.items ++ x ∷ [] → IsListed (set lists at new) at x
 IsListed-set lists at x list new is items = record {
   list = new;
   is = get_set_same lists at new (slice_get_within lists at list is);
   has = subst (λ xs. Contains xs x) (sym items) (Contains-push list.items x);
 }
 
-pub AddsListed-set : (lists : List (SmallVec ℕ)) (at x : ℕ) (list new : SmallVec ℕ) → slice_get lists at ≡ Some list → new.items ≡ list.items ++ x ∷ [] → AddsListed lists (set lists at new) x
+pub AddsListed-set : (lists : List (SmallVec ℕ)) (at x : ℕ) (list new : SmallVec ℕ)
+    → slice_get lists at ≡ Some list → new.items ≡ list.items ++ x ∷ [] → AddsListed lists (set lists at new) x
 AddsListed-set lists at x list new is items = record {
   size = length-set lists at new;
   kept = λ k y l. elim (cases_eq k at) [
@@ -119,8 +122,8 @@ unmarked-set (false ∷ marks) (suc place) off within = ap (λ n. n + 1) (unmark
 pub MarksMore-refl : (marks : List Bool) (waiting : List ℕ) → MarksMore marks waiting marks waiting
 MarksMore-refl marks waiting = record { size = refl; kept = λ p h. h; waits = λ p h. inl h; stays = λ p h. h; within = λ h. h; work = omega arith }
 
-pub MarksMore-trans : (a b c : List Bool) (u v w : List ℕ) → MarksMore a u b v → MarksMore b v c w → MarksMore a u c w
-MarksMore-trans a b c u v w f s = record {
+pub MarksMore-trans : {a b c : List Bool} {u v w : List ℕ} → MarksMore a u b v → MarksMore b v c w → MarksMore a u c w
+MarksMore-trans {a} {b} {c} {u} {v} {w} f s = record {
   size = s.size ∙ f.size;
   kept = λ p h. s.kept p (f.kept p h);
   waits = λ p h. elim (s.waits p h) [
@@ -211,7 +214,8 @@ found_above a w states marks found r started c state letter known below there =
 -- ---- state by state
 pub AreStarted-more : (states : List ℕ) (leaves : List (SmallVec ℕ)) (marks new : List Bool) (index : ℕ) (list : SmallVec ℕ)
     → ((k place : ℕ) → k < index → IsListed leaves (get_or states k 0) place → get_or marks place false ≡ true)
-    → ((place : ℕ) → get_or marks place false ≡ true → get_or new place false ≡ true) → slice_get leaves (get_or states index 0) ≡ Some list → All (λ place. get_or new place false ≡ true) list.items
+    → ((place : ℕ) → get_or marks place false ≡ true → get_or new place false ≡ true)
+    → slice_get leaves (get_or states index 0) ≡ Some list → All (λ place. get_or new place false ≡ true) list.items
     → (k place : ℕ) → k < index + 1 → IsListed leaves (get_or states k 0) place → get_or new place false ≡ true
 AreStarted-more states leaves marks new index list before kept is marked k place less l = elim (cases_lt k index) [
   | inl low ↦ kept place (before k place low l)

@@ -51,8 +51,8 @@ last_way ways way = let l = length_push ways way in slice_get-get_or (ways ++ wa
 AreMarks-before : (old new : List Way) (states : ℕ → Bool) (marks : List Bool) → KeepsWays old new → AreMarks new states marks → AreMarks old states marks
 AreMarks-before old new states marks kept m = record { up = λ place way h. m.up place way (kept.at place way h) }
 
-pub IsPlaced-grows : (shapes : List Shape) (old new : List Way) (node place : ℕ) → KeepsWays old new → IsPlaced shapes old node place → IsPlaced shapes new node place
-IsPlaced-grows shapes old new node place kept is = record {
+pub IsPlaced-grows : {shapes : List Shape} {old new : List Way} {node place : ℕ} → KeepsWays old new → IsPlaced shapes old node place → IsPlaced shapes new node place
+IsPlaced-grows {old = old} {new = new} kept is = record {
   within = let w = is.within in let l = kept.longer in omega (arith, w, l);
   none = λ states marks m. is.none states marks (AreMarks-before old new states marks kept m);
 }
@@ -81,9 +81,9 @@ either_off : (states : ℕ → Bool) (bit : Bool) (x y : ℕ) → states x ≡ f
 either_off states true x y low high = low
 either_off states false x y low high = high
 
-pub IsPlaced-test : (shapes : List Shape) (ways : List Way) (node track low high l h : ℕ) → IsAt shapes node (Test track low high)
+pub IsPlaced-test : {shapes : List Shape} {ways : List Way} {node track low high l h : ℕ} → IsAt shapes node (Test track low high)
     → IsPlaced shapes ways low l → IsPlaced shapes ways high h → IsPlaced shapes (ways ++ Both l h ∷ []) node (length ways)
-IsPlaced-test shapes ways node track low high l h at lp hp = record {
+IsPlaced-test {shapes} {ways} {node} {track} {low} {high} {l} {h} at lp hp = record {
   within = let l = length_push ways (Both l h) in omega (arith, l);
   none = λ states marks m off letter.
       let before = AreMarks-before ways (ways ++ Both l h ∷ []) states marks (KeepsWays-push ways (Both l h)) m in
@@ -93,10 +93,10 @@ IsPlaced-test shapes ways node track low high l h at lp hp = record {
       (lp.none states marks before both.0 letter) (hp.none states marks before both.1 letter);
 }
 
-pub IsPlaced-low : (shapes : List Shape) (first ways : List Way) (node track low high l h : ℕ) → KeepsWays first ways
+pub IsPlaced-low : {shapes : List Shape} {first ways : List Way} {node track low high l h : ℕ} → KeepsWays first ways
     → IsAt shapes node (Test track low high) → IsPlaced shapes first low l → IsPlaced shapes ways high h
     → IsPlaced shapes (ways ++ Both l h ∷ []) node (length ways)
-IsPlaced-low shapes first ways node track low high l h kept at lp hp = IsPlaced-test shapes ways node track low high l h at (IsPlaced-grows shapes first ways low l kept lp) hp
+IsPlaced-low kept at lp hp = IsPlaced-test at (IsPlaced-grows kept lp) hp
 
 -- ---- places that are remembered
 RemembersPlaced-grows : (states : ℕ) (shapes : List Shape) (old new : List Way) (places : List (Option ℕ)) → KeepsWays old new → AreWays states new
@@ -104,7 +104,7 @@ RemembersPlaced-grows : (states : ℕ) (shapes : List Shape) (old new : List Way
 RemembersPlaced-grows states shapes old new places kept fits all = record {
   size = all.size;
   fits = fits;
-  placed = λ node place at. IsPlaced-grows shapes old new node place kept (all.placed node place at);
+  placed = λ node place at. IsPlaced-grows kept (all.placed node place at);
 }
 
 RemembersPlaced-set : (states : ℕ) (shapes : List Shape) (ways : List Way) (places : List (Option ℕ)) (node place : ℕ)
@@ -136,7 +136,7 @@ pub placed_push : (shapes : List Shape) (old new : List Way) (rows places : List
     → IsPlaced shapes new (get_or rows index 0) place → (k : ℕ) → k < index + 1 → IsPlaced shapes new (get_or rows k 0) (get_or (places ++ place ∷ []) k 0)
 placed_push shapes old new rows places index place kept size before last k less = elim (cases_lt k index) [
   | inl low ↦ subst (IsPlaced shapes new (get_or rows k 0)) (sym (get_or_append_left places (place ∷ []) 0 k (omega (arith, low, size))))
-      (IsPlaced-grows shapes old new (get_or rows k 0) (get_or places k 0) kept (before k low))
+      (IsPlaced-grows kept (before k low))
   | inr past ↦
       let same : index ≡ k = omega (arith, less, past) in
       subst (IsPlaced shapes new (get_or rows k 0)) (sym (get_or_push places place 0 k (size ∙ same))) (subst (λ n. IsPlaced shapes new (get_or rows n 0) place) same last)

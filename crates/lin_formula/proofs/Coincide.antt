@@ -24,7 +24,8 @@ other : (x y : Var) → x.0 == y.0 ≡ false → x ≢ y
 other x y differ e =
     let same : x.0 == y.0 ≡ true = eq-eqb x.0 y.0 (ap (λ (v : Var). v.0) e) in cc
 
-agree-with_value : (v w : Values) (y : Var) (n : ℤ) (f : Tree) → ((x : Var) → IsFree x (Ex y f) → v x.0 ≡ w x.0) → (x : Var) → IsFree x f → with_value v y n x.0 ≡ with_value w y n x.0
+agree-with_value : (v w : Values) (y : Var) (n : ℤ) (f : Tree) → ((x : Var) → IsFree x (Ex y f) → v x.0 ≡ w x.0)
+    → (x : Var) → IsFree x f → with_value v y n x.0 ≡ with_value w y n x.0
 agree-with_value v w y n f h x is = pick (x.0 == y.0) n (v x.0) (w x.0) (λ differ. h x (other x y differ, is))
 
 pub coincide : (f : Tree) (e : Sets) (v w : Values) → ((x : Var) → IsFree x f → v x.0 ≡ w x.0) → Holds f e v → Holds f e w

@@ -74,7 +74,12 @@ one_of-without_var z x (y ∷ ys) =
     ))
     (λ e. (
       λ h. let r = rest.0 h in (r.0, inr r.1),
-      λ h. elim h.1 [ inl is ↦ absurd (h.0 (is ∙ same-var y x (eqb-true y.0 x.0 (let back : not (not (y.0 == x.0)) ≡ true = ap not e in twice (y.0 == x.0) back)))) | inr k ↦ rest.1 (h.0, k) ],
+      λ h. elim h.1 [
+        | inl is ↦
+            let back : not (not (y.0 == x.0)) ≡ true = ap not e in
+            absurd (h.0 (is ∙ same-var y x (eqb-true y.0 x.0 (twice (y.0 == x.0) back))))
+        | inr k ↦ rest.1 (h.0, k)
+      ],
     ))
 
 pub free_vars-free : (f : Tree) (x : Var) → IsOneOf x (free_vars f) ↔ IsFree x f

@@ -1,5 +1,5 @@
 -- A formula as a tree, without where it lies in memory.
-use Rattle.std.specs.Prelude.{ℕ, List, [], ◌∷◌, ◌++◌, ℤ}
+use Rattle.std.specs.Prelude.{ℕ, ◌<◌, List, [], ◌∷◌, ◌++◌, length, ℤ}
 use Rattle.track_word.specs.declared.tracks.Var.{Var}
 use Rattle.track_word.specs.declared.atoms.Rel.{Rel}
 use Rattle.track_word.specs.Tracks.{with_var, with_vars, without_var}
@@ -45,6 +45,9 @@ steps (And f g) = steps f ++ steps g ++ And f g ∷ []
 steps (Or f g) = steps f ++ steps g ++ Or f g ∷ []
 steps (Ex x f) = steps f ++ Ex x f ∷ []
 
+abbrev pub HasStep : Tree → Type 0
+HasStep f = 0 < length (steps f)
+
 -- the sets that are named, each with the variables whose values are to be in it
 abbrev pub memberships : Tree → List (ℕ × List Var)
 memberships (Lin terms rel bound) = []
@@ -75,3 +78,7 @@ IsWellMade (Not f) = IsWellMade f
 IsWellMade (And f g) = IsWellMade f × IsWellMade g
 IsWellMade (Or f g) = IsWellMade f × IsWellMade g
 IsWellMade (Ex x f) = IsWellMade f
+
+-- a formula is well made if two others are
+abbrev pub IsWellMadeFrom : Tree → Tree → Tree → Type 0
+IsWellMadeFrom f g made = IsWellMade f → IsWellMade g → IsWellMade made

@@ -1,7 +1,7 @@
 //! Formulas, and how they are joined.
 ghost use Rattle.std.specs.Prelude.{◌≡◌, IfOk, IfErr};
 ghost use Rattle.lin_formula.specs.Tree as tree;
-ghost use Rattle.lin_formula.specs.Tree.{IsWellMade};
+ghost use Rattle.lin_formula.specs.Tree.{IsWellMade, IsWellMadeFrom};
 ghost use Rattle.lin_formula.specs.TreeOf.{tree_of};
 
 use crate::lists::{Terms, Vars};
@@ -46,8 +46,7 @@ pub fn not(alloc: Global, f: Formula) -> Result<Formula, Formula>
 /// The formula that holds where both do. Err is want of memory, and hands both back.
 pub fn and(alloc: Global, a: Formula, b: Formula) -> Result<Formula, (Formula, Formula)>
     ensures ok { IfOk result (λ made. tree_of made ≡ tree.And (tree_of a) (tree_of b)) }
-    ensures well_made { IfOk result
-        (λ made. IsWellMade (tree_of a) → IsWellMade (tree_of b) → IsWellMade (tree_of made)) }
+    ensures well_made { IfOk result (λ made. IsWellMadeFrom (tree_of a) (tree_of b) (tree_of made)) }
     ensures handed_back { IfErr result (λ back. (back.0 ≡ a) × (back.1 ≡ b)) }
 {
     let (a, b) = boxed(alloc, a, b)?;
@@ -57,8 +56,7 @@ pub fn and(alloc: Global, a: Formula, b: Formula) -> Result<Formula, (Formula, F
 /// The formula that holds where one of the two does, or both do. Err is want of memory, and hands both back.
 pub fn or(alloc: Global, a: Formula, b: Formula) -> Result<Formula, (Formula, Formula)>
     ensures ok { IfOk result (λ made. tree_of made ≡ tree.Or (tree_of a) (tree_of b)) }
-    ensures well_made { IfOk result
-        (λ made. IsWellMade (tree_of a) → IsWellMade (tree_of b) → IsWellMade (tree_of made)) }
+    ensures well_made { IfOk result (λ made. IsWellMadeFrom (tree_of a) (tree_of b) (tree_of made)) }
     ensures handed_back { IfErr result (λ back. (back.0 ≡ a) × (back.1 ≡ b)) }
 {
     let (a, b) = boxed(alloc, a, b)?;

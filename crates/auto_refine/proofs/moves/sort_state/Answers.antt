@@ -10,7 +10,7 @@ use Rattle.auto_refine.proofs.moves.sort_state.Goals.{then-len+in_ok-push, else-
 
 pub add-requires : goal.add-requires
 add-requires c =
-    let few = signatures_few _ _ _ _ _ _ _ _ c.requires.moves in
+    let few = signatures_few c.requires.moves in
     let size = c.requires.partition.states in
     omega (arith, few, size, c.requires.few)
 
@@ -22,7 +22,7 @@ overflow_cast-partition c =
 pub overflow_add-partition : goal.overflow_add-partition
 overflow_add-partition c =
     let most = count_le-size _ _ _ c.requires.partition in
-    let few = signatures_few _ _ _ _ _ _ _ _ c.requires.moves in
+    let few = signatures_few c.requires.moves in
     let size = c.requires.partition.states in
     let inside = c.in_ok-place.ensures.room in
     let place = slice_get_within c.add.new.self c.in_ok-place.place (c.index-class.result.now, c.index-nodes-state.result) c.in_ok-place.ensures.number in

@@ -48,5 +48,5 @@ loop-state-preserved c =
 pub returns-clause-candidates : goal.returns-clause-candidates
 returns-clause-candidates c =
     let end : c.loop-state.state-index ≡ length c.args.stale.now = (let to = c.loop-state.auto.state-index-end in omega (arith, to, c.loop-state-test.false)) in
-    AreCandidates-to c.args.partition.now.classes.items c.args.representatives.now c.args.stale.now c.loop-state.found.items
+    AreCandidates-to c.args.partition.now c.args.representatives.now c.args.stale.now c.loop-state.found.items
     (subst (AreCandidatesTo c.args.partition.now.classes.items c.args.representatives.now c.args.stale.now c.loop-state.found.items) end c.loop-state.invariant.to)

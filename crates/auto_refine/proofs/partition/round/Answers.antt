@@ -19,5 +19,5 @@ returns-clause-refined c =
       listing = c.in_ok-moved.ensures.listing;
       settled = settled;
       size = led.size;
-      led = led_to_finer a valid old.diagrams old.partition.classes.items new.classes.items c.in_ok-moved.moved.items old.led.items led sound.partition.states finer c.in_ok-moved.ensures.moved;
+      led = led_to_finer a valid old.diagrams old.partition new c.in_ok-moved.moved.items old.led.items led sound.partition.states finer c.in_ok-moved.ensures.moved;
     }

@@ -1,14 +1,14 @@
-use Rattle.std.proofs.Common.{arith, ◌≡◌, ◌≢◌, ◌<◌, ◌+◌, ℕ, List, Vec, Global, length, get_or, Contains, map, ap, sym, ◌∙◌, subst}
+use Rattle.std.proofs.Common.{arith, ◌≡◌, ◌<◌, ◌+◌, ℕ, List, Vec, Global, length, map, ap, sym, ◌∙◌, subst}
 use Rattle.std.specs.List.{All}
 use Rattle.std.proofs.lemmas.List.{length-map}
 use Rattle.auto_refine.specs.Listing.{IsListing}
-use Rattle.auto_refine.specs.Moves.{IsSplit, chosen_node}
+use Rattle.auto_refine.specs.Moves.{IsSplit, MovesIfOther}
 use Rattle.auto_refine.proofs.Rounds.{count_le-size}
 use Rattle.auto_refine.proofs.Splits.{signatures_few, signatures_some, moved_within, numbers_within, all_moved, IsSplit-moved, IsListing-moved, AreSettled-moved}
 use Rattle.auto_refine.proofs.partition.split.Goals as goal
 
 pub move_states-requires-clause-states : goal.move_states-requires-clause-states
-move_states-requires-clause-states c = moved_within _ _ _ _ _ _ _ _ c.in_ok-moves.ensures.moves
+move_states-requires-clause-states c = moved_within c.in_ok-moves.ensures.moves
 
 pub move_states-requires-clause-size : goal.move_states-requires-clause-size
 move_states-requires-clause-size c = let m = c.in_ok-moves.ensures.moves in m.size
@@ -20,23 +20,22 @@ move_states-requires-clause-lists c =
     sym (length-map c.candidates.new.lists.items f) ∙ listing.size
 
 pub move_states-requires-clause-numbers : goal.move_states-requires-clause-numbers
-move_states-requires-clause-numbers c = numbers_within _ _ _ _ _ _ _ _ c.in_ok-moves.ensures.moves
+move_states-requires-clause-numbers c = numbers_within c.in_ok-moves.ensures.moves
 
 pub move_states-requires-clause-few : goal.move_states-requires-clause-few
 move_states-requires-clause-few c =
     let most = count_le-size _ _ _ c.requires.partition in
     let m = c.in_ok-moves.ensures.moves in
     let firsts = m.firsts_size in
-    let few = signatures_few _ _ _ _ _ _ _ _ m in
+    let few = signatures_few m in
     let states = c.requires.partition.states in
     omega (arith, most, firsts, few, states, c.requires.few)
 
 -- a state that has another node than the one that stands for its class is moved
 moved : (c : goal.After-drop-found-2) (state : ℕ) → state < length c.args.partition.now.classes.items
-    → get_or c.args.nodes.now state 0 ≢ chosen_node c.args.partition.now.classes.items c.args.listing.now.representatives.items c.args.nodes.now state
-    → Contains c.in_ok-moves.moves.states.items state
+    → MovesIfOther c.args.partition.now c.args.listing.now c.args.nodes.now c.in_ok-moves.moves state
 moved c =
-    all_moved c.args.partition.now.classes.items c.args.listing.now.representatives.items c.args.nodes.now c.args.stale.now c.in_ok-found.found.items
+    all_moved c.args.partition.now c.args.listing.now.representatives.items c.args.nodes.now c.args.stale.now c.in_ok-found.found.items
     c.in_ok-moves.moves.states.items c.requires.settled (rw c.as_slice.ensures.value at c.in_ok-found.ensures.candidates) (rw c.as_slice-2.ensures.value at c.in_ok-moves.ensures.moved)
 
 total : (c : goal.After-drop-found-2) → c.move_states.new.partition.count ≡ c.args.partition.now.count + length c.in_ok-moves.moves.signatures
@@ -58,7 +57,7 @@ returns-clause-count c =
     let more = c.in_ok-move_states.ensures.count in
     record {
       kept = omega (arith, more);
-      grown = λ some. let signed = signatures_some _ _ _ _ _ _ _ _ m some in omega (arith, signed, size, more);
+      grown = λ some. let signed = signatures_some m some in omega (arith, signed, size, more);
     }
 
 pub returns-clause-listing : goal.returns-clause-listing
@@ -84,7 +83,7 @@ returns-clause-settled c =
 
 pub returns-clause-within : goal.returns-clause-within
 returns-clause-within c =
-    subst (λ n. All (λ state. state < n) c.in_ok-moves.moves.states.items) c.requires.partition.states (moved_within _ _ _ _ _ _ _ _ c.in_ok-moves.ensures.moves)
+    subst (λ n. All (λ state. state < n) c.in_ok-moves.moves.states.items) c.requires.partition.states (moved_within c.in_ok-moves.ensures.moves)
 
 pub returns-clause-moved : goal.returns-clause-moved
 returns-clause-moved c = record { kept = λ state within absent. c.in_ok-move_states.ensures.classes.kept state within absent 0 }

@@ -32,16 +32,16 @@ pub returns-in_ok-place-in-Test-clause-placed : goal.returns-in_ok-place-in-Test
 returns-in_ok-place-in-Test-clause-placed t c =
     let low = c.in_ok-low-in-Test.ensures in
     let high = c.in_ok-high-in-Test.ensures in
-    rw (c.in_ok-place-in-Test.ensures.ways, c.in_ok-place-in-Test.ensures.place) (IsPlaced-low _ _ _ _ _ _ _ _ _ high.kept c.in-Test.ensures.at low.placed high.placed)
+    rw (c.in_ok-place-in-Test.ensures.ways, c.in_ok-place-in-Test.ensures.place) (IsPlaced-low high.kept c.in-Test.ensures.at low.placed high.placed)
 
 pub returns-in_ok-place-in-Test-clause-remembered : goal.returns-in_ok-place-in-Test-clause-remembered
 returns-in_ok-place-in-Test-clause-remembered t c =
     let e = c.in_ok-place-in-Test.ensures in
     let low = c.in_ok-low-in-Test.ensures in
     let high = c.in_ok-high-in-Test.ensures in
-    let lq = IsPlaced-grows _ _ _ _ _ high.kept low.placed in
+    let lq = IsPlaced-grows high.kept low.placed in
     RemembersPlaced-next _ _ _ _ _ _ _ _ high.remembered (lq.within, high.placed.within) c.requires.known
-    (IsPlaced-low _ _ _ _ _ _ _ _ _ high.kept c.in-Test.ensures.at low.placed high.placed) e.ways e.places
+    (IsPlaced-low high.kept c.in-Test.ensures.at low.placed high.placed) e.ways e.places
 
 pub returns-in_ok-place-in-Test-clause-kept : goal.returns-in_ok-place-in-Test-clause-kept
 returns-in_ok-place-in-Test-clause-kept t c =

@@ -8,7 +8,7 @@ loop-place-preserved c =
     let before = c.loop-place.invariant in
     let e = c.in_ok-mark.ensures in
     record {
-      more = MarksMore-trans _ _ _ _ _ _ before.more e.more;
+      more = MarksMore-trans before.more e.more;
       marked = below_more (λ k. get_or c.mark.new.marks (get_or c.args.places.now k 0) false ≡ true) c.loop-place.place-index (λ k less. e.more.kept _ (before.marked k less)) e.marked;
     }
 

@@ -22,7 +22,7 @@ loop-state-preserved c =
     let before = c.loop-state.invariant in
     let e = c.in_ok-mark_all.ensures in
     record {
-      more = MarksMore-trans _ _ _ _ _ _ before.more e.more;
+      more = MarksMore-trans before.more e.more;
       started = AreStarted-more states leaves c.loop-state.marks c.mark_all.new.marks index c.index-leaves-state.result before.started (λ place on. e.more.kept place on)
           (slice_get_read leaves _ (get_or states index 0) c.index-leaves-state.result refl within c.index-leaves-state.is) (rw c.as_slice.ensures at e.marked);
     }
