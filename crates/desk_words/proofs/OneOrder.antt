@@ -44,7 +44,8 @@ module _ {A : Type 0} (one other : Result A UsageWhy) where
   from_number (Ok n) F G once a b = once n a b
   from_number (Err why) F G once a b = a ∙ sym b
 
-  with_number : (word : List ℕ) (low high : ℕ) (F G : ℕ → Type 0) → ((n : ℕ) → F n → G n → one ≡ other) → WithNumber word low high one F → WithNumber word low high other G → one ≡ other
+  with_number : (word : List ℕ) (low high : ℕ) (F G : ℕ → Type 0) → ((n : ℕ) → F n → G n → one ≡ other)
+      → WithNumber word low high one F → WithNumber word low high other G → one ≡ other
   with_number word low high F G once (m, is_m, a) (n, is_n, b) =
       let P : Result ℕ UsageWhy → Type 0 = λ r. FromNumber r other G in
       from_number m F G once a (subst P (sym (once_number word low high m n is_m is_n)) b)
@@ -105,7 +106,9 @@ module _ (one other : Result Order UsageWhy) where
   once_drilled [] a b = a ∙ sym b
   once_drilled (seed ∷ []) a b = a ∙ sym b
   once_drilled (seed ∷ count ∷ []) a b =
-      with_number one other seed 0 most_seed (λ s. WithNumber count 0 most_positions one (λ k. one ≡ Ok (Drill s k))) (λ s. WithNumber count 0 most_positions other (λ k. other ≡ Ok (Drill s k)))
+      with_number one other seed 0 most_seed
+      (λ s. WithNumber count 0 most_positions one (λ k. one ≡ Ok (Drill s k)))
+      (λ s. WithNumber count 0 most_positions other (λ k. other ≡ Ok (Drill s k)))
       (λ s x y. with_number one other count 0 most_positions (λ k. one ≡ Ok (Drill s k)) (λ k. other ≡ Ok (Drill s k)) (λ k u v. u ∙ sym v) x y)
       a b
   once_drilled (seed ∷ count ∷ word ∷ words) a b = a ∙ sym b

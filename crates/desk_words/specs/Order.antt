@@ -1,6 +1,7 @@
 -- What words order.
-use Rattle.std.specs.Prelude.{◌≡◌, ◌≢◌, ◌⊎◌, ℕ, ◌-◌, ◌^◌, ◌≤◌, List, [], ◌∷◌, length, Option, Some, None, Result, Ok, Err, codes, slice_get}
+use Rattle.std.specs.Prelude.{◌≡◌, ◌≢◌, ◌⊎◌, ℕ, ◌-◌, ◌^◌, ◌≤◌, List, [], ◌∷◌, length, Option, Some, None, Result, Ok, Err, String, codes, map, slice_get, string_bytes}
 use Rattle.std.specs.Char.{IsAsciiDigit}
+use Rattle.std.specs.declared.alloc.Global.{Global}
 use Rattle.std.specs.List.{All}
 use Rattle.std.specs.Str.Parse.{digits_value}
 use Rattle.limits.specs.declared.numbers.TheConstants.{MOST_MOVES, MOST_STATES}
@@ -13,6 +14,10 @@ use Rattle.desk_words.specs.declared.order.TextOrder.{TextOrder}
 use Rattle.desk_words.specs.declared.order.TextOrder.TheVariants as text_orders
 use Rattle.desk_words.specs.declared.order.UsageWhy.{UsageWhy}
 use Rattle.desk_words.specs.declared.order.UsageWhy.TheVariants.{NoCommand, Unknown, Count, Number, Limit, Name}
+
+-- the bytes of words
+abbrev pub texts : List (String Global) → List (List ℕ)
+texts words = map string_bytes words
 
 -- the greatest seed
 abbrev pub most_seed : ℕ

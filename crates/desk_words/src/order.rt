@@ -1,9 +1,9 @@
 //! The words of a command line.
 
-ghost use Rattle.std.specs.Prelude.{◌≡◌, ◌↔◌, ◌<◌, ◌≤◌, map, slice_get, string_bytes, length, Some, IsTrue, IfOk};
+ghost use Rattle.std.specs.Prelude.{◌≡◌, ◌↔◌, ◌<◌, ◌≤◌, slice_get, length, Some, IsTrue, IfOk};
 ghost use Rattle.std.specs.Char.{IsAsciiDigit};
 ghost use Rattle.std.specs.List.{All};
-ghost use Rattle.desk_words.specs.Order.{ArithOrdered, DrillOrdered, FileOrdered, IsCommand, IsName, IsNameByte, IsNaturalText, IsWithinLimits, KeepOrdered, MovesOrdered, Ordered, OrderedBy, ReadsFile, ReadsMoves, ReadsName, ReadsNumber, ShowOrdered, most_seed, usage_line};
+ghost use Rattle.desk_words.specs.Order.{ArithOrdered, DrillOrdered, FileOrdered, IsCommand, IsName, IsNameByte, IsNaturalText, IsWithinLimits, KeepOrdered, MovesOrdered, Ordered, OrderedBy, ReadsFile, ReadsMoves, ReadsName, ReadsNumber, ShowOrdered, most_seed, texts, usage_line};
 
 use limits::{Budget, MOST_MOVES, MOST_STATES};
 
@@ -109,7 +109,7 @@ impl UsageWhy {
 
 /// The order that the words are.
 pub fn order_of(words: &Vec<String>) -> Result<Order, UsageWhy>
-    ensures ordered { Ordered (map string_bytes words.now.items) result }
+    ensures ordered { Ordered (texts words.now.items) result }
     ensures within { IfOk result IsWithinLimits }
 {
     match words.as_slice() {
@@ -175,7 +175,7 @@ fn command_named(word: &str) -> Option<Command>
 
 /// The order that the words behind the command are.
 fn order_behind(command: Command, words: &[String]) -> Result<Order, UsageWhy>
-    ensures ordered { OrderedBy command (map string_bytes words.now) result }
+    ensures ordered { OrderedBy command (texts words.now) result }
     ensures within { IfOk result IsWithinLimits }
 {
     match command {
@@ -194,7 +194,7 @@ fn order_behind(command: Command, words: &[String]) -> Result<Order, UsageWhy>
 
 /// The order that the words behind `decide` are.
 fn decide_order(words: &[String]) -> Result<Order, UsageWhy>
-    ensures ordered { MovesOrdered (λ moves budget. Order.Decide moves budget) (map string_bytes words.now) result }
+    ensures ordered { MovesOrdered (λ moves budget. Order.Decide moves budget) (texts words.now) result }
     ensures within { IfOk result IsWithinLimits }
 {
     let (moves, budget) = read_moves_and_budget(words)?;
@@ -203,7 +203,7 @@ fn decide_order(words: &[String]) -> Result<Order, UsageWhy>
 
 /// The order that the words behind `least` are.
 fn least_order(words: &[String]) -> Result<Order, UsageWhy>
-    ensures ordered { MovesOrdered (λ limit budget. Order.Least limit budget) (map string_bytes words.now) result }
+    ensures ordered { MovesOrdered (λ limit budget. Order.Least limit budget) (texts words.now) result }
     ensures within { IfOk result IsWithinLimits }
 {
     let (limit, budget) = read_moves_and_budget(words)?;
@@ -212,7 +212,7 @@ fn least_order(words: &[String]) -> Result<Order, UsageWhy>
 
 /// The order that the words behind `first` are.
 fn first_order(words: &[String]) -> Result<Order, UsageWhy>
-    ensures ordered { MovesOrdered (λ moves budget. Order.First moves budget) (map string_bytes words.now) result }
+    ensures ordered { MovesOrdered (λ moves budget. Order.First moves budget) (texts words.now) result }
     ensures within { IfOk result IsWithinLimits }
 {
     let (moves, budget) = read_moves_and_budget(words)?;
@@ -221,7 +221,7 @@ fn first_order(words: &[String]) -> Result<Order, UsageWhy>
 
 /// The order that the words behind `play` are.
 fn play_order(words: &[String]) -> Result<Order, UsageWhy>
-    ensures ordered { MovesOrdered (λ moves budget. Order.Play moves budget) (map string_bytes words.now) result }
+    ensures ordered { MovesOrdered (λ moves budget. Order.Play moves budget) (texts words.now) result }
     ensures within { IfOk result IsWithinLimits }
 {
     let (moves, budget) = read_moves_and_budget(words)?;
@@ -230,7 +230,7 @@ fn play_order(words: &[String]) -> Result<Order, UsageWhy>
 
 /// The order that the words behind `keep` are.
 fn keep_order(words: &[String]) -> Result<Order, UsageWhy>
-    ensures ordered { KeepOrdered (map string_bytes words.now) result }
+    ensures ordered { KeepOrdered (texts words.now) result }
     ensures within { IfOk result IsWithinLimits }
 {
     match words {
@@ -254,7 +254,7 @@ fn keep_order(words: &[String]) -> Result<Order, UsageWhy>
 
 /// The order that the words behind `check` are.
 fn check_order(words: &[String]) -> Result<Order, UsageWhy>
-    ensures ordered { FileOrdered (λ budget. Order.Check budget) (map string_bytes words.now) result }
+    ensures ordered { FileOrdered (λ budget. Order.Check budget) (texts words.now) result }
     ensures within { IfOk result IsWithinLimits }
 {
     let budget = read_file_budget(words)?;
@@ -263,7 +263,7 @@ fn check_order(words: &[String]) -> Result<Order, UsageWhy>
 
 /// The order that the words behind `resume` are.
 fn resume_order(words: &[String]) -> Result<Order, UsageWhy>
-    ensures ordered { FileOrdered (λ budget. Order.Resume budget) (map string_bytes words.now) result }
+    ensures ordered { FileOrdered (λ budget. Order.Resume budget) (texts words.now) result }
     ensures within { IfOk result IsWithinLimits }
 {
     let budget = read_file_budget(words)?;
@@ -272,7 +272,7 @@ fn resume_order(words: &[String]) -> Result<Order, UsageWhy>
 
 /// The budget behind the name that the first word is, if there is one.
 fn read_file_budget(words: &[String]) -> Result<Budget, UsageWhy>
-    ensures { ReadsFile (map string_bytes words.now) result }
+    ensures { ReadsFile (texts words.now) result }
 {
     match words {
         [name] => {
@@ -289,7 +289,7 @@ fn read_file_budget(words: &[String]) -> Result<Budget, UsageWhy>
 
 /// The number of moves that the first word is, and the budget that the second is, if there is one.
 fn read_moves_and_budget(words: &[String]) -> Result<(u8, Budget), UsageWhy>
-    ensures reads { ReadsMoves (map string_bytes words.now) result }
+    ensures reads { ReadsMoves (texts words.now) result }
     ensures within { IfOk result (λ asked. asked.0 ≤ MOST_MOVES) }
 {
     match words {
@@ -301,7 +301,7 @@ fn read_moves_and_budget(words: &[String]) -> Result<(u8, Budget), UsageWhy>
 
 /// The order that the words behind `show` are.
 fn show_order(words: &[String]) -> Result<Order, UsageWhy>
-    ensures ordered { ShowOrdered (map string_bytes words.now) result }
+    ensures ordered { ShowOrdered (texts words.now) result }
     ensures within { IfOk result IsWithinLimits }
 {
     if words.is_empty() {
@@ -313,7 +313,7 @@ fn show_order(words: &[String]) -> Result<Order, UsageWhy>
 
 /// The order that the words behind `drill` are.
 fn drill_order(words: &[String]) -> Result<Order, UsageWhy>
-    ensures ordered { DrillOrdered (map string_bytes words.now) result }
+    ensures ordered { DrillOrdered (texts words.now) result }
     ensures within { IfOk result IsWithinLimits }
 {
     match words {
@@ -327,7 +327,7 @@ fn drill_order(words: &[String]) -> Result<Order, UsageWhy>
 
 /// The order that the words behind `arith` are.
 fn arith_order(words: &[String]) -> Result<Order, UsageWhy>
-    ensures ordered { ArithOrdered (map string_bytes words.now) result }
+    ensures ordered { ArithOrdered (texts words.now) result }
     ensures within { IfOk result IsWithinLimits }
 {
     match words {
@@ -449,7 +449,7 @@ fn is_name_byte(byte: u8) -> bool
 /// The word at this place, counted from 0.
 pub fn word_at(words: &Vec<String>, index: usize) -> &str
     requires { index < length words.now.items }
-    ensures { slice_get (map string_bytes words.now.items) index ≡ Some result.now }
+    ensures { slice_get (texts words.now.items) index ≡ Some result.now }
 {
     words[index].as_str()
 }
