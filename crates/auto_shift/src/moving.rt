@@ -6,7 +6,7 @@ ghost use Rattle.auto_walk.specs.Walker.{IsWalked, MoreThan};
 ghost use Rattle.auto_shift.specs.Moved.{DecidesMoved, IsOverOnTheWay};
 ghost use Rattle.auto_shift.specs.Shifted.{by_one, along, shift_walker};
 
-use crate::laws::{each_set_is_moved_by_nothing, moving_adds_up, pairs_decide_moved_sets};
+use crate::laws::{moving_adds_up, pairs_decide_moved_sets};
 use crate::pair_walk::Shift;
 use auto_core::Auto;
 use auto_walk::{Grown, walked};
@@ -37,6 +37,7 @@ pub fn move_by_one(
 ) -> Result<Auto, Grown>
     requires integers { DecidesIntegers a.now }
     requires track { track < length a.now.tracks }
+    ensures walked { IfOk result (IsWalked (shift_walker a.now track up)) }
     ensures moved { IfOk result (λ b. DecidesMoved a.now b track (by_one up)) }
     ensures integers { IfOk result (λ b. DecidesIntegers b) }
     ensures reached { IfOk result AllReached }
@@ -71,7 +72,7 @@ impl Steps {
 
 /// The automaton of the set that is moved by a number: it accepts a word just if the argument accepts the words with so much
 /// more (or less) on the track. That is `move_by_one` as many times, each within the budget; `Over` where one of them is not.
-/// By 0 there is nothing to make: a set is itself moved by 0 (`laws::each_set_is_moved_by_nothing`).
+/// By 0 there is nothing to make.
 pub fn move_by(alloc: Global, a: &Auto, track: u8, by: i32, budget: Budget) -> Result<Auto, Grown>
     requires integers { DecidesIntegers a.now }
     requires track { track < length a.now.tracks }
@@ -82,7 +83,6 @@ pub fn move_by(alloc: Global, a: &Auto, track: u8, by: i32, budget: Budget) -> R
     ensures few { IfOk result (λ b. length b.accept ≤ budget) }
     ensures over { result ≡ Err Grown.Over → IsOverOnTheWay a.now track by budget }
 {
-    each_set_is_moved_by_nothing();
     moving_adds_up();
     let Steps { up, times } = Steps::of(by);
     let mut moved = move_by_one(alloc, a, track, up, budget)?;

@@ -4,12 +4,8 @@ use Rattle.std.specs.Int.{w32}
 use Rattle.std.proofs.lemmas.Int.{to_z-of_z}
 use Rattle.auto_shift.specs.Moved.{DecidesMoved}
 use Rattle.auto_shift.specs.Shifted.{along}
-use Rattle.auto_shift.proofs.Decisions.{DecidesMoved-next}
+use Rattle.auto_shift.proofs.Decisions.{DecidesMoved-next, walked-next}
 use Rattle.auto_shift.proofs.moving.move_by.Goals as goal
-
-along-none : (up : Bool) → along up 0 ≡ pos 0
-along-none true = refl
-along-none false = refl
 
 pub returns-in_err-moved-clause-over : goal.returns-in_err-moved-clause-over
 returns-in_err-moved-clause-over c = λ is_over.
@@ -21,7 +17,7 @@ returns-in_err-moved-clause-over c = λ is_over.
       done = 0;
       before = c.of-up.ensures.some;
       part = c.args.a.now;
-      moved = subst (DecidesMoved c.args.a.now c.args.a.now c.args.track) (sym (along-none c.of-up.result.up)) (c.each_set_is_moved_by_nothing.ensures c.args.a.now c.args.track c.requires.integers);
+      walked = refl;
       more = c.move_by_one.ensures.over over;
     }
 
@@ -29,7 +25,8 @@ pub loop-done-preserved : goal.loop-done-preserved
 loop-done-preserved c =
     let e = c.in_ok-moved-2.ensures in
     record {
-      moved = DecidesMoved-next _ _ _ _ _ _ c.moving_adds_up.ensures c.requires.track c.loop-done.invariant.moved e.moved;
+      walked = walked-next _ _ _ c.args.track c.of-up.result.up c.loop-done._done c.loop-done.invariant.walked e.walked;
+      moved = DecidesMoved-next c.of-up.result.up c.loop-done._done c.moving_adds_up.ensures c.requires.track c.loop-done.invariant.moved e.moved;
       integers = e.integers;
       reached = e.reached;
       few = e.few;

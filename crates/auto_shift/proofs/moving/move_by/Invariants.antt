@@ -1,12 +1,13 @@
 use Rattle.std.proofs.Common.{◌≤◌, length}
 use Rattle.auto_core.specs.Integers.{DecidesIntegers}
 use Rattle.auto_core.specs.Reduced.{AllReached}
-use Rattle.auto_shift.specs.Moved.{DecidesMoved}
+use Rattle.auto_shift.specs.Moved.{DecidesMoved, IsWalkedTimes}
 use Rattle.auto_shift.specs.Shifted.{along}
 use Rattle.auto_shift.proofs.moving.move_by.Given as goal
 
 abbrev pub invariant-loop-done : goal.invariant-loop-done
 invariant-loop-done l = record {
+  walked : IsWalkedTimes l.up l.track l._done l.a l.moved;
   moved : DecidesMoved l.a l.moved l.track (along l.up l._done);
   integers : DecidesIntegers l.moved;
   reached : AllReached l.moved;
