@@ -5,7 +5,8 @@ use Rattle.track_word.specs.declared.tracks.Var.{Var}
 use Rattle.lin_formula.specs.Tree.{free_vars}
 use Rattle.lin_formula.specs.Free.{IsOneOf}
 use Rattle.near_image.specs.Image.{Image, AreOtherVars, moved_vars}
-use Rattle.near_image.specs.Read.{IsNear, Leaves, IsMovable}
+use Rattle.near_image.specs.Image.{IsNear, IsMovable}
+use Rattle.near_image.specs.Read.{Leaves}
 
 pub movable : (i : Image) → 0 < length i.shifts → All (Leaves i.vars) i.shifts → AllPairs AreOtherVars i.shifts
     → All (λ g. (x : Var) → IsOneOf x (free_vars g) → IsOneOf x (moved_vars i)) i.clear → IsMovable i

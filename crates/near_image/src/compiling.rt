@@ -8,8 +8,8 @@ ghost use Rattle.lin_formula.specs.SetOf.{SetOf, Table, tables, members};
 ghost use Rattle.formula_auto.specs.Step.{FirstOver};
 ghost use Rattle.formula_auto.specs.Decides.{Decides};
 ghost use Rattle.formula_auto.specs.Compiled.{IsAccessible, IsCompilable, IsCompiledOn, IsCompileError};
-ghost use Rattle.near_image.specs.Image.{image_tree, moved_tree};
-ghost use Rattle.near_image.specs.Read.{image_of, IsMovable};
+ghost use Rattle.near_image.specs.Image.{image_tree, moved_tree, IsMovable};
+ghost use Rattle.near_image.specs.Read.{image_of};
 
 use crate::image::Image;
 use crate::laws::{

@@ -5,8 +5,8 @@ ghost use Rattle.lin_formula.specs.TreeOf.{tree_of};
 ghost use Rattle.track_word.specs.declared.tracks.Var.{Var};
 ghost use Rattle.lin_formula.specs.Free.{IsOneOf};
 ghost use Rattle.near_image.specs.Image as image;
-ghost use Rattle.near_image.specs.Image.{AreOtherVars};
-ghost use Rattle.near_image.specs.Read.{image_of, trees, IsNear, Leaves, IsMovable};
+ghost use Rattle.near_image.specs.Image.{AreOtherVars, IsNear, IsMovable};
+ghost use Rattle.near_image.specs.Read.{image_of, trees, Leaves};
 
 use crate::image::Image;
 use crate::shift::Shift;

@@ -5,7 +5,7 @@ ghost use Rattle.auto_core.specs.Integers.{DecidesIntegers};
 ghost use Rattle.formula_auto.specs.Compiled.{IsAccessible};
 ghost use Rattle.auto_shift.specs.Moved.{DecidesMoved};
 ghost use Rattle.near_image.specs.Laws.{IsMovedBy, negated};
-ghost use Rattle.near_image.specs.Read.{IsNear};
+ghost use Rattle.near_image.specs.Image.{IsNear};
 
 use crate::merging::merged;
 use crate::shift::Shift;
