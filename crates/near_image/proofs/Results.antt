@@ -1,6 +1,5 @@
 -- What is made of an image by moving tracks.
 use Rattle.std.proofs.Common.{◌≡◌, ℕ, ◌+◌, ◌*◌, ◌<◌, ◌≤◌, List, [], ◌∷◌, length, map, All, refl, sym, ◌∙◌, subst, inl, inr, arith}
-use Rattle.std.proofs.lemmas.List.Elements.{All-nil, All-cons}
 use Rattle.track_word.specs.declared.tracks.Var.{Var}
 use Rattle.track_word.specs.Word.{IsWord}
 use Rattle.track_word.specs.Tracks.{with_vars, place, word_values}
@@ -16,12 +15,8 @@ use Rattle.near_image.specs.declared.shift.Shift.{Shift}
 use Rattle.near_image.specs.Image.{Image, IsShiftable, and_all, image_tree, part_tree, moved_vars, equation_of}
 use Rattle.near_image.specs.Laws.{SaysTheSame, ImageSaysPart, StepsAreWithin, AreClearWithin, HasFewStates, change_colours}
 use Rattle.near_image.specs.LeftOut.{AreLeftOf}
-use Rattle.near_image.proofs.Shifts.{IsAmong, new-among, moved-vars}
+use Rattle.near_image.proofs.Shifts.{all-among, new-among, moved-vars}
 use Rattle.near_image.proofs.Moving.{place-within}
-
-all-among : (P : Shift → Type 0) (shifts : List Shift) → ((s : Shift) → IsAmong s shifts → P s) → All P shifts
-all-among P [] h = All-nil P
-all-among P (s ∷ shifts) h = All-cons P s shifts (h s (inl refl)) (all-among P shifts (λ t among. h t (inr among)))
 
 -- the new values have tracks in the set that is renamed
 pub new-places : (i : Image) → IsShiftable i → (tracks : List Var) → tracks ≡ with_vars (moved_vars i) []

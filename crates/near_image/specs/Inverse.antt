@@ -7,7 +7,7 @@ use Rattle.lin_formula.specs.SetOf.{SetOf, Table, members}
 use Rattle.formula_auto.specs.Decides.{Decides}
 use Rattle.formula_auto.specs.Step.{FirstOver}
 use Rattle.near_image.specs.declared.shift.Shift.{Shift}
-use Rattle.near_image.specs.Image.{Image, IsMovable, and_all, ex_all, change, moved_tree}
+use Rattle.near_image.specs.Image.{Image, IsMovable, and_all, ex_all, change, gone, moved_tree}
 use Rattle.near_image.specs.Laws.{SaysTheSame, AreClearWithin, negated, start_colours, change_colours}
 
 -- what an image makes of its set's members is to be a member of another set, in some variables
@@ -39,17 +39,21 @@ met_tree i = And (moved_tree i.image) (Among i.target i.target_vars)
 abbrev pub reached_tree : Inverse → Tree
 reached_tree i = and_all (met_tree i) (map Not i.image.clear)
 
--- the same set of tuples as the inverse image: what is reached, told by its old values
-abbrev pub came_tree : Inverse → Tree
-came_tree i = ex_all (news i.image.shifts) (and_all (reached_tree i) (map change i.image.shifts))
-
 -- the change that takes one back
 abbrev pub back : Shift → Shift
 back s = record { gone = s.new; new = s.gone; by = negated s.by }
 
+-- all changes of the image, taken back
+abbrev pub backs : Inverse → List Shift
+backs i = map back i.image.shifts
+
+-- the same set of tuples as the inverse image: what is reached, with the changes taken back
+abbrev pub came_tree : Inverse → Tree
+came_tree i = ex_all (gone (backs i)) (and_all (reached_tree i) (map change (backs i)))
+
 -- the image, by the changes back, of a set in these variables
 abbrev pub back_image : Inverse → List Var → Image
-back_image i vars = record { set = i.image.set; vars = vars; shifts = map back i.image.shifts; clear = [] }
+back_image i vars = record { set = i.image.set; vars = vars; shifts = backs i; clear = [] }
 
 abbrev pub InverseSaysCame : Type 0
 InverseSaysCame = (i : Inverse) → IsMovable i.image → SaysTheSame (inverse_tree i) (came_tree i)
@@ -61,8 +65,8 @@ IsTakenBack i reached came =
 
 abbrev pub CameIsDecided : Type 0
 CameIsDecided =
-    (i : Inverse) (e : ℕ → SetOf) (reached came : Automaton) → IsMovable i.image → IsAutomaton reached
-    → Decides reached (reached_tree i) (members e) → IsTakenBack i reached came → Decides came (came_tree i) (members e)
+    (i : Inverse) (e : ℕ → SetOf) (reached came : Automaton) → Decides reached (reached_tree i) (members e)
+    → IsTakenBack i reached came → Decides came (came_tree i) (members e)
 
 pub record HasFewPairs (i : Inverse) (e : ℕ → SetOf) (budget each : ℕ) : Type 0 where
   pub asked : FirstOver (steps (both i)) (members e) budget 1 None
