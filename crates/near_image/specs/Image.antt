@@ -54,6 +54,10 @@ moved_var (s ∷ shifts) x = if x.0 == s.gone.0 then s.new else moved_var shifts
 abbrev pub moved_vars : Image → List Var
 moved_vars i = map (moved_var i.shifts) i.vars
 
+-- the formula speaks of no other variables
+abbrev pub IsAbout : List Var → Tree → Type 0
+IsAbout vars g = (x : Var) → IsOneOf x (free_vars g) → IsOneOf x vars
+
 pub record AreOtherVars (s t : Shift) : Type 0 where
   pub gone : s.gone ≢ t.gone
   pub new : s.new ≢ t.new
@@ -63,7 +67,7 @@ pub record IsShiftable (i : Image) : Type 0 where
   pub old : All (λ s. IsOneOf s.gone i.vars) i.shifts
   pub new : All (λ s. ¬ IsOneOf s.new i.vars) i.shifts
   pub apart : AllPairs AreOtherVars i.shifts
-  pub clear : All (λ g. (x : Var) → IsOneOf x (free_vars g) → IsOneOf x (moved_vars i)) i.clear
+  pub clear : All (IsAbout (moved_vars i)) i.clear
 
 -- one or two more, or less
 abbrev pub IsNear : ℤ → Type 0
