@@ -17,6 +17,7 @@ use Rattle.near_image.specs.Laws.{SaysTheSame, ImageSaysPart, StepsAreWithin, Ar
 use Rattle.near_image.specs.LeftOut.{AreLeftOf}
 use Rattle.near_image.proofs.Shifts.{all-among, new-among, moved-vars}
 use Rattle.near_image.proofs.Moving.{place-within}
+use Rattle.near_image.proofs.Sayings.{SayTheSame, decides-same}
 
 -- the new values have tracks in the set that is renamed
 pub new-places : (i : Image) → IsShiftable i → (tracks : List Var) → tracks ≡ with_vars (moved_vars i) []
@@ -38,17 +39,8 @@ module _ (e : ℕ → SetOf) (budget each : ℕ) where
   clear-within f (g ∷ gs) a b decides (m, left, rest) =
       (left.asked, left.within f decides, clear-within (And f (Not g)) gs m b (left.decides f decides) rest)
 
-decides-says : (f g : Tree) (e : ℕ → SetOf) (a : Automaton) → SaysTheSame f g → Decides a g (members e) → Decides a f (members e)
-decides-says f g e a same decides = record {
-  tracks = decides.tracks ∙ sym same.vars;
-  words = λ word is.
-      let w = decides.words word (subst (λ t. IsWord (length t) word) same.vars is) in
-      let says = same.holds e (word_values (free_vars f) word) in
-      let At : List Var → Type 0 = λ t. Holds g (members e) (word_values t word) in (
-        λ h. says.1 (subst At (sym same.vars) (w.0 h)),
-        λ h. w.1 (subst At same.vars (says.0 h)),
-      );
-}
+says-here : {f g : Tree} → SaysTheSame f g → (e : ℕ → SetOf) → SayTheSame f (members e) g (members e)
+says-here says e = record { vars = says.vars; holds = says.holds e }
 
 -- one at least
 colours-least : (shifts : List Shift) (each budget : ℕ) → change_colours shifts * each ≤ budget → each ≤ budget
@@ -63,7 +55,7 @@ pub compiled-on : (i : Image) (e : ℕ → SetOf) (budget each : ℕ) (part : Au
     → IsCompiledOn (image_tree i) e 0 budget part
 compiled-on i e budget each part says within is few decides accessible = record {
   made = record {
-    decides = decides-says (image_tree i) (part_tree i) e part (says i is) decides;
+    decides = decides-same (image_tree i) (members e) (part_tree i) (members e) part (says-here (says i is) e) decides;
     within = within i e budget each is few;
   };
   reached = accessible.reached;
