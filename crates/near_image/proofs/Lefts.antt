@@ -13,7 +13,6 @@ use Rattle.auto_shift.specs.Moved.{DecidesMoved}
 use Rattle.lin_formula.specs.Tree.{Tree, free_vars}
 use Rattle.lin_formula.specs.TreeOf.{tree_of}
 use Rattle.lin_formula.specs.declared.formula.Formula.{Formula}
-use Rattle.lin_formula.specs.Free.{IsOneOf}
 use Rattle.lin_formula.specs.SetOf.{tables, members}
 use Rattle.lin_formula.proofs.FreeVars.{free_vars-ascend, one_of-with_vars}
 use Rattle.formula_auto.specs.Decides.{Decides}
@@ -23,6 +22,7 @@ use Rattle.formula_auto.specs.declared.connective.Connective.TheVariants.{AndNot
 use Rattle.formula_auto.proofs.Exceedings.{Exceeds-connect}
 use Rattle.formula_auto.proofs.Parts.{Decides-AndNot}
 use Rattle.formula_auto.proofs.SameAutomata.{still_decides}
+use Rattle.near_image.specs.Image.{IsAbout}
 use Rattle.near_image.specs.Laws.{NoStepExceeds, IsMovedBy, negated}
 use Rattle.near_image.specs.Read.{trees}
 use Rattle.near_image.specs.LeftOut.{IsDifference, IsLeftOf, AreLeftOf}
@@ -72,7 +72,7 @@ tree-at formulas i f within is =
     get_or-map (λ (f : Bor Formula). tree_of f.now) formulas i f (tree_of f.now) within ∙ ap (λ (f : Bor Formula). tree_of f.now) (sym is)
 
 -- a formula over some of the tracks adds none
-pub same_tracks : (tracks : List Var) (g : Tree) → IsAscending tracks → ((x : Var) → IsOneOf x (free_vars g) → IsOneOf x tracks)
+pub same_tracks : (tracks : List Var) (g : Tree) → IsAscending tracks → IsAbout tracks g
     → with_vars tracks (free_vars g) ≡ tracks
 same_tracks tracks g up about =
     same-ascending (with_vars tracks (free_vars g)) tracks (ascending-with_vars tracks (free_vars g) (free_vars-ascend g)) up
@@ -103,7 +103,7 @@ differs {budget = budget} {a = a} {b = b} {c = c} tracks words within same acces
 
 -- where the second automaton decides a formula over the tracks of the first
 pub left-of : {sets : List Automaton} {budget each : ℕ} {g : Tree} {a b c : Automaton} → IsAscending a.tracks
-    → ((x : Var) → IsOneOf x (free_vars g) → IsOneOf x a.tracks) → Decides b g (members (tables sets))
+    → IsAbout a.tracks g → Decides b g (members (tables sets))
     → NoStepExceeds g (tables sets) budget → IsDifference each a b c → IsLeftOf sets budget each g a c
 left-of {sets = sets} {g = g} {a = a} up about decides asked h = record {
   tracks = h.tracks ∙ ap (with_vars a.tracks) decides.tracks ∙ same_tracks a.tracks g up about;

@@ -17,6 +17,7 @@ use Rattle.near_image.specs.Laws.{SaysTheSame, NoStepExceeds, IsCompiledOver, Ar
 use Rattle.near_image.specs.LeftOut.{AreLeftOf}
 use Rattle.near_image.proofs.Shifts.{all-among, new-among, moved-vars}
 use Rattle.near_image.proofs.Moving.{place-within}
+use Rattle.near_image.proofs.Sayings.{SayTheSame, decides-same}
 
 -- the new values have tracks in the set that is renamed
 pub new-places : (i : Image) → IsShiftable i → (tracks : List Var) → tracks ≡ with_vars (moved_vars i) []
@@ -38,17 +39,8 @@ module _ (sets : List Automaton) (budget each : ℕ) where
   clear-within f (g ∷ gs) a b decides (m, left, rest) =
       (left.asked, left.within f decides, clear-within (And f (Not g)) gs m b (left.decides f decides) rest)
 
-decides-says : (f g : Tree) (e : ℕ → SetOf) (a : Automaton) → SaysTheSame f g → Decides a g (members e) → Decides a f (members e)
-decides-says f g e a same decides = record {
-  tracks = decides.tracks ∙ sym same.vars;
-  words = λ word is.
-      let w = decides.words word (subst (λ t. IsWord (length t) word) same.vars is) in
-      let says = same.holds e (word_values (free_vars f) word) in
-      let At : List Var → Type 0 = λ t. Holds g (members e) (word_values t word) in (
-        λ h. says.1 (subst At (sym same.vars) (w.0 h)),
-        λ h. w.1 (subst At same.vars (says.0 h)),
-      );
-}
+says-here : {f g : Tree} → SaysTheSame f g → (e : ℕ → SetOf) → SayTheSame f (members e) g (members e)
+says-here says e = record { vars = says.vars; holds = says.holds e }
 
 -- one at least
 colours-least : (shifts : List Shift) (each budget : ℕ) → change_colours shifts * each ≤ budget → each ≤ budget
@@ -63,7 +55,7 @@ pub compiled-over : {f g : Tree} {sets : List Automaton} {budget each : ℕ} {a 
     → Decides a g (members (tables sets)) → NoStepExceeds f (tables sets) budget → IsAccessible each a
     → change_colours shifts * each ≤ budget → IsCompiledOver f sets budget a
 compiled-over {f = f} {g = g} {sets = sets} {budget = budget} {each = each} {a = a} shifts says decides within accessible changes = record {
-  made = record { decides = decides-says f g (tables sets) a says decides; within = within };
+  made = record { decides = decides-same f (members (tables sets)) g (members (tables sets)) a (says-here says (tables sets)) decides; within = within };
   reached = accessible.reached;
   few = λ some. let least = colours-least shifts each budget changes in omega (arith, least, accessible.few);
 }

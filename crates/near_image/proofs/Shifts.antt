@@ -4,10 +4,10 @@ use Rattle.std.proofs.Common.{Bool, true, false, arith, refl, sym, ap, ◌∙◌
 use Rattle.std.proofs.lemmas.Bool.{eqb-true}
 use Rattle.std.proofs.lemmas.List.Elements.{All-nil, All-cons, All-head, All-tail}
 use Rattle.track_word.specs.declared.tracks.Var.{Var}
-use Rattle.lin_formula.specs.Tree.{Tree, Not, free_vars}
+use Rattle.lin_formula.specs.Tree.{Tree, Not}
 use Rattle.lin_formula.specs.Free.{IsOneOf}
 use Rattle.near_image.specs.declared.shift.Shift.{Shift}
-use Rattle.near_image.specs.Image.{Image, IsShiftable, AreOtherVars, gone, moved_var, moved_vars}
+use Rattle.near_image.specs.Image.{Image, IsShiftable, IsAbout, AreOtherVars, gone, moved_var, moved_vars}
 use Rattle.near_image.specs.Inverse.{news}
 use Rattle.near_image.proofs.Bindings.{IsInOne}
 
@@ -131,15 +131,11 @@ map-one_of f [] x h = absurd h
 map-one_of f (y ∷ ys) x (inl is) = inl (ap f is)
 map-one_of f (y ∷ ys) x (inr h) = inr (map-one_of f ys x h)
 
--- the formula speaks of some variables alone
-abbrev SpeaksOf : List Var → Tree → Type 0
-SpeaksOf vars g = (x : Var) → IsOneOf x (free_vars g) → IsOneOf x vars
-
-clear-vars : (vars : List Var) (gs : List Tree) → All (SpeaksOf vars) gs → (x : Var) → IsInOne x (map Not gs)
+clear-vars : (vars : List Var) (gs : List Tree) → All (IsAbout vars) gs → (x : Var) → IsInOne x (map Not gs)
     → IsOneOf x vars
 clear-vars vars [] all x h = absurd h
-clear-vars vars (g ∷ gs) all x (inl h) = All-head (SpeaksOf vars) g gs all x h
-clear-vars vars (g ∷ gs) all x (inr h) = clear-vars vars gs (All-tail (SpeaksOf vars) g gs all) x h
+clear-vars vars (g ∷ gs) all x (inl h) = All-head (IsAbout vars) g gs all x h
+clear-vars vars (g ∷ gs) all x (inr h) = clear-vars vars gs (All-tail (IsAbout vars) g gs all) x h
 
 module _ (i : Image) (is : IsShiftable i) where
   pub old : (s : Shift) → IsAmong s i.shifts → IsOneOf s.gone i.vars
