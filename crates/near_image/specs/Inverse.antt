@@ -1,14 +1,13 @@
 -- Formulas of the members of a set from which a step leads to a member of another one.
-use Rattle.std.specs.Prelude.{◌≡◌, ℕ, ◌*◌, ◌≤◌, List, [], length, map, None}
+use Rattle.std.specs.Prelude.{ℕ, ◌*◌, ◌≤◌, List, [], length, map}
 use Rattle.track_word.specs.declared.tracks.Var.{Var}
 use Rattle.auto_core.specs.Automaton.{Automaton, IsAutomaton}
-use Rattle.lin_formula.specs.Tree.{Tree, Among, Not, And, steps}
-use Rattle.lin_formula.specs.SetOf.{SetOf, Table, members}
+use Rattle.lin_formula.specs.Tree.{Tree, Among, Not, And}
+use Rattle.lin_formula.specs.SetOf.{SetOf, members}
 use Rattle.formula_auto.specs.Decides.{Decides}
-use Rattle.formula_auto.specs.Step.{FirstOver}
 use Rattle.near_image.specs.declared.shift.Shift.{Shift}
 use Rattle.near_image.specs.Image.{Image, IsMovable, and_all, ex_all, change, gone, moved_tree}
-use Rattle.near_image.specs.Laws.{SaysTheSame, AreClearWithin, negated, start_colours, change_colours}
+use Rattle.near_image.specs.Laws.{SaysTheSame, NoStepExceeds, IsMovedSet, AreClearWithin, negated, start_colours, change_colours}
 
 -- what an image makes of its set's members is to be a member of another set, in some variables
 pub record Inverse : Type 0 where
@@ -60,8 +59,7 @@ InverseSaysCame = (i : Inverse) → IsMovable i.image → SaysTheSame (inverse_t
 
 -- the second automaton decides the image of the first one's members by the changes back
 abbrev pub IsTakenBack : Inverse → Automaton → Automaton → Type 0
-IsTakenBack i reached came =
-    (e : ℕ → SetOf) → e i.image.set ≡ Table reached → Decides came (moved_tree (back_image i reached.tracks)) (members e)
+IsTakenBack i reached came = IsMovedSet (back_image i reached.tracks) reached came
 
 abbrev pub CameIsDecided : Type 0
 CameIsDecided =
@@ -69,7 +67,7 @@ CameIsDecided =
     → IsTakenBack i reached came → Decides came (came_tree i) (members e)
 
 pub record HasFewPairs (i : Inverse) (e : ℕ → SetOf) (budget each : ℕ) : Type 0 where
-  pub asked : FirstOver (steps (both i)) (members e) budget 1 None
+  pub asked : NoStepExceeds (both i) e budget
   pub pairs : Automaton
   pub are_pairs : IsAutomaton pairs
   pub decides_both : Decides pairs (both i) (members e)
@@ -84,4 +82,4 @@ pub record HasFewPairs (i : Inverse) (e : ℕ → SetOf) (budget each : ℕ) : T
 abbrev pub InverseStepsAreWithin : Type 0
 InverseStepsAreWithin =
     (i : Inverse) (e : ℕ → SetOf) (budget each : ℕ) → IsMovable i.image → HasFewPairs i e budget each
-    → FirstOver (steps (inverse_tree i)) (members e) budget 1 None
+    → NoStepExceeds (inverse_tree i) e budget

@@ -29,7 +29,7 @@ use crate::shifting::{back, membership, moved_set};
 use auto_bool::meet_within;
 use auto_core::Auto;
 use auto_walk::Grown;
-use formula_auto::{CompileError, Level, Memo};
+use formula_auto::{CompileError, Level, Memo, SetTable};
 use limits::{Budget, MOST_TRACKS};
 use std::alloc::{AllocError, Global};
 
@@ -64,12 +64,15 @@ pub fn inverse_image_within(
     let Some(each) = share(budget, inverse.image.shifts.as_slice(), pairs.states()) else {
         return Err(Grown::Over);
     };
-    let scope = Scope {
-        sets: level.sets(),
-        each,
-    };
-    let met = met(alloc, inverse, &scope, budget)?;
-    let reached = left_of_all(alloc, memo, met, inverse.image.clear.as_slice(), &scope)?;
+    let sets = level.sets();
+    let met = met(alloc, inverse, sets, budget, each)?;
+    let reached = left_of_all(
+        alloc,
+        memo,
+        met,
+        inverse.image.clear.as_slice(),
+        &Scope { sets, each },
+    )?;
     let _ = reached.states(); // for its invariant
     let came = taken_back(alloc, inverse, &reached, each)?;
     let _ = came.states(); // for its invariant
@@ -77,23 +80,29 @@ pub fn inverse_image_within(
 }
 
 /// The moved members that are members of the other set. `Over` says nothing.
-fn met(alloc: Global, inverse: &Inverse, scope: &Scope, budget: Budget) -> Result<Auto, Grown>
+fn met(
+    alloc: Global,
+    inverse: &Inverse,
+    sets: &SetTable,
+    budget: Budget,
+    each: Budget,
+) -> Result<Auto, Grown>
     requires movable { IsMovable (image_of inverse.now.image) }
-    requires compilable { IsCompilable (inverse_tree (inverse_of inverse.now)) scope.now.sets.now }
+    requires compilable { IsCompilable (inverse_tree (inverse_of inverse.now)) sets.now }
     requires few_steps { length (steps (inverse_tree (inverse_of inverse.now))) < 2 ^ 31 }
     ensures decides { IfOk result
-        (λ a. Decides a (met_tree (inverse_of inverse.now)) (members (tables scope.now.sets.now))) }
-    ensures accessible { IfOk result (IsAccessible scope.now.each) }
+        (λ a. Decides a (met_tree (inverse_of inverse.now)) (members (tables sets.now))) }
+    ensures accessible { IfOk result (IsAccessible each) }
 {
-    let Some(source) = scope.sets.get(inverse.image.set) else {
+    let Some(source) = sets.get(inverse.image.set) else {
         unreachable!();
     };
-    let Some(target) = scope.sets.get(inverse.target) else {
+    let Some(target) = sets.get(inverse.target) else {
         unreachable!();
     };
     let moved = moved_set(alloc, source, &inverse.image, budget)?;
     let named = membership(alloc, target, inverse.target_vars)?;
-    meet(alloc, &moved, &named, scope.each)
+    meet(alloc, &moved, &named, each)
 }
 
 /// What both automata decide.
