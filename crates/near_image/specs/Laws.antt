@@ -5,14 +5,23 @@ use Rattle.auto_core.specs.Automaton.{Automaton, IsAutomaton}
 use Rattle.auto_core.specs.Integers.{DecidesIntegers}
 use Rattle.lin_formula.specs.Tree.{Tree, Not, And, free_vars, steps}
 use Rattle.lin_formula.specs.Holds.{Holds}
-use Rattle.lin_formula.specs.SetOf.{SetOf, Table, members}
+use Rattle.lin_formula.specs.SetOf.{SetOf, Table, tables, members}
 use Rattle.formula_auto.specs.Decides.{Decides}
+use Rattle.formula_auto.specs.Compiled.{IsCompiledOn}
 use Rattle.formula_auto.specs.Nodes.{DecidesAmong}
 use Rattle.formula_auto.specs.Step.{Exceeds, FirstOver}
 use Rattle.auto_shift.specs.Moved.{DecidesMoved}
 use Rattle.near_bound.specs.Equations.{colours}
 use Rattle.near_image.specs.declared.shift.Shift.{Shift}
 use Rattle.near_image.specs.Image.{Image, IsShiftable, image_tree, moved_tree, part_tree, moved_vars, equation_of}
+
+-- no step of the formula exceeds the budget
+abbrev pub NoStepExceeds : Tree → (ℕ → SetOf) → ℕ → Type 0
+NoStepExceeds f e budget = FirstOver (steps f) (members e) budget 1 None
+
+-- the automaton was compiled over these sets, with this budget
+abbrev pub IsCompiledOver : Tree → List Automaton → ℕ → Automaton → Type 0
+IsCompiledOver f sets budget a = IsCompiledOn f (tables sets) 0 budget a
 
 pub record SaysTheSame (f g : Tree) : Type 0 where
   pub vars : free_vars f ≡ free_vars g
@@ -32,6 +41,10 @@ IsMovedBy [] a b = b ≡ a
 IsMovedBy (s ∷ shifts) a b =
     (m : Automaton) × DecidesMoved a m (place a.tracks s.new) (negated s.by) × IsMovedBy shifts m b
 
+-- the second automaton decides the moved set, whatever else is named, where the first one is the set
+abbrev pub IsMovedSet : Image → Automaton → Automaton → Type 0
+IsMovedSet i set b = (e : ℕ → SetOf) → e i.set ≡ Table set → Decides b (moved_tree i) (members e)
+
 abbrev pub MovedSetIsDecided : Type 0
 MovedSetIsDecided =
     (i : Image) (e : ℕ → SetOf) (set a b : Automaton) → IsShiftable i → e i.set ≡ Table set
@@ -49,7 +62,7 @@ change_colours shifts = colours (map equation_of shifts)
 abbrev pub AreClearWithin : Tree → List Tree → (ℕ → SetOf) → ℕ → ℕ → Type 0
 AreClearWithin f [] e budget each = Unit {0}
 AreClearWithin f (g ∷ gs) e budget each =
-    FirstOver (steps g) (members e) budget 1 None × (¬ Exceeds (And f (Not g)) (members e) each)
+    NoStepExceeds g e budget × (¬ Exceeds (And f (Not g)) (members e) each)
     × AreClearWithin (And f (Not g)) gs e budget each
 
 pub record HasFewStates (i : Image) (e : ℕ → SetOf) (budget each : ℕ) : Type 0 where
@@ -69,4 +82,4 @@ pub record HasFewStates (i : Image) (e : ℕ → SetOf) (budget each : ℕ) : Ty
 abbrev pub StepsAreWithin : Type 0
 StepsAreWithin =
     (i : Image) (e : ℕ → SetOf) (budget each : ℕ) → IsShiftable i → HasFewStates i e budget each
-    → FirstOver (steps (image_tree i)) (members e) budget 1 None
+    → NoStepExceeds (image_tree i) e budget

@@ -1,14 +1,15 @@
 -- What is left of what an automaton decides where some formulas do not hold.
-use Rattle.std.specs.Prelude.{◌≡◌, ◌<◌, ◌^◌, ℕ, List, [], ◌∷◌, length, None}
+use Rattle.std.specs.Prelude.{◌≡◌, ◌<◌, ◌^◌, ℕ, List, [], ◌∷◌, length}
 use Rattle.track_word.specs.declared.tracks.Var.{Var}
 use Rattle.track_word.specs.Tracks.{with_vars}
 use Rattle.auto_core.specs.Automaton.{Automaton}
-use Rattle.lin_formula.specs.Tree.{Tree, Not, And, steps, free_vars}
-use Rattle.lin_formula.specs.Free.{IsOneOf}
-use Rattle.lin_formula.specs.SetOf.{SetOf, members}
+use Rattle.lin_formula.specs.Tree.{Tree, Not, And, steps}
+use Rattle.lin_formula.specs.SetOf.{SetOf, tables, members}
 use Rattle.formula_auto.specs.Decides.{Decides}
 use Rattle.formula_auto.specs.Compiled.{IsAccessible, IsCompilable}
-use Rattle.formula_auto.specs.Step.{Exceeds, FirstOver}
+use Rattle.formula_auto.specs.Step.{Exceeds}
+use Rattle.near_image.specs.Image.{IsAbout}
+use Rattle.near_image.specs.Laws.{NoStepExceeds}
 
 -- the third automaton decides And of any formula that the first one decides and Not of one that the second one does, and
 -- that step does not exceed the budget
@@ -24,19 +25,19 @@ pub record IsDifference (budget : ℕ) (a b c : Automaton) : Type 0 where
 pub record MayBeAsked (sets : List Automaton) (tracks : List Var) (g : Tree) : Type 0 where
   pub compilable : IsCompilable g sets
   pub few_steps : length (steps g) < 2 ^ 31
-  pub about : (x : Var) → IsOneOf x (free_vars g) → IsOneOf x tracks
+  pub about : IsAbout tracks g
 
--- the second automaton decides And of any formula that the first one decides and Not of this one, and no step exceeds
--- its budget
-pub record IsLeftOf (e : ℕ → SetOf) (budget each : ℕ) (g : Tree) (a b : Automaton) : Type 0 where
+-- over these sets, the second automaton decides And of any formula that the first one decides and Not of this one, and no
+-- step exceeds its budget
+pub record IsLeftOf (sets : List Automaton) (budget each : ℕ) (g : Tree) (a b : Automaton) : Type 0 where
   pub tracks : b.tracks ≡ a.tracks
-  pub asked : FirstOver (steps g) (members e) budget 1 None
-  pub decides : (f : Tree) → Decides a f (members e) → Decides b (And f (Not g)) (members e)
-  pub within : (f : Tree) → Decides a f (members e) → ¬ Exceeds (And f (Not g)) (members e) each
+  pub asked : NoStepExceeds g (tables sets) budget
+  pub decides : (f : Tree) → Decides a f (members (tables sets)) → Decides b (And f (Not g)) (members (tables sets))
+  pub within : (f : Tree) → Decides a f (members (tables sets)) → ¬ Exceeds (And f (Not g)) (members (tables sets)) each
   pub accessible : IsAccessible each b
 
 -- one formula after the other
-abbrev pub AreLeftOf : (ℕ → SetOf) → ℕ → ℕ → List Tree → Automaton → Automaton → Type 0
-AreLeftOf e budget each [] a b = b ≡ a
-AreLeftOf e budget each (g ∷ gs) a b =
-    (m : Automaton) × IsLeftOf e budget each g a m × AreLeftOf e budget each gs m b
+abbrev pub AreLeftOf : List Automaton → ℕ → ℕ → List Tree → Automaton → Automaton → Type 0
+AreLeftOf sets budget each [] a b = b ≡ a
+AreLeftOf sets budget each (g ∷ gs) a b =
+    (m : Automaton) × IsLeftOf sets budget each g a m × AreLeftOf sets budget each gs m b

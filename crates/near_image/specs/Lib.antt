@@ -10,3 +10,4 @@ pub mod Image
 pub mod Laws
 pub mod Read
 pub mod LeftOut
+pub mod Inverse

@@ -2,7 +2,6 @@
 ghost use Rattle.std.specs.Prelude.{◌≡◌, ◌≤◌, length, All, IfOk};
 ghost use Rattle.track_word.specs.Tracks.{with_vars};
 ghost use Rattle.lin_formula.specs.TreeOf.{tree_of};
-ghost use Rattle.lin_formula.specs.SetOf.{tables};
 ghost use Rattle.formula_auto.specs.Compiled.{IsAccessible};
 ghost use Rattle.near_image.specs.Read.{trees};
 ghost use Rattle.near_image.specs.LeftOut.{IsDifference, IsLeftOf, AreLeftOf, MayBeAsked};
@@ -33,7 +32,7 @@ pub fn left_of_all(
 ) -> Result<Auto, Grown>
     requires { All (MayBeAsked scope.now.sets.now set.tracks) (trees formulas.now) }
     ensures left { IfOk result
-        (AreLeftOf (tables scope.now.sets.now) memo.old.budget scope.now.each (trees formulas.now) set) }
+        (AreLeftOf scope.now.sets.now memo.old.budget scope.now.each (trees formulas.now) set) }
     ensures accessible { IfOk result
         (λ b. IsAccessible scope.now.each set → IsAccessible scope.now.each b) }
     ensures budget { memo.new.budget ≡ memo.old.budget }
@@ -55,7 +54,7 @@ fn left_of(
 ) -> Result<Auto, Grown>
     requires { MayBeAsked scope.now.sets.now a.now.tracks (tree_of f.now) }
     ensures left { IfOk result
-        (IsLeftOf (tables scope.now.sets.now) memo.old.budget scope.now.each (tree_of f.now) a.now) }
+        (IsLeftOf scope.now.sets.now memo.old.budget scope.now.each (tree_of f.now) a.now) }
     ensures budget { memo.new.budget ≡ memo.old.budget }
 {
     let _ = a.tracks(); // for its invariant

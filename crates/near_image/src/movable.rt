@@ -1,12 +1,10 @@
 //! Whether tracks of the set can be moved in place of an image's steps.
 ghost use Rattle.std.specs.Prelude.{◌≡◌, All, AllPairs, map, IfOk, IsTrue};
-ghost use Rattle.lin_formula.specs.Tree as tree;
 ghost use Rattle.lin_formula.specs.TreeOf.{tree_of};
-ghost use Rattle.track_word.specs.declared.tracks.Var.{Var};
 ghost use Rattle.lin_formula.specs.Free.{IsOneOf};
 ghost use Rattle.near_image.specs.Image as image;
-ghost use Rattle.near_image.specs.Image.{AreOtherVars};
-ghost use Rattle.near_image.specs.Read.{image_of, trees, IsNear, Leaves, IsMovable};
+ghost use Rattle.near_image.specs.Image.{AreOtherVars, IsAbout, IsNear, IsMovable};
+ghost use Rattle.near_image.specs.Read.{image_of, trees, Leaves};
 
 use crate::image::Image;
 use crate::shift::Shift;
@@ -104,8 +102,7 @@ fn is_apart(shift: Shift, others: &[Shift]) -> bool
 /// Whether the formulas speak of no other variables.
 fn are_about(alloc: Global, formulas: &[&Formula], vars: &[Var]) -> Result<bool, AllocError>
     ensures { IfOk result
-        (λ are. IsTrue are
-        → All (λ g. (x : Var) → IsOneOf x (tree.free_vars g) → IsOneOf x vars.now) (trees formulas.now)) }
+        (λ are. IsTrue are → All (IsAbout vars.now) (trees formulas.now)) }
 {
     for f in formulas {
         if !is_about(alloc, f, vars)? {
@@ -116,8 +113,7 @@ fn are_about(alloc: Global, formulas: &[&Formula], vars: &[Var]) -> Result<bool,
 }
 
 fn is_about(alloc: Global, f: &Formula, vars: &[Var]) -> Result<bool, AllocError>
-    ensures { IfOk result
-        (λ is. IsTrue is → (x : Var) → IsOneOf x (tree.free_vars (tree_of f.now)) → IsOneOf x vars.now) }
+    ensures { IfOk result (λ is. IsTrue is → IsAbout vars.now (tree_of f.now)) }
 {
     let free = free_vars(alloc, f)?;
     Ok(are_among(free.as_slice(), vars))

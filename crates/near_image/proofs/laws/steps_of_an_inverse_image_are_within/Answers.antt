@@ -1,0 +1,10 @@
+use Rattle.near_image.proofs.InverseSteps.{inverse-within}
+use Rattle.near_image.proofs.laws.steps_of_an_inverse_image_are_within.Goals as goal
+
+pub returns : goal.returns
+returns c = λ i e budget each is few. inverse-within (record {
+  conjunctions = c.conjunctions_are_bounded.ensures;
+  equations = c.equations_are_bounded.ensures;
+  projections = c.projections_are_bounded.ensures;
+  states = c.states_bound_residuals.ensures;
+}) i e budget each is few
