@@ -4,9 +4,9 @@ use Rattle.std.specs.List.{fold}
 use Rattle.std.proofs.lemmas.Grind.{common_steps}
 use Rattle.track_word.specs.declared.tracks.Var.{Var}
 use Rattle.track_word.specs.Tracks.{restrict}
-use Rattle.letter_diagram.specs.declared.absorbing.Absorbing.{Absorbing}
-use Rattle.letter_diagram.specs.Absorbed.{absorbs, stand_in, absorbed}
-use Rattle.letter_diagram.proofs.Absorptions.{absorbed-left, absorbed-right, absorbed-neither, absorbed-nothing}
+use Rattle.diagram_product.specs.declared.absorbing.Absorbing.{Absorbing}
+use Rattle.diagram_product.specs.Absorbed.{absorbs, stand_in, absorbed}
+use Rattle.diagram_product.proofs.Absorptions.{absorbed-left, absorbed-right, absorbed-neither, absorbed-nothing}
 use Rattle.auto_core.specs.Automaton.{Automaton, IsAutomaton, first_state, next_state, is_final}
 use Rattle.auto_core.proofs.States.{entry_within}
 use Rattle.auto_core.proofs.Restricted.{restrict-below}

@@ -10,8 +10,8 @@ use Rattle.track_word.specs.Word.{IsWord}
 use Rattle.track_word.specs.Tracks.{with_vars, restrict, part_of}
 use Rattle.letter_diagram.specs.declared.diagrams.Shape.{Shape}
 use Rattle.letter_diagram.specs.Diagram.{map_at}
-use Rattle.letter_diagram.specs.declared.absorbing.Absorbing.{Absorbing}
-use Rattle.letter_diagram.specs.Absorbed.{absorbed, ArePairs}
+use Rattle.diagram_product.specs.declared.absorbing.Absorbing.{Absorbing}
+use Rattle.diagram_product.specs.Absorbed.{absorbed, ArePairs}
 use Rattle.letter_diagram.specs.Numbering.{PairsKept}
 use Rattle.letter_diagram.proofs.Lists.{one_place}
 use Rattle.auto_core.specs.Automaton.{Automaton, IsAutomaton, next_state, run, state_of, is_final, Accepts}

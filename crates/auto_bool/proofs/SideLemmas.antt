@@ -5,7 +5,7 @@ use Rattle.track_word.specs.declared.tracks.Var.{Var}
 use Rattle.track_word.specs.Tracks.{place, restrict}
 use Rattle.letter_diagram.specs.declared.diagrams.Shape.{Shape}
 use Rattle.letter_diagram.specs.Diagram.{map_at, LooksBelow}
-use Rattle.letter_diagram.specs.Sided.{Reading, CanBeRead, read_at}
+use Rattle.diagram_product.specs.Sided.{Reading, CanBeRead, read_at}
 use Rattle.auto_core.specs.Automaton.{Automaton, width}
 use Rattle.auto_core.proofs.Restricted.{relabelled-places, restrict-below}
 use Rattle.auto_bool.specs.Sides.{Reads, IsSide}

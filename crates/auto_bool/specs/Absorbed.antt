@@ -2,8 +2,8 @@
 use Rattle.std.specs.Prelude.{◌≡◌, ℕ, ◌<◌, Bool, true, false, List, [], ◌∷◌, length, Some}
 use Rattle.track_word.specs.declared.tracks.Var.{Var}
 use Rattle.track_word.specs.Tracks.{with_vars, restrict}
-use Rattle.letter_diagram.specs.declared.absorbing.Absorbing.{Absorbing}
-use Rattle.letter_diagram.specs.Absorbed.{absorbed}
+use Rattle.diagram_product.specs.declared.absorbing.Absorbing.{Absorbing}
+use Rattle.diagram_product.specs.Absorbed.{absorbed}
 use Rattle.auto_core.specs.Automaton.{Automaton, width, first_state, next_state, is_final}
 use Rattle.auto_core.specs.Reduced.{AllReached}
 use Rattle.auto_walk.specs.Walker.{Walker}

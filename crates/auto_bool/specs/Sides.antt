@@ -3,7 +3,7 @@ use Rattle.std.specs.Prelude.{◌≡◌, ℕ, ◌<◌, ◌^◌, List, length, ma
 use Rattle.std.specs.Int.{bit_at}
 use Rattle.track_word.specs.declared.tracks.Var.{Var}
 use Rattle.track_word.specs.Tracks.{place}
-use Rattle.letter_diagram.specs.Sided.{Reading}
+use Rattle.diagram_product.specs.Sided.{Reading}
 use Rattle.auto_core.specs.Automaton.{Automaton, IsAutomaton}
 
 -- a map that looks only at so many tracks gives each letter over them a value

@@ -1,6 +1,6 @@
 //! Boolean operations on automata: the product of two automata over the tracks of both, and the complement.
 //! `specs/Both` has the pairs of states that a product goes over, `specs/Absorbed` which of them are one where the budget has room
-//! for all; `auto_walk` numbers them, and `letter_diagram` makes their rows.
+//! for all; `auto_walk` numbers them, and `diagram_product` makes their rows.
 #![tactic(auto)]
 
 mod both;

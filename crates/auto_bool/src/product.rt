@@ -12,7 +12,7 @@ use crate::connective::Connective;
 use crate::sink::sinks;
 use auto_core::Auto;
 use auto_walk::{Grown, walked};
-use letter_diagram::Absorbing;
+use diagram_product::Absorbing;
 use limits::{Budget, MOST_TRACKS};
 use std::alloc::Global;
 

@@ -4,7 +4,7 @@ ghost use Rattle.track_word.specs.Tracks.{IsAscending};
 ghost use Rattle.auto_bool.specs.Sides.{IsSide, AreAmong};
 
 use auto_core::Auto;
-use letter_diagram::LentSide;
+use diagram_product::LentSide;
 use limits::MOST_TRACKS;
 use std::alloc::{AllocError, Global};
 use track_word::{Var, places_of};

@@ -4,7 +4,8 @@ ghost use Rattle.auto_bool.specs.Absorbed.{IsSink, AreSinks};
 
 use crate::connective::Connective;
 use auto_core::Auto;
-use letter_diagram::{Absorbing, Shape};
+use diagram_product::Absorbing;
+use letter_diagram::Shape;
 
 /// The states of either side, where there are such, that decide for good what the connective gives.
 pub fn sinks(a: &Auto, b: &Auto, connective: Connective) -> Absorbing

@@ -6,7 +6,8 @@ ghost use Rattle.letter_diagram.specs.Merged.{HasSets, IsUnited};
 ghost use Rattle.auto_project.specs.SetMaps.{AreJoinedSets, IsJoined, IsNothing, IsUnionOf};
 
 use crate::sets::{joined_set, number_of};
-use letter_diagram::{Diagrams, Merger, Node, Pairs, Sets};
+use diagram_product::{Pairs, apply2};
+use letter_diagram::{Diagrams, Merger, Node, Sets};
 use std::alloc::{AllocError, Global};
 
 fn joined_sets(
@@ -43,7 +44,7 @@ pub fn joined(
     ensures kept { SetsKept sets.old sets.new }
 {
     let mut pairs = Pairs::new(diagrams.alloc());
-    let both = diagrams.apply2(map, row, &mut pairs)?;
+    let both = apply2(diagrams, map, row, &mut pairs)?;
     let table = joined_sets(diagrams.alloc(), sets, state, pairs.as_slice())?;
     let node = diagrams.map_leaves(both, table.as_slice())?;
     Ok(node)

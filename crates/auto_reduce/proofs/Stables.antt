@@ -8,7 +8,7 @@ use Rattle.track_word.specs.Word.{IsWord, repeat_first}
 use Rattle.track_word.proofs.Repeats.{IsWord-again}
 use Rattle.letter_diagram.specs.declared.diagrams.Shape.{Shape}
 use Rattle.letter_diagram.specs.Diagram.{map_at, LooksBelow, Grows}
-use Rattle.letter_diagram.specs.Paired.{AreAnswers}
+use Rattle.diagram_product.specs.Paired.{AreAnswers}
 use Rattle.letter_diagram.specs.Leaves.{AreLeaves}
 use Rattle.auto_core.specs.Automaton.{Automaton, IsAutomaton, width, first_state, next_state, run, is_final, Accepts}
 use Rattle.auto_core.specs.Reduced.{IsReduced}

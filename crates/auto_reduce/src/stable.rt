@@ -8,7 +8,8 @@ ghost use Rattle.auto_reduce.specs.Stable.{Keeps};
 
 use crate::quotient::reduce;
 use auto_core::Auto;
-use letter_diagram::{Diagrams, Node, Pairs};
+use diagram_product::{Pairs, apply2};
+use letter_diagram::{Diagrams, Node};
 use std::alloc::{AllocError, Global};
 
 /// Whether each word is accepted just if it is accepted with its first letter once more, so that the automaton decides a set of integers.
@@ -47,7 +48,7 @@ fn keeps(diagrams: &mut Diagrams, first: Node, row: Node, state: u32) -> Result<
     ensures grows { Grows diagrams.old diagrams.new }
 {
     let mut pairs = Pairs::new(diagrams.alloc());
-    let _ = diagrams.apply2(first, row, &mut pairs)?;
+    let _ = apply2(diagrams, first, row, &mut pairs)?;
     Ok(each_keeps(pairs.as_slice(), state))
 }
 

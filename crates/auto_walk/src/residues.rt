@@ -12,7 +12,7 @@ use crate::explore::walked;
 use crate::grown::Grown;
 use crate::walk::Walk;
 use auto_core::Auto;
-use letter_diagram::{Diagrams, Node, PairsError, Sets};
+use letter_diagram::{Diagrams, Node, NumberingError, Sets};
 use limits::Budget;
 use std::alloc::{AllocError, Global};
 use track_word::Var;
@@ -78,8 +78,8 @@ fn number_of(seen: &mut Sets, residue: u32) -> Result<u32, AllocError>
 {
     match seen.number(&[residue]) {
         Ok(number) => Ok(number),
-        Err(PairsError::Memory) => Err(AllocError),
-        Err(PairsError::Full) => unreachable!(),
+        Err(NumberingError::Memory) => Err(AllocError),
+        Err(NumberingError::Full) => unreachable!(),
     }
 }
 

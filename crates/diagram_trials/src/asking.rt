@@ -5,7 +5,7 @@ ghost use Rattle.std.specs.List.Sorted.{IsStrictlyIncreasing};
 
 use crate::bench::Bench;
 use crate::writing::{write_node, write_numbers, write_values};
-use letter_diagram::{Diagrams, Node, PairsError, Shape};
+use letter_diagram::{Diagrams, Node, NumberingError, Shape};
 use std::alloc::Global;
 use trial_rows::{Fields, RowError, numbers, yes_or_no};
 
@@ -175,11 +175,11 @@ fn are_increasing(numbers: &[u32]) -> bool
     true
 }
 
-fn write_numbered(answer: Result<u32, PairsError>, out: &mut String) -> Result<(), RowError> {
+fn write_numbered(answer: Result<u32, NumberingError>, out: &mut String) -> Result<(), RowError> {
     match answer {
         Ok(number) => write!(out, "{number}")?,
-        Err(PairsError::Full) => out.push_str("full")?,
-        Err(PairsError::Memory) => return Err(RowError::Memory),
+        Err(NumberingError::Full) => out.push_str("full")?,
+        Err(NumberingError::Memory) => return Err(RowError::Memory),
     }
     Ok(())
 }

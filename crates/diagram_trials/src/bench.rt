@@ -2,7 +2,8 @@
 
 ghost use Rattle.std.specs.Prelude.{◌<◌, IfOk, length};
 
-use letter_diagram::{Diagrams, Node, Pairs, Sets};
+use diagram_product::Pairs;
+use letter_diagram::{Diagrams, Node, Sets};
 use limits::MOST_TRACKS;
 use std::alloc::Global;
 use trial_rows::{Fields, RowError};

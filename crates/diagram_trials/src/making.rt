@@ -4,6 +4,7 @@ ghost use Rattle.std.specs.Prelude.{◌≡◌, ◌<◌, ℕ, All, IsTrue, IfOk, 
 ghost use Rattle.letter_diagram.specs.Diagram.{map_at};
 
 use crate::bench::{Bench, track};
+use diagram_product::apply2;
 use letter_diagram::laws::a_map_looks_from_its_top_track;
 use letter_diagram::{Diagrams, Node};
 use limits::MOST_TRACKS;
@@ -89,7 +90,7 @@ fn pairs_node(bench: &mut Bench, fields: &mut Fields) -> Result<Node, RowError> 
     if bench.pairs.len() > MOST_NUMBERED {
         return Err(RowError::Condition);
     }
-    Ok(bench.diagrams.apply2(left, right, &mut bench.pairs)?)
+    Ok(apply2(&mut bench.diagrams, left, right, &mut bench.pairs)?)
 }
 
 /// Whether each number is below a bound.

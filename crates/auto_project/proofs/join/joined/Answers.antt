@@ -9,13 +9,13 @@ joined_sets-requires c = rw c.as_slice.ensures (pairs-known _ _ _ _ _ _ (ap leng
 
 pub map_leaves-requires-clause-leaves : goal.map_leaves-requires-clause-leaves
 map_leaves-requires-clause-leaves c = λ letter.
-    table-covers c.apply2.new.self c.apply2.new.pairs c.as_slice-2.result.now c.in_ok-both.both letter _
+    table-covers c.apply2.new.diagrams c.apply2.new.pairs c.as_slice-2.result.now c.in_ok-both.both letter _
     (ap length c.as_slice-2.ensures.value ∙ c.in_ok-table.ensures.table.size ∙ ap length c.as_slice.ensures) (c.in_ok-both.ensures.map letter)
 
 pub returns-clause-joined : goal.returns-clause-joined
 returns-clause-joined c =
     let made = rw c.as_slice.ensures at c.in_ok-table.ensures.table in
-    IsJoined-made c.args.diagrams.now c.apply2.new.self c.map_leaves.new.self c.joined_sets.new.sets c.args.state c.apply2.new.pairs
+    IsJoined-made c.args.diagrams.now c.apply2.new.diagrams c.map_leaves.new.self c.joined_sets.new.sets c.args.state c.apply2.new.pairs
     c.in_ok-table.table.items c.args.map c.args.row c.in_ok-both.both c.in_ok-node.node
     c.requires.map.known c.requires.row.known (Grows-trans _ _ _ c.in_ok-both.ensures.grows c.in_ok-node.ensures.grows) c.in_ok-both.ensures.map made c.in_ok-node.ensures.known
-    (λ letter. c.in_ok-node.ensures.map letter ∙ ap (λ t. slice_index t (map_at c.apply2.new.self c.in_ok-both.both letter)) c.as_slice-2.ensures.value)
+    (λ letter. c.in_ok-node.ensures.map letter ∙ ap (λ t. slice_index t (map_at c.apply2.new.diagrams c.in_ok-both.both letter)) c.as_slice-2.ensures.value)
