@@ -66,7 +66,8 @@ pub record IsSweeping (shapes : List Shape) (sets : List (List ℕ)) (a : Automa
   pub all : (letter state : ℕ) → Contains (set_of shapes sets node letter) state → Contains states state
   pub have_sets : All (HasSets shapes sets) nodes
   pub own : Contains nodes node
-  pub from : (one letter state : ℕ) → Contains nodes one → Contains (set_of shapes sets one letter) state → Contains (set_of shapes sets node letter) state ⊎ Gives shapes sets rows node letter state
+  pub from : (one letter state : ℕ) → Contains nodes one → Contains (set_of shapes sets one letter) state
+      → Contains (set_of shapes sets node letter) state ⊎ Gives shapes sets rows node letter state
   pub done : (i row letter state : ℕ) → i < count → i < length states → slice_get rows (slice_index states i) ≡ Some row
       → Contains (set_of shapes sets node letter) (slice_index states i) → Contains (set_of shapes sets row letter) state
       → HasOne shapes sets nodes letter state
@@ -105,7 +106,8 @@ module _ (shapes more : List Shape) (sets sets' : List (List ℕ)) (a : Automato
   all_now : (letter state : ℕ) → Contains (set_of more sets' node letter) state → Contains states state
   all_now letter state c = so_far.all letter state (had shapes more sets sets' grows kept node letter state so_far.led.is c)
 
-  from_now : (one letter state : ℕ) → Contains nodes one → Contains (set_of more sets' one letter) state → Contains (set_of more sets' node letter) state ⊎ Gives more sets' rows node letter state
+  from_now : (one letter state : ℕ) → Contains nodes one → Contains (set_of more sets' one letter) state
+      → Contains (set_of more sets' node letter) state ⊎ Gives more sets' rows node letter state
   from_now one letter state c d = elim (so_far.from one letter state c (had shapes more sets sets' grows kept one letter state (sets-of one c) d)) [
     | inl e ↦ inl (has-kept shapes more sets sets' grows kept node letter state so_far.led.is e)
     | inr g ↦ inr (record {
@@ -213,7 +215,8 @@ pub record IsClosing (shapes : List Shape) (sets : List (List ℕ)) (a : Automat
 set-ascends : (sets : List (List ℕ)) (number : ℕ) → number < length sets → All IsStrictlyIncreasing sets → IsStrictlyIncreasing (set_at sets number)
 set-ascends sets number h all = All-get_or IsStrictlyIncreasing sets number [] h all
 
-pub IsClosing-first : (shapes : List Shape) (sets : List (List ℕ)) (a : Automaton) (some : List Var) (rows : List ℕ) (node : ℕ) → AreSetRows shapes sets a some rows → All IsStrictlyIncreasing sets
+pub IsClosing-first : (shapes : List Shape) (sets : List (List ℕ)) (a : Automaton) (some : List Var) (rows : List ℕ) (node : ℕ)
+    → AreSetRows shapes sets a some rows → All IsStrictlyIncreasing sets
     → IsSetRow shapes sets (length some) node (Begins a some) → IsClosing shapes sets a some rows node 0
 IsClosing-first shapes sets a some rows node are ascend first = record {
   are_rows = are;

@@ -94,7 +94,8 @@ pairs-known shapes sets pairs a b from none a_sets b_sets answers = All-from_get
     subst (λ (pair : ℕ × ℕ). (pair.0 < length sets) × (pair.1 < length sets)) e (a_sets.numbered one.0, b_sets.numbered one.0))
 
 -- a node over pairs, led through their joined sets
-pub IsJoined-made : (old mid shapes : List Shape) (sets : List (List ℕ)) (only : ℕ) (pairs : List (ℕ × ℕ)) (table : List ℕ) (a b both node : ℕ) → a < length old → b < length old → Grows old shapes
+pub IsJoined-made : (old mid shapes : List Shape) (sets : List (List ℕ)) (only : ℕ) (pairs : List (ℕ × ℕ)) (table : List ℕ) (a b both node : ℕ)
+    → a < length old → b < length old → Grows old shapes
     → ((letter : ℕ) → slice_get pairs (map_at mid both letter) ≡ Some (map_at old a letter, map_at old b letter)) → AreJoinedSets sets only pairs table → node < length shapes
     → ((letter : ℕ) → map_at shapes node letter ≡ slice_index table (map_at mid both letter)) → IsJoined shapes sets only a b node
 IsJoined-made old mid shapes sets only pairs table a b both node a_known b_known grows paired joined known led = record {
@@ -225,5 +226,6 @@ picked-sets shapes sets rows set nodes same within all =
     subst (HasSets shapes sets) p.2 (all p.0 0 (All-contains (λ state. state < length rows) set p.0 within p.1)))
 
 -- each leaf is the number of a set
-pub leaves-known : (shapes : List Shape) (sets : List (List ℕ)) (node : ℕ) (leaves : List ℕ) → HasSets shapes sets node → AreLeaves shapes node leaves → All (λ leaf. leaf < length sets) leaves
+pub leaves-known : (shapes : List Shape) (sets : List (List ℕ)) (node : ℕ) (leaves : List ℕ) → HasSets shapes sets node
+    → AreLeaves shapes node leaves → All (λ leaf. leaf < length sets) leaves
 leaves-known shapes sets node leaves is are = All-from_get_or (λ leaf. leaf < length sets) leaves 0 (λ i h. let one = are.given i h in subst (λ n. n < length sets) one.1 (is.numbered one.0))

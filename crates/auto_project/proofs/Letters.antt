@@ -28,7 +28,8 @@ bit_at-restrict all (v ∷ vs) letter (suc i) d h =
     ∙ bit_at-restrict all vs letter i d (omega arith)
 
 -- letters that agree up to the tracks that are read are read alike
-pub restrict-agree : (all some : List Var) (bound x y : ℕ) → All (λ track. place all track < bound) some → ((k : ℕ) → k < bound → bit_at x k ≡ bit_at y k) → restrict all some x ≡ restrict all some y
+pub restrict-agree : (all some : List Var) (bound x y : ℕ) → All (λ track. place all track < bound) some
+    → ((k : ℕ) → k < bound → bit_at x k ≡ bit_at y k) → restrict all some x ≡ restrict all some y
 restrict-agree all [] bound x y within agree = refl
 restrict-agree all (v ∷ vs) bound x y within agree =
     let bit = agree (place all v) (within 0 v (omega arith)) in

@@ -37,7 +37,8 @@ pub any-from : (p : ℕ → Bool) (xs : List ℕ) → list_any p xs ≡ true →
 any-from p [] h = absurd (true≢false (sym h))
 any-from p (x ∷ xs) h = by (p x) refl h (any-from p xs)
   where
-    by : (b : Bool) → p x ≡ b → (b || list_any p xs) ≡ true → (list_any p xs ≡ true → (t : ℕ) × Contains xs t × (p t ≡ true)) → (t : ℕ) × Contains (x ∷ xs) t × (p t ≡ true)
+    by : (b : Bool) → p x ≡ b → (b || list_any p xs) ≡ true → (list_any p xs ≡ true → (t : ℕ) × Contains xs t × (p t ≡ true))
+        → (t : ℕ) × Contains (x ∷ xs) t × (p t ≡ true)
     by true e h later = (x, Contains-head x xs, e)
     by false e h later = let r = later h in (r.0, Contains-cons x xs r.0 r.1, r.2)
 

@@ -110,7 +110,8 @@ same_lists (x ∷ xs) (y ∷ ys) a b f g =
     λ i. heads i ∷ tails i
 
 -- ascending lists with the same elements are equal
-pub same_sets : (xs ys : List ℕ) → IsStrictlyIncreasing xs → IsStrictlyIncreasing ys → ((t : ℕ) → Contains xs t → Contains ys t) → ((t : ℕ) → Contains ys t → Contains xs t) → xs ≡ ys
+pub same_sets : (xs ys : List ℕ) → IsStrictlyIncreasing xs → IsStrictlyIncreasing ys → ((t : ℕ) → Contains xs t → Contains ys t)
+    → ((t : ℕ) → Contains ys t → Contains xs t) → xs ≡ ys
 same_sets xs ys a b f g = same_lists xs ys (Ascends-from xs (AllPairs-from_increasing xs a)) (Ascends-from ys (AllPairs-from_increasing ys b)) f g
 
 different : (xs : List ℕ) → IsStrictlyIncreasing xs → AllPairs (λ x y. x ≢ y) xs

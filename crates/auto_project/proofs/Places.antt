@@ -33,7 +33,8 @@ use Rattle.std.proofs.lemmas.Bool.{or_left}
 use Rattle.auto_project.proofs.Lifts.{any-from, any-to, steps-next, increasing-next, LiftLeads-begins}
 use Rattle.auto_project.proofs.SetMapLemmas.{stays, had, AreSetRows-kept}
 
-set-ascends : (shapes : List Shape) (sets : List (List ℕ)) (node letter : ℕ) → HasSets shapes sets node → All IsStrictlyIncreasing sets → IsStrictlyIncreasing (set_of shapes sets node letter)
+set-ascends : (shapes : List Shape) (sets : List (List ℕ)) (node letter : ℕ) → HasSets shapes sets node
+    → All IsStrictlyIncreasing sets → IsStrictlyIncreasing (set_of shapes sets node letter)
 set-ascends shapes sets node letter is all = All-get_or IsStrictlyIncreasing sets (map_at shapes node letter) [] (is.numbered letter) all
 
 no-element : (set : List ℕ) (element : ℕ) → set ≡ [] → Contains set element → ⊥
@@ -79,7 +80,8 @@ HasPlaceRows-from shapes sets a x first rows closed = record {
     ]
 
     alike : (node : ℕ) → HasSets shapes sets node
-        → ((p q state : ℕ) → ((k : ℕ) → k < length (without_var x a.tracks) → bit_at p k ≡ bit_at q k) → Contains (set_of shapes sets node p) state → Contains (set_of shapes sets node q) state)
+        → ((p q state : ℕ) → ((k : ℕ) → k < length (without_var x a.tracks) → bit_at p k ≡ bit_at q k)
+        → Contains (set_of shapes sets node p) state → Contains (set_of shapes sets node q) state)
         → (m n : ℕ) → ((k : ℕ) → k < length (without_var x a.tracks) → bit_at m k ≡ bit_at n k) → set_of shapes sets node m ≡ set_of shapes sets node n
     alike node is same m n agree =
         same_sets (set_of shapes sets node m) (set_of shapes sets node n) (set-ascends shapes sets node m is closed.ascend) (set-ascends shapes sets node n is closed.ascend)
@@ -221,10 +223,10 @@ IsRow-placed w shapes sets more before places node row lead is adds narrow value
 }
 
 -- the closed rows of what was made
-pub HasClosedRows-made : (old shapes : List Shape) (before sets : List (List ℕ)) (a : Automaton) (some listed : List Var) (begun first : ℕ) (rows : List ℕ) → listed ≡ some
+pub HasClosedRows-made : {old shapes : List Shape} {before sets : List (List ℕ)} {a : Automaton} {some listed : List Var} {begun first : ℕ} {rows : List ℕ} → listed ≡ some
     → HasSetRows old before a listed begun rows → Grows old shapes → SetsKept before sets → All IsStrictlyIncreasing sets
     → IsSetRow shapes sets (length some) first (λ letter state. LiftLeads a some (letter ∷ []) state) → HasClosedRows shapes sets a some first rows
-HasClosedRows-made old shapes before sets a some listed begun first rows same made grows kept ascend closed = record {
+HasClosedRows-made {old} {shapes} {before} {sets} {a} {some} {listed} {begun} {first} {rows} same made grows kept ascend closed = record {
   valid = made.valid;
   ascend = ascend;
   first_row = closed;
@@ -272,8 +274,8 @@ IsRow-union a some shapes mid sets sets' more before places first rows set union
     (λ letter below. union-next mid sets' a some first rows now set union within is ascend letter below (increasing-set a some set letter)) apart
 
 -- the states of a numbered place have rows
-pub rows-within : (a : Automaton) (some : List Var) (shapes : List Shape) (sets places : List (List ℕ)) (first : ℕ) (rows set : List ℕ) (number : ℕ)
+pub rows-within : {set : List ℕ} {a : Automaton} {some : List Var} {shapes : List Shape} {sets places : List (List ℕ)} {first : ℕ} {rows : List ℕ} (number : ℕ)
     → HasPlaceRows shapes sets a some first rows → slice_get places number ≡ Some set → AreNumbered (set_walker a some shapes sets first) places
     → All (λ state. state < length rows) set
-rows-within a some shapes sets places first rows set number r at numbered =
-    subst (λ n. All (λ state. state < n) set) (sym r.size) (states-within shapes sets a some first rows r places number set at numbered)
+rows-within {set} number r at numbered =
+    subst (λ n. All (λ state. state < n) set) (sym r.size) (states-within _ _ _ _ _ _ r _ number _ at numbered)

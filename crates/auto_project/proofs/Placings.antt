@@ -14,9 +14,9 @@ use Rattle.auto_project.specs.Placed.{IsPlaced, AddsSetsOf, RemembersPlaced}
 use Rattle.auto_project.proofs.SetMapLemmas.{stays}
 
 -- what leads to places still does where the rows and the places grow
-pub IsPlaced-grows : (shapes : List Shape) (sets : List (List ℕ)) (rows more : List Shape) (places after : List (List ℕ)) (node row : ℕ) → Grows rows more → SetsKept places after
+pub IsPlaced-grows : {shapes : List Shape} {sets : List (List ℕ)} {rows more : List Shape} {places after : List (List ℕ)} {node row : ℕ} → Grows rows more → SetsKept places after
     → IsPlaced shapes sets rows places node row → IsPlaced shapes sets more after node row
-IsPlaced-grows shapes sets rows more places after node row grows kept is =
+IsPlaced-grows {shapes} {sets} {rows} {more} {places} {after} {node} {row} grows kept is =
     let known = is.known in
     let longer = grows.longer in
     let top = is.top in
@@ -28,10 +28,9 @@ IsPlaced-grows shapes sets rows more places after node row grows kept is =
       top = omega (arith, top, top_row);
     }
 
-pub RemembersPlaced-grows : (shapes : List Shape) (sets : List (List ℕ)) (rows more : List Shape) (places after : List (List ℕ)) (memo : List (Option ℕ)) → Grows rows more
+pub RemembersPlaced-grows : {shapes : List Shape} {sets : List (List ℕ)} {rows more : List Shape} {places after : List (List ℕ)} {memo : List (Option ℕ)} → Grows rows more
     → SetsKept places after → RemembersPlaced shapes sets rows places memo → RemembersPlaced shapes sets more after memo
-RemembersPlaced-grows shapes sets rows more places after memo grows kept all =
-    record { placed = λ node row at. IsPlaced-grows shapes sets rows more places after node row grows kept (all.placed node row at) }
+RemembersPlaced-grows grows kept all = record { placed = λ node row at. IsPlaced-grows grows kept (all.placed node row at) }
 
 -- and where the nodes and the sets grow
 pub RemembersPlaced-over : (shapes more : List Shape) (sets sets' : List (List ℕ)) (rows : List Shape) (places : List (List ℕ)) (memo : List (Option ℕ)) → Grows shapes more
@@ -53,9 +52,9 @@ pub RemembersPlaced-none : (shapes : List Shape) (sets : List (List ℕ)) (rows 
     → ((node : ℕ) → answer_of memo node ≡ None) → RemembersPlaced shapes sets rows places memo
 RemembersPlaced-none shapes sets rows places memo none = record { placed = λ node row at. let never = none node in cc }
 
-pub RemembersPlaced-same : (shapes : List Shape) (sets : List (List ℕ)) (rows : List Shape) (places : List (List ℕ)) (memo new : List (Option ℕ))
+pub RemembersPlaced-same : {shapes : List Shape} {sets : List (List ℕ)} {rows : List Shape} {places : List (List ℕ)} {memo new : List (Option ℕ)}
     → ((node : ℕ) → answer_of new node ≡ answer_of memo node) → RemembersPlaced shapes sets rows places memo → RemembersPlaced shapes sets rows places new
-RemembersPlaced-same shapes sets rows places memo new same all = record { placed = λ node row at. all.placed node row (sym (same node) ∙ at) }
+RemembersPlaced-same same all = record { placed = λ node row at. all.placed node row (sym (same node) ∙ at) }
 
 pub RemembersPlaced-insert : (shapes : List Shape) (sets : List (List ℕ)) (rows : List Shape) (places : List (List ℕ)) (memo new : List (Option ℕ)) (node row : ℕ)
     → RemembersPlaced shapes sets rows places memo → Remembers memo new node row → IsPlaced shapes sets rows places node row

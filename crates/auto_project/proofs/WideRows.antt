@@ -93,7 +93,8 @@ module _ (a : Automaton) (x : Var) (valid : IsAutomaton a) where
   ]
 
   -- two letters with one bit that agree below agree up to the track
-  agree-with : (m n p q track bit : ℕ) → IsWithBit p m track bit → IsWithBit q n track bit → ((k : ℕ) → k < track → bit_at m k ≡ bit_at n k) → (k : ℕ) → k < track + 1 → bit_at p k ≡ bit_at q k
+  agree-with : (m n p q track bit : ℕ) → IsWithBit p m track bit → IsWithBit q n track bit → ((k : ℕ) → k < track → bit_at m k ≡ bit_at n k)
+      → (k : ℕ) → k < track + 1 → bit_at p k ≡ bit_at q k
   agree-with m n p q track bit is_p is_q agree k h = elim (cases_eq k track) [
     | inl e ↦ ap (bit_at p) e ∙ is_p.at ∙ sym (is_q.at) ∙ ap (bit_at q) (sym e)
     | inr ne ↦ is_p.same k ne ∙ agree k (below k ne h) ∙ sym (is_q.same k ne)
@@ -120,7 +121,8 @@ module _ (a : Automaton) (x : Var) (valid : IsAutomaton a) where
 
     -- the states at both bits
     both-bits : (letter off on state : ℕ) → IsWithBit off letter (length (without_var x a.tracks)) 0 → IsWithBit on letter (length (without_var x a.tracks)) 1
-        → Contains (set_of shapes sets merged letter) state ↔ ((value (restrict (without_var x a.tracks) a.tracks off) ≡ state) ⊎ (value (restrict (without_var x a.tracks) a.tracks on) ≡ state))
+        → Contains (set_of shapes sets merged letter) state
+        ↔ ((value (restrict (without_var x a.tracks) a.tracks off) ≡ state) ⊎ (value (restrict (without_var x a.tracks) a.tracks on) ≡ state))
     both-bits letter off on state is_off is_on =
         let union = (is.map letter off on is_off is_on).members state in (
           λ c. elim (union.0 c) [

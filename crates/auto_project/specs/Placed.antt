@@ -33,3 +33,16 @@ LeadsToPlaces merger places node row = IsPlaced merger.shapes merger.sets places
 -- what the places remember of the merger's nodes leads to places
 abbrev pub RemembersRows : MergerTables → Places → Type 0
 RemembersRows merger places = RemembersPlaced merger.shapes merger.sets places.rows places.sets places.placed
+
+-- what is new among the places is a set that the merger's node gives
+abbrev pub AddsPlacesOf : MergerTables → Places → Places → ℕ → Type 0
+AddsPlacesOf merger old new node = AddsSetsOf merger.shapes merger.sets old.sets new.sets node
+
+-- the row leads each letter to the place of the set
+abbrev pub LeadsToPlaceOf : Places → List ℕ → ℕ → Type 0
+LeadsToPlaceOf places set row = (letter : ℕ) → slice_get places.sets (map_at places.rows row letter) ≡ Some set
+
+-- what is new among the places is the set
+abbrev pub AddsOnly : Places → Places → List ℕ → Type 0
+AddsOnly old new set =
+    (place : ℕ) → length old.sets ≤ place → place < length new.sets → slice_get new.sets place ≡ Some set

@@ -7,12 +7,14 @@ use Rattle.track_word.specs.Tracks.{restrict}
 use Rattle.letter_diagram.specs.declared.diagrams.Shape.{Shape}
 use Rattle.letter_diagram.specs.Diagram.{map_at}
 use Rattle.letter_diagram.specs.Sets.{set_at}
-use Rattle.letter_diagram.specs.Merged.{HasSets}
+use Rattle.letter_diagram.specs.Listed.{EachAnswers}
+use Rattle.letter_diagram.specs.Merged.{HasSets, IsMerged}
 use Rattle.letter_diagram.specs.Merger.{MergerTables}
 use Rattle.auto_core.specs.Automaton.{Automaton, IsAutomaton, first_state, next_state}
 use Rattle.auto_project.specs.Lifted.{Begins, Follows, LiftLeads}
 use Rattle.auto_project.specs.Subsets.{next_set}
 use Rattle.auto_project.specs.declared.closure.Rows.{Rows}
+use Rattle.auto_project.specs.declared.rows.SetRows.{SetRows}
 
 -- each number below a bound is that of the set that has it alone
 pub record AreSingletons (sets : List (List ℕ)) (count : ℕ) : Type 0 where
@@ -62,10 +64,6 @@ pub record AreSetRows (shapes : List Shape) (sets : List (List ℕ)) (a : Automa
   pub each : (state node : ℕ) → slice_get rows state ≡ Some node
       → IsSetRow shapes sets (length some) node (Follows a some state)
 
--- the rows lead letters to the sets of the merger, as those of an automaton's states
-abbrev pub AreRowsIn : MergerTables → Rows → Type 0
-AreRowsIn merger rows = AreSetRows merger.shapes merger.sets rows.automaton.now rows.tracks.items rows.nodes.items
-
 -- the rows of an automaton over some of its tracks, from the states to which a sign letter leads
 pub record HasSetRows (shapes : List Shape) (sets : List (List ℕ)) (a : Automaton) (some : List Var) (first : ℕ)
     (rows : List ℕ) : Type 0 where
@@ -109,6 +107,10 @@ pub record AreWideRows (shapes : List Shape) (a : Automaton) (some : List Var) (
   pub size : length rows ≡ length a.accept
   pub each : (state node : ℕ) → slice_get rows state ≡ Some node → IsWideRow shapes a some node (next_state a state)
 
+-- each row is that of the unions of what its node gives with either bit of the track
+abbrev pub AreMergedAt : ℕ → MergerTables → List ℕ → List ℕ → Type 0
+AreMergedAt track merger nodes rows = EachAnswers (IsMerged merger.shapes merger.sets track) nodes rows
+
 -- the rows of an automaton by the letters over all tracks
 pub record HasWideRows (shapes : List Shape) (a : Automaton) (some : List Var) (first : ℕ) (rows : List ℕ) : Type
     0 where
@@ -123,6 +125,11 @@ pub record IsLedRow (shapes : List Shape) (sets : List (List ℕ)) (a : Automato
   pub narrow : IsNarrow shapes sets (length some) node
   pub led : (letter state : ℕ) → letter < 2 ^ length some → Contains (set_of shapes sets node letter) state
       → LiftLeads a some (letter ∷ []) state
+
+-- each state that the node's sets have is in the list
+abbrev pub HasStatesOf : List Shape → List (List ℕ) → ℕ → List ℕ → Type 0
+HasStatesOf shapes sets node states =
+    (letter state : ℕ) → Contains (set_of shapes sets node letter) state → Contains states state
 
 -- the node's sets have no state
 pub record IsNothing (shapes : List Shape) (sets : List (List ℕ)) (node : ℕ) : Type 0 where
@@ -160,3 +167,46 @@ pub record IsUnionRow (shapes : List Shape) (sets : List (List ℕ)) (rows set :
   pub members : (letter state : ℕ)
       → Contains (set_of shapes sets node letter) state
       ↔ ((from : ℕ) × Contains set from × Contains (set_of shapes sets (slice_index rows from) letter) state)
+
+-- ---- the same of nodes of a merger and of its sets
+
+-- the rows of an automaton over some of its tracks
+abbrev pub HasSetRowsOf : Automaton → List Var → SetRows → Type 0
+HasSetRowsOf a some made = HasSetRows made.merger.shapes made.merger.sets a some made.first made.rows.items
+
+-- the rows are those of an automaton's states
+abbrev pub AreRowsIn : MergerTables → Rows → Type 0
+AreRowsIn merger rows = AreSetRows merger.shapes merger.sets rows.automaton.now rows.tracks.items rows.nodes.items
+
+-- the node leads each letter to the set of the states to which sign letters lead that read as it
+abbrev pub IsSignRowIn : MergerTables → Rows → ℕ → Type 0
+IsSignRowIn merger rows node =
+    IsSetRow merger.shapes merger.sets (length rows.tracks.items) node (Begins rows.automaton.now rows.tracks.items)
+
+-- the node leads each letter to the set of the states to which its lifts lead
+abbrev pub IsLiftRowIn : MergerTables → Rows → ℕ → Type 0
+IsLiftRowIn merger rows node =
+    IsSetRow merger.shapes merger.sets (length rows.tracks.items) node
+    (λ letter state. LiftLeads rows.automaton.now rows.tracks.items (letter ∷ []) state)
+
+-- the node leads each letter to a set of states to which its lifts lead
+abbrev pub IsLedRowIn : MergerTables → Rows → ℕ → Type 0
+IsLedRowIn merger rows node = IsLedRow merger.shapes merger.sets rows.automaton.now rows.tracks.items node
+
+-- the swept node's sets have what the node's sets have, and what the rows of their states give
+abbrev pub IsSweptIn : MergerTables → Rows → ℕ → ℕ → Type 0
+IsSweptIn merger rows node swept = IsSwept merger.shapes merger.sets rows.nodes.items node swept
+
+-- the rows with the first one closed: it leads each sign letter to the states to which its lifts lead
+abbrev pub HasClosedRowsIn : MergerTables → Rows → ℕ → Type 0
+HasClosedRowsIn merger rows first =
+    HasClosedRows merger.shapes merger.sets rows.automaton.now rows.tracks.items first rows.nodes.items
+
+-- the rows of the walk over sets of states
+abbrev pub HasPlaceRowsIn : MergerTables → Rows → ℕ → Type 0
+HasPlaceRowsIn merger rows first =
+    HasPlaceRows merger.shapes merger.sets rows.automaton.now rows.tracks.items first rows.nodes.items
+
+-- the node's sets have just what the sets of the rows of some states have
+abbrev pub IsUnionRowIn : MergerTables → List ℕ → List ℕ → ℕ → Type 0
+IsUnionRowIn merger rows set node = IsUnionRow merger.shapes merger.sets rows set node

@@ -1,12 +1,11 @@
 //! The first row, closed over repeated first letters.
-ghost use Rattle.std.specs.Prelude.{◌≡◌, ◌<◌, ◌≤◌, ◌^◌, ◌∷◌, [], ℕ, length, slice_get, Some, All, Contains, IfOk, OnOk, ◌++◌};
+ghost use Rattle.std.specs.Prelude.{◌≡◌, ◌<◌, ℕ, length, All, Contains, IfOk, OnOk, ◌++◌};
 ghost use Rattle.std.specs.List.Sorted.{IsStrictlyIncreasing};
 ghost use Rattle.letter_diagram.specs.Diagram.{Grows};
 ghost use Rattle.letter_diagram.specs.Sets.{SetsKept, set_at};
 ghost use Rattle.letter_diagram.specs.Merged.{HasSets};
 ghost use Rattle.auto_core.specs.Automaton.{IsAutomaton};
-ghost use Rattle.auto_project.specs.Lifted.{Begins, LiftLeads};
-ghost use Rattle.auto_project.specs.SetMaps.{set_of, IsSetRow, AreRowsIn, IsLedRow, IsGuarded, IsSwept};
+ghost use Rattle.auto_project.specs.SetMaps.{HasStatesOf, AreRowsIn, IsSignRowIn, IsLiftRowIn, IsLedRowIn, IsGuarded, IsSweptIn};
 
 use crate::join::{joined, nothing, united, uniter};
 use auto_core::Auto;
@@ -36,9 +35,7 @@ fn drop_repeats(states: &mut Vec<u32>) -> Result<(), AllocError>
 /// The states that stand in a set of the node.
 fn states_in(diagrams: &Diagrams, sets: &Sets, node: Node) -> Result<Vec<u32>, AllocError>
     requires { HasSets diagrams.now sets.now node }
-    ensures { IfOk result
-        (λ states. (letter state : ℕ) → Contains (set_of diagrams.now sets.now node letter) state
-        → Contains states.items state) }
+    ensures { IfOk result (λ states. HasStatesOf diagrams.now sets.now node states.items) }
 {
     let mut states = Vec::new(diagrams.alloc());
     let leaves = diagrams.leaves(node)?;
@@ -83,10 +80,9 @@ impl<'a> Rows<'a> {
     /// The node whose sets have besides what follows on one of their states by the same letter, in the merger that united them.
     fn swept(&self, merger: Merger, node: Node) -> Result<(Merger, Node), AllocError>
         requires rows { AreRowsIn merger self.now }
-        requires led { IsLedRow merger.shapes merger.sets self.now.automaton.now self.now.tracks.items node }
-        ensures led { IfOk result
-            (λ made. IsLedRow made.0.shapes made.0.sets self.now.automaton.now self.now.tracks.items made.1) }
-        ensures swept { IfOk result (λ made. IsSwept made.0.shapes made.0.sets self.now.nodes.items node made.1) }
+        requires led { IsLedRowIn merger self.now node }
+        ensures led { IfOk result (λ made. IsLedRowIn made.0 self.now made.1) }
+        ensures swept { IfOk result (λ made. IsSweptIn made.0 self.now node made.1) }
         ensures ascend { IfOk result (λ made. All IsStrictlyIncreasing made.0.sets) }
         ensures grows { IfOk result (λ made. Grows merger.shapes made.0.shapes) }
         ensures kept { IfOk result (λ made. SetsKept merger.sets made.0.sets) }
@@ -114,12 +110,9 @@ impl<'a> Rows<'a> {
     /// at least to each set that is not closed yet, so there are at most as many rounds as states.
     pub fn closed(&self, merger: Merger, first: Node) -> Result<(Merger, Node), AllocError>
         requires valid { IsAutomaton self.now.automaton.now }
-        requires first { IsSetRow merger.shapes merger.sets (length self.now.tracks.items) first
-            (Begins self.now.automaton.now self.now.tracks.items) }
+        requires first { IsSignRowIn merger self.now first }
         requires rows { AreRowsIn merger self.now }
-        ensures closed { IfOk result
-            (λ made. IsSetRow made.0.shapes made.0.sets (length self.now.tracks.items) made.1
-            (λ letter state. LiftLeads self.now.automaton.now self.now.tracks.items (letter ∷ []) state)) }
+        ensures closed { IfOk result (λ made. IsLiftRowIn made.0 self.now made.1) }
         ensures grows { IfOk result (λ made. Grows merger.shapes made.0.shapes) }
         ensures kept { IfOk result (λ made. SetsKept merger.sets made.0.sets) }
     {

@@ -1,10 +1,10 @@
 //! Sets that are numbered as places, and the rows that lead to them.
-ghost use Rattle.std.specs.Prelude.{◌≡◌, ◌≢◌, ◌<◌, ◌≤◌, [], ℕ, None, length, slice_get, Some, AllPairs, IfOk, OnOk};
-ghost use Rattle.letter_diagram.specs.Diagram.{Grows, map_at, top_track};
+ghost use Rattle.std.specs.Prelude.{◌≡◌, ◌≢◌, ◌<◌, [], ℕ, None, length, AllPairs, IfOk, OnOk};
+ghost use Rattle.letter_diagram.specs.Diagram.{Grows, top_track};
 ghost use Rattle.letter_diagram.specs.Sets.{SetsKept, set_at};
 ghost use Rattle.letter_diagram.specs.Merged.{HasSets};
 ghost use Rattle.letter_diagram.specs.NodeMemo.{answer_of};
-ghost use Rattle.auto_project.specs.Placed.{AddsSetsOf, LeadsToPlaces, RemembersRows};
+ghost use Rattle.auto_project.specs.Placed.{AddsOnly, AddsPlacesOf, LeadsToPlaceOf, LeadsToPlaces, RemembersRows};
 
 use crate::sets::number_of;
 use letter_diagram::{Diagrams, Merger, Node, NodeMemo, Sets, Shape};
@@ -44,13 +44,9 @@ impl Places {
     fn leaf(&mut self, sets: &Sets, number: u32) -> Result<Node, AllocError>
         requires { number < length sets.now }
         ensures known { IfOk result (λ row. row < length self.new.rows) }
-        ensures leads { IfOk result
-            (λ row. (letter : ℕ)
-            → slice_get self.new.sets (map_at self.new.rows row letter) ≡ Some (set_at sets.now number)) }
+        ensures leads { IfOk result (LeadsToPlaceOf self.new (set_at sets.now number)) }
         ensures top { IfOk result (λ row. top_track self.new.rows row ≡ MOST_TRACKS) }
-        ensures added { OnOk result
-            ((place : ℕ) → length self.old.sets ≤ place → place < length self.new.sets
-            → slice_get self.new.sets place ≡ Some (set_at sets.now number)) }
+        ensures added { OnOk result (AddsOnly self.old self.new (set_at sets.now number)) }
         ensures grows { Grows self.old.rows self.new.rows }
         ensures kept { SetsKept self.old.sets self.new.sets }
         ensures placed { self.new.placed ≡ self.old.placed }
@@ -71,7 +67,7 @@ impl Places {
         requires node { HasSets merger.now.shapes merger.now.sets node }
         requires remembered { RemembersRows merger.now self.old }
         ensures placed { IfOk result (LeadsToPlaces merger.now self.new node) }
-        ensures added { OnOk result (AddsSetsOf merger.now.shapes merger.now.sets self.old.sets self.new.sets node) }
+        ensures added { OnOk result (AddsPlacesOf merger.now self.old self.new node) }
         ensures remembered { RemembersRows merger.now self.new }
         ensures grows { Grows self.old.rows self.new.rows }
         ensures kept { SetsKept self.old.sets self.new.sets }
@@ -97,7 +93,7 @@ impl Places {
         requires node { HasSets merger.now.shapes merger.now.sets node }
         requires remembered { RemembersRows merger.now self.old }
         ensures placed { IfOk result (LeadsToPlaces merger.now self.new node) }
-        ensures added { OnOk result (AddsSetsOf merger.now.shapes merger.now.sets self.old.sets self.new.sets node) }
+        ensures added { OnOk result (AddsPlacesOf merger.now self.old self.new node) }
         ensures different { IfOk result (λ _. AllPairs (λ p q. p ≢ q) self.new.sets) }
         ensures remembered { RemembersRows merger.now self.new }
         ensures grows { Grows self.old.rows self.new.rows }

@@ -1,11 +1,10 @@
 //! The rows of an automaton over the tracks that are left, as maps to sets of states.
-ghost use Rattle.std.specs.Prelude.{◌≡◌, ◌<◌, ◌≤◌, ◌+◌, ℕ, length, map, All, IfOk};
+ghost use Rattle.std.specs.Prelude.{◌≡◌, ◌<◌, ◌≤◌, length, map, All, IfOk};
 ghost use Rattle.track_word.specs.Tracks.{without_var, place};
-ghost use Rattle.letter_diagram.specs.Diagram.{Grows, LooksBelow, map_at};
+ghost use Rattle.letter_diagram.specs.Diagram.{Grows};
 ghost use Rattle.letter_diagram.specs.Sets.{SetsKept};
-ghost use Rattle.letter_diagram.specs.Listed.{EachAnswers};
 ghost use Rattle.letter_diagram.specs.Merged.{HasSets, IsMerged};
-ghost use Rattle.auto_project.specs.SetMaps.{AreSingletons, HasWideRows, HasSetRows};
+ghost use Rattle.auto_project.specs.SetMaps.{HasWideRows, HasSetRowsOf, AreMergedAt};
 
 use crate::join::uniter;
 use crate::sets::singletons;
@@ -66,8 +65,7 @@ fn merged_row(merger: &mut Merger, node: Node) -> Result<Node, AllocError>
 
 fn merged_rows(alloc: Global, merger: &mut Merger, nodes: &[Node]) -> Result<Vec<Node>, AllocError>
     requires { All (HasSets merger.old.shapes merger.old.sets) nodes.now }
-    ensures merged { IfOk result
-        (λ rows. EachAnswers (IsMerged merger.new.shapes merger.new.sets merger.old.track) nodes.now rows.items) }
+    ensures merged { IfOk result (λ rows. AreMergedAt merger.old.track merger.new nodes.now rows.items) }
     ensures sets { SetsKept merger.old.sets merger.new.sets }
     ensures grows { Grows merger.old.shapes merger.new.shapes }
     ensures track { merger.new.track ≡ merger.old.track }
@@ -91,8 +89,7 @@ fn without_track(
     requires first { HasSets wide.diagrams sets wide.first }
     requires rows { All (HasSets wide.diagrams sets) wide.rows.items }
     ensures first { IfOk result (λ made. IsMerged made.merger.shapes made.merger.sets track wide.first made.first) }
-    ensures rows { IfOk result
-        (λ made. EachAnswers (IsMerged made.merger.shapes made.merger.sets track) wide.rows.items made.rows.items) }
+    ensures rows { IfOk result (λ made. AreMergedAt track made.merger wide.rows.items made.rows.items) }
     ensures grows { IfOk result (λ made. Grows wide.diagrams made.merger.shapes) }
     ensures kept { IfOk result (λ made. SetsKept sets made.merger.sets) }
 {
@@ -114,8 +111,7 @@ fn without_track(
 /// The rows over the tracks that are left, as maps to the sets of the states to which the letters lead that read alike.
 pub fn set_rows(alloc: Global, a: &Auto, var: Var, tracks: &[Var]) -> Result<SetRows, AllocError>
     requires { tracks.now ≡ without_var var a.now.tracks }
-    ensures { IfOk result
-        (λ made. HasSetRows made.merger.shapes made.merger.sets a.now tracks.now made.first made.rows.items) }
+    ensures { IfOk result (HasSetRowsOf a.now tracks.now) }
 {
     let all = a.tracks();
     let wide = wide_rows(alloc, a, tracks)?;

@@ -1,5 +1,5 @@
 //! The walk over the sets of states to which the lifts of words lead.
-ghost use Rattle.std.specs.Prelude.{◌≡◌, map, slice_index, ◌≢◌, AllPairs, ◌<◌, ◌≤◌, ◌^◌, [], ℕ, length, slice_get, Some, All, Contains, IfOk, OnOk, slice_index_or, false};
+ghost use Rattle.std.specs.Prelude.{◌≡◌, map, slice_index, ◌≢◌, AllPairs, ◌<◌, [], length, slice_get, Some, All, IfOk, OnOk, slice_index_or, false};
 ghost use Rattle.std.specs.List.{list_any};
 ghost use Rattle.std.specs.List.Sorted.{IsStrictlyIncreasing};
 ghost use Rattle.track_word.specs.Tracks.{without_var};
@@ -7,8 +7,8 @@ ghost use Rattle.letter_diagram.specs.Diagram.{Grows};
 ghost use Rattle.letter_diagram.specs.Sets.{SetsKept};
 ghost use Rattle.letter_diagram.specs.Merged.{HasSets};
 ghost use Rattle.auto_walk.specs.Walker.{AreTracks};
-ghost use Rattle.auto_project.specs.SetMaps.{HasClosedRows, HasPlaceRows, IsUnionRow};
-ghost use Rattle.auto_project.specs.Placed.{AddsSetsOf, LeadsToPlaces, RemembersRows};
+ghost use Rattle.auto_project.specs.SetMaps.{HasClosedRowsIn, HasPlaceRowsIn, IsUnionRowIn};
+ghost use Rattle.auto_project.specs.Placed.{AddsPlacesOf, LeadsToPlaces, RemembersRows};
 
 use crate::closure::Rows;
 use crate::join::united;
@@ -46,7 +46,7 @@ fn united_rows(merger: &mut Merger, rows: &[Node], set: &[u32]) -> Result<Node, 
     requires some { set.now ≢ [] }
     requires rows { All (HasSets merger.old.shapes merger.old.sets) rows.now }
     requires set { All (λ state. state < length rows.now) set.now }
-    ensures union { IfOk result (λ node. IsUnionRow merger.new.shapes merger.new.sets rows.now set.now node) }
+    ensures union { IfOk result (IsUnionRowIn merger.new rows.now set.now) }
     ensures grows { Grows merger.old.shapes merger.new.shapes }
     ensures kept { SetsKept merger.old.sets merger.new.sets }
 {
@@ -75,8 +75,7 @@ pub struct Subsets<'a> {
     merger: Merger,
     places: Places,
     ghost are_tracks: { AreTracks rows.tracks.items },
-    ghost are_rows: { HasPlaceRows merger.shapes merger.sets rows.automaton.now rows.tracks.items first
-        rows.nodes.items },
+    ghost are_rows: { HasPlaceRowsIn merger rows first },
     ghost remembered: { RemembersRows merger places },
 }
 
@@ -85,9 +84,7 @@ impl<'a> Subsets<'a> {
         ensures automaton { IfOk result (λ subsets. subsets.rows.automaton.now ≡ a.now) }
         ensures tracks { IfOk result (λ subsets. subsets.rows.tracks.items ≡ without_var var a.now.tracks) }
         ensures fresh { IfOk result (λ subsets. subsets.places.sets ≡ []) }
-        ensures rows { IfOk result
-            (λ subsets. HasClosedRows subsets.merger.shapes subsets.merger.sets a.now (without_var var a.now.tracks)
-            subsets.first subsets.rows.nodes.items) }
+        ensures rows { IfOk result (λ subsets. HasClosedRowsIn subsets.merger subsets.rows subsets.first) }
     {
         let tracks = tracks_without(alloc, a.tracks(), var)?;
         let SetRows {
@@ -114,8 +111,7 @@ impl<'a> Subsets<'a> {
     fn union_row(&mut self, set: &[u32]) -> Result<Node, AllocError>
         requires some { set.now ≢ [] }
         requires within { All (λ state. state < length self.old.rows.nodes.items) set.now }
-        ensures union { IfOk result
-            (λ node. IsUnionRow self.new.merger.shapes self.new.merger.sets self.old.rows.nodes.items set.now node) }
+        ensures union { IfOk result (IsUnionRowIn self.new.merger self.old.rows.nodes.items set.now) }
         ensures ascend { IfOk result (λ _. All IsStrictlyIncreasing self.new.merger.sets) }
         ensures grows { Grows self.old.merger.shapes self.new.merger.shapes }
         ensures kept { SetsKept self.old.merger.sets self.new.merger.sets }
@@ -132,8 +128,7 @@ impl<'a> Subsets<'a> {
     fn numbered(&mut self, node: Node) -> Result<Node, AllocError>
         requires { HasSets self.old.merger.shapes self.old.merger.sets node }
         ensures placed { IfOk result (LeadsToPlaces self.old.merger self.new.places node) }
-        ensures added { OnOk result
-            (AddsSetsOf self.old.merger.shapes self.old.merger.sets self.old.places.sets self.new.places.sets node) }
+        ensures added { OnOk result (AddsPlacesOf self.old.merger self.old.places self.new.places node) }
         ensures different { IfOk result (λ _. AllPairs (λ p q. p ≢ q) self.new.places.sets) }
         ensures grows { Grows self.old.places.rows self.new.places.rows }
         ensures kept { SetsKept self.old.places.sets self.new.places.sets }

@@ -51,7 +51,8 @@ module _ (axis : Axis) (d : ℤ) (is : IsSlope d) (falls : axis.zero ≡ fall d)
   pub carried : (bits : List Bool) (hi : ℕ) → Carried bits hi
   carried [] hi =
       let t : whole hi [] ≡ hi = omega arith in
-      rw (int_shr-none (along axis d (whole hi [])), int_shr-none axis.base, t) (let h : axis.base +ℤ (pos hi *ℤ d) +ℤ pos axis.zero ≡ axis.base +ℤ (pos hi *ℤ d) +ℤ pos axis.zero = refl in h)
+      rw (int_shr-none (along axis d (whole hi [])), int_shr-none axis.base, t)
+      (let h : axis.base +ℤ (pos hi *ℤ d) +ℤ pos axis.zero ≡ axis.base +ℤ (pos hi *ℤ d) +ℤ pos axis.zero = refl in h)
   carried (bit ∷ bits) hi = (more bit bits hi (carried bits (2 * hi + bit_number bit))).0
 
   -- the bit of a place

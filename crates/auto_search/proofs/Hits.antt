@@ -100,7 +100,8 @@ module _ (value d : ℤ) (near track place : ℕ) (axis : Axis) (slope : IsSlope
       let t = top in
       let sign = fits-sign (along axis d (number bits)) place fits in
       let b = integer_bit-lt (along axis d (number bits)) place in
-      sign-choice axis place (carry axis bits) ∙ choice-is (carry axis bits) (axis.zero + integer_bit axis.base place) (integer_bit (along axis d (number bits)) place) b (omega (arith, ints, t, sign))
+      sign-choice axis place (carry axis bits)
+      ∙ choice-is (carry axis bits) (axis.zero + integer_bit axis.base place) (integer_bit (along axis d (number bits)) place) b (omega (arith, ints, t, sign))
 
 -- a value does not get longer within the steps that there is room for
 along-fits : (d : ℤ) (axis : Axis) (v steps place : ℕ) → IsSlope d → unsigned_abs axis.base + 2 * steps < 2 ^ place → v ≤ steps → FitsBelow place (along axis d v)

@@ -167,7 +167,8 @@ module _ (a : Automaton) (ray : Ray) (g : Trace) (times times' states slots : Li
       (later : (bit' : Bool) (slot' : ℕ) → now < moment len bit' slot')
       (first : (slot' state' : ℕ) → slot' ≡ now → slot' < 9 → IsSlot ray slot' → headed a ray [] (slot' / 3) (slot' % 3) ≡ Some state'
       → Entered next (set states len state) (set slots len slot) (len + 1) [] slot' state')
-      (here : (k slot' state' : ℕ) (bit' : Bool) → k < len → slot' < 9 → moment k bit' slot' ≡ now → IsSlot ray slot' → headed a ray (bit' ∷ g.heads k) (slot' / 3) (slot' % 3) ≡ Some state'
+      (here : (k slot' state' : ℕ) (bit' : Bool) → k < len → slot' < 9 → moment k bit' slot' ≡ now → IsSlot ray slot'
+      → headed a ray (bit' ∷ g.heads k) (slot' / 3) (slot' % 3) ≡ Some state'
       → up ray bit' slot' ≡ get_or slots k 0 → Known next (set states len state) (set slots len slot) (len + 1) (bit' ∷ g.heads k) slot' state') where
     pub met-push : IsMet a ray next times' (set states len state) (set slots len slot) (len + 1) starts' (now + 1)
     met-push = record {
@@ -260,7 +261,8 @@ module _ (a : Automaton) (ray : Ray) (suits : Suits a ray) (slot0 state0 : ℕ) 
       let r = rw (← e, parts.0, parts.1) at reads in
       ap (option_map (λ (state : ℕ). next_state a state (letter_at ray ray.top sx sy))) r
 
-  pub child-to : (slot state : ℕ) → slot < 9 → get_or after slot None ≡ Some state → IsSlot ray slot × (slot0 ≡ up ray bit slot) × (headed a ray (bit ∷ head) (slot / 3) (slot % 3) ≡ Some state)
+  pub child-to : (slot state : ℕ) → slot < 9 → get_or after slot None ≡ Some state
+      → IsSlot ray slot × (slot0 ≡ up ray bit slot) × (headed a ray (bit ∷ head) (slot / 3) (slot % 3) ≡ Some state)
   child-to slot state small e =
       let fits = is.step.only slot state e in
       let sx = sum_at ray.x ray.top (slot / 3) bit in
@@ -270,7 +272,8 @@ module _ (a : Automaton) (ray : Ray) (suits : Suits a ray) (slot0 state0 : ℕ) 
       let alone = is.alone.only (3 * (sx / 2) + sy / 2) some.0 some.1 in
       (fits, sym alone.0, led slot fits alone.0 ∙ ap (λ q. Some (next_state a q (letter_at ray ray.top sx sy))) (sym alone.1) ∙ ap Some some.2)
 
-  pub child-from : (slot state : ℕ) → slot < 9 → IsSlot ray slot → up ray bit slot ≡ slot0 → headed a ray (bit ∷ head) (slot / 3) (slot % 3) ≡ Some state → get_or after slot None ≡ Some state
+  pub child-from : (slot state : ℕ) → slot < 9 → IsSlot ray slot → up ray bit slot ≡ slot0
+      → headed a ray (bit ∷ head) (slot / 3) (slot % 3) ≡ Some state → get_or after slot None ≡ Some state
   child-from slot state small fits e h =
       let sx = sum_at ray.x ray.top (slot / 3) bit in
       let sy = sum_at ray.y ray.top (slot % 3) bit in
@@ -279,10 +282,10 @@ module _ (a : Automaton) (ray : Ray) (suits : Suits a ray) (slot0 state0 : ℕ) 
       ∙ sym (led slot fits e) ∙ h
 
 -- one try
-module _ (a : Automaton) (ray : Ray) (suits : Suits a ray) (g : Trace) (times states slots : List ℕ) (len starts entry slot : ℕ) (bit : Bool)
+module _ {a : Automaton} {ray : Ray} (suits : Suits a ray) {g : Trace} {times states slots : List ℕ} {len starts : ℕ} (entry slot : ℕ) (bit : Bool)
     (is : IsMet a ray g times states slots len starts (moment entry bit slot))
     (place : HasPlace a times states slots len) (within : entry < len) (small : slot < 9) (some : g.heads entry ≡ [] → bit ≡ true)
-    (after : List (Option ℕ)) (is_after : IsAfter a ray (get_or slots entry 0) (get_or states entry 0) bit after) (front : IsFront a after) where
+    {after : List (Option ℕ)} (is_after : IsAfter a ray (get_or slots entry 0) (get_or states entry 0) bit after) (front : IsFront a after) where
   now-late : (slot' : ℕ) → slot' ≡ moment entry bit slot → slot' < 9 → ⊥
   now-late slot' e h = late bit slot' e h
     where
@@ -454,9 +457,9 @@ Goes-trans f g h len len' more p q = record {
 }
 
 -- a try of a walk
-module _ (a : Automaton) (ray : Ray) (suits : Suits a ray) (times states slots times' states' slots' : List ℕ) (len len' starts now entry slot : ℕ) (bit : Bool)
+module _ {a : Automaton} {ray : Ray} (suits : Suits a ray) {times states slots times' states' slots' : List ℕ} {len len' starts now : ℕ} (entry slot : ℕ) (bit : Bool)
     (walk : Walks a ray times states slots len times' states' slots' len' starts starts now (moment entry bit slot))
-    (within : entry < len) (small : slot < 9) (may : (bit ≡ true) ⊎ (starts ≤ entry)) (after : List (Option ℕ))
+    (within : entry < len) (small : slot < 9) (may : (bit ≡ true) ⊎ (starts ≤ entry)) {after : List (Option ℕ)}
     (is_after : IsAfter a ray (get_or slots entry 0) (get_or states entry 0) bit after) (front : IsFront a after) where
   after-here : IsAfter a ray (get_or slots' entry 0) (get_or states' entry 0) bit after
   after-here = rw (walk.same_slots entry within, walk.same_states entry within) is_after
@@ -479,15 +482,15 @@ module _ (a : Automaton) (ray : Ray) (suits : Suits a ray) (times states slots t
     place = walk.place;
     met = λ g is.
         let w = walk.met g is in
-        let n = try-none a ray suits w.0 times' states' slots' len' starts entry slot bit w.1 walk.place within-here small (may-here w.0 w.1) after after-here front none in
+        let n = try-none suits entry slot bit w.1 walk.place within-here small (may-here w.0 w.1) after-here front none in
         (w.0, rw (← moment-suc entry slot bit) n, w.2);
   }
 
-  pub walk-add : (state : ℕ) → get_or after slot None ≡ Some state → (times'' states'' slots'' : List ℕ) (len'' : ℕ)
+  pub walk-add : (state : ℕ) → get_or after slot None ≡ Some state → {times'' states'' slots'' : List ℕ} {len'' : ℕ}
       → Adds times' states' slots' len' times'' states'' slots'' len'' state slot → HasPlace a times'' states'' slots'' len''
       → len' < length states' ⊎ (2 ≤ get_or times' (state * 9 + slot) 0) → len' < length slots' ⊎ (2 ≤ get_or times' (state * 9 + slot) 0)
       → Walks a ray times states slots len times'' states'' slots'' len'' starts starts now (moment entry bit (slot + 1))
-  walk-add state found times'' states'' slots'' len'' adds place in1 in2 = elim adds [
+  walk-add state found adds place in1 in2 = elim adds [
     | inl same ↦ record {
       longer = let l = walk.longer in let e = same.4 in omega (arith, l, e);
       same_states = λ j h. ap (λ l. get_or l j 0) same.2 ∙ walk.same_states j h;
@@ -496,7 +499,7 @@ module _ (a : Automaton) (ray : Ray) (suits : Suits a ray) (times states slots t
       place = place;
       met = λ g is.
           let w = walk.met g is in
-          let n = try-twice a ray suits w.0 times' states' slots' len' starts entry slot bit w.1 walk.place within-here small (may-here w.0 w.1) after after-here front state found same.0 in
+          let n = try-twice suits entry slot bit w.1 walk.place within-here small (may-here w.0 w.1) after-here front state found same.0 in
           (w.0, rw (← moment-suc entry slot bit, same.1, same.2, same.3, same.4) n, w.2);
     }
     | inr more ↦
@@ -514,13 +517,12 @@ module _ (a : Automaton) (ray : Ray) (suits : Suits a ray) (times states slots t
           place = place;
           met = λ g is.
               let w = walk.met g is in
-              let n = try-push a ray suits w.0 times' states' slots' len' starts entry slot bit w.1 walk.place within-here small (may-here w.0 w.1) after after-here front state found i1 i2 in
-              let goes = push-goes a ray suits w.0 times' states' slots' len' starts entry slot bit w.1 walk.place within-here small (may-here w.0 w.1) after after-here front state found i1 i2 in (
-                g' a ray suits w.0 times' states' slots' len' starts entry slot bit w.1 walk.place within-here small (may-here w.0 w.1) after after-here front state found i1 i2,
+              let n = try-push suits entry slot bit w.1 walk.place within-here small (may-here w.0 w.1) after-here front state found i1 i2 in
+              let goes = push-goes suits entry slot bit w.1 walk.place within-here small (may-here w.0 w.1) after-here front state found i1 i2 in (
+                g' suits entry slot bit w.1 walk.place within-here small (may-here w.0 w.1) after-here front state found i1 i2,
                 rw (← moment-suc entry slot bit, more.1, more.2, more.3, more.4) n,
                 Goes-trans g w.0
-                    (g' a ray suits w.0 times' states' slots' len' starts entry slot bit w.1 walk.place within-here small (may-here w.0 w.1) after
-                    after-here front state found i1 i2)
+                    (g' suits entry slot bit w.1 walk.place within-here small (may-here w.0 w.1) after-here front state found i1 i2)
                     len len' walk.longer w.2 goes,
               );
         }
@@ -578,10 +580,10 @@ blank : Trace
 blank = record { heads = λ j. []; parent = λ j. 0; bit = λ j. false; key = λ j. 0 }
 
 -- nothing was met
-pub begin-empty : (a : Automaton) (ray : Ray) (times states slots : List ℕ) (len : ℕ) → HasSizes a times states slots
+pub begin-empty : {a : Automaton} {ray : Ray} {times states slots : List ℕ} {len : ℕ} → HasSizes a times states slots
     → ((k : ℕ) → get_or times k 0 ≡ 0) → len ≡ 0 → Begins a ray times states slots len 0
 unfolding blank
-begin-empty a ray times states slots len sizes none e = rw e (record {
+begin-empty sizes none e = rw e (record {
   sizes = sizes;
   none = none;
   little = omega arith;
@@ -602,8 +604,8 @@ begin-empty a ray times states slots len sizes none e = rw e (record {
   };
 })
 
-module _ (a : Automaton) (ray : Ray) (times states slots : List ℕ) (len slot : ℕ) (is : Begins a ray times states slots len slot) (small : slot < 9)
-    (front : List (Option ℕ)) (opened : IsOpened a ray front) (fits : IsFront a front) where
+module _ {a : Automaton} {ray : Ray} {times states slots : List ℕ} {len slot : ℕ} (is : Begins a ray times states slots len slot) (small : slot < 9)
+    {front : List (Option ℕ)} (opened : IsOpened a ray front) (fits : IsFront a front) where
   not-now : (k slot' : ℕ) (bit : Bool) → moment k bit slot' ≡ slot → ⊥
   not-now k slot' true e = omega (arith, e, small)
   not-now k slot' false e = omega (arith, e, small)
@@ -625,9 +627,9 @@ module _ (a : Automaton) (ray : Ray) (times states slots : List ℕ) (len slot :
         (λ k slot' state' bit' kh s e some f r u. absurd (not-now k slot' bit' e));
   }
 
-  pub begin-some : (state : ℕ) → get_or front slot None ≡ Some state → (times' states' slots' : List ℕ) (len' : ℕ) → times' ≡ times
+  pub begin-some : (state : ℕ) → get_or front slot None ≡ Some state → {times' states' slots' : List ℕ} {len' : ℕ} → times' ≡ times
       → states' ≡ set states len state → slots' ≡ set slots len slot → len' ≡ len + 1 → Begins a ray times' states' slots' len' (slot + 1)
-  begin-some state found times' states' slots' len' et es el en =
+  begin-some state found et es el en =
       let in_states : len < length states = let l = is.little in let z = is.sizes.states_size in omega (arith, l, z, small) in
       let in_slots : len < length slots = let l = is.little in let z = is.sizes.slots_size in omega (arith, l, z, small) in
       let only = opened.only slot state found in

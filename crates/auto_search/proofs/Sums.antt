@@ -63,7 +63,8 @@ times-add d is s t =
     each_slope (λ d. pos (s + t) *ℤ d ≡ (pos s *ℤ d) +ℤ (pos t *ℤ d))
     (omega (arith, ints)) (omega (arith, ints)) (omega (arith, ints)) (omega (arith, ints)) (omega (arith, ints)) d is
 
-pub carry-step : (S S' A A' D D' e : ℤ) (c a w x z : ℕ) → S' +ℤ pos z ≡ A' +ℤ D' +ℤ pos c → A' ≡ A +ℤ A +ℤ pos a → S' ≡ S +ℤ S +ℤ pos x → x < 2 → D' ≡ D +ℤ D +ℤ e → pos w ≡ pos z +ℤ e
+pub carry-step : (S S' A A' D D' e : ℤ) (c a w x z : ℕ) → S' +ℤ pos z ≡ A' +ℤ D' +ℤ pos c → A' ≡ A +ℤ A +ℤ pos a
+    → S' ≡ S +ℤ S +ℤ pos x → x < 2 → D' ≡ D +ℤ D +ℤ e → pos w ≡ pos z +ℤ e
     → (S +ℤ pos z ≡ A +ℤ D +ℤ pos ((c + a + w) / 2)) × ((c + a + w) % 2 ≡ x)
 carry-step S S' A A' D D' e c a w x z h1 h2 h3 h4 h5 h6 = (omega (arith, ints, h1, h2, h3, h4, h5, h6), omega (arith, ints, h1, h2, h3, h4, h5, h6))
 

@@ -99,7 +99,8 @@ module _ (a : Automaton) (ray : Ray) (suits : Suits a ray) (g : Trace) (times st
       let only = alone.only (slot_of ray by.bits) by.completes.state by.completes.found in
       apart a ray suits g times states slots len starts now is end y.entry end (omega arith) y.within within heads (sym y.slot ∙ ap (slot_of ray) p.1 ∙ only.0)
 
-  pub one-more : (few more : Few) → HasFew few (Yields a ray g states slots end) → HasFew more (CompletedBy a ray ray.top front) → HasFew (plus_of few more) (Yields a ray g states slots (end + 1))
+  pub one-more : (few more : Few) → HasFew few (Yields a ray g states slots end) → HasFew more (CompletedBy a ray ray.top front)
+      → HasFew (plus_of few more) (Yields a ray g states slots (end + 1))
   one-more few more h k =
       plus-has few more (Yields a ray g states slots end) (Raised (head_number (g.heads end) * 2 ^ ray.top) (CompletedBy a ray ray.top front)) (Yields a ray g states slots (end + 1)) h
       (raised-has more (head_number (g.heads end) * 2 ^ ray.top) (CompletedBy a ray ray.top front) k)
@@ -142,7 +143,7 @@ turn-counts a ray suits times states slots times1 states1 slots1 times2 states2 
           (Yields-kept a ray m2.0 is.trace states2 slots2 states slots len (end + 1) inside (Goes-back is.trace m2.0 len goes) (λ j h. sym (ss j h)) (λ j h. sym (sl j h)));
     }
 
-module _ (a : Automaton) (ray : Ray) (suits : Suits a ray) (times states slots : List ℕ) (len starts end : ℕ) (few : Few) (is : Counting a ray times states slots len starts end few) where
+module _ {a : Automaton} {ray : Ray} (suits : Suits a ray) {times states slots : List ℕ} {len starts end : ℕ} {few : Few} (is : Counting a ray times states slots len starts end few) where
   pub yields-meets : (n : ℕ) → Yields a ray is.trace states slots end n → Meets a ray n
   yields-meets n y =
       let w : y.entry < len = let v = y.within in let e = is.enough in omega (arith, v, e) in
@@ -228,10 +229,10 @@ module _ (a : Automaton) (ray : Ray) (suits : Suits a ray) (times states slots :
         at More h = (h.0, h.1, h.2, yields-meets h.0 h.3, yields-meets h.1 h.4)
 
 -- a state that was entered for a slot has an entry
-pub counting-entered : (a : Automaton) (ray : Ray) (times states slots : List ℕ) (len starts end : ℕ) (few : Few)
+pub counting-entered : {a : Automaton} {ray : Ray} {times states slots : List ℕ} {len starts end : ℕ} {few : Few}
     → Counting a ray times states slots len starts end few → IsEntered times states slots len
-counting-entered a ray times states slots len starts end few is =
-    let inside = place-inside a times states slots len is.place in
+counting-entered {a} {ray} {times} {states} {slots} {len} is =
+    let inside = place-inside is.place in
     record {
       in_states = inside.0;
       in_slots = inside.1;

@@ -78,7 +78,8 @@ module _ (a : Automaton) (ray : Ray) (suits : Suits a ray) (g : Trace) (times st
     nine : (slot : ℕ) → slot < 9 → slot < now
     nine slot s = rw done (omega (arith, s))
 
-    small-up : (slot : ℕ) (bit : Bool) → IsSlot ray slot → (sum_at ray.x ray.top (slot / 3) bit / 2 ≤ ray.x.zero + ray.x.one) × (sum_at ray.y ray.top (slot % 3) bit / 2 ≤ ray.y.zero + ray.y.one)
+    small-up : (slot : ℕ) (bit : Bool) → IsSlot ray slot
+        → (sum_at ray.x ray.top (slot / 3) bit / 2 ≤ ray.x.zero + ray.x.one) × (sum_at ray.y ray.top (slot % 3) bit / 2 ≤ ray.y.zero + ray.y.one)
     small-up slot bit fits =
         let fx = fits.0 in
         let fy = fits.1 in
@@ -89,7 +90,8 @@ module _ (a : Automaton) (ray : Ray) (suits : Suits a ray) (g : Trace) (times st
         (omega (arith, fx, bx, wx), omega (arith, fy, by, wy))
 
     -- each head that leads to a state is entered, or the state twice
-    pub known-all : (head : List Bool) (slot state : ℕ) → IsTrimmed head → slot < 9 → IsSlot ray slot → headed a ray head (slot / 3) (slot % 3) ≡ Some state → Known g states slots len head slot state
+    pub known-all : (head : List Bool) (slot state : ℕ) → IsTrimmed head → slot < 9 → IsSlot ray slot
+        → headed a ray head (slot / 3) (slot % 3) ≡ Some state → Known g states slots len head slot state
     known-all [] slot state trimmed small fits e = inl (is.firsts slot state (nine slot small) small fits e)
     known-all (bit ∷ head) slot state trimmed small fits e =
         let sx = sum_at ray.x ray.top (slot / 3) bit in

@@ -1,9 +1,17 @@
--- What is entered along a course: the clauses of a walk over heads, by what is walked on.
-use Rattle.std.specs.Prelude.{ℕ}
+-- What is met along a course: the clauses of a walk, by what is walked on.
+use Rattle.std.specs.Prelude.{◌≡◌, ℕ, ◌+◌, ◌≤◌, Bool, List, Option}
+use Rattle.auto_search.specs.declared.carry.Carry.{Carry}
 use Rattle.auto_search.specs.declared.course.Course.{Course}
 use Rattle.auto_search.specs.declared.few.Few.{Few}
 use Rattle.auto_search.specs.declared.met.Met.{Met}
-use Rattle.auto_search.specs.Met.{HasPlace, HasSizes, SameSizes, Counting, IsEntered}
+use Rattle.auto_search.specs.Met.{Adds, Begins, Walks, HasPlace, HasSizes, SameSizes, Counting, IsEntered}
+use Rattle.auto_search.specs.Search.{stepped}
+
+-- the state after one more bit, where the bits after it may carry that over
+abbrev pub IsNextState : Course → ℕ → Bool → List (Option ℕ) → Carry → Option ℕ → Type 0
+IsNextState course place bit front carry state =
+    carry.x ≤ course.ray.now.x.zero + course.ray.now.x.one → carry.y ≤ course.ray.now.y.zero + course.ray.now.y.one
+    → state ≡ stepped course.auto.now course.ray.now place bit front carry.x carry.y
 
 -- lists that are long enough for the course
 abbrev pub HasLists : Course → Met → Type 0
@@ -17,6 +25,23 @@ KeepsLists old new =
 -- a further entry has its place
 abbrev pub HasRoomFor : Course → Met → Type 0
 HasRoomFor course met = HasPlace course.auto.now met.times.items met.states.items met.slots.items met.len
+
+-- one more entry, where its state was not entered twice before
+abbrev pub AddsEntry : Met → Met → ℕ → ℕ → Type 0
+AddsEntry old new state slot =
+    Adds old.times.items old.states.items old.slots.items old.len new.times.items new.states.items new.slots.items
+    new.len state slot
+
+-- what a walk along the course begins with, as far as it was entered
+abbrev pub BeginsAlong : Course → Met → ℕ → Type 0
+BeginsAlong course met now =
+    Begins course.auto.now course.ray.now met.times.items met.states.items met.slots.items met.len now
+
+-- what was met along the course goes on from a moment to another
+abbrev pub WalksAlong : Course → Met → Met → ℕ → ℕ → ℕ → Type 0
+WalksAlong course old new starts now now' =
+    Walks course.auto.now course.ray.now old.times.items old.states.items old.slots.items old.len new.times.items
+    new.states.items new.slots.items new.len starts starts now now'
 
 -- what was met is listed
 abbrev pub AreListed : Met → Type 0

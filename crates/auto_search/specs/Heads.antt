@@ -3,7 +3,7 @@ use Rattle.std.specs.Prelude.{◌≡◌, ℕ, ◌+◌, ◌*◌, ◌/◌, ◌%◌
 use Rattle.auto_core.specs.Automaton.{Automaton, next_state}
 use Rattle.auto_search.specs.declared.ray.Ray.{Ray}
 use Rattle.auto_search.specs.Bits.{sum_at, letter_at}
-use Rattle.auto_search.specs.Search.{started}
+use Rattle.auto_search.specs.Search.{started, MayCarry}
 
 -- the number of some bits, the lowest one first
 abbrev pub head_number : List Bool → ℕ
@@ -36,5 +36,4 @@ headed a ray head cx cy = read a ray (head ++ zeros) cx cy
 pub record IsOpened (a : Automaton) (ray : Ray) (front : List (Option ℕ)) : Type 0 where
   pub at : (slot : ℕ) → slot < 9 → (slot / 3 ≤ ray.x.zero + ray.x.one) → (slot % 3 ≤ ray.y.zero + ray.y.one)
       → slice_index_or front slot None ≡ headed a ray [] (slot / 3) (slot % 3)
-  pub only : (slot state : ℕ) → slice_index_or front slot None ≡ Some state
-      → (slot / 3 ≤ ray.x.zero + ray.x.one) × (slot % 3 ≤ ray.y.zero + ray.y.one)
+  pub only : (slot state : ℕ) → slice_index_or front slot None ≡ Some state → MayCarry ray (slot / 3) (slot % 3)

@@ -14,11 +14,19 @@ HasCellFrom cells from cell = (i : ℕ) × (from ≤ i) × (i < length cells) ×
 abbrev pub HasCellBelow : List ℕ → ℕ → ℕ → Type 0
 HasCellBelow cells end cell = (i : ℕ) × (i < end) × (slice_index cells i ≡ cell)
 
--- each cell with marks is listed, unless the list is full
+-- each cell with marks is among the first of a list, unless the list is full
 pub record IsListed (failed cells : List ℕ) (listed : ℕ) : Type 0 where
   pub inside : listed ≤ length cells
   pub within : (i : ℕ) → i < listed → slice_index cells i < length failed
   pub each : listed < length cells → (cell : ℕ) → 0 < slice_index failed cell → HasCellBelow cells listed cell
+
+-- each cell with marks is listed, unless the list is full
+abbrev pub HasListedMarks : Marks → Type 0
+HasListedMarks marks = IsListed marks.failed.items marks.cells.items marks.listed
+
+-- the cell is listed, unless the list is full
+abbrev pub HasListed : Marks → ℕ → Type 0
+HasListed marks cell = marks.listed < length marks.cells.items → HasCellBelow marks.cells.items marks.listed cell
 
 -- one more mark
 pub record IsMarked (old new : List ℕ) (cell slot : ℕ) : Type 0 where
@@ -29,7 +37,7 @@ pub record IsMarked (old new : List ℕ) (cell slot : ℕ) : Type 0 where
 pub record Serves (a : Automaton) (ray : Ray) (marks : Marks) : Type 0 where
   pub room : length a.accept * 68 ≤ length marks.failed.items
   pub remembers : Remembers a ray marks.failed.items
-  pub listed : IsListed marks.failed.items marks.cells.items marks.listed
+  pub listed : HasListedMarks marks
 
 -- as many cells as before
 pub record SameRoom (old new : Marks) : Type 0 where

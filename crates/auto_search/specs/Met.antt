@@ -5,7 +5,7 @@ use Rattle.auto_search.specs.declared.ray.Ray.{Ray}
 use Rattle.auto_search.specs.Bits.{sum_at, number, slot_of}
 use Rattle.auto_search.specs.declared.few.Few.{Few}
 use Rattle.auto_search.specs.Fews.{HasFew}
-use Rattle.auto_search.specs.Search.{IsStep, Leads}
+use Rattle.auto_search.specs.Search.{IsStep, Leads, MayCarry}
 use Rattle.auto_search.specs.Heads.{IsTrimmed, headed, head_number}
 
 -- where the entries of a walk come from: their heads, the entries that they follow on, by which bit, and when
@@ -25,7 +25,7 @@ moment entry bit slot = 9 + (entry * 2 + (if bit then 1 else 0)) * 9 + slot
 
 -- the slot's numbers are such as bits may carry over
 abbrev pub IsSlot : Ray → ℕ → Type 0
-IsSlot ray slot = (slot / 3 ≤ ray.x.zero + ray.x.one) × (slot % 3 ≤ ray.y.zero + ray.y.one)
+IsSlot ray slot = MayCarry ray (slot / 3) (slot % 3)
 
 -- an entry has this head, slot and state
 pub record Entered (g : Trace) (states slots : List ℕ) (len : ℕ) (head : List Bool) (slot state : ℕ) : Type 0 where

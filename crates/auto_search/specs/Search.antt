@@ -39,10 +39,13 @@ stepped a ray place bit front cx cy =
     option_map (λ state. next_state a state (letter_at ray place sx sy))
     (slice_index_or front (3 * (sx / 2) + sy / 2) None)
 
+-- so much may be carried over on the two tracks
+abbrev pub MayCarry : Ray → ℕ → ℕ → Type 0
+MayCarry ray cx cy = (cx ≤ ray.x.zero + ray.x.one) × (cy ≤ ray.y.zero + ray.y.one)
+
 -- the front after one more bit
 pub record IsStep (a : Automaton) (ray : Ray) (place : ℕ) (bit : Bool) (front after : List (Option ℕ)) : Type 0 where
-  pub only : (slot state : ℕ) → slice_index_or after slot None ≡ Some state
-      → (slot / 3 ≤ ray.x.zero + ray.x.one) × (slot % 3 ≤ ray.y.zero + ray.y.one)
+  pub only : (slot state : ℕ) → slice_index_or after slot None ≡ Some state → MayCarry ray (slot / 3) (slot % 3)
   pub at : (slot : ℕ) → slot < 9 → slot / 3 ≤ ray.x.zero + ray.x.one → slot % 3 ≤ ray.y.zero + ray.y.one
       → slice_index_or after slot None ≡ stepped a ray place bit front (slot / 3) (slot % 3)
 

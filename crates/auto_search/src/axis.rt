@@ -1,6 +1,5 @@
 //! One of the two tracks that a ray moves on.
-ghost use Rattle.std.specs.Prelude.{◌≡◌, ◌+◌, ◌*◌, ◌^◌, ◌<◌, ◌≤◌, ◌+ℤ◌, ◌*ℤ◌, ◌≤ℤ◌, pos, unsigned_abs};
-ghost use Rattle.track_word.specs.Word.{integer_bit};
+ghost use Rattle.std.specs.Prelude.{◌≡◌, ◌+◌, ◌^◌, ◌<◌, ◌≤◌, unsigned_abs};
 ghost use Rattle.auto_search.specs.Way.{IsSlope};
 ghost use Rattle.auto_search.specs.Bits.{IsAxis, fall, rise, sum_at};
 ghost use Rattle.auto_search.specs.Search.{sign_of};

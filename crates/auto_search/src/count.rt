@@ -1,5 +1,5 @@
 //! How many of all positive distances have their tuple in the set.
-ghost use Rattle.std.specs.Prelude.{◌≡◌, ◌≤◌, ◌<◌, ◌*◌, ◌+◌, length, slice_index, ℕ};
+ghost use Rattle.std.specs.Prelude.{◌≡◌, ◌<◌, ◌+◌, slice_index, ℕ};
 ghost use Rattle.auto_search.specs.Fews.{HasFew};
 ghost use Rattle.auto_search.specs.Search.{IsFront};
 ghost use Rattle.auto_search.specs.Marks.{Serves, SameRoom, IsClear};

@@ -1,6 +1,7 @@
 //! The states that a ray can have led to where some first bits of a distance are known.
-ghost use Rattle.std.specs.Prelude.{◌≡◌, ◌≤◌, ◌<◌, ◌*◌, ◌+◌, ◌/◌, ◌%◌, ℕ, IsTrue, None, Some, IfSome, slice_index_or, length, IsSome, ◌↔◌, [], MatchOption};
-ghost use Rattle.auto_search.specs.Search.{IsFront, IsStep, IsStart, started, stepped, Completes};
+ghost use Rattle.std.specs.Prelude.{◌≡◌, ◌≤◌, ◌<◌, ℕ, IsTrue, None, Some, IfSome, slice_index_or, length, ◌↔◌, []};
+ghost use Rattle.auto_search.specs.Search.{IsFront, IsStep, IsStart, MayCarry, started, Completes};
+ghost use Rattle.auto_search.specs.Entries.{IsNextState};
 ghost use Rattle.auto_search.specs.Met.{IsAlone};
 
 use crate::carry::{Carry, SLOTS};
@@ -57,12 +58,8 @@ pub fn step(course: &Course, place: u8, bit: bool, front: &Front) -> Front
 fn next(course: &Course, place: u8, bit: bool, front: &Front, carry: Carry) -> Option<u32>
     requires front { IsFront course.now.auto.now front.now }
     requires place { place ≤ course.now.ray.now.top }
-    ensures next { carry.x ≤ course.now.ray.now.x.zero + course.now.ray.now.x.one
-        → carry.y ≤ course.now.ray.now.y.zero + course.now.ray.now.y.one
-        → result ≡ stepped course.now.auto.now course.now.ray.now place bit front.now carry.x carry.y }
-    ensures only { IfSome result
-        (λ state. (carry.x ≤ course.now.ray.now.x.zero + course.now.ray.now.x.one)
-        × (carry.y ≤ course.now.ray.now.y.zero + course.now.ray.now.y.one)) }
+    ensures next { IsNextState course.now place bit front.now carry result }
+    ensures only { IfSome result (λ _. MayCarry course.now.ray.now carry.x carry.y) }
     ensures within { IfSome result (λ state. state < length course.now.auto.now.accept) }
 {
     if carry.x > course.ray.x.zero + course.ray.x.one {

@@ -2,7 +2,7 @@
 ghost use Rattle.std.specs.Prelude.{◌≡◌, ◌≤◌, ◌<◌, ◌*◌, ◌+◌, IsTrue, ◌↔◌, ℕ, length, All, slice_index};
 ghost use Rattle.std.specs.Int.{bit_at};
 ghost use Rattle.auto_search.specs.Search.{IsFront, IsLive, IsDead, cell_of};
-ghost use Rattle.auto_search.specs.Marks.{Serves, SameRoom, IsClear, IsListed, IsMarked, HasCellFrom, HasCellBelow};
+ghost use Rattle.auto_search.specs.Marks.{Serves, SameRoom, IsClear, IsMarked, HasCellFrom, HasListed, HasListedMarks};
 
 use crate::carry::SLOTS;
 use crate::course::Course;
@@ -31,9 +31,9 @@ impl Marks {
     fn add(&mut self, cell: usize, slot: u8)
         requires cell { cell < length self.old.failed.items }
         requires slot { slot < 9 }
-        requires listed { IsListed self.old.failed.items self.old.cells.items self.old.listed }
+        requires listed { HasListedMarks self.old }
         ensures marked { IsMarked self.old.failed.items self.new.failed.items cell slot }
-        ensures listed { IsListed self.new.failed.items self.new.cells.items self.new.listed }
+        ensures listed { HasListedMarks self.new }
         ensures room { SameRoom self.old self.new }
     {
         self.list(cell);
@@ -43,11 +43,10 @@ impl Marks {
     /// Lists a cell, unless it has marks already or the list is full.
     fn list(&mut self, cell: usize)
         requires cell { cell < length self.old.failed.items }
-        requires listed { IsListed self.old.failed.items self.old.cells.items self.old.listed }
+        requires listed { HasListedMarks self.old }
         ensures failed { self.new.failed.items ≡ self.old.failed.items }
-        ensures listed { IsListed self.new.failed.items self.new.cells.items self.new.listed }
-        ensures here { self.new.listed < length self.new.cells.items
-            → HasCellBelow self.new.cells.items self.new.listed cell }
+        ensures listed { HasListedMarks self.new }
+        ensures here { HasListed self.new cell }
         ensures size { length self.new.cells.items ≡ length self.old.cells.items }
     {
         if self.failed[cell] == 0 && self.listed < self.cells.len() {
@@ -93,7 +92,7 @@ impl Marks {
 
     /// Takes all marks away, at the cost of those that there are.
     pub fn clear(&mut self)
-        requires { IsListed self.old.failed.items self.old.cells.items self.old.listed }
+        requires { HasListedMarks self.old }
         ensures clear { IsClear self.new }
         ensures room { SameRoom self.old self.new }
     {

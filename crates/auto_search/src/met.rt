@@ -1,7 +1,7 @@
 //! What a walk over heads has met.
-ghost use Rattle.std.specs.Prelude.{◌≡◌, ◌≤◌, ◌<◌, ◌*◌, ◌+◌, ◌/◌, ◌%◌, length, slice_index, slice_set, ℕ};
-ghost use Rattle.auto_search.specs.Met.{Begins, Adds, Walks, IsAfter, moment};
-ghost use Rattle.auto_search.specs.Entries.{AreListed, HasLists, HasRoomFor, KeepsLists};
+ghost use Rattle.std.specs.Prelude.{◌≡◌, ◌<◌, ◌*◌, ◌+◌, ◌/◌, length, slice_index, slice_set, ℕ};
+ghost use Rattle.auto_search.specs.Met.{IsAfter, moment};
+ghost use Rattle.auto_search.specs.Entries.{AddsEntry, AreListed, BeginsAlong, HasLists, HasRoomFor, KeepsLists, WalksAlong};
 ghost use Rattle.auto_search.specs.Heads.{IsOpened};
 ghost use Rattle.auto_search.specs.Search.{IsFront};
 
@@ -41,8 +41,7 @@ impl Met {
         requires place { HasRoomFor course.now self.old }
         requires state { state < length course.now.auto.now.accept }
         requires slot { slot < 9 }
-        ensures adds { Adds self.old.times.items self.old.states.items self.old.slots.items self.old.len
-            self.new.times.items self.new.states.items self.new.slots.items self.new.len state slot }
+        ensures adds { AddsEntry self.old self.new state slot }
         ensures place { HasRoomFor course.now self.new }
     {
         let at = state as usize * SLOTS as usize + slot as usize;
@@ -59,8 +58,7 @@ impl Met {
         requires front { IsFront course.now.auto.now front.now }
         requires opened { IsOpened course.now.auto.now course.now.ray.now front.now }
         ensures sizes { KeepsLists self.old self.new }
-        ensures begins { Begins course.now.auto.now course.now.ray.now self.new.times.items self.new.states.items
-            self.new.slots.items self.new.len 9 }
+        ensures begins { BeginsAlong course.now self.new 9 }
     {
         self.len = 0;
         for slot in 0..SLOTS {
@@ -93,9 +91,7 @@ impl Met {
         requires entry { entry < self.old.len }
         requires slot { slice_index self.old.slots.items entry < 9 }
         requires state { slice_index self.old.states.items entry < length course.now.auto.now.accept }
-        ensures { Walks course.now.auto.now course.now.ray.now self.old.times.items self.old.states.items
-            self.old.slots.items self.old.len self.new.times.items self.new.states.items self.new.slots.items
-            self.new.len starts starts (moment entry bit 0) (moment entry bit 9) }
+        ensures { WalksAlong course.now self.old self.new starts (moment entry bit 0) (moment entry bit 9) }
     {
         if bit || entry >= starts {
             let after = after_entry(course, self.slot_of(entry), self.state_of(entry), bit);

@@ -6,16 +6,14 @@ use Rattle.auto_search.proofs.count.turn.Goals as goal
 
 pub slot_of-requires : goal.slot_of-requires
 slot_of-requires c =
-    let m = c.args.room.now.met in
-    let i = place-inside c.args.course.now.auto.now m.times.items m.states.items m.slots.items m.len c.requires.counting.place in
+    let i = place-inside c.requires.counting.place in
     let e = c.requires.entry in
     let s = i.1 in
     omega (arith, e, s)
 
 pub state_of-requires : goal.state_of-requires
 state_of-requires c =
-    let m = c.args.room.now.met in
-    let i = place-inside c.args.course.now.auto.now m.times.items m.states.items m.slots.items m.len c.requires.counting.place in
+    let i = place-inside c.requires.counting.place in
     let e = c.requires.entry in
     let s = i.0 in
     omega (arith, e, s)

@@ -6,9 +6,7 @@ use Rattle.auto_search.proofs.least.+least.Goals as goal
 
 pub returns-in-Some-clause-found : goal.returns-in-Some-clause-found
 returns-in-Some-clause-found t c =
-    least-low c.args.course.now.auto.now c.args.course.now.ray.now c.args.marks.now.failed.items (c.args.place - 1) c.args.place c.args.front.now
-    c.live-front.result c.step-low.result c.step-low.result c.args.course.now.suits c.requires.front c.requires.serves.remembers
-    c.live-front.ensures.live
+    least-low c.args.course.now.suits c.requires.front c.requires.serves.remembers c.live-front.ensures.live
     (let h = c.if-place-eq0.false in omega (arith, h)) c.step-low.ensures.step c.in-Some.ahead c.in-Some.ensures.found
 
 pub overflow_add-result : goal.overflow_add-result
@@ -22,9 +20,7 @@ overflow_add-result t c =
 pub returns-in-Some-least-clause-found : goal.returns-in-Some-least-clause-found
 returns-in-Some-least-clause-found t c =
     let small = c.requires.place in
-    least-high c.args.course.now.auto.now c.args.course.now.ray.now c.args.marks.now.failed.items (c.args.place - 1) c.args.place c.args.front.now
-    c.live-front.result c.step-low.result c.step-high.result c.args.course.now.suits c.requires.front c.requires.serves.remembers
-    c.live-front.ensures.live
+    least-high c.args.course.now.suits c.requires.front c.requires.serves.remembers c.live-front.ensures.live
     (let h = c.if-place-eq0.false in omega (arith, h)) c.step-low.ensures.step c.step-high.ensures.step c.in-Some-least.ahead _
     c.in_default.ensures.found (ap (λ n. n + c.in-Some-least.ahead) (one_shl (c.args.place - 1) 128 (omega (arith, small))))
     c.in-Some-least.ensures.found
@@ -32,17 +28,12 @@ returns-in-Some-least-clause-found t c =
 pub add_all-requires-clause-dead : goal.add_all-requires-clause-dead
 add_all-requires-clause-dead t c =
     let h = c.if-place-eq0.false in
-    dead-live c.args.course.now.auto.now c.args.course.now.ray.now c.args.marks.now.failed.items c.args.place (c.args.place - 1 + 1) c.args.front.now
-    c.live-front.result c.live-front.ensures.live (omega (arith, h))
-    (dead-both c.args.course.now.auto.now c.args.course.now.ray.now c.args.marks.now.failed.items (c.args.place - 1) c.args.place c.args.front.now
-    c.live-front.result c.step-low.result c.step-high.result c.args.course.now.suits c.requires.front c.requires.serves.remembers
-    c.live-front.ensures.live
+    dead-live c.live-front.ensures.live (omega (arith, h))
+    (dead-both c.args.course.now.suits c.requires.front c.requires.serves.remembers c.live-front.ensures.live
     (omega (arith, h)) c.step-low.ensures.step c.step-high.ensures.step c.in_default.ensures.found c.in_default-least.ensures.found)
 
 pub returns-clause-found : goal.returns-clause-found
 returns-clause-found t c =
     let h = c.if-place-eq0.false in
-    dead-both c.args.course.now.auto.now c.args.course.now.ray.now c.args.marks.now.failed.items (c.args.place - 1) c.args.place c.args.front.now
-    c.live-front.result c.step-low.result c.step-high.result c.args.course.now.suits c.requires.front c.requires.serves.remembers
-    c.live-front.ensures.live
+    dead-both c.args.course.now.suits c.requires.front c.requires.serves.remembers c.live-front.ensures.live
     (omega (arith, h)) c.step-low.ensures.step c.step-high.ensures.step c.in_default.ensures.found c.in_default-least.ensures.found

@@ -5,35 +5,28 @@ use Rattle.auto_search.proofs.Counts.{final-has, dead-has, more-has, both-has}
 use Rattle.auto_search.proofs.several.+several.Goals as goal
 
 pub returns-then-is_final-clause-few : goal.returns-then-is_final-clause-few
-returns-then-is_final-clause-few t c =
-    final-has c.args.course.now.auto.now c.args.course.now.ray.now c.args.place c.args.front.now c.live-front.result c.args.marks.now.failed.items
-    c.if-place-eq0.true c.live-front.ensures.live (c.if-is_final.ensures.0 refl)
+returns-then-is_final-clause-few t c = final-has c.if-place-eq0.true c.live-front.ensures.live (c.if-is_final.ensures.0 refl)
 
 pub returns-in-More-clause-few : goal.returns-in-More-clause-few
 returns-in-More-clause-few t c =
-    more-has c.args.course.now.auto.now c.args.course.now.ray.now c.args.marks.now.failed.items (c.args.place - 1) c.args.place c.args.front.now
-    c.live-front.result c.step-low.result c.step-low.result c.args.course.now.suits c.requires.front c.requires.serves.remembers
-    c.live-front.ensures.live (let h = c.if-place-eq0.false in omega (arith, h)) c.step-low.ensures.step (c.in-More.ensures.few)
+    more-has c.args.course.now.suits c.requires.front c.requires.serves.remembers c.live-front.ensures.live
+    (let h = c.if-place-eq0.false in omega (arith, h)) c.step-low.ensures.step (c.in-More.ensures.few)
 
 pub add_all-requires-clause-dead : goal.add_all-requires-clause-dead
 add_all-requires-clause-dead t c =
     let both =
-    both-has c.args.course.now.auto.now c.args.course.now.ray.now c.args.marks.now.failed.items (c.args.place - 1) c.args.place c.args.front.now
-    c.live-front.result c.step-low.result c.step-high.result c.args.course.now.suits c.requires.front c.requires.serves.remembers
-    c.live-front.ensures.live (let h = c.if-place-eq0.false in omega (arith, h)) c.step-low.ensures.step c.step-high.ensures.step
+    both-has c.args.course.now.suits c.requires.front c.requires.serves.remembers c.live-front.ensures.live
+    (let h = c.if-place-eq0.false in omega (arith, h)) c.step-low.ensures.step c.step-high.ensures.step
     c.several-below.result c.several.result c.several-below.ensures.few c.several.ensures.few in
     let none = rw (sym c.plus-few.ensures ∙ c.in-Zero.is) at both in
     let h = c.if-place-eq0.false in
-    dead-live c.args.course.now.auto.now c.args.course.now.ray.now c.args.marks.now.failed.items c.args.place (c.args.place - 1 + 1) c.args.front.now
-    c.live-front.result c.live-front.ensures.live (omega (arith, h))
-    (dead-has c.args.course.now.auto.now c.args.course.now.ray.now c.args.place c.args.front.now none)
+    dead-live c.live-front.ensures.live (omega (arith, h)) (dead-has none)
 
 pub returns-in-Zero-clause-few : goal.returns-in-Zero-clause-few
 returns-in-Zero-clause-few t c =
     rw c.plus-few.ensures
-    (both-has c.args.course.now.auto.now c.args.course.now.ray.now c.args.marks.now.failed.items (c.args.place - 1) c.args.place c.args.front.now
-    c.live-front.result c.step-low.result c.step-high.result c.args.course.now.suits c.requires.front c.requires.serves.remembers
-    c.live-front.ensures.live (let h = c.if-place-eq0.false in omega (arith, h)) c.step-low.ensures.step c.step-high.ensures.step
+    (both-has c.args.course.now.suits c.requires.front c.requires.serves.remembers c.live-front.ensures.live
+    (let h = c.if-place-eq0.false in omega (arith, h)) c.step-low.ensures.step c.step-high.ensures.step
     c.several-below.result c.several.result c.several-below.ensures.few c.several.ensures.few)
 
 pub returns-in-Zero-clause-room : goal.returns-in-Zero-clause-room
@@ -42,9 +35,8 @@ returns-in-Zero-clause-room t c = SameRoom-trans _ _ _ c.several-below.ensures.r
 pub returns-in_default-few-clause-few : goal.returns-in_default-few-clause-few
 returns-in_default-few-clause-few t c =
     rw c.plus-few.ensures
-    (both-has c.args.course.now.auto.now c.args.course.now.ray.now c.args.marks.now.failed.items (c.args.place - 1) c.args.place c.args.front.now
-    c.live-front.result c.step-low.result c.step-high.result c.args.course.now.suits c.requires.front c.requires.serves.remembers
-    c.live-front.ensures.live (let h = c.if-place-eq0.false in omega (arith, h)) c.step-low.ensures.step c.step-high.ensures.step
+    (both-has c.args.course.now.suits c.requires.front c.requires.serves.remembers c.live-front.ensures.live
+    (let h = c.if-place-eq0.false in omega (arith, h)) c.step-low.ensures.step c.step-high.ensures.step
     c.several-below.result c.several.result c.several-below.ensures.few c.several.ensures.few)
 
 pub returns-in_default-few-clause-room : goal.returns-in_default-few-clause-room

@@ -14,7 +14,7 @@ leaf-requires t c =
     rw (c.sets.ensures, ← at.map 0) (c.requires.node.numbered 0)
 
 pub returns-in_err-row-in-Leaf-clause-remembered : goal.returns-in_err-row-in-Leaf-clause-remembered
-returns-in_err-row-in-Leaf-clause-remembered t c = rw c.leaf.ensures.placed (RemembersPlaced-grows _ _ _ _ _ _ _ c.leaf.ensures.grows c.leaf.ensures.kept c.requires.remembered)
+returns-in_err-row-in-Leaf-clause-remembered t c = rw c.leaf.ensures.placed (RemembersPlaced-grows c.leaf.ensures.grows c.leaf.ensures.kept c.requires.remembered)
 
 pub led-requires : goal.led-requires
 led-requires t c =
@@ -29,7 +29,7 @@ led-requires-in-Test t c =
     (omega (arith, high_before, c.decreases), (HasSets-side _ _ _ _ high_before c.requires.node (λ letter. (children letter).1), c.led.ensures.remembered))
 
 pub returns-in_err-row-in-Test-clause-remembered : goal.returns-in_err-row-in-Test-clause-remembered
-returns-in_err-row-in-Test-clause-remembered t c = RemembersPlaced-grows _ _ _ _ _ _ _ c.node.ensures.grows (SetsKept-refl _) c.led-in-Test.ensures.remembered
+returns-in_err-row-in-Test-clause-remembered t c = RemembersPlaced-grows c.node.ensures.grows (SetsKept-refl _) c.led-in-Test.ensures.remembered
 
 made : (t : ℕ) (c : goal.After-insert t) → IsPlaced c.args.merger.now.shapes c.args.merger.now.sets c.match-shape.self.rows c.match-shape.self.sets c.args.node c.match-shape.row
 made t c = elim c.match-shape.branch [
@@ -40,7 +40,7 @@ made t c = elim c.match-shape.branch [
       let e = w.in_ok-row-in-Test.ensures in
       let high = w.in_ok-high-in-Test.ensures in
       IsPlaced-test _ _ _ _ _ _ _ _ _ _ _ _ (rw c.diagrams.ensures at w.in-Test.ensures.at) c.requires.node
-      (IsPlaced-grows _ _ _ _ _ _ _ _ high.grows high.kept w.in_ok-low-in-Test.ensures.placed) high.placed e.known e.map e.top)
+      (IsPlaced-grows high.grows high.kept w.in_ok-low-in-Test.ensures.placed) high.placed e.known e.map e.top)
 ]
 
 pub returns-clause-placed : goal.returns-clause-placed
@@ -60,9 +60,9 @@ returns-clause-remembered t c =
     let before : RemembersPlaced c.args.merger.now.shapes c.args.merger.now.sets c.match-shape.self.rows c.match-shape.self.sets c.match-shape.self.placed = elim c.match-shape.branch [
       | in-Leaf+in_ok-row-in-Leaf w ↦ rw w.self-is (
           let e = w.in_ok-row-in-Leaf.ensures in
-          rw e.placed (RemembersPlaced-grows _ _ _ _ _ _ _ e.grows e.kept c.requires.remembered))
+          rw e.placed (RemembersPlaced-grows e.grows e.kept c.requires.remembered))
       | in-Test+in_ok-low-in-Test+in_ok-high-in-Test+in_ok-row-in-Test w ↦
           rw w.self-is
-          (RemembersPlaced-grows _ _ _ _ _ _ _ w.in_ok-row-in-Test.ensures.grows (SetsKept-refl _) w.in_ok-high-in-Test.ensures.remembered)
+          (RemembersPlaced-grows w.in_ok-row-in-Test.ensures.grows (SetsKept-refl _) w.in_ok-high-in-Test.ensures.remembered)
     ] in
     RemembersPlaced-insert _ _ _ _ _ _ _ _ before c.insert.ensures (made t c)

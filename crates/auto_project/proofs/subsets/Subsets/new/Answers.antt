@@ -1,7 +1,5 @@
-use Rattle.std.proofs.Common.{◌∙◌, ap, subst, List}
-use Rattle.track_word.specs.declared.tracks.Var.{Var}
+use Rattle.std.proofs.Common.{◌∙◌, ap}
 use Rattle.track_word.specs.Tracks.{without_var}
-use Rattle.auto_project.specs.SetMaps.{HasClosedRows}
 use Rattle.auto_project.proofs.Placings.{RemembersPlaced-none}
 use Rattle.auto_project.proofs.Places.{HasClosedRows-made, HasPlaceRows-made, AreTracks-left}
 use Rattle.auto_project.proofs.subsets.Subsets.new.Goals as goal
@@ -14,14 +12,12 @@ invariant_of-result c =
       are_tracks = AreTracks-left c.args.a.now c.args.var _ c.tracks.ensures.valid tracks;
       are_rows =
           HasPlaceRows-made _ _ _ c.args.var _ _ _ tracks
-          (HasClosedRows-made _ _ _ _ _ _ _ _ _ _ c.as_slice.ensures.value c.in_ok-merger.ensures e.grows e.kept
+          (HasClosedRows-made c.as_slice.ensures.value c.in_ok-merger.ensures e.grows e.kept
           (rw c.sets.ensures at c.len.ensures.ascend) e.closed);
       remembered = RemembersPlaced-none _ _ _ _ _ c.in_ok-new.ensures.none;
     }
 
 pub returns-clause-rows : goal.returns-clause-rows
 returns-clause-rows c =
-    let tracks = c.in_ok-tracks.ensures ∙ ap (without_var c.args.var) c.tracks.ensures.tracks in
     let e = c.in_ok-merger-2.ensures in
-    subst (λ (t : List Var). HasClosedRows c.in_ok-merger-2.merger.shapes c.in_ok-merger-2.merger.sets c.args.a.now t c.in_ok-merger-2.first c.in_ok-merger.field-0.rows.items) tracks
-    (HasClosedRows-made _ _ _ _ _ _ _ _ _ _ c.as_slice.ensures.value c.in_ok-merger.ensures e.grows e.kept (rw c.sets.ensures at c.len.ensures.ascend) e.closed)
+    HasClosedRows-made c.as_slice.ensures.value c.in_ok-merger.ensures e.grows e.kept (rw c.sets.ensures at c.len.ensures.ascend) e.closed

@@ -6,7 +6,7 @@ pub union_row-requires-clause-some : goal.union_row-requires-clause-some
 union_row-requires-clause-some c = rw c.as_slice.ensures.value (states-some _ _ _ _ _ _ c.args.self.now.are_rows _ _ _ c.in_ok-set.ensures c.requires.numbered)
 
 pub union_row-requires-clause-within : goal.union_row-requires-clause-within
-union_row-requires-clause-within c = rw c.as_slice.ensures.value (rows-within _ _ _ _ _ _ _ _ _ c.args.self.now.are_rows c.in_ok-set.ensures c.requires.numbered)
+union_row-requires-clause-within c = rw c.as_slice.ensures.value (rows-within _ c.args.self.now.are_rows c.in_ok-set.ensures c.requires.numbered)
 
 pub returns-in_err-union-clause-walker : goal.returns-in_err-union-clause-walker
 returns-in_err-union-clause-walker c =
@@ -39,6 +39,6 @@ returns-clause-row c =
       is = c.in_ok-set.ensures;
       row =
           IsRow-union _ _ _ _ _ _ _ _ _ _ _ _ _ _ c.args.self.now.are_rows u.grows u.kept
-          (rows-within _ _ _ _ _ _ _ _ _ c.args.self.now.are_rows c.in_ok-set.ensures c.requires.numbered) union u.ascend n.placed
+          (rows-within _ c.args.self.now.are_rows c.in_ok-set.ensures c.requires.numbered) union u.ascend n.placed
           (rw u.places at n.added) n.different;
     }

@@ -6,5 +6,6 @@ abbrev pub invariant-loop-slot : goal.invariant-loop-slot
 invariant-loop-slot l = record {
   size : length l.left ≡ 9;
   kept : (slot state : ℕ) → slice_index_or l.left slot None ≡ Some state → slice_index_or l.front slot None ≡ Some state;
-  others : (slot state : ℕ) → slice_index_or l.front slot None ≡ Some state → (slice_index_or l.left slot None ≡ Some state) ⊎ (mark l.course.auto.now l.self.failed.items l.place state slot ≡ 1);
+  others : (slot state : ℕ) → slice_index_or l.front slot None ≡ Some state
+      → (slice_index_or l.left slot None ≡ Some state) ⊎ (mark l.course.auto.now l.self.failed.items l.place state slot ≡ 1);
 }

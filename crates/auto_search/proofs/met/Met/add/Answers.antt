@@ -9,7 +9,7 @@ room c =
     let at = c.args.state * 9 + c.args.slot in
     let within : at < length m.times.items = let s = c.requires.state in let t = c.requires.slot in let z = c.requires.place.times_size in omega (arith, s, t, z) in
     let e = get_or_read m.times.items at c.index.result.now within c.index.ensures 0 in
-    elim (place-room c.args.course.now.auto.now m.times.items m.states.items m.slots.items m.len at c.requires.place within) [
+    elim (place-room at c.requires.place within) [
       | inl left ↦ left
       | inr twice ↦ let t = c.if-index-lt-MOST_TIMES.true in absurd (omega (arith, t, e, twice))
     ]

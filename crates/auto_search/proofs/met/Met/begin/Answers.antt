@@ -5,12 +5,10 @@ use Rattle.auto_search.proofs.met.Met.begin.Goals as goal
 use Rattle.auto_search.proofs.met.Met.begin.Goals.{in-None, in-Some}
 
 pub loop-slot-init : goal.loop-slot-init
-loop-slot-init c =
-    let old = c.args.self.now in
-    record {
-      begins = begin-empty c.args.course.now.auto.now c.args.course.now.ray.now old.times.items old.states.items old.slots.items 0 c.requires.sizes c.requires.none refl;
-      sizes = record { times_kept = refl; states_kept = refl; slots_kept = refl };
-    }
+loop-slot-init c = record {
+  begins = begin-empty c.requires.sizes c.requires.none refl;
+  sizes = record { times_kept = refl; states_kept = refl; slots_kept = refl };
+}
 
 pub loop-slot-preserved : goal.loop-slot-preserved
 loop-slot-preserved c =
@@ -19,18 +17,13 @@ loop-slot-preserved c =
       | in-None w ↦
           rw w.self-is
           (record {
-            begins =
-                (begin-none c.args.course.now.auto.now c.args.course.now.ray.now here.times.items here.states.items here.slots.items here.len
-                c.loop-slot.slot c.loop-slot.invariant.begins c.loop-slot-test.true c.args.front.now c.requires.opened c.requires.front
-                w.in-None.is);
+            begins = begin-none c.loop-slot.invariant.begins c.loop-slot-test.true c.requires.opened c.requires.front w.in-None.is;
             sizes = c.loop-slot.invariant.sizes;
           })
       | in-Some w ↦ rw w.self-is (record {
         begins =
-            (begin-some c.args.course.now.auto.now c.args.course.now.ray.now here.times.items here.states.items here.slots.items here.len
-            c.loop-slot.slot c.loop-slot.invariant.begins c.loop-slot-test.true c.args.front.now c.requires.opened c.requires.front
-            w.in-Some.state w.in-Some.is
-            w.put.new.self.times.items w.put.new.self.states.items w.put.new.self.slots.items w.put.new.self.len w.put.ensures.times w.put.ensures.states w.put.ensures.slots w.put.ensures.len);
+            begin-some c.loop-slot.invariant.begins c.loop-slot-test.true c.requires.opened c.requires.front w.in-Some.state w.in-Some.is w.put.ensures.times
+            w.put.ensures.states w.put.ensures.slots w.put.ensures.len;
         sizes = record {
           times_kept = ap length w.put.ensures.times ∙ c.loop-slot.invariant.sizes.times_kept;
           states_kept = ap length w.put.ensures.states ∙ length-set here.states.items here.len w.in-Some.state ∙ c.loop-slot.invariant.sizes.states_kept;

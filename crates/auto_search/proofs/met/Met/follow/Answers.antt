@@ -7,14 +7,14 @@ use Rattle.auto_search.proofs.met.Met.follow.Goals.{in-None, in-Some, then-bit-v
 
 pub slot_of-requires : goal.slot_of-requires
 slot_of-requires c =
-    let i = place-inside c.args.course.now.auto.now c.args.self.now.times.items c.args.self.now.states.items c.args.self.now.slots.items c.args.self.now.len c.requires.place in
+    let i = place-inside c.requires.place in
     let e = c.requires.entry in
     let s = i.1 in
     omega (arith, e, s)
 
 pub state_of-requires : goal.state_of-requires
 state_of-requires c =
-    let i = place-inside c.args.course.now.auto.now c.args.self.now.times.items c.args.self.now.states.items c.args.self.now.slots.items c.args.self.now.len c.requires.place in
+    let i = place-inside c.requires.place in
     let e = c.requires.entry in
     let s = i.0 in
     omega (arith, e, s)
@@ -32,25 +32,19 @@ loop-slot-preserved c =
     elim c.match-after-slot.branch [
       | in-None w ↦
           rw w.self-is
-          (walk-none c.args.course.now.auto.now c.args.course.now.ray.now c.args.course.now.suits old.times.items old.states.items old.slots.items
-          here.times.items here.states.items here.slots.items old.len here.len c.args.starts (moment c.args.entry c.args.bit 0) c.args.entry
-          c.loop-slot.slot c.args.bit
-          c.loop-slot.invariant c.requires.entry c.loop-slot-test.true may c.after_entry-after.result after c.after_entry-after.ensures.front w.in-None.is)
+          (walk-none c.args.course.now.suits c.args.entry c.loop-slot.slot c.args.bit c.loop-slot.invariant c.requires.entry c.loop-slot-test.true may
+          after c.after_entry-after.ensures.front w.in-None.is)
       | in-Some w ↦
           let state = w.in-Some.state in
           let known = c.after_entry-after.ensures.front.states c.loop-slot.slot state w.in-Some.is in
           let size = c.loop-slot.invariant.place.times_size in
           let inside : state * 9 + c.loop-slot.slot < length here.times.items = let t = c.loop-slot-test.true in omega (arith, known, size, t) in
-          let room = place-room c.args.course.now.auto.now here.times.items here.states.items here.slots.items here.len (state * 9 + c.loop-slot.slot) c.loop-slot.invariant.place inside in
+          let room = place-room (state * 9 + c.loop-slot.slot) c.loop-slot.invariant.place inside in
           let in1 : (here.len < length here.states.items) ⊎ (2 ≤ get_or here.times.items (state * 9 + c.loop-slot.slot) 0) = elim room [ inl y ↦ inl y.0 | inr n ↦ inr n ] in
           let in2 : (here.len < length here.slots.items) ⊎ (2 ≤ get_or here.times.items (state * 9 + c.loop-slot.slot) 0) = elim room [ inl y ↦ inl y.1 | inr n ↦ inr n ] in
           rw w.self-is
-          (walk-add c.args.course.now.auto.now c.args.course.now.ray.now c.args.course.now.suits old.times.items old.states.items old.slots.items
-          here.times.items here.states.items here.slots.items old.len here.len c.args.starts (moment c.args.entry c.args.bit 0) c.args.entry
-          c.loop-slot.slot c.args.bit
-          c.loop-slot.invariant c.requires.entry c.loop-slot-test.true may c.after_entry-after.result after c.after_entry-after.ensures.front state
-          w.in-Some.is w.add.new.self.times.items w.add.new.self.states.items w.add.new.self.slots.items w.add.new.self.len
-          w.add.ensures.adds w.add.ensures.place in1 in2)
+          (walk-add c.args.course.now.suits c.args.entry c.loop-slot.slot c.args.bit c.loop-slot.invariant c.requires.entry c.loop-slot-test.true may
+          after c.after_entry-after.ensures.front state w.in-Some.is w.add.ensures.adds w.add.ensures.place in1 in2)
     ]
 
 pub returns-else-entry-starts : goal.returns-else-entry-starts
