@@ -31,7 +31,7 @@ IsWord-append tracks word letters w all = record {
     longer [] some e = some refl
     longer (x ∷ xs) some e = cc
 
-module _ (a : Automaton) (canon : List ℕ) (c : IsCanonical a canon) where
+module _ {a : Automaton} {canon : List ℕ} (c : IsCanonical a canon) where
   pub canon_within : (state : ℕ) → state < length a.accept → get_or canon state 0 < length a.accept
   canon_within state within = All-get_or (λ s. s < length a.accept) canon state 0 (omega (arith, within, c.size)) c.within
 
@@ -51,17 +51,17 @@ module _ (a : Automaton) (canon : List ℕ) (c : IsCanonical a canon) where
   pub met_first : (letter : ℕ) → letter < width a → IsMet a canon (get_or canon (first_state a letter) 0)
   met_first letter below = record { word = letter ∷ []; is_word = IsWord-one _ letter below; leads = refl }
 
-  pub order_within : (order : List ℕ) (rows : ℕ) → IsOrderTo a canon order rows → All (λ s. s < length a.accept) order
-  order_within order rows o = All-from_get_or (λ s. s < length a.accept) order 0 (λ k h. met_within _ (All-get_or (IsMet a canon) order k 0 h o.met))
+  pub order_within : {order : List ℕ} {rows : ℕ} → IsOrderTo a canon order rows → All (λ s. s < length a.accept) order
+  order_within {order} o = All-from_get_or (λ s. s < length a.accept) order 0 (λ k h. met_within _ (All-get_or (IsMet a canon) order k 0 h o.met))
 
-  pub order_known : (order : List ℕ) (rows place : ℕ) → IsOrderTo a canon order rows → place < length order → get_or order place 0 < length a.accept
-  order_known order rows place o within = All-get_or (λ s. s < length a.accept) order place 0 within (order_within order rows o)
+  pub order_known : {order : List ℕ} {rows : ℕ} (place : ℕ) → IsOrderTo a canon order rows → place < length order → get_or order place 0 < length a.accept
+  order_known {order} place o within = All-get_or (λ s. s < length a.accept) order place 0 within (order_within o)
 
-  pub order_few : (order : List ℕ) (rows : ℕ) → IsOrderTo a canon order rows → length order ≤ length a.accept
-  order_few order rows o = length_le-below order (length a.accept) o.different (order_within order rows o)
+  pub order_few : {order : List ℕ} {rows : ℕ} → IsOrderTo a canon order rows → length order ≤ length a.accept
+  order_few {order} o = length_le-below order (length a.accept) o.different (order_within o)
 
-  pub order_some : (order : List ℕ) (rows : ℕ) → IsOrderTo a canon order rows → 0 < length order
-  order_some order rows o = let there = o.first 0 (pow_pos (length a.tracks)) in let w = there.1 in omega (arith, w)
+  pub order_some : {order : List ℕ} {rows : ℕ} → IsOrderTo a canon order rows → 0 < length order
+  order_some o = let there = o.first 0 (pow_pos (length a.tracks)) in let w = there.1 in omega (arith, w)
 
 -- the values of a row are the canonical states of the states to which letters lead
 pub record LeadsTo (a : Automaton) (canon : List ℕ) (row state : ℕ → ℕ) : Type 0 where
@@ -99,23 +99,24 @@ module _ (a : Automaton) (canon : List ℕ) (over : IsOverNodes a) where
         leads = λ letter below. ap (λ v. get_or canon v 0) (rows.leads state letter within below);
       }
 
-module _ (a : Automaton) (canon : List ℕ) (c : IsCanonical a canon) where
+module _ {a : Automaton} {canon : List ℕ} (c : IsCanonical a canon) where
   pub order-first : (row : ℕ → ℕ) → LeadsTo a canon row (first_state a) → (order : List ℕ) → AddsRow row [] order → AllPairs (λ j k. j ≢ k) order → IsOrderTo a canon order 0
   order-first row l order adds apart = record {
-    met = All-from_get_or (IsMet a canon) order 0 (λ k h. let g = adds.added k (omega arith) h in value_met a canon row (first_state a) l g.0 _ g.1 (met_first a canon c));
+    met = All-from_get_or (IsMet a canon) order 0 (λ k h. let g = adds.added k (omega arith) h in value_met a canon row (first_state a) l g.0 _ g.1 (met_first c));
     different = apart;
     first = λ letter below. value_there a canon row (first_state a) l [] order adds letter below;
     next = λ place letter none below. absurd (omega (arith, none));
   }
 
-  pub order-next : (row : ℕ → ℕ) (old new : List ℕ) (place state : ℕ) → LeadsTo a canon row (next_state a state) → IsOrderTo a canon old place → place < length old → get_or old place 0 ≡ state
+  pub order-next : (row : ℕ → ℕ) (old new : List ℕ) (place state : ℕ) → LeadsTo a canon row (next_state a state)
+      → IsOrderTo a canon old place → place < length old → get_or old place 0 ≡ state
       → AddsRow row old new → AllPairs (λ j k. j ≢ k) new → IsOrderTo a canon new (place + 1)
   order-next row old new place state l o here is adds apart =
       let met_state : IsMet a canon state = subst (IsMet a canon) is (All-get_or (IsMet a canon) old place 0 here o.met) in
       record {
         met = All-from_get_or (IsMet a canon) new 0 (λ k h. elim (cases_lt k (length old)) [
           | inl before ↦ subst (IsMet a canon) (sym (adds.kept k before)) (All-get_or (IsMet a canon) old k 0 before o.met)
-          | inr past ↦ let g = adds.added k past h in value_met a canon row (next_state a state) l g.0 _ g.1 (λ letter below. met_next a canon c state letter met_state below)
+          | inr past ↦ let g = adds.added k past h in value_met a canon row (next_state a state) l g.0 _ g.1 (λ letter below. met_next c state letter met_state below)
         ]);
         different = apart;
         first = λ letter below. Contains-on old new adds.longer adds.kept _ (o.first letter below);

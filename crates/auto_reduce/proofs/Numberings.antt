@@ -22,7 +22,8 @@ module _ (a : Automaton) (canon : List ℕ) where
 
   -- one row more
   module _ (values : ℕ → ℕ) (rows : ℕ) (state : ℕ → ℕ) (old new : List ℕ) (l : LeadsTo a canon values state) (adds : AddsRow values old new)
-      (apart : AllPairs (λ j k. j ≢ k) new) (n : IsNumberedTo a canon old rows) (within : rows ≤ length old) (is_row : (letter : ℕ) → get_or canon (state letter) 0 ≡ led_in a canon old rows letter)
+      (apart : AllPairs (λ j k. j ≢ k) new) (n : IsNumberedTo a canon old rows) (within : rows ≤ length old)
+      (is_row : (letter : ℕ) → get_or canon (state letter) 0 ≡ led_in a canon old rows letter)
       (closed : (row letter : ℕ) → row < rows → letter < width a → Contains old (led_in a canon old row letter)) where
     row-new : (letter : ℕ) → letter < width a → led_in a canon new rows letter ≡ values letter
     row-new letter below = led-kept old new adds.kept rows letter within ∙ sym (is_row letter) ∙ sym (l.leads letter below)

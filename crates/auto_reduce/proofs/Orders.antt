@@ -20,7 +20,8 @@ pub Contains-at : (xs : List ℕ) (k x : ℕ) → k < length xs → get_or xs k 
 Contains-at xs k x within e = subst (Contains xs) e (Contains-get_or xs k 0 within)
 
 -- what stands in a list stands in one that goes on from it
-pub Contains-on : (old new : List ℕ) → length old ≤ length new → ((place : ℕ) → place < length old → get_or new place 0 ≡ get_or old place 0) → (x : ℕ) → Contains old x → Contains new x
+pub Contains-on : (old new : List ℕ) → length old ≤ length new
+    → ((place : ℕ) → place < length old → get_or new place 0 ≡ get_or old place 0) → (x : ℕ) → Contains old x → Contains new x
 Contains-on old new longer kept x there =
     let p = place_in old x there in
     Contains-at new p.0 x (let w = p.1 in omega (arith, longer, w)) (kept p.0 p.1 ∙ p.2)

@@ -1,12 +1,12 @@
 -- The automaton over the places of an order of canonical states, and what it accepts.
-use Rattle.std.proofs.Common.{◌≡◌, ◌≢◌, ◌↔◌, ℕ, zero, suc, ◌<◌, ◌≤◌, ◌%◌, ◌^◌, Bool, List, [], ◌∷◌, length, get_or, drop, Contains, AllPairs, All, arith, refl, sym, ap, ◌∙◌, subst, inl, inr}
+use Rattle.std.proofs.Common.{◌≡◌, ◌≢◌, ℕ, zero, suc, ◌<◌, ◌≤◌, ◌%◌, ◌^◌, Bool, List, [], ◌∷◌, length, get_or, drop, Contains, AllPairs, All, arith, refl, sym, ap, ◌∙◌, subst, inl, inr}
 use Rattle.std.proofs.lemmas.Bool.{cases_order}
 use Rattle.std.proofs.lemmas.List.Elements.{All-cons, All-head, All-tail, All-get_or, All-from_get_or}
 use Rattle.track_word.specs.Word.{IsWord}
 use Rattle.letter_diagram.specs.declared.diagrams.Shape.{Shape}
 use Rattle.letter_diagram.specs.Diagram.{map_at, LooksBelow}
 use Rattle.letter_diagram.specs.Listed.{EachAnswers}
-use Rattle.auto_core.specs.Automaton.{Automaton, width, first_state, next_state, run, state_of, is_final, Accepts}
+use Rattle.auto_core.specs.Automaton.{Automaton, width, first_state, next_state, run, state_of, is_final}
 use Rattle.auto_core.specs.Reduced.{IsReduced, ToldApart}
 use Rattle.auto_core.specs.Rows.{AreRows, IsOverNodes, dense}
 use Rattle.auto_core.proofs.RowLemmas.{get_or-row_of, next_state-dense, IsAutomaton-dense}
@@ -14,6 +14,7 @@ use Rattle.auto_refine.specs.Picked.{ArePicked, AreFlags}
 use Rattle.auto_refine.specs.Leading.{entry_at, IsLedFrom}
 use Rattle.auto_reduce.specs.Quotient.{IsCanonical, IsMet, IsOrder, AreNumbers, AreClassNumbers, IsQuotientBy}
 use Rattle.auto_reduce.specs.Numbering.{IsQuotient}
+use Rattle.auto_reduce.specs.Tables.{HasSameWords}
 use Rattle.auto_core.proofs.States.{state_within, run_within}
 use Rattle.auto_refine.proofs.States.{first_within, next_within}
 use Rattle.auto_reduce.proofs.Orders.{place_in}
@@ -32,7 +33,8 @@ different_places xs apart i j iw jw e = elim (cases_order i j) [
   | inr (inr more) ↦ absurd (apart j i 0 more iw (sym e))
 ]
 
-module _ (a : Automaton) (canon : List ℕ) (shapes : List Shape) (order numbers : List ℕ) (c : IsCanonical a canon) (o : IsOrder a canon order) (n : AreNumbers order (length a.accept) numbers) where
+module _ (a : Automaton) (canon : List ℕ) (shapes : List Shape) (order numbers : List ℕ) (c : IsCanonical a canon) (o : IsOrder a canon order)
+    (n : AreNumbers order (length a.accept) numbers) where
   module _ (row : ℕ → ℕ) (made : ℕ) (state : ℕ → ℕ) (l : LeadsTo a canon row state) (m : IsNumbered shapes row numbers made)
       (within : (letter : ℕ) → state letter < length a.accept) (there : (letter : ℕ) → letter < width a → Contains order (get_or canon (state letter) 0)) where
     pub made_narrow : LooksBelow shapes made (length a.tracks)
@@ -41,7 +43,7 @@ module _ (a : Automaton) (canon : List ℕ) (shapes : List Shape) (order numbers
     pub made_within : (letter : ℕ) → map_at shapes made letter < length order
     made_within letter =
         let value = leads_low a canon row state l letter in
-        let known = canon_within a canon c (state (letter % width a)) (within (letter % width a)) in
+        let known = canon_within c (state (letter % width a)) (within (letter % width a)) in
         let size = n.size in
         let number = All-get_or (λ k. k < length order) numbers (row letter) 0 (omega (arith, value, known, size)) n.within in
         let e = m.map letter in
@@ -60,7 +62,7 @@ module _ (a : Automaton) (canon : List ℕ) (shapes : List Shape) (order numbers
       → IsNumbered shapes (entry_at canon a.shapes (get_or a.row_nodes (get_or order k 0) 0)) numbers (get_or rows' k 0))
       (are_flags : AreFlags a order flags) where
     row_of_place : (k : ℕ) → k < length order → LeadsTo a canon (entry_at canon a.shapes (get_or a.row_nodes (get_or order k 0) 0)) (next_state a (get_or order k 0))
-    row_of_place k h = leads-row a canon over (get_or order k 0) (All-get_or (λ s. s < length a.accept) order k 0 h (order_within a canon c order (length order) o))
+    row_of_place k h = leads-row a canon over (get_or order k 0) (All-get_or (λ s. s < length a.accept) order k 0 h (order_within c o))
 
     row_narrow : (k : ℕ) → k < length order → LooksBelow shapes (get_or rows' k 0) (length a.tracks)
     row_narrow k h = made_narrow _ _ (next_state a (get_or order k 0)) (row_of_place k h) (row_at k h) (next_within a c.valid (get_or order k 0)) (λ letter below. o.next k letter h below)
@@ -73,8 +75,8 @@ module _ (a : Automaton) (canon : List ℕ) (shapes : List Shape) (order numbers
 
     pub AreRows-quotient : AreRows a.tracks shapes first' rows' flags
     AreRows-quotient =
-        let some = order_some a canon c order (length order) o in
-        let few = order_few a canon c order (length order) o in
+        let some = order_some c o in
+        let few = order_few c o in
         let states = are_flags.size in
         let narrow = made_narrow _ first' (first_state a) (leads-first a canon over) f (first_within a c.valid) o.first in
         let within = made_within _ first' (first_state a) (leads-first a canon over) f (first_within a c.valid) o.first in
@@ -121,10 +123,10 @@ each-rest R node nodes [] all = let size = all.size in absurd (omega (arith, siz
 each-rest R node nodes (answer ∷ answers) all = let size = all.size in record { size = omega (arith, size); each = λ i within. all.each (suc i) (omega (arith, within)) }
 
 -- the first row and the rows of the states of an order, led to the numbers of their canonical states
-module _ (a : Automaton) (canon order numbers table picked : List ℕ) (over : IsOverNodes a) (c : IsCanonical a canon) (o : IsOrder a canon order) (n : AreNumbers order (length a.accept) numbers)
-    (t : AreClassNumbers canon numbers table) (is_picked : ArePicked a.row_nodes order picked) where
+module _ {a : Automaton} {canon order numbers table picked : List ℕ} (over : IsOverNodes a) (c : IsCanonical a canon) (o : IsOrder a canon order)
+    (n : AreNumbers order (length a.accept) numbers) (t : AreClassNumbers canon numbers table) (is_picked : ArePicked a.row_nodes order picked) where
   states_within : All (λ state. state < length a.row_nodes) order
-  states_within = rw over.nodes.rows_size (order_within a canon c order (length order) o)
+  states_within = rw over.nodes.rows_size (order_within c o)
 
   pub table_size : length table ≡ length a.accept
   table_size = t.size ∙ c.size
@@ -144,7 +146,8 @@ module _ (a : Automaton) (canon order numbers table picked : List ℕ) (over : I
     map = λ letter. l.map letter ∙ t.at (map_at a.shapes node letter) (let w = within letter in let s = c.size in omega (arith, w, s));
   }
 
-  module _ (shapes : List Shape) (answers : List ℕ) (led : EachAnswers (IsLedFrom a.shapes shapes table) (a.first_node ∷ picked) answers) (flags : List Bool) (are_flags : AreFlags a order flags) where
+  module _ (shapes : List Shape) (answers : List ℕ) (led : EachAnswers (IsLedFrom a.shapes shapes table) (a.first_node ∷ picked) answers)
+      (flags : List Bool) (are_flags : AreFlags a order flags) where
     each : EachAnswers (IsLedFrom a.shapes shapes table) picked (drop 1 answers)
     each = each-rest (IsLedFrom a.shapes shapes table) a.first_node picked answers led
 
@@ -188,7 +191,7 @@ module _ (a : Automaton) (canon order : List ℕ) (m : Automaton) (q : IsQuotien
   flag_is : (place state : ℕ) → place < length m.accept → state < length a.accept → get_or order place 0 ≡ get_or canon state 0 → is_final m place ≡ is_final a state
   flag_is place state pw sw e = q.final place (omega (arith, pw, q.size)) ∙ ap (is_final a) e ∙ q.canonical.flags state sw
 
-  pub words_are : (word : List ℕ) → IsWord (length a.tracks) word → Accepts m word ↔ Accepts a word
+  pub words_are : HasSameWords a m
   words_are word w =
       let flag = flag_is (state_of m word) (state_of a word) (state_within m q.valid word) (state_within a q.canonical.valid word) (words_lead word w) in
       (λ p. sym flag ∙ p, λ p. flag ∙ p)
@@ -230,7 +233,7 @@ module _ (a : Automaton) (canon order : List ℕ) (m : Automaton) (q : IsQuotien
         apart_at j k (state_of a u.word) (state_of a v.word) jw kw su sv (sym u.leads) (sym v.leads) (q.canonical.apart _ _ su sv differ);
   }
 
-pub quotient_words : (a m : Automaton) → IsQuotient a m → (word : List ℕ) → IsWord (length a.tracks) word → Accepts m word ↔ Accepts a word
+pub quotient_words : (a m : Automaton) → IsQuotient a m → HasSameWords a m
 quotient_words a m q word w = words_are a q.canon q.order m q.quotient word w
 
 pub quotient_reduced : (a m : Automaton) → IsQuotient a m → IsReduced m
@@ -241,6 +244,6 @@ quotient_tracks a m q = q.quotient.tracks
 
 pub quotient_fewer : (a m : Automaton) → IsQuotient a m → length m.accept ≤ length a.accept
 quotient_fewer a m q =
-    let few = order_few a q.canon q.quotient.canonical q.order (length q.order) q.quotient.order_is in
+    let few = order_few q.quotient.canonical q.quotient.order_is in
     let size = q.quotient.size in
     omega (arith, few, size)

@@ -8,11 +8,11 @@ use Rattle.letter_diagram.specs.declared.diagrams.Shape.{Shape}
 use Rattle.letter_diagram.specs.Diagram.{map_at, LooksBelow, Grows}
 use Rattle.letter_diagram.specs.Listed.{EachAnswers}
 use Rattle.letter_diagram.specs.Carried.{IsCarried}
-use Rattle.auto_core.specs.Automaton.{Automaton, IsAutomaton, width, first_state, next_state, run, state_of, is_final, Accepts}
+use Rattle.auto_core.specs.Automaton.{Automaton, IsAutomaton, width, first_state, next_state, run, state_of, is_final}
 use Rattle.auto_core.specs.Rows.{IsOverNodes}
 use Rattle.auto_core.proofs.RowLemmas.{map_at-narrow}
 use Rattle.auto_core.proofs.NodeMaps.{first-map}
-use Rattle.auto_reduce.specs.Tables.{AcceptSameWords, HaveEqualTables, HaveEqualMaps}
+use Rattle.auto_reduce.specs.Tables.{HasSameWords, AcceptSameWords, HaveEqualTables, HaveEqualMaps}
 use Rattle.auto_ways.proofs.RowNodes.{AreRowNodes-own}
 use Rattle.auto_reduce.proofs.SameTables.{next_ext}
 
@@ -41,8 +41,7 @@ module _ (a b : Automaton) (tracks : a.tracks ≡ b.tracks) where
 
 -- automata of the words of two others accept the same words where those do
 pub AcceptSameWords-through : (a b m n : Automaton) → a.tracks ≡ b.tracks → m.tracks ≡ a.tracks
-    → ((word : List ℕ) → IsWord (length a.tracks) word → Accepts m word ↔ Accepts a word) → ((word : List ℕ) → IsWord (length b.tracks) word → Accepts n word ↔ Accepts b word)
-    → AcceptSameWords m n ↔ AcceptSameWords a b
+    → HasSameWords a m → HasSameWords b n → AcceptSameWords m n ↔ AcceptSameWords a b
 AcceptSameWords-through a b m n tracks m_tracks m_words n_words = (
   λ h. record {
     same = λ word is.

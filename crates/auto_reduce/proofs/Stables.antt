@@ -16,6 +16,7 @@ use Rattle.auto_core.specs.Integers.{DecidesIntegers}
 use Rattle.auto_core.proofs.States.{same_flag}
 use Rattle.auto_walk.proofs.WalkWords.{map_at-low}
 use Rattle.auto_reduce.specs.Stable.{Keeps}
+use Rattle.auto_reduce.specs.Tables.{HasSameWords}
 use Rattle.auto_refine.proofs.States.{first_within, next_within}
 use Rattle.auto_reduce.proofs.Orders.{place_in}
 
@@ -53,7 +54,7 @@ module _ (a : Automaton) where
     }
 
 -- a repeated first letter matters to the same words
-pub DecidesIntegers-words : (m a : Automaton) → m.tracks ≡ a.tracks → ((word : List ℕ) → IsWord (length a.tracks) word → Accepts m word ↔ Accepts a word) → DecidesIntegers m ↔ DecidesIntegers a
+pub DecidesIntegers-words : (m a : Automaton) → m.tracks ≡ a.tracks → HasSameWords a m → DecidesIntegers m ↔ DecidesIntegers a
 DecidesIntegers-words m a tracks same = (
   λ d. record {
     stable = λ word is.
@@ -78,8 +79,8 @@ module _ (shapes : List Shape) (first row state : ℕ) (pairs : List (ℕ × ℕ
 
   -- the pairs of the values of both are kept just where the maps are
   pub Keeps-pairs : (after : List Shape) (node : ℕ)
-      → ((letter : ℕ) → slice_get pairs (map_at after node letter) ≡ Some (map_at shapes first letter, map_at shapes row letter)) → PairsKeep
-      → Keeps shapes first row state
+      → ((letter : ℕ) → slice_get pairs (map_at after node letter) ≡ Some (map_at shapes first letter, map_at shapes row letter))
+      → PairsKeep → Keeps shapes first row state
   Keeps-pairs after node map kept letter leads = kept (map_at after node letter) _ _ (map letter) leads
 
   pub pairs-Keep : AreAnswers shapes 0 pairs first row → Keeps shapes first row state → PairsKeep
@@ -104,9 +105,10 @@ module _ (a : Automaton) (own shapes : List Shape) (first row state : ℕ) (grow
 
   pub row-IsKept : IsKept a state → Keeps shapes first row state
   row-IsKept kept letter leads =
+      let own_letter = letter % 2 ^ length a.tracks in
       let below = mod_below letter (2 ^ length a.tracks) (pow_pos (length a.tracks)) in
-      let low = sym (first_leads (letter % 2 ^ length a.tracks) below) ∙ sym (map_at-low own first (length a.tracks) letter first_narrow) ∙ sym (grows.map first letter first_known) ∙ leads in
-      grows.map row letter row_known ∙ map_at-low own row (length a.tracks) letter row_narrow ∙ row_leads (letter % 2 ^ length a.tracks) below ∙ kept.keeps (letter % 2 ^ length a.tracks) below low
+      let low = sym (first_leads own_letter below) ∙ sym (map_at-low own first (length a.tracks) letter first_narrow) ∙ sym (grows.map first letter first_known) ∙ leads in
+      grows.map row letter row_known ∙ map_at-low own row (length a.tracks) letter row_narrow ∙ row_leads own_letter below ∙ kept.keeps own_letter below low
 
 -- where the states among the leaves of the first row are kept, all are
 pub IsKept-leaves : (a : Automaton) (shapes : List Shape) (first : ℕ) (leaves : List ℕ) → AreLeaves shapes first leaves

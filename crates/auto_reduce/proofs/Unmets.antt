@@ -11,7 +11,8 @@ use Rattle.letter_diagram.specs.NodeMemo.{answer_of}
 use Rattle.letter_diagram.specs.Carried.{Learns}
 use Rattle.auto_reduce.specs.Quotient.{AddsAll}
 use Rattle.auto_refine.specs.Leading.{entry_at}
-use Rattle.auto_reduce.specs.Unmet.{AddsRow, IsMetLeaf, IsPruned, RemembersPruned, StandsFor, AreDone, IsFound, Finds, AreDoneWith, AreDoneBut}
+use Rattle.auto_reduce.specs.Unmet.{AddsRow, IsMetLeaf, IsPruned, RemembersPruned, StandsFor, AreDone, IsFound, Finds, AreDoneWith, AreDoneBut, canonical_at}
+use Rattle.auto_reduce.specs.declared.unmet.Rows.{Rows}
 use Rattle.auto_reduce.specs.declared.unmet.Unmet.{Unmet}
 use Rattle.auto_reduce.specs.declared.unmet.Unmet.TheVariants.{Nothing, One, Several}
 use Rattle.std.proofs.lemmas.List.Elements.{Contains-push, Contains-append_left}
@@ -23,8 +24,8 @@ entry-either : (table : List ℕ) (b : Bool) (v w : ℕ) → get_or table (if b 
 entry-either table true v w = refl
 entry-either table false v w = refl
 
-pub IsMetLeaf-grows : (old new : List Shape) (met : List ℕ) (leaf : ℕ) → Grows old new → IsMetLeaf old met leaf → IsMetLeaf new met leaf
-IsMetLeaf-grows old new met leaf grows is =
+pub IsMetLeaf-grows : {old new : List Shape} {met : List ℕ} {leaf : ℕ} → Grows old new → IsMetLeaf old met leaf → IsMetLeaf new met leaf
+IsMetLeaf-grows {met = met} {leaf = leaf} grows is =
     let known = is.known in
     let longer = grows.longer in
     record {
@@ -33,36 +34,37 @@ IsMetLeaf-grows old new met leaf grows is =
       is_met = λ letter. subst (Contains met) (sym (grows.map leaf letter is.known)) (is.is_met letter);
     }
 
-pub IsPruned-grows : (from old new : List Shape) (canon met : List ℕ) (a r : ℕ) → Grows old new → IsPruned from old canon met a r → IsPruned from new canon met a r
-IsPruned-grows from old new canon met a r grows is =
+pub IsPruned-grows : {rows : Rows} {old new : List Shape} {met : List ℕ} {a r : ℕ} → Grows old new → IsPruned rows old met a r → IsPruned rows new met a r
+IsPruned-grows {rows = rows} {met = met} {a = a} {r = r} grows is =
     let known = is.known in
     let longer = grows.longer in
     let top = is.top in
     let top_r = grows.top r is.known in
     record {
       known = omega arith;
-      map = λ letter. subst (λ v. StandsFor met v (entry_at canon from a letter)) (sym (grows.map r letter is.known)) (is.map letter);
+      map = λ letter. subst (λ v. StandsFor met v (canonical_at rows a letter)) (sym (grows.map r letter is.known)) (is.map letter);
       top = omega arith;
     }
 
-pub RemembersPruned-grows : (from old new : List Shape) (canon met : List ℕ) (memo : List (Option ℕ)) → Grows old new
-    → RemembersPruned from old canon met memo → RemembersPruned from new canon met memo
-RemembersPruned-grows from old new canon met memo grows all = record { pruned = λ a r at. IsPruned-grows from old new canon met a r grows (all.pruned a r at) }
+pub RemembersPruned-grows : {rows : Rows} {old new : List Shape} {met : List ℕ} {memo : List (Option ℕ)} → Grows old new
+    → RemembersPruned rows old met memo → RemembersPruned rows new met memo
+RemembersPruned-grows grows all = record { pruned = λ a r at. IsPruned-grows grows (all.pruned a r at) }
 
-pub RemembersPruned-learns : (from shapes : List Shape) (canon met : List ℕ) (memo new : List (Option ℕ)) (a r : ℕ) → RemembersPruned from shapes canon met memo
-    → Learns (answer_of memo) (answer_of new) a r → IsPruned from shapes canon met a r → RemembersPruned from shapes canon met new
-RemembersPruned-learns from shapes canon met memo new a r all learns is = record {
+pub RemembersPruned-learns : {rows : Rows} {shapes : List Shape} {met : List ℕ} {memo new : List (Option ℕ)} {a r : ℕ} → RemembersPruned rows shapes met memo
+    → Learns (answer_of memo) (answer_of new) a r → IsPruned rows shapes met a r → RemembersPruned rows shapes met new
+RemembersPruned-learns {rows = rows} {shapes = shapes} {met = met} {a = a} all learns is = record {
   pruned = λ b s at. elim (learns.only b s at) [
     | inl before ↦ all.pruned b s before
-    | inr now ↦ subst (λ n. IsPruned from shapes canon met n s) (sym now.0) (subst (IsPruned from shapes canon met a) (sym now.1) is)
+    | inr now ↦ subst (λ n. IsPruned rows shapes met n s) (sym now.0) (subst (IsPruned rows shapes met a) (sym now.1) is)
   ];
 }
 
-pub IsPruned-leaf : (from shapes : List Shape) (canon met : List ℕ) (a r state value : ℕ) → IsAt from a (Leaf state) → value ≡ get_or canon state 0
-    → r < length shapes → top_track shapes r ≡ 20 → ((letter : ℕ) → StandsFor met (map_at shapes r letter) value) → IsPruned from shapes canon met a r
-IsPruned-leaf from shapes canon met a r state value at is known top map = record {
+pub IsPruned-leaf : (rows : Rows) (shapes : List Shape) (met : List ℕ) (a r state value : ℕ)
+    → IsAt rows.from.now a (Leaf state) → value ≡ get_or rows.canon.now state 0
+    → r < length shapes → top_track shapes r ≡ 20 → ((letter : ℕ) → StandsFor met (map_at shapes r letter) value) → IsPruned rows shapes met a r
+IsPruned-leaf rows shapes met a r state value at is known top map = record {
   known = known;
-  map = λ letter. subst (StandsFor met (map_at shapes r letter)) (is ∙ sym (ap (λ v. get_or canon v 0) (at.map letter))) (map letter);
+  map = λ letter. subst (StandsFor met (map_at shapes r letter)) (is ∙ sym (ap (λ v. get_or rows.canon.now v 0) (at.map letter))) (map letter);
   top = let t = at.top in omega (arith, t, top);
 }
 
@@ -70,17 +72,20 @@ either : (met : List ℕ) (b : Bool) (v w x y : ℕ) → StandsFor met v w → S
 either met true v w x y p q = p
 either met false v w x y p q = q
 
-pub IsPruned-test : (from mid shapes : List Shape) (canon met : List ℕ) (a r track low high low' high' : ℕ) → IsAt from a (Test track low high)
-    → IsPruned from mid canon met low low' → IsPruned from mid canon met high high'
-    → r < length shapes → ((letter : ℕ) → map_at shapes r letter ≡ chosen mid track low' high' letter) → track ≤ top_track shapes r → IsPruned from shapes canon met a r
-IsPruned-test from mid shapes canon met a r track low high low' high' at l h known map top = record {
+pub IsPruned-test : (rows : Rows) (mid shapes : List Shape) (met : List ℕ) (a r track low high low' high' : ℕ)
+    → IsAt rows.from.now a (Test track low high)
+    → IsPruned rows mid met low low' → IsPruned rows mid met high high'
+    → r < length shapes → ((letter : ℕ) → map_at shapes r letter ≡ chosen mid track low' high' letter) → track ≤ top_track shapes r → IsPruned rows shapes met a r
+IsPruned-test rows mid shapes met a r track low high low' high' at l h known map top = record {
   known = known;
   map = λ letter.
+      let from = rows.from.now in
+      let canon = rows.canon.now in
       let entry = ap (λ v. get_or canon v 0) (at.map letter) ∙ entry-either canon (nat_eq (bit_at letter track) 0) (map_at from low letter) (map_at from high letter) in
-      subst (λ v. StandsFor met v (entry_at canon from a letter)) (sym (map letter))
+      subst (λ v. StandsFor met v (canonical_at rows a letter)) (sym (map letter))
       (subst (StandsFor met (chosen mid track low' high' letter)) (sym entry)
-      (either met (nat_eq (bit_at letter track) 0) (map_at mid low' letter) (entry_at canon from low letter) (map_at mid high' letter)
-      (entry_at canon from high letter) (l.map letter) (h.map letter)));
+      (either met (nat_eq (bit_at letter track) 0) (map_at mid low' letter) (canonical_at rows low letter) (map_at mid high' letter)
+      (canonical_at rows high letter) (l.map letter) (h.map letter)));
   top = subst (λ t. t ≤ top_track shapes r) (sym at.top) top;
 }
 
@@ -91,23 +96,24 @@ done_before done new node other noted there = elim (cases_eq other node) [
   | inr apart ↦ inl (sym (ap (λ l. get_or l other false) noted ∙ get_or-set_other done node other true false apart) ∙ there)
 ]
 
-pub AreDone-note : (from shapes : List Shape) (canon met : List ℕ) (done new : List Bool) (node r : ℕ) → AreDone from canon met done → new ≡ set done node true
-    → IsPruned from shapes canon met node r → IsMetLeaf shapes met r → AreDone from canon met new
-AreDone-note from shapes canon met done new node r all noted is leaf = record {
+pub AreDone-note : (rows : Rows) (shapes : List Shape) (met : List ℕ) (done new : List Bool) (node r : ℕ)
+    → AreDone (canonical_at rows) met done → new ≡ set done node true
+    → IsPruned rows shapes met node r → IsMetLeaf shapes met r → AreDone (canonical_at rows) met new
+AreDone-note rows shapes met done new node r all noted is leaf = record {
   are_met = λ other letter there. elim (done_before done new node other noted there) [
     | inl before ↦ all.are_met other letter before
-    | inr e ↦ subst (λ n. Contains met (entry_at canon from n letter)) (sym e) (here letter)
+    | inr e ↦ subst (λ n. Contains met (canonical_at rows n letter)) (sym e) (here letter)
   ];
 }
   where
-    here : (letter : ℕ) → Contains met (entry_at canon from node letter)
+    here : (letter : ℕ) → Contains met (canonical_at rows node letter)
     here letter = elim (is.map letter) [ inl same ↦ subst (Contains met) same (leaf.is_met letter) | inr both ↦ both.1 ]
 
-pub AreDone-more : (from : List Shape) (canon old new values : List ℕ) (done : List Bool) → AddsAll old new values → AreDone from canon old done → AreDone from canon new done
-AreDone-more from canon old new values done adds all = record { are_met = λ node letter there. Contains-kept old new values adds _ (all.are_met node letter there) }
+pub AreDone-more : {states : ℕ → ℕ → ℕ} {old new values : List ℕ} {done : List Bool} → AddsAll old new values → AreDone states old done → AreDone states new done
+AreDone-more {old = old} {new = new} {values = values} adds all = record { are_met = λ node letter there. Contains-kept old new values adds _ (all.are_met node letter there) }
 
-pub AreDone-none : (from : List Shape) (canon met : List ℕ) (done : List Bool) → ((node : ℕ) → get_or done node false ≡ false) → AreDone from canon met done
-AreDone-none from canon met done none = record { are_met = λ node letter there. absurd (true≢false (sym there ∙ none node)) }
+pub AreDone-none : (states : ℕ → ℕ → ℕ) (met : List ℕ) (done : List Bool) → ((node : ℕ) → get_or done node false ≡ false) → AreDone states met done
+AreDone-none states met done none = record { are_met = λ node letter there. absurd (true≢false (sym there ∙ none node)) }
 
 -- ---- what is added
 module _ (to : List Shape) (row : ℕ → ℕ) (r : ℕ) (old new leaves : List ℕ)
@@ -185,7 +191,8 @@ Finds-leaf from canon met before after node state at f =
       ];
     }
 
-pub Finds-test : (from : List Shape) (canon met : List ℕ) (before mid after : Unmet) (node track low high : ℕ) → IsAt from node (Test track low high) → HasChildren from node (Test track low high)
+pub Finds-test : (from : List Shape) (canon met : List ℕ) (before mid after : Unmet) (node track low high : ℕ)
+    → IsAt from node (Test track low high) → HasChildren from node (Test track low high)
     → Finds met before (entry_at canon from low) mid → Finds met mid (entry_at canon from high) after → Finds met before (entry_at canon from node) after
 Finds-test from canon met before mid after node track low high at children l h = record {
   leads = λ letter.
@@ -203,23 +210,23 @@ Finds-test from canon met before mid after node track low high at children l h =
   ];
 }
 
-pub AreDoneWith-kept : (from : List Shape) (canon met : List ℕ) (before after : Unmet) (row : ℕ → ℕ) (done : List Bool) → Finds met before row after
-    → AreDoneWith from canon met before done → AreDoneWith from canon met after done
-AreDoneWith-kept from canon met before after row done f all = record { are_found = λ node letter there. f.kept (entry_at canon from node letter) (all.are_found node letter there) }
+pub AreDoneWith-kept : (states : ℕ → ℕ → ℕ) (met : List ℕ) (before after : Unmet) (row : ℕ → ℕ) (done : List Bool) → Finds met before row after
+    → AreDoneWith states met before done → AreDoneWith states met after done
+AreDoneWith-kept states met before after row done f all = record { are_found = λ node letter there. f.kept (states node letter) (all.are_found node letter there) }
 
-pub AreDoneWith-note : (from : List Shape) (canon met : List ℕ) (before after : Unmet) (done new : List Bool) (node : ℕ)
-    → AreDoneWith from canon met after done → new ≡ set done node true → Finds met before (entry_at canon from node) after
-    → AreDoneWith from canon met after new
-AreDoneWith-note from canon met before after done new node all noted f = record {
+pub AreDoneWith-note : (states : ℕ → ℕ → ℕ) (met : List ℕ) (before after : Unmet) (done new : List Bool) (node : ℕ)
+    → AreDoneWith states met after done → new ≡ set done node true → Finds met before (states node) after
+    → AreDoneWith states met after new
+AreDoneWith-note states met before after done new node all noted f = record {
   are_found = λ other letter there. elim (done_before done new node other noted there) [
     | inl was ↦ all.are_found other letter was
-    | inr e ↦ subst (λ n. IsFound met after (entry_at canon from n letter)) (sym e) (f.leads letter)
+    | inr e ↦ subst (λ n. IsFound met after (states n letter)) (sym e) (f.leads letter)
   ];
 }
 
-pub AreDoneBut-note : (from : List Shape) (canon met nodes : List ℕ) (done new : List Bool) (node : ℕ) → AreDoneBut from canon met nodes done
-    → new ≡ set done node true → AreDoneBut from canon met (nodes ++ node ∷ []) new
-AreDoneBut-note from canon met nodes done new node all noted = record {
+pub AreDoneBut-note : (states : ℕ → ℕ → ℕ) (met nodes : List ℕ) (done new : List Bool) (node : ℕ) → AreDoneBut states met nodes done
+    → new ≡ set done node true → AreDoneBut states met (nodes ++ node ∷ []) new
+AreDoneBut-note states met nodes done new node all noted = record {
   are_met = λ other there. elim (done_before done new node other noted there) [
     | inl was ↦ elim (all.are_met other was) [
       | inl passed ↦ inl (Contains-append_left nodes (node ∷ []) other passed)
@@ -229,8 +236,8 @@ AreDoneBut-note from canon met nodes done new node all noted = record {
   ];
 }
 
-pub AreDone-from_none : (from : List Shape) (canon met : List ℕ) (done : List Bool) → AreDoneWith from canon met Nothing done → AreDone from canon met done
-AreDone-from_none from canon met done all = record { are_met = all.are_found }
+pub AreDone-from_none : (states : ℕ → ℕ → ℕ) (met : List ℕ) (done : List Bool) → AreDoneWith states met Nothing done → AreDone states met done
+AreDone-from_none states met done all = record { are_met = all.are_found }
 
 one_added : (old new : List ℕ) (state value : ℕ) → AddsAll old new (state ∷ []) → IsFound old (One state) value → Contains new value
 one_added old new state value adds found = elim found [
@@ -238,9 +245,9 @@ one_added old new state value adds found = elim found [
   | inr e ↦ adds.has value (subst (Contains (state ∷ [])) (sym e) (Contains-push [] state))
 ]
 
-pub AreDone-from_one : (from : List Shape) (canon old new : List ℕ) (state : ℕ) (done : List Bool) → AddsAll old new (state ∷ [])
-    → AreDoneWith from canon old (One state) done → AreDone from canon new done
-AreDone-from_one from canon old new state done adds all = record { are_met = λ node letter there. one_added old new state (entry_at canon from node letter) adds (all.are_found node letter there) }
+pub AreDone-from_one : (states : ℕ → ℕ → ℕ) (old new : List ℕ) (state : ℕ) (done : List Bool) → AddsAll old new (state ∷ [])
+    → AreDoneWith states old (One state) done → AreDone states new done
+AreDone-from_one states old new state done adds all = record { are_met = λ node letter there. one_added old new state (states node letter) adds (all.are_found node letter there) }
 
 pub AddsRow-none : (met : List ℕ) (row : ℕ → ℕ) → Finds met Nothing row Nothing → AddsRow row met met
 AddsRow-none met row f = record {

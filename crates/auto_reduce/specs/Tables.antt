@@ -8,6 +8,13 @@ use Rattle.auto_core.specs.Automaton.{Automaton, IsAutomaton, Accepts}
 use Rattle.auto_core.specs.Reduced.{IsReduced}
 use Rattle.auto_reduce.specs.Numbering.{IsNumberedBreadthFirst}
 
+-- an automaton accepts the words over the tracks of another that this one accepts
+abbrev pub HasSameWords : Automaton → Automaton → Type 0
+HasSameWords a m = (word : List ℕ) → IsWord (length a.tracks) word → Accepts m word ↔ Accepts a word
+
+abbrev pub AcceptsNoWord : Automaton → Type 0
+AcceptsNoWord a = (word : List ℕ) → IsWord (length a.tracks) word → ¬ Accepts a word
+
 -- the same words over the tracks of the first are accepted by both
 pub record AcceptSameWords (a b : Automaton) : Type 0 where
   pub same : (word : List ℕ) → IsWord (length a.tracks) word → Accepts a word ↔ Accepts b word

@@ -5,6 +5,7 @@ use Rattle.letter_diagram.specs.declared.diagrams.Shape.{Shape}
 use Rattle.letter_diagram.specs.Diagram.{map_at, top_track}
 use Rattle.letter_diagram.specs.NodeMemo.{answer_of}
 use Rattle.auto_refine.specs.Leading.{entry_at}
+use Rattle.auto_reduce.specs.declared.unmet.Rows.{Rows}
 use Rattle.auto_reduce.specs.declared.unmet.Unmet.{Unmet}
 use Rattle.auto_reduce.specs.declared.unmet.Unmet.TheVariants.{Nothing, One, Several}
 
@@ -28,20 +29,27 @@ pub record IsMetLeaf (shapes : List Shape) (met : List ℕ) (leaf : ℕ) : Type 
 abbrev pub StandsFor : List ℕ → ℕ → ℕ → Type 0
 StandsFor met v w = (v ≡ w) ⊎ (Contains met v × Contains met w)
 
--- r has the map that a has among other shapes, led to canonical states, but for values of a list, which may stand for
--- one another
-pub record IsPruned (from shapes : List Shape) (canon met : List ℕ) (a r : ℕ) : Type 0 where
+-- the canonical state to which a letter leads by a node
+abbrev pub canonical_at : Rows → ℕ → ℕ → ℕ
+canonical_at rows = entry_at rows.canon.now rows.from.now
+
+-- r leads to the canonical states to which a leads, but for those of a list, which may stand for one another
+pub record IsPruned (rows : Rows) (shapes : List Shape) (met : List ℕ) (a r : ℕ) : Type 0 where
   pub known : r < length shapes
-  pub map : (letter : ℕ) → StandsFor met (map_at shapes r letter) (entry_at canon from a letter)
-  pub top : top_track from a ≤ top_track shapes r
+  pub map : (letter : ℕ) → StandsFor met (map_at shapes r letter) (canonical_at rows a letter)
+  pub top : top_track rows.from.now a ≤ top_track shapes r
 
-pub record RemembersPruned (from shapes : List Shape) (canon met : List ℕ) (memo : List (Option ℕ)) : Type 0 where
-  pub pruned : (a r : ℕ) → answer_of memo a ≡ Some r → IsPruned from shapes canon met a r
+pub record RemembersPruned (rows : Rows) (shapes : List Shape) (met : List ℕ) (memo : List (Option ℕ)) : Type 0 where
+  pub pruned : (a r : ℕ) → answer_of memo a ≡ Some r → IsPruned rows shapes met a r
 
--- the canonical states of the values of the nodes that are done are in a list
-pub record AreDone (shapes : List Shape) (canon met : List ℕ) (done : List Bool) : Type 0 where
-  pub are_met : (node letter : ℕ) → slice_index_or done node false ≡ true
-      → Contains met (entry_at canon shapes node letter)
+-- some nodes are done no more, and no other became so
+abbrev pub WereRemoved : List ℕ → List Bool → List Bool → Type 0
+WereRemoved nodes old new = (node : ℕ) → slice_index_or new node false ≡ true
+    → (slice_index_or old node false ≡ true) × ¬ Contains nodes node
+
+-- what the nodes lead to that are done is in a list
+pub record AreDone (states : ℕ → ℕ → ℕ) (met : List ℕ) (done : List Bool) : Type 0 where
+  pub are_met : (node letter : ℕ) → slice_index_or done node false ≡ true → Contains met (states node letter)
 
 -- a value is in a list or was found beside it; where several were found, any may be
 abbrev pub IsFound : List ℕ → Unmet → ℕ → Type 0
@@ -61,12 +69,11 @@ pub record Finds (met : List ℕ) (before : Unmet) (row : ℕ → ℕ) (after : 
   pub kept : (value : ℕ) → IsFound met before value → IsFound met after value
   pub given : (state : ℕ) → after ≡ One state → (before ≡ One state) ⊎ IsUnmetOf met row state
 
--- the canonical states of the values of the nodes that are done are in a list or were found beside it
-pub record AreDoneWith (shapes : List Shape) (canon met : List ℕ) (found : Unmet) (done : List Bool) : Type 0 where
-  pub are_found : (node letter : ℕ) → slice_index_or done node false ≡ true
-      → IsFound met found (entry_at canon shapes node letter)
+-- what the nodes lead to that are done is in a list or was found beside it
+pub record AreDoneWith (states : ℕ → ℕ → ℕ) (met : List ℕ) (found : Unmet) (done : List Bool) : Type 0 where
+  pub are_found : (node letter : ℕ) → slice_index_or done node false ≡ true → IsFound met found (states node letter)
 
--- the canonical states of the values of the nodes that are done, but for some nodes, are in a list
-pub record AreDoneBut (shapes : List Shape) (canon met nodes : List ℕ) (done : List Bool) : Type 0 where
+-- what the nodes lead to that are done, but for some nodes, is in a list
+pub record AreDoneBut (states : ℕ → ℕ → ℕ) (met nodes : List ℕ) (done : List Bool) : Type 0 where
   pub are_met : (node : ℕ) → slice_index_or done node false ≡ true
-      → Contains nodes node ⊎ ((letter : ℕ) → Contains met (entry_at canon shapes node letter))
+      → Contains nodes node ⊎ ((letter : ℕ) → Contains met (states node letter))

@@ -1,10 +1,10 @@
 //! The automaton over one state of each class.
-ghost use Rattle.std.specs.Prelude.{◌≡◌, ◌≤◌, ◌<◌, ◌+◌, ◌^◌, ◌≢◌, ◌↔◌, List, ℕ, IfOk, false, length, slice_index_or, All, AllPairs};
-ghost use Rattle.track_word.specs.Word.{IsWord};
-ghost use Rattle.auto_core.specs.Automaton.{Accepts, IsAutomaton};
+ghost use Rattle.std.specs.Prelude.{◌≡◌, ◌≤◌, ◌<◌, ◌+◌, ◌^◌, ◌≢◌, ℕ, IfOk, false, length, slice_index_or, All, AllPairs};
+ghost use Rattle.auto_core.specs.Automaton.{IsAutomaton};
 ghost use Rattle.auto_core.specs.Reduced.{IsReduced};
 ghost use Rattle.auto_reduce.specs.Quotient.{IsCanonical, IsOrder, AreNumbers, AreClassNumbers, ArePlaces, AreFirstAndPicked, AreRowsOver, IsOverRows, IsQuotientBy};
 ghost use Rattle.auto_reduce.specs.Numbering.{IsNumberedTo, IsNumberedBreadthFirst, IsQuotient};
+ghost use Rattle.auto_reduce.specs.Tables.{HasSameWords};
 
 use crate::canonical::canonical;
 use crate::order::Order;
@@ -159,8 +159,7 @@ fn class_numbers(alloc: Global, canon: &[u32], numbers: &[u32]) -> Result<Vec<u3
 /// row of each class. The answer has no node that its rows don't reach.
 pub fn reduce(alloc: Global, a: &Auto) -> Result<Auto, AllocError>
     ensures tracks { IfOk result (λ m. m.tracks ≡ a.now.tracks) }
-    ensures words { IfOk result
-        (λ m. (word : List ℕ) → IsWord (length a.now.tracks) word → Accepts m word ↔ Accepts a.now word) }
+    ensures words { IfOk result (HasSameWords a.now) }
     ensures reduced { IfOk result IsReduced }
     ensures numbered { IfOk result IsNumberedBreadthFirst }
     ensures fewer { IfOk result (λ m. length m.accept ≤ length a.now.accept) }

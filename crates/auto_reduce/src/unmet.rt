@@ -1,8 +1,8 @@
 //! The canonical states to which a row leads and that were not met before it.
-ghost use Rattle.std.specs.Prelude.{[], ◌≡◌, ◌≢◌, ◌<◌, ℕ, true, false, length, slice_index_or, slice_set, IfOk, OnOk, Contains, AllPairs};
+ghost use Rattle.std.specs.Prelude.{[], ◌≡◌, ◌≢◌, ◌<◌, ℕ, true, false, length, slice_index_or, slice_set, IfOk, OnOk, AllPairs};
 ghost use Rattle.letter_diagram.specs.Diagram.{map_at, top_track, Grows};
 ghost use Rattle.auto_refine.specs.Leading.{entry_at};
-ghost use Rattle.auto_reduce.specs.Unmet.{AddsRow, IsMetLeaf, IsPruned, RemembersPruned, StandsFor, AreDone, AreDoneWith, AreDoneBut, Finds};
+ghost use Rattle.auto_reduce.specs.Unmet.{AddsRow, IsMetLeaf, IsPruned, RemembersPruned, StandsFor, WereRemoved, AreDone, AreDoneWith, AreDoneBut, Finds, canonical_at};
 
 use crate::order::Order;
 use auto_refine::{RoundMemo, lead_nodes};
@@ -59,8 +59,7 @@ impl Done {
     }
 
     fn remove_all(&mut self, nodes: &[Node])
-        ensures { (node : ℕ) → slice_index_or self.new node false ≡ true
-            → (slice_index_or self.old node false ≡ true) × ¬ Contains nodes.now node }
+        ensures { WereRemoved nodes.now self.old self.new }
     {
         let _ = &self.nodes; // for its invariant
         for node in nodes {
@@ -137,13 +136,11 @@ fn unmet_states(
 ) -> Result<Unmet, AllocError>
     requires known { node < length rows.now.from.now }
     requires leaves { (letter : ℕ) → map_at rows.now.from.now node letter < length rows.now.canon.now }
-    requires done { AreDoneWith rows.now.from.now rows.now.canon.now order.now found kept.old.done }
-    requires passed { AreDoneBut rows.now.from.now rows.now.canon.now order.now kept.old.passed.items kept.old.done }
-    ensures finds { IfOk result (Finds order.now found (entry_at rows.now.canon.now rows.now.from.now node)) }
-    ensures done { IfOk result
-        (λ unmet. AreDoneWith rows.now.from.now rows.now.canon.now order.now unmet kept.new.done) }
-    ensures passed { OnOk result
-        (AreDoneBut rows.now.from.now rows.now.canon.now order.now kept.new.passed.items kept.new.done) }
+    requires done { AreDoneWith (canonical_at rows.now) order.now found kept.old.done }
+    requires passed { AreDoneBut (canonical_at rows.now) order.now kept.old.passed.items kept.old.done }
+    ensures finds { IfOk result (Finds order.now found (canonical_at rows.now node)) }
+    ensures done { IfOk result (λ unmet. AreDoneWith (canonical_at rows.now) order.now unmet kept.new.done) }
+    ensures passed { OnOk result (AreDoneBut (canonical_at rows.now) order.now kept.new.passed.items kept.new.done) }
 {
     if let Unmet::Several = found {
         return Ok(Unmet::Several);
@@ -190,12 +187,11 @@ fn pruned(
     requires known { node < length rows.now.from.now }
     requires leaves { (letter : ℕ) → map_at rows.now.from.now node letter < length rows.now.canon.now }
     requires met { IsMetLeaf to.old met.now.order.now met.now.leaf }
-    requires remembered { RemembersPruned rows.now.from.now to.old rows.now.canon.now met.now.order.now kept.old.memo }
-    requires done { AreDone rows.now.from.now rows.now.canon.now met.now.order.now kept.old.done }
-    ensures pruned { IfOk result (IsPruned rows.now.from.now to.new rows.now.canon.now met.now.order.now node) }
-    ensures remembered { OnOk result
-        (RemembersPruned rows.now.from.now to.new rows.now.canon.now met.now.order.now kept.new.memo) }
-    ensures done { OnOk result (AreDone rows.now.from.now rows.now.canon.now met.now.order.now kept.new.done) }
+    requires remembered { RemembersPruned rows.now to.old met.now.order.now kept.old.memo }
+    requires done { AreDone (canonical_at rows.now) met.now.order.now kept.old.done }
+    ensures pruned { IfOk result (IsPruned rows.now to.new met.now.order.now node) }
+    ensures remembered { OnOk result (RemembersPruned rows.now to.new met.now.order.now kept.new.memo) }
+    ensures done { OnOk result (AreDone (canonical_at rows.now) met.now.order.now kept.new.done) }
     ensures grows { Grows to.old to.new }
 {
     let shape = rows.from.shape(node);
@@ -231,10 +227,10 @@ fn add_several(
     requires known { row < length rows.now.from.now }
     requires leaves { (letter : ℕ) → map_at rows.now.from.now row letter < length rows.now.canon.now }
     requires some { 0 < length order.old }
-    requires done { AreDone rows.now.from.now rows.now.canon.now order.old kept.old.done }
-    ensures adds { OnOk result (AddsRow (entry_at rows.now.canon.now rows.now.from.now row) order.old order.new) }
+    requires done { AreDone (canonical_at rows.now) order.old kept.old.done }
+    ensures adds { OnOk result (AddsRow (canonical_at rows.now row) order.old order.new) }
     ensures different { OnOk result (AllPairs (λ j k. j ≢ k) order.new) }
-    ensures done { OnOk result (AreDone rows.now.from.now rows.now.canon.now order.new kept.new.done) }
+    ensures done { OnOk result (AreDone (canonical_at rows.now) order.new kept.new.done) }
 {
     let mut to = Diagrams::with_capacity(alloc, kept.passed.len())?;
     let leaf = to.leaf(order.as_slice()[0])?;
@@ -257,10 +253,10 @@ pub fn add_row(
     requires known { row < length rows.now.from.now }
     requires leaves { (letter : ℕ) → map_at rows.now.from.now row letter < length rows.now.canon.now }
     requires some { 0 < length order.old }
-    requires done { AreDone rows.now.from.now rows.now.canon.now order.old kept.old.done }
-    ensures adds { OnOk result (AddsRow (entry_at rows.now.canon.now rows.now.from.now row) order.old order.new) }
+    requires done { AreDone (canonical_at rows.now) order.old kept.old.done }
+    ensures adds { OnOk result (AddsRow (canonical_at rows.now row) order.old order.new) }
     ensures different { OnOk result (AllPairs (λ j k. j ≢ k) order.new) }
-    ensures done { OnOk result (AreDone rows.now.from.now rows.now.canon.now order.new kept.new.done) }
+    ensures done { OnOk result (AreDone (canonical_at rows.now) order.new kept.new.done) }
 {
     let _ = order.as_slice(); // for its invariant
     kept.passed.clear();

@@ -19,11 +19,11 @@ loop-place-init c =
     let apart = c.in_ok-order.ensures.different in
     let adds : AddsRow row [] order = rw (c.diagrams-from.ensures.shapes, c.first_node.ensures.is) at c.in_ok-order.ensures.adds in
     record {
-      order_to = order-first a canon c.requires.canonical row leads order adds apart;
+      order_to = order-first c.requires.canonical row leads order adds apart;
       numbered = IsNumberedTo-row a canon row 0 (first_state a) [] order leads adds apart (IsNumberedTo-none a canon) (omega arith) (λ letter. refl)
           (λ row letter none below. absurd (omega (arith, none)));
       within = omega arith;
-      done = AreDone-none a.shapes canon order c.args.kept.now.done c.requires.done;
+      done = AreDone-none (entry_at canon a.shapes) order c.args.kept.now.done c.requires.done;
     }
 
 pub row_node-row-requires : goal.row_node-row-requires
@@ -31,15 +31,14 @@ row_node-row-requires c =
     let sizes = ap length c.as_slice.ensures.states in
     let here : c.loop-place.place < length c.loop-place.order = omega (arith, sizes, c.loop-place-test.true) in
     rw c.as_slice-in-loop-place.ensures.states
-    (order_known c.args.a.now c.args.canon.now c.requires.canonical c.loop-place.order c.loop-place.place c.loop-place.place
-    c.loop-place.invariant.order_to here)
+    (order_known c.requires.canonical c.loop-place.place c.loop-place.invariant.order_to here)
 
 pub add_row-requires-clause-some : goal.add_row-requires-clause-some
 add_row-requires-clause-some c = let sizes = ap length c.as_slice.ensures.states in omega (arith, sizes, c.loop-place-test.true)
 
 pub loop-place-smaller : goal.loop-place-smaller
 loop-place-smaller c =
-    let few = order_few c.args.a.now c.args.canon.now c.requires.canonical c.loop-place.order c.loop-place.place c.loop-place.invariant.order_to in
+    let few = order_few c.requires.canonical c.loop-place.invariant.order_to in
     let sizes = ap length c.as_slice.ensures.states in
     omega (arith, sizes, few, c.loop-place-test.true)
 
@@ -54,7 +53,7 @@ loop-place-preserved c =
     let o = c.loop-place.invariant.order_to in
     let sizes = ap length c.as_slice.ensures.states in
     let here : c.loop-place.place < length c.loop-place.order = omega (arith, sizes, c.loop-place-test.true) in
-    let known = order_known a canon c.requires.canonical old place place o here in
+    let known = order_known c.requires.canonical place o here in
     let leads = leads-row a canon c.diagrams-from.ensures.nodes state known in
     let row = entry_at canon a.shapes (get_or a.row_nodes state 0) in
     let node : c.row_node-row.result ≡ get_or a.row_nodes state 0 =
@@ -63,7 +62,7 @@ loop-place-preserved c =
     let adds : AddsRow row old new = rw (c.diagrams-from.ensures.shapes, node) at c.in_ok-add_row.ensures.adds in
     let longer = adds.longer in
     record {
-      order_to = order-next a canon c.requires.canonical row old new place state leads o here refl adds apart;
+      order_to = order-next c.requires.canonical row old new place state leads o here refl adds apart;
       numbered = IsNumberedTo-row a canon row (place + 1) (next_state a state) old new leads adds apart c.loop-place.invariant.numbered
           (omega (arith, here)) (λ letter. led-next a canon old place letter) (order-closed a canon old place o);
       within = omega (arith, here, longer);

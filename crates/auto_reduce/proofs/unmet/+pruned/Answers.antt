@@ -1,7 +1,7 @@
 use Rattle.std.proofs.Common.{arith, ℕ, refl, sym, subst}
 use Rattle.letter_diagram.specs.Diagram.{IsAt, IsTest, FitsBelow, HasChildren}
 use Rattle.letter_diagram.proofs.Maps.{Grows-trans}
-use Rattle.auto_reduce.specs.Unmet.{IsMetLeaf, IsPruned, RemembersPruned, AreDone}
+use Rattle.auto_reduce.specs.Unmet.{IsMetLeaf, IsPruned, RemembersPruned, AreDone, canonical_at}
 use Rattle.auto_reduce.proofs.Unmets.{IsMetLeaf-grows, IsPruned-leaf, IsPruned-test, IsPruned-grows, RemembersPruned-grows, RemembersPruned-learns, AreDone-note}
 use Rattle.auto_reduce.proofs.unmet.+pruned.Goals as goal
 use Rattle.auto_reduce.proofs.unmet.+pruned.Goals.{in-Leaf+in_ok-made-in-Leaf, in-Test+in_ok-low-in-Test+in_ok-high-in-Test+in_ok-made-in-Test, then-same_map, else-same_map}
@@ -40,22 +40,22 @@ pruned-requires-in-Test t c =
         omega (arith, before, c.requires.known),
         (
           (λ letter. let v = (children letter).1 in rw (← v.1) (c.requires.leaves v.0)),
-          (IsMetLeaf-grows _ _ _ _ c.pruned.ensures.grows c.requires.met, (low.remembered, low.done)),
+          (IsMetLeaf-grows c.pruned.ensures.grows c.requires.met, (low.remembered, low.done)),
         ),
       ),
     )
 
-made : (t : ℕ) (c : goal.Joined-same_map t) → IsPruned c.args.rows.now.from.now c.match-shape.to c.args.rows.now.canon.now c.args.met.now.order.now c.args.node c.match-shape.made
+made : (t : ℕ) (c : goal.Joined-same_map t) → IsPruned c.args.rows.now c.match-shape.to c.args.met.now.order.now c.args.node c.match-shape.made
 made t c = elim c.match-shape.branch [
-  | in-Leaf+in_ok-made-in-Leaf w ↦ rw (w.to-is, w.made-is) (let e = w.in_ok-made-in-Leaf.ensures in IsPruned-leaf _ _ _ _ _ _ w.in-Leaf.state _
+  | in-Leaf+in_ok-made-in-Leaf w ↦ rw (w.to-is, w.made-is) (let e = w.in_ok-made-in-Leaf.ensures in IsPruned-leaf _ _ _ _ _ w.in-Leaf.state _
       (subst (IsAt c.args.rows.now.from.now c.args.node) w.in-Leaf.is c.shape-shape.ensures.at) refl e.known e.top e.map)
   | in-Test+in_ok-low-in-Test+in_ok-high-in-Test+in_ok-made-in-Test w ↦ rw (w.to-is, w.made-is) (
       let e = w.in_ok-made-in-Test.ensures in
       let low = w.in_ok-low-in-Test.ensures.pruned in
       let high = w.in_ok-high-in-Test.ensures.pruned in
-      IsPruned-test _ _ _ _ _ _ _ w.in-Test.track w.in-Test.low w.in-Test.high _ _
+      IsPruned-test _ _ _ _ _ _ w.in-Test.track w.in-Test.low w.in-Test.high _ _
       (subst (IsAt c.args.rows.now.from.now c.args.node) w.in-Test.is c.shape-shape.ensures.at)
-      (IsPruned-grows _ _ _ _ _ _ _ w.in_ok-high-in-Test.ensures.grows low) high e.known e.map e.top)
+      (IsPruned-grows w.in_ok-high-in-Test.ensures.grows low) high e.known e.map e.top)
 ]
 
 pub returns-clause-pruned : goal.returns-clause-pruned
@@ -63,19 +63,19 @@ returns-clause-pruned t c = made t c
 
 pub returns-clause-remembered : goal.returns-clause-remembered
 returns-clause-remembered t c =
-    let before : RemembersPruned c.args.rows.now.from.now c.match-shape.to c.args.rows.now.canon.now c.args.met.now.order.now c.match-shape.kept.memo = elim c.match-shape.branch [
-      | in-Leaf+in_ok-made-in-Leaf w ↦ rw (w.to-is, w.kept-is) (RemembersPruned-grows _ _ _ _ _ _ w.in_ok-made-in-Leaf.ensures.grows c.requires.remembered)
+    let before : RemembersPruned c.args.rows.now c.match-shape.to c.args.met.now.order.now c.match-shape.kept.memo = elim c.match-shape.branch [
+      | in-Leaf+in_ok-made-in-Leaf w ↦ rw (w.to-is, w.kept-is) (RemembersPruned-grows w.in_ok-made-in-Leaf.ensures.grows c.requires.remembered)
       | in-Test+in_ok-low-in-Test+in_ok-high-in-Test+in_ok-made-in-Test w ↦ rw (w.to-is, w.kept-is)
-          (RemembersPruned-grows _ _ _ _ _ _ w.in_ok-made-in-Test.ensures.grows w.in_ok-high-in-Test.ensures.remembered)
+          (RemembersPruned-grows w.in_ok-made-in-Test.ensures.grows w.in_ok-high-in-Test.ensures.remembered)
     ] in
-    let learnt : RemembersPruned c.args.rows.now.from.now c.match-shape.to c.args.rows.now.canon.now c.args.met.now.order.now c.remember.new.self =
-    RemembersPruned-learns _ _ _ _ _ _ _ _ before c.in_ok-remember.ensures (made t c) in
+    let learnt : RemembersPruned c.args.rows.now c.match-shape.to c.args.met.now.order.now c.remember.new.self =
+    RemembersPruned-learns before c.in_ok-remember.ensures (made t c) in
     elim c.if-same_map.branch [
       | then-same_map w ↦ rw w.kept-is learnt
       | else-same_map w ↦ rw w.kept-is learnt
     ]
 
-before_done : (t : ℕ) (c : goal.Joined-same_map t) → AreDone c.args.rows.now.from.now c.args.rows.now.canon.now c.args.met.now.order.now c.match-shape.kept.done
+before_done : (t : ℕ) (c : goal.Joined-same_map t) → AreDone (canonical_at c.args.rows.now) c.args.met.now.order.now c.match-shape.kept.done
 before_done t c = elim c.match-shape.branch [
   | in-Leaf+in_ok-made-in-Leaf w ↦ rw w.kept-is c.requires.done
   | in-Test+in_ok-low-in-Test+in_ok-high-in-Test+in_ok-made-in-Test w ↦ rw w.kept-is w.in_ok-high-in-Test.ensures.done
@@ -83,17 +83,17 @@ before_done t c = elim c.match-shape.branch [
 
 grows : (t : ℕ) (c : goal.Joined-same_map t) → IsMetLeaf c.match-shape.to c.args.met.now.order.now c.args.met.now.leaf
 grows t c = elim c.match-shape.branch [
-  | in-Leaf+in_ok-made-in-Leaf w ↦ rw w.to-is (IsMetLeaf-grows _ _ _ _ w.in_ok-made-in-Leaf.ensures.grows c.requires.met)
+  | in-Leaf+in_ok-made-in-Leaf w ↦ rw w.to-is (IsMetLeaf-grows w.in_ok-made-in-Leaf.ensures.grows c.requires.met)
   | in-Test+in_ok-low-in-Test+in_ok-high-in-Test+in_ok-made-in-Test w ↦ rw w.to-is (
       let all = Grows-trans _ _ _ w.in_ok-low-in-Test.ensures.grows (Grows-trans _ _ _ w.in_ok-high-in-Test.ensures.grows w.in_ok-made-in-Test.ensures.grows) in
-      IsMetLeaf-grows _ _ _ _ all c.requires.met)
+      IsMetLeaf-grows all c.requires.met)
 ]
 
 pub returns-clause-done : goal.returns-clause-done
 returns-clause-done t c = elim c.if-same_map.branch [
   | then-same_map w ↦ rw w.kept-is (
       let same = c.same_map.ensures.equal.0 w.if-same_map.true in
-      AreDone-note c.args.rows.now.from.now c.match-shape.to c.args.rows.now.canon.now c.args.met.now.order.now _ _ c.args.node c.match-shape.made (before_done t c)
+      AreDone-note c.args.rows.now c.match-shape.to c.args.met.now.order.now _ _ c.args.node c.match-shape.made (before_done t c)
       w.add.ensures (made t c) (subst (IsMetLeaf c.match-shape.to c.args.met.now.order.now) (sym same) (grows t c)))
   | else-same_map w ↦ rw w.kept-is (before_done t c)
 ]

@@ -1,6 +1,5 @@
 use Rattle.std.proofs.Common.{arith, ℕ}
-use Rattle.auto_refine.specs.Leading.{entry_at}
-use Rattle.auto_reduce.specs.Unmet.{Finds, AreDoneWith, AreDoneBut}
+use Rattle.auto_reduce.specs.Unmet.{Finds, AreDoneWith, AreDoneBut, canonical_at}
 use Rattle.auto_reduce.proofs.Unmets.{Finds-leaf, Finds-test, AreDoneWith-kept, AreDoneWith-note, AreDoneBut-note}
 use Rattle.auto_reduce.proofs.unmet.+unmet_states.Goals as goal
 use Rattle.auto_reduce.proofs.unmet.+unmet_states.Goals.{in-Leaf, in-Test+in_ok-low-in-Test+in_ok-unmet-in-Test}
@@ -28,7 +27,7 @@ unmet_states-requires-in-Test t c =
     let low = c.in_ok-low-in-Test.ensures in
     (omega (arith, before, c.decreases), (omega (arith, before, known), ((λ letter. let v = (c.in-Test.ensures.children letter).1 in rw (← v.1) (c.requires.leaves v.0)), (low.done, low.passed))))
 
-finds : (t : ℕ) (c : goal.After-add t) → Finds c.args.order.now c.args.found (entry_at c.args.rows.now.canon.now c.args.rows.now.from.now c.args.node) c.match-shape.unmet
+finds : (t : ℕ) (c : goal.After-add t) → Finds c.args.order.now c.args.found (canonical_at c.args.rows.now c.args.node) c.match-shape.unmet
 finds t c = elim c.match-shape.branch [
   | in-Leaf w ↦
       rw w.unmet-is
@@ -39,13 +38,13 @@ finds t c = elim c.match-shape.branch [
       w.in-Test.ensures.at w.in-Test.ensures.children w.in_ok-low-in-Test.ensures.finds w.in_ok-unmet-in-Test.ensures.finds)
 ]
 
-done : (t : ℕ) (c : goal.After-add t) → AreDoneWith c.args.rows.now.from.now c.args.rows.now.canon.now c.args.order.now c.match-shape.unmet c.match-shape.kept.done
+done : (t : ℕ) (c : goal.After-add t) → AreDoneWith (canonical_at c.args.rows.now) c.args.order.now c.match-shape.unmet c.match-shape.kept.done
 done t c = elim c.match-shape.branch [
-  | in-Leaf w ↦ rw (w.unmet-is, w.kept-is) (AreDoneWith-kept c.args.rows.now.from.now c.args.rows.now.canon.now c.args.order.now c.args.found _ _ _ w.with_state-unmet.ensures c.requires.done)
+  | in-Leaf w ↦ rw (w.unmet-is, w.kept-is) (AreDoneWith-kept (canonical_at c.args.rows.now) c.args.order.now c.args.found _ _ _ w.with_state-unmet.ensures c.requires.done)
   | in-Test+in_ok-low-in-Test+in_ok-unmet-in-Test w ↦ rw (w.unmet-is, w.kept-is) w.in_ok-unmet-in-Test.ensures.done
 ]
 
-passed : (t : ℕ) (c : goal.After-add t) → AreDoneBut c.args.rows.now.from.now c.args.rows.now.canon.now c.args.order.now c.match-shape.kept.passed.items c.match-shape.kept.done
+passed : (t : ℕ) (c : goal.After-add t) → AreDoneBut (canonical_at c.args.rows.now) c.args.order.now c.match-shape.kept.passed.items c.match-shape.kept.done
 passed t c = elim c.match-shape.branch [
   | in-Leaf w ↦ rw w.kept-is c.requires.passed
   | in-Test+in_ok-low-in-Test+in_ok-unmet-in-Test w ↦ rw w.kept-is w.in_ok-unmet-in-Test.ensures.passed
@@ -55,8 +54,8 @@ pub returns : goal.returns
 returns t c = record {
   finds = finds t c;
   done =
-      AreDoneWith-note c.args.rows.now.from.now c.args.rows.now.canon.now c.args.order.now c.args.found c.match-shape.unmet c.match-shape.kept.done
+      AreDoneWith-note (canonical_at c.args.rows.now) c.args.order.now c.args.found c.match-shape.unmet c.match-shape.kept.done
       c.add.new.self c.args.node (done t c) c.add.ensures (finds t c);
-  passed = rw c.in_ok-push.ensures.items (AreDoneBut-note c.args.rows.now.from.now c.args.rows.now.canon.now c.args.order.now c.match-shape.kept.passed.items
+  passed = rw c.in_ok-push.ensures.items (AreDoneBut-note (canonical_at c.args.rows.now) c.args.order.now c.match-shape.kept.passed.items
       c.match-shape.kept.done c.add.new.self c.args.node (passed t c) c.add.ensures);
 }

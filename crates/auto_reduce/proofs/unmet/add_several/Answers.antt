@@ -1,6 +1,6 @@
 use Rattle.std.proofs.Common.{◌≡◌, get_or, Contains, sym, ap, ◌∙◌, subst}
 use Rattle.std.proofs.lemmas.List.Elements.{Contains-get_or}
-use Rattle.auto_refine.specs.Leading.{entry_at}
+use Rattle.auto_reduce.specs.Unmet.{canonical_at}
 use Rattle.auto_reduce.proofs.Unmets.{AddsRow-pruned, AreDone-more}
 use Rattle.auto_reduce.proofs.unmet.add_several.Goals as goal
 
@@ -19,8 +19,8 @@ pub returns-clause-adds : goal.returns-clause-adds
 returns-clause-adds c =
     let leaves = c.in_ok-leaves.leaves.items in
     let added = rw c.as_slice-2.ensures.value at c.in_ok-add_all.ensures.adds in
-    AddsRow-pruned c.pruned.new.to (entry_at c.args.rows.now.canon.now c.args.rows.now.from.now c.args.row) c.in_ok-unmet.unmet c.args.order.now c.add_all.new.self
+    AddsRow-pruned c.pruned.new.to (canonical_at c.args.rows.now c.args.row) c.in_ok-unmet.unmet c.args.order.now c.add_all.new.self
     leaves c.in_ok-unmet.ensures.pruned.map c.in_ok-leaves.ensures added c.add_all.ensures.different
 
 pub returns-clause-done : goal.returns-clause-done
-returns-clause-done c = AreDone-more _ _ _ _ _ _ c.in_ok-add_all.ensures.adds c.in_ok-unmet.ensures.done
+returns-clause-done c = AreDone-more c.in_ok-add_all.ensures.adds c.in_ok-unmet.ensures.done
