@@ -14,7 +14,7 @@ use Rattle.auto_refine.specs.Picked.{ArePicked, AreFlags}
 use Rattle.auto_refine.specs.Leading.{entry_at, IsLedFrom}
 use Rattle.auto_reduce.specs.Quotient.{IsCanonical, IsMet, IsOrder, AreNumbers, AreClassNumbers, IsQuotientBy}
 use Rattle.auto_reduce.specs.Numbering.{IsQuotient}
-use Rattle.auto_reduce.specs.Tables.{HasSameWords}
+use Rattle.auto_core.specs.Words.{HasSameWords}
 use Rattle.auto_core.proofs.States.{state_within, run_within}
 use Rattle.auto_refine.proofs.States.{first_within, next_within}
 use Rattle.auto_reduce.proofs.Orders.{place_in}

@@ -12,7 +12,8 @@ use Rattle.auto_core.specs.Automaton.{Automaton, IsAutomaton, width, first_state
 use Rattle.auto_core.specs.Rows.{IsOverNodes}
 use Rattle.auto_core.proofs.RowLemmas.{map_at-narrow}
 use Rattle.auto_core.proofs.NodeMaps.{first-map}
-use Rattle.auto_reduce.specs.Tables.{HasSameWords, AcceptSameWords, HaveEqualTables, HaveEqualMaps}
+use Rattle.auto_core.specs.Words.{HasSameWords}
+use Rattle.auto_reduce.specs.Tables.{AcceptSameWords, HaveEqualTables, HaveEqualMaps}
 use Rattle.auto_ways.proofs.RowNodes.{AreRowNodes-own}
 use Rattle.auto_reduce.proofs.SameTables.{next_ext}
 

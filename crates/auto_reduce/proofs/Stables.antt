@@ -16,7 +16,7 @@ use Rattle.auto_core.specs.Integers.{DecidesIntegers}
 use Rattle.auto_core.proofs.States.{same_flag}
 use Rattle.auto_walk.proofs.WalkWords.{map_at-low}
 use Rattle.auto_reduce.specs.Stable.{Keeps}
-use Rattle.auto_reduce.specs.Tables.{HasSameWords}
+use Rattle.auto_core.specs.Words.{HasSameWords}
 use Rattle.auto_refine.proofs.States.{first_within, next_within}
 use Rattle.auto_reduce.proofs.Orders.{place_in}
 

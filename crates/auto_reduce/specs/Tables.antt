@@ -8,10 +8,6 @@ use Rattle.auto_core.specs.Automaton.{Automaton, IsAutomaton, Accepts}
 use Rattle.auto_core.specs.Reduced.{IsReduced}
 use Rattle.auto_reduce.specs.Numbering.{IsNumberedBreadthFirst}
 
--- an automaton accepts the words over the tracks of another that this one accepts
-abbrev pub HasSameWords : Automaton → Automaton → Type 0
-HasSameWords a m = (word : List ℕ) → IsWord (length a.tracks) word → Accepts m word ↔ Accepts a word
-
 abbrev pub AcceptsNoWord : Automaton → Type 0
 AcceptsNoWord a = (word : List ℕ) → IsWord (length a.tracks) word → ¬ Accepts a word
 

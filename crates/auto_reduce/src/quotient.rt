@@ -4,7 +4,7 @@ ghost use Rattle.auto_core.specs.Automaton.{IsAutomaton};
 ghost use Rattle.auto_core.specs.Reduced.{IsReduced};
 ghost use Rattle.auto_reduce.specs.Quotient.{IsCanonical, IsOrder, AreNumbers, AreClassNumbers, ArePlaces, AreFirstAndPicked, AreRowsOver, IsOverRows, IsQuotientBy};
 ghost use Rattle.auto_reduce.specs.Numbering.{IsNumberedTo, IsNumberedBreadthFirst, IsQuotient};
-ghost use Rattle.auto_reduce.specs.Tables.{HasSameWords};
+ghost use Rattle.auto_core.specs.Words.{HasSameWords};
 
 use crate::canonical::canonical;
 use crate::order::Order;
