@@ -1,4 +1,4 @@
-use Rattle.std.proofs.Common.{◌+◌, arith}
+use Rattle.std.proofs.Common.{arith}
 use Rattle.auto_search.proofs.Rooms.{place-inside}
 use Rattle.auto_search.proofs.Tallies.{more-meets, all-counted, counting-entered}
 use Rattle.auto_search.proofs.count.walk.Goals as goal

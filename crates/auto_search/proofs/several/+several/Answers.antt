@@ -1,4 +1,4 @@
-use Rattle.std.proofs.Common.{◌+◌, ◌-◌, arith, refl, sym, ◌∙◌}
+use Rattle.std.proofs.Common.{arith, refl, sym, ◌∙◌}
 use Rattle.auto_search.proofs.Fronts.{dead-live}
 use Rattle.auto_search.proofs.MarkLemmas.{SameRoom-trans}
 use Rattle.auto_search.proofs.Counts.{final-has, dead-has, more-has, both-has}

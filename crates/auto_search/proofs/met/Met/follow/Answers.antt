@@ -1,5 +1,5 @@
 use Rattle.std.proofs.Common.{◌≡◌, ◌+◌, ◌*◌, ◌<◌, ◌≤◌, ◌⊎◌, inl, inr, true, length, get_or, arith}
-use Rattle.auto_search.specs.Met.{moment, IsAfter}
+use Rattle.auto_search.specs.Met.{IsAfter}
 use Rattle.auto_search.proofs.Rooms.{place-room, place-inside}
 use Rattle.auto_search.proofs.Mets.{walk-none, walk-add, walk-skip}
 use Rattle.auto_search.proofs.met.Met.follow.Goals as goal
