@@ -1,16 +1,17 @@
 -- The automaton over classes, and what it accepts.
-use Rattle.std.proofs.Common.{◌≡◌, ◌↔◌, ℕ, ◌<◌, Bool, List, [], ◌∷◌, length, get_or, All, arith, refl, sym, ap, ◌∙◌, subst, inl, inr}
+use Rattle.std.proofs.Common.{◌≡◌, ℕ, ◌<◌, Bool, List, [], ◌∷◌, length, get_or, All, arith, refl, sym, ap, ◌∙◌, subst, inl, inr}
 use Rattle.std.proofs.lemmas.List.{get_or_default}
 use Rattle.std.proofs.lemmas.List.Elements.{All-head, All-tail, All-get_or, All-from_get_or}
 use Rattle.track_word.specs.Word.{IsWord}
 use Rattle.letter_diagram.specs.declared.diagrams.Shape.{Shape}
 use Rattle.letter_diagram.specs.Diagram.{map_at, LooksBelow}
-use Rattle.auto_core.specs.Automaton.{Automaton, IsAutomaton, width, first_state, next_state, run, state_of, is_final, Accepts}
+use Rattle.auto_core.specs.Automaton.{Automaton, IsAutomaton, width, first_state, next_state, run, state_of, is_final}
 use Rattle.auto_core.specs.Reduced.{AllReached}
 use Rattle.auto_core.specs.Rows.{AreRows, IsOverNodes, dense}
 use Rattle.auto_core.proofs.RowLemmas.{get_or-row_of, next_state-dense, IsAutomaton-dense}
 use Rattle.auto_refine.specs.Picked.{ArePicked, AreFlags}
 use Rattle.auto_refine.specs.Leading.{IsLedFrom}
+use Rattle.auto_reduce.specs.Tables.{HasSameWords}
 use Rattle.auto_merge.specs.Merging.{AreClasses}
 use Rattle.auto_merge.specs.Merged.{HaveClasses, AreLed, IsMergedBy, IsMerged}
 use Rattle.auto_merge.specs.declared.leading.Led.{Led}
@@ -20,7 +21,7 @@ use Rattle.auto_reduce.proofs.Leads.{leads-first, leads-row}
 use Rattle.auto_ways.proofs.RowNodes.{AreRowNodes-own}
 use Rattle.auto_refine.proofs.Stales.{All-picked}
 
-module _ (a : Automaton) (table owners : List ℕ) (over : IsOverNodes a) (valid : IsAutomaton a) (cl : AreClasses a table owners) (all : HaveClasses a table) where
+module _ {a : Automaton} {table owners : List ℕ} (over : IsOverNodes a) (valid : IsAutomaton a) (cl : AreClasses a table owners) (all : HaveClasses a table) where
   class_within : (state : ℕ) → state < length a.accept → get_or table state 0 < length owners
   class_within state h = (cl.classed state h (all state h)).known
 
@@ -30,14 +31,14 @@ module _ (a : Automaton) (table owners : List ℕ) (over : IsOverNodes a) (valid
   pub owners_rows : All (λ state. state < length a.row_nodes) owners
   owners_rows = rw over.nodes.rows_size owners_within
 
-  module _ (picked : List ℕ) (is_picked : ArePicked a.row_nodes owners picked) where
+  module _ {picked : List ℕ} (is_picked : ArePicked a.row_nodes owners picked) where
     pub nodes_known : All (λ node. node < length a.shapes) picked
     nodes_known = All-picked (λ node. node < length a.shapes) a.row_nodes owners picked is_picked owners_rows over.nodes.rows_known
 
     pub nodes_in_table : All (λ node. (letter : ℕ) → map_at a.shapes node letter < length table) picked
     nodes_in_table = rw cl.size (All-picked (λ node. (letter : ℕ) → map_at a.shapes node letter < length a.accept) a.row_nodes owners picked is_picked owners_rows over.nodes.rows_within)
 
-    module _ (shapes : List Shape) (led : Led) (is_led : AreLed a.shapes shapes table a.first_node picked led) (flags : List Bool) (are_flags : AreFlags a owners flags) where
+    module _ {shapes : List Shape} {led : Led} (is_led : AreLed a.shapes shapes table a.first_node picked led) {flags : List Bool} (are_flags : AreFlags a owners flags) where
       row_led : (k : ℕ) → k < length owners → IsLedFrom a.shapes shapes table (get_or a.row_nodes (get_or owners k 0) 0) (get_or led.rows.items k 0)
       row_led k h = subst (λ n. IsLedFrom a.shapes shapes table n (get_or led.rows.items k 0)) (is_picked.at k h) (is_led.rows_led.each k (let s = is_picked.size in omega (arith, h, s)))
 
@@ -120,7 +121,8 @@ module _ (a : Automaton) (table owners : List ℕ) (m : Automaton) (q : IsMerged
   runs [] state h letters_below = refl
   runs (letter ∷ letters) state h letters_below =
       let below = All-head (λ l. l < width a) letter letters letters_below in
-      ap (λ s. run m s letters) (step state letter h below) ∙ runs letters (next_state a state letter) (next_within a q.source state letter) (All-tail (λ l. l < width a) letter letters letters_below)
+      let later = All-tail (λ l. l < width a) letter letters letters_below in
+      ap (λ s. run m s letters) (step state letter h below) ∙ runs letters (next_state a state letter) (next_within a q.source state letter) later
 
   pub words_lead : (word : List ℕ) → IsWord (length a.tracks) word → state_of m word ≡ get_or table (state_of a word) 0
   words_lead [] w = absurd (w.nonempty refl)
@@ -128,7 +130,7 @@ module _ (a : Automaton) (table owners : List ℕ) (m : Automaton) (q : IsMerged
       ap (λ s. run m s letters) (q.first sign (All-head (λ l. l < width a) sign letters w.letters))
       ∙ runs letters (first_state a sign) (first_within a q.source sign) (All-tail (λ l. l < width a) sign letters w.letters)
 
-  pub words_are : (word : List ℕ) → IsWord (length a.tracks) word → Accepts m word ↔ Accepts a word
+  pub words_are : HasSameWords a m
   words_are word w =
       let h = state_within a q.source word in
       let c = q.classes.classed (state_of a word) h (q.all (state_of a word) h) in
@@ -145,7 +147,7 @@ module _ (a : Automaton) (table owners : List ℕ) (m : Automaton) (q : IsMerged
         leads = words_lead r.word r.is_word ∙ ap (λ s. get_or table s 0) r.leads ∙ q.classes.own class known;
       }
 
-pub merged_words : (a m : Automaton) → IsMerged a m → (word : List ℕ) → IsWord (length a.tracks) word → Accepts m word ↔ Accepts a word
+pub merged_words : (a m : Automaton) → IsMerged a m → HasSameWords a m
 merged_words a m q word w = words_are a q.table q.owners m q.merged word w
 
 pub merged_reached : (a m : Automaton) → IsMerged a m → AllReached a → AllReached m

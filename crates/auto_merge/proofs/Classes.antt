@@ -26,7 +26,7 @@ Longer-same xs = record { longer = omega arith; kept = λ k h. refl }
 pub Longer-push : (xs : List ℕ) (x : ℕ) → Longer xs (xs ++ x ∷ [])
 Longer-push xs x = record { longer = let l = length_push xs x in omega (arith, l); kept = λ k h. get_or_append_left xs (x ∷ []) 0 k h }
 
-module _ (old new : List ℕ) (state class : ℕ) (given : IsClassGiven old new state class) (none : get_or old state 0 ≡ NO_CLASS) where
+module _ {old new : List ℕ} {state class : ℕ} (given : IsClassGiven old new state class) (none : get_or old state 0 ≡ NO_CLASS) where
   -- what had a class keeps it
   pub class_kept : (other : ℕ) → get_or old other 0 ≢ NO_CLASS → get_or new other 0 ≡ get_or old other 0
   class_kept other some = given.others other (λ e. some (ap (λ s. get_or old s 0) e ∙ none))
@@ -133,7 +133,9 @@ module _ (old new : List ℕ) (state class : ℕ) (given : IsClassGiven old new 
           ];
           within = λ c h. elim (cases_lt c (length owners)) [
             | inl before ↦ subst (λ s. s < length a.accept) (sym (longer.kept c before)) (all.within c before)
-            | inr past ↦ let e : length owners ≡ c = omega (arith, size, h, past) in subst (λ s. s < length a.accept) (sym (ap (λ k. get_or (owners ++ state ∷ []) k 0) (sym e) ∙ last)) within
+            | inr past ↦
+                let e : length owners ≡ c = omega (arith, size, h, past) in
+                subst (λ s. s < length a.accept) (sym (ap (λ k. get_or (owners ++ state ∷ []) k 0) (sym e) ∙ last)) within
           ];
           own = λ c h. elim (cases_lt c (length owners)) [
             | inl before ↦

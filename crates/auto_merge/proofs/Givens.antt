@@ -24,7 +24,8 @@ RemembersGiven-grows {from} {old} {new} {table} grows all = record {
   given = λ a r at. let is = all.given a r at in record { led = IsLedFrom-grows from old new table a r grows is.led; whole = is.whole };
 }
 
-pub RemembersOwn-grows : {from old new : List Shape} {table : List ℕ} {own : ℕ} {memo : List (Option ℕ)} → Grows old new → RemembersOwn from old table own memo → RemembersOwn from new table own memo
+pub RemembersOwn-grows : {from old new : List Shape} {table : List ℕ} {own : ℕ} {memo : List (Option ℕ)}
+    → Grows old new → RemembersOwn from old table own memo → RemembersOwn from new table own memo
 RemembersOwn-grows {from} {old} {new} {table} grows all = record {
   own_at = λ a r at. let is = all.own_at a r at in record { led = IsLedFrom-grows from old new table a r grows is.led; own_only = is.own_only };
 }
@@ -55,20 +56,20 @@ RemembersOwn-adds {from} {shapes} {table} {own} {test} {memo} {new} {a} {key} al
   ];
 }
 
-pub IsKey-given : (from shapes : List Shape) (table : List ℕ) (own a r : ℕ) → IsGiven from shapes table a r → IsKey from shapes table own a (record { node = r; whole = true })
-IsKey-given from shapes table own a r is = record { led = is.led; own_only = λ letter. inl (is.whole letter); whole = λ h. is.whole }
+pub IsKey-given : {from shapes : List Shape} {table : List ℕ} {own a r : ℕ} → IsGiven from shapes table a r → IsKey from shapes table own a (record { node = r; whole = true })
+IsKey-given is = record { led = is.led; own_only = λ letter. inl (is.whole letter); whole = λ h. is.whole }
 
-pub IsKey-own : (from shapes : List Shape) (table : List ℕ) (own a r : ℕ) → IsOwn from shapes table own a r → IsKey from shapes table own a (record { node = r; whole = false })
-IsKey-own from shapes table own a r is = record { led = is.led; own_only = is.own_only; whole = λ h. absurd (wrong h) }
+pub IsKey-own : {from shapes : List Shape} {table : List ℕ} {own a r : ℕ} → IsOwn from shapes table own a r → IsKey from shapes table own a (record { node = r; whole = false })
+IsKey-own is = record { led = is.led; own_only = is.own_only; whole = λ h. absurd (wrong h) }
   where
     wrong : IsTrue false → ⊥
     wrong h = cc
 
-pub IsKey-leaf : (from shapes : List Shape) (table : List ℕ) (own a state : ℕ) (key : Key) → IsAt from a (Leaf state) → key.node < length shapes
+pub IsKey-leaf : {from shapes : List Shape} {table : List ℕ} {own a state : ℕ} {key : Key} → IsAt from a (Leaf state) → key.node < length shapes
     → ((letter : ℕ) → map_at shapes key.node letter ≡ get_or table state 0) → top_track shapes key.node ≡ MOST_TRACKS
     → (get_or table state 0 ≢ NO_CLASS) ⊎ (state ≡ own) → (IsTrue key.whole → get_or table state 0 ≢ NO_CLASS)
     → IsKey from shapes table own a key
-IsKey-leaf from shapes table own a state key at known map top either whole = record {
+IsKey-leaf {from = from} {shapes = shapes} {table = table} {a = a} {state = state} {key = key} at known map top either whole = record {
   led = Carries-leaf (by_table from table) shapes shapes a key.node state at (Grows-refl shapes) known map top;
   own_only = λ letter. elim either [
     | inl some ↦ inl (λ e. some (ap (λ v. get_or table v 0) (sym (at.map letter)) ∙ e))
@@ -89,12 +90,12 @@ either : (P : ℕ → Type 0) (b : Bool) (v w : ℕ) → P v → P w → P (if b
 either P true v w p q = p
 either P false v w p q = q
 
-pub IsKey-test : (from old mid shapes : List Shape) (table : List ℕ) (own a track low high r : ℕ) (l h key : Key) → IsAt from a (Test track low high) → IsTest from a track low high
+pub IsKey-test : {from old mid shapes : List Shape} {table : List ℕ} {own a track low high r : ℕ} {l h key : Key} → IsAt from a (Test track low high) → IsTest from a track low high
     → IsKey from old table own low l → Grows old mid → IsKey from mid table own high h → Grows mid shapes
     → key.node ≡ r → r < length shapes → ((letter : ℕ) → map_at shapes r letter ≡ chosen mid track l.node h.node letter) → track ≤ top_track shapes r
     → (IsTrue key.whole → IsTrue l.whole × IsTrue h.whole)
     → IsKey from shapes table own a key
-IsKey-test from old mid shapes table own a track low high r l h key at fits lk grows hk more is known map top whole = record {
+IsKey-test {from} {old} {mid} {shapes} {table} {own} {a} {track} {low} {high} {r} {l} {h} at fits lk grows hk more is known map top whole = record {
   led = subst (IsLedFrom from shapes table a) (sym is)
       (Carries-test (by_table from table) mid mid shapes a r track low high l.node h.node at fits (Grows-refl mid) more
       (IsLedFrom-grows from old mid table low l.node grows lk.led) hk.led known map (λ _. top));

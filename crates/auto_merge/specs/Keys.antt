@@ -5,9 +5,19 @@ use Rattle.letter_diagram.specs.Diagram.{map_at}
 use Rattle.letter_diagram.specs.NodeMemo.{answer_of}
 use Rattle.auto_refine.specs.Leading.{entry_at, IsLedFrom}
 use Rattle.auto_merge.specs.declared.keys.TheConstants.{NO_CLASS}
+use Rattle.auto_merge.specs.declared.keys.Guide.{Guide}
+use Rattle.auto_merge.specs.declared.keys.Memos.{Memos}
 use Rattle.auto_merge.specs.declared.keys.Key.{Key}
 use Rattle.auto_merge.specs.declared.keys.NoKey.{NoKey}
 use Rattle.auto_merge.specs.declared.keys.NoKey.TheVariants.{Unclassed, Memory}
+
+-- each value of a node has an entry in a table
+abbrev pub HasEntries : List Shape → List ℕ → ℕ → Type 0
+HasEntries from table a = (letter : ℕ) → map_at from a letter < length table
+
+-- the class that a guide has for a state
+abbrev pub class_of : Guide → ℕ → ℕ
+class_of guide state = slice_index guide.table.now state
 
 -- each value of a node has a class
 abbrev pub IsWhole : List Shape → List ℕ → ℕ → Type 0
@@ -68,3 +78,11 @@ pub record IsOwn (from shapes : List Shape) (table : List ℕ) (own a r : ℕ) :
 -- what a memo answers leads to classes and to one state without one
 pub record RemembersOwn (from shapes : List Shape) (table : List ℕ) (own : ℕ) (memo : List (Option ℕ)) : Type 0 where
   pub own_at : (a r : ℕ) → answer_of memo a ≡ Some r → IsOwn from shapes table own a r
+
+-- what was led to classes alone
+abbrev pub RemembersWhole : Guide → List Shape → Memos → Type 0
+RemembersWhole guide shapes memos = RemembersGiven guide.from.now shapes guide.table.now memos.whole
+
+-- what was led of the guide's own row
+abbrev pub RemembersOpen : Guide → List Shape → Memos → Type 0
+RemembersOpen guide shapes memos = RemembersOwn guide.from.now shapes guide.table.now guide.own memos.open

@@ -8,14 +8,32 @@ use Rattle.auto_refine.specs.Leading.{IsLedFrom}
 use Rattle.auto_merge.specs.declared.keys.TheConstants.{NO_CLASS}
 use Rattle.auto_merge.specs.declared.leading.Led.{Led}
 use Rattle.auto_merge.specs.declared.merging.Merging.{Merging}
-use Rattle.auto_merge.specs.Keys.{RemembersGiven}
-use Rattle.auto_merge.specs.Merging.{AreClasses, AreKeyed}
+use Rattle.auto_merge.specs.declared.keys.Key.{Key}
+use Rattle.auto_merge.specs.declared.keys.NoKey.{NoKey}
+use Rattle.auto_merge.specs.Keys.{IsGiven, IsKey, IsNoKey, RemembersGiven}
+use Rattle.auto_merge.specs.Merging.{AreClasses, AreKeyed, CanJoin, row_node}
 
 -- the classes, the keys that have one, and what is remembered of rows
 pub record IsMerging (a : Automaton) (m : Merging) : Type 0 where
   pub classes : AreClasses a m.table.items m.owners.items
   pub keys : AreKeyed a m.table.items m.owners.items m.to m.keyed
   pub remembered : RemembersGiven a.shapes m.to m.table.items m.memos.whole
+
+-- a key of the row of a state
+abbrev pub IsRowKey : Automaton → List ℕ → List Shape → ℕ → Key → Type 0
+IsRowKey a table shapes state key = IsKey a.shapes shapes table state (row_node a state) key
+
+-- why the row of a state has no key
+abbrev pub HasNoRowKey : Automaton → List ℕ → ℕ → NoKey → Type 0
+HasNoRowKey a table state why = IsNoKey a.shapes table state (row_node a state) why
+
+-- a node that leads the row of a state to classes alone
+abbrev pub IsRowGiven : Automaton → List ℕ → List Shape → ℕ → ℕ → Type 0
+IsRowGiven a table shapes state node = IsGiven a.shapes shapes table (row_node a state) node
+
+-- a state may have a class that another one got first
+abbrev pub MayShare : Automaton → Merging → ℕ → ℕ → Type 0
+MayShare a m state class = CanJoin a m.table.items m.owners.items state class
 
 -- each state has a class
 abbrev pub HaveClasses : Automaton → List ℕ → Type 0

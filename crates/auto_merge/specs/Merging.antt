@@ -12,9 +12,13 @@ use mathlib.Core.Bool.{beq}
 abbrev pub unclassed : List ℕ → ℕ
 unclassed table = sum_by (λ class. if nat_eq class NO_CLASS then 1 else 0) table
 
+-- the node of a state's row
+abbrev pub row_node : Automaton → ℕ → ℕ
+row_node a state = slice_index a.row_nodes state
+
 -- the state to which a state's row leads
 abbrev pub next_at : Automaton → ℕ → ℕ → ℕ
-next_at a state letter = map_at a.shapes (slice_index a.row_nodes state) letter
+next_at a state letter = map_at a.shapes (row_node a state) letter
 
 -- the class to which a state's row leads
 abbrev pub class_at : Automaton → List ℕ → ℕ → ℕ → ℕ

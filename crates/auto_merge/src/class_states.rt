@@ -1,8 +1,8 @@
 //! The automaton over classes of states that lead to the same classes.
-ghost use Rattle.std.specs.Prelude.{◌≡◌, ◌≤◌, ◌↔◌, List, ℕ, All, IfOk, length};
-ghost use Rattle.track_word.specs.Word.{IsWord};
-ghost use Rattle.auto_core.specs.Automaton.{Accepts, IsAutomaton};
+ghost use Rattle.std.specs.Prelude.{◌≡◌, ◌≤◌, IfOk, length};
+ghost use Rattle.auto_core.specs.Automaton.{IsAutomaton};
 ghost use Rattle.auto_core.specs.Reduced.{AllReached};
+ghost use Rattle.auto_reduce.specs.Tables.{HasSameWords};
 ghost use Rattle.auto_merge.specs.Merged.{IsMerging, HaveClasses, IsMergedBy, IsMerged};
 
 use crate::leading::lead_rows;
@@ -58,8 +58,7 @@ fn merged(alloc: Global, a: &Auto) -> Result<Once, AllocError>
 /// What is left to merge is found by refinement.
 fn settled(alloc: Global, once: Once) -> Result<Auto, AllocError>
     ensures tracks { IfOk result (λ m. m.tracks ≡ once.auto.tracks) }
-    ensures words { IfOk result
-        (λ m. (word : List ℕ) → IsWord (length once.auto.tracks) word → Accepts m word ↔ Accepts once.auto word) }
+    ensures words { IfOk result (HasSameWords once.auto) }
     ensures fewer { IfOk result (λ m. length m.accept ≤ length once.auto.accept) }
     ensures reached { IfOk result (λ m. AllReached once.auto → AllReached m) }
 {
@@ -75,8 +74,7 @@ fn settled(alloc: Global, once: Once) -> Result<Auto, AllocError>
 /// Costs the nodes of the rows, and once more those that lead to the state whose row they are in; and then the reduction.
 pub fn merge(alloc: Global, a: &Auto) -> Result<Auto, AllocError>
     ensures tracks { IfOk result (λ m. m.tracks ≡ a.now.tracks) }
-    ensures words { IfOk result
-        (λ m. (word : List ℕ) → IsWord (length a.now.tracks) word → Accepts m word ↔ Accepts a.now word) }
+    ensures words { IfOk result (HasSameWords a.now) }
     ensures fewer { IfOk result (λ m. length m.accept ≤ length a.now.accept) }
     ensures reached { IfOk result (λ m. AllReached a.now → AllReached m) }
     ensures valid { IfOk result IsAutomaton }

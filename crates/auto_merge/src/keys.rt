@@ -2,7 +2,7 @@
 ghost use Rattle.std.specs.Prelude.{◌≡◌, ◌≢◌, ◌<◌, ◌⊎◌, ℕ, length, slice_index, IfErr, IfOk, OnOk, IsTrue, not};
 ghost use Rattle.limits.specs.declared.numbers.TheConstants.{MOST_TRACKS};
 ghost use Rattle.letter_diagram.specs.Diagram.{map_at, top_track, Grows};
-ghost use Rattle.auto_merge.specs.Keys.{IsKey, IsNoKey, IsNoLeafKey, Adds, RemembersGiven, RemembersOwn};
+ghost use Rattle.auto_merge.specs.Keys.{HasEntries, IsKey, IsNoKey, IsNoLeafKey, Adds, RemembersWhole, RemembersOpen, class_of};
 
 use auto_refine::RoundMemo;
 use letter_diagram::{Diagrams, Memo, Node, NodeMemo, Shape};
@@ -75,8 +75,7 @@ fn keep(node: Node, key: &Key, memos: &mut Memos) -> Result<(), AllocError>
 fn leaf_key(guide: &Guide, state: u32, to: &mut Diagrams) -> Result<Key, NoKey>
     requires { state < length guide.now.table.now }
     ensures known { IfOk result (λ key. key.node < length to.new) }
-    ensures map { IfOk result
-        (λ key. (letter : ℕ) → map_at to.new key.node letter ≡ slice_index guide.now.table.now state) }
+    ensures map { IfOk result (λ key. (letter : ℕ) → map_at to.new key.node letter ≡ class_of guide.now state) }
     ensures top { IfOk result (λ key. top_track to.new key.node ≡ MOST_TRACKS) }
     ensures own { IfOk result (λ key. (slice_index guide.now.table.now state ≢ NO_CLASS) ⊎ (state ≡ guide.now.own)) }
     ensures whole { IfOk result (λ key. IsTrue key.whole → slice_index guide.now.table.now state ≢ NO_CLASS) }
@@ -109,13 +108,12 @@ fn test_key(node: Node, low: &Key, high: &Key) -> Key
 /// Costs the nodes that are not remembered.
 pub fn key_of(guide: &Guide, node: Node, to: &mut Diagrams, memos: &mut Memos) -> Result<Key, NoKey>
     requires known { node < length guide.now.from.now }
-    requires leaves { (letter : ℕ) → map_at guide.now.from.now node letter < length guide.now.table.now }
-    requires remembered { RemembersGiven guide.now.from.now to.old guide.now.table.now memos.old.whole }
-    requires open { RemembersOwn guide.now.from.now to.old guide.now.table.now guide.now.own memos.old.open }
+    requires leaves { HasEntries guide.now.from.now guide.now.table.now node }
+    requires remembered { RemembersWhole guide.now to.old memos.old }
+    requires open { RemembersOpen guide.now to.old memos.old }
     ensures key { IfOk result (IsKey guide.now.from.now to.new guide.now.table.now guide.now.own node) }
-    ensures remembered { RemembersGiven guide.now.from.now to.new guide.now.table.now memos.new.whole }
-    ensures open { OnOk result
-        (RemembersOwn guide.now.from.now to.new guide.now.table.now guide.now.own memos.new.open) }
+    ensures remembered { RemembersWhole guide.now to.new memos.new }
+    ensures open { OnOk result (RemembersOpen guide.now to.new memos.new) }
     ensures refused { IfErr result (IsNoKey guide.now.from.now guide.now.table.now guide.now.own node) }
     ensures grows { Grows to.old to.new }
 {

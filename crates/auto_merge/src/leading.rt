@@ -1,7 +1,6 @@
 //! Rows led to classes, where each state has one.
-ghost use Rattle.std.specs.Prelude.{◌<◌, ℕ, All, length, IfOk};
-ghost use Rattle.letter_diagram.specs.Diagram.{map_at};
-ghost use Rattle.auto_merge.specs.Keys.{RemembersGiven};
+ghost use Rattle.std.specs.Prelude.{◌<◌, All, length, IfOk};
+ghost use Rattle.auto_merge.specs.Keys.{HasEntries, RemembersGiven};
 ghost use Rattle.auto_merge.specs.Merged.{AreLed};
 
 use auto_refine::ByTable;
@@ -24,10 +23,9 @@ pub fn lead_rows(
     memo: &mut NodeMemo,
 ) -> Result<Led, AllocError>
     requires first_known { first < length classes.now.from.now }
-    requires first_leaves { (letter : ℕ) → map_at classes.now.from.now first letter < length classes.now.table.now }
+    requires first_leaves { HasEntries classes.now.from.now classes.now.table.now first }
     requires known { All (λ node. node < length classes.now.from.now) rows.now }
-    requires leaves { All
-        (λ node. (letter : ℕ) → map_at classes.now.from.now node letter < length classes.now.table.now) rows.now }
+    requires leaves { All (HasEntries classes.now.from.now classes.now.table.now) rows.now }
     requires remembered { RemembersGiven classes.now.from.now to.old classes.now.table.now memo.old }
     ensures { IfOk result (AreLed classes.now.from.now to.new classes.now.table.now first rows.now) }
 {

@@ -1,9 +1,8 @@
 //! Classes that are given to states one by one.
 ghost use Rattle.std.specs.Prelude.{◌≡◌, ◌<◌, ◌^◌, ◌++◌, ◌∷◌, [], length, slice_index, IfErr, IfOk, IfSome, OnOk, IsTrue, vec_len};
 ghost use Rattle.letter_diagram.specs.Diagram.{Grows};
-ghost use Rattle.auto_merge.specs.Keys.{IsGiven, IsKey, IsNoKey};
-ghost use Rattle.auto_merge.specs.Merging.{IsKeyOf, CanJoin, IsClassGiven, KeepsClasses};
-ghost use Rattle.auto_merge.specs.Merged.{IsMerging};
+ghost use Rattle.auto_merge.specs.Merging.{IsKeyOf, IsClassGiven, KeepsClasses};
+ghost use Rattle.auto_merge.specs.Merged.{IsMerging, IsRowKey, HasNoRowKey, IsRowGiven, MayShare};
 
 use crate::joining::{agrees, first_class};
 use crate::keys::{Guide, Key, Memos, NO_CLASS, NoKey, key_of};
@@ -113,10 +112,8 @@ fn give_by_key(a: &Auto, state: u32, key: Node, merging: &mut Merging) -> Result
 pub fn row_key(a: &Auto, state: u32, merging: &mut Merging) -> Result<Key, NoKey>
     requires merging { IsMerging a.now merging.old }
     requires within { state < length a.now.accept }
-    ensures key { IfOk result
-        (IsKey a.now.shapes merging.new.to merging.old.table.items state (slice_index a.now.row_nodes state)) }
-    ensures refused { IfErr result
-        (IsNoKey a.now.shapes merging.old.table.items state (slice_index a.now.row_nodes state)) }
+    ensures key { IfOk result (IsRowKey a.now merging.old.table.items merging.new.to state) }
+    ensures refused { IfErr result (HasNoRowKey a.now merging.old.table.items state) }
     ensures merging { IsMerging a.now merging.new }
     ensures table { merging.new.table ≡ merging.old.table }
     ensures owners { merging.new.owners ≡ merging.old.owners }
@@ -140,10 +137,7 @@ pub fn row_key(a: &Auto, state: u32, merging: &mut Merging) -> Result<Key, NoKey
 fn whole_row(a: &Auto, state: u32, merging: &mut Merging) -> Result<Option<Node>, AllocError>
     requires merging { IsMerging a.now merging.old }
     requires within { state < length a.now.accept }
-    ensures row { IfOk result
-        (λ row. IfSome row
-        (λ node. IsGiven a.now.shapes merging.new.to merging.old.table.items (slice_index a.now.row_nodes state)
-        node)) }
+    ensures row { IfOk result (λ row. IfSome row (IsRowGiven a.now merging.old.table.items merging.new.to state)) }
     ensures merging { IsMerging a.now merging.new }
     ensures table { merging.new.table ≡ merging.old.table }
     ensures owners { merging.new.owners ≡ merging.old.owners }
@@ -174,8 +168,7 @@ fn can_join(
     requires within { state < length a.now.accept }
     requires known { class < length merging.old.owners.items }
     requires key { IsKeyOf a.now merging.old.table.items merging.old.to state key }
-    ensures can { IfOk result
-        (λ can. IsTrue can → CanJoin a.now merging.old.table.items merging.old.owners.items state class) }
+    ensures can { IfOk result (λ can. IsTrue can → MayShare a.now merging.old state class) }
     ensures merging { IsMerging a.now merging.new }
     ensures table { merging.new.table ≡ merging.old.table }
     ensures owners { merging.new.owners ≡ merging.old.owners }
@@ -199,7 +192,7 @@ fn give_shared(a: &Auto, state: u32, class: u32, merging: &mut Merging)
     requires merging { IsMerging a.now merging.old }
     requires within { state < length a.now.accept }
     requires new { slice_index merging.old.table.items state ≡ NO_CLASS }
-    requires can { CanJoin a.now merging.old.table.items merging.old.owners.items state class }
+    requires can { MayShare a.now merging.old state class }
     ensures merging { IsMerging a.now merging.new }
     ensures given { KeepsClasses merging.old.table.items merging.new.table.items state }
 {

@@ -42,7 +42,8 @@ accessible-turned (Err why) a tracks first next accept = tracks
 
 -- words whose lifts lead a reduced automaton to different sets of states are not alike
 module _ (x : Var) (a : Automaton) (valid : IsAutomaton a) (reduced : IsReduced a) where
-  leads_too : (v w : List ℕ) (state : ℕ) → LiftsInto (without_var x a.tracks) a.tracks (Accepts a) v w → LiftLeads a (without_var x a.tracks) v state → LiftLeads a (without_var x a.tracks) w state
+  leads_too : (v w : List ℕ) (state : ℕ) → LiftsInto (without_var x a.tracks) a.tracks (Accepts a) v w
+      → LiftLeads a (without_var x a.tracks) v state → LiftLeads a (without_var x a.tracks) w state
   leads_too v w state into h =
       let other = into h.lift h.is in
       let same = same_state a valid reduced h.lift other.0 h.is.is_word.nonempty other.1.is_word.nonempty other.2 in

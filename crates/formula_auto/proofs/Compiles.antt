@@ -11,7 +11,8 @@ use Rattle.formula_auto.specs.Connected.{connect}
 use Rattle.formula_auto.specs.Decides.{Decides}
 use Rattle.formula_auto.specs.Compiled.{IsMade, IsCompileError}
 use Rattle.formula_auto.specs.StepError.{step_error}
-use Rattle.formula_auto.specs.Nodes.{BothExceed, ExExceeds}
+use Rattle.auto_bool.specs.Words.{StepExceeds}
+use Rattle.auto_project.specs.Lifted.{ForgettingExceeds}
 use Rattle.formula_auto.specs.declared.connective.Connective.{Connective}
 use Rattle.formula_auto.specs.declared.errors.CompileError.{CompileError}
 use Rattle.formula_auto.specs.declared.errors.CompileError.TheVariants as compile_error
@@ -52,27 +53,28 @@ module _ (e : ℕ → SetOf) (budget before : ℕ) where
         with_last answer h =
             whole answer (FirstOver-append (steps f ++ steps g) (connect connective f g ∷ []) (members e) budget (before + 1) answer (of_both None right.within) h)
 
-        pub made_both : (c : Automaton) → Decides c (connect connective f g) (members e) → (BothExceed a b budget → ⊥) → IsMade (connect connective f g) e before budget c
+        pub made_both : (c : Automaton) → Decides c (connect connective f g) (members e) → (StepExceeds a b budget → ⊥) → IsMade (connect connective f g) e before budget c
         made_both c decides none = record {
           decides = decides;
           within = with_last None (inr (λ over. none ((Exceeds-connect (members e) f g a b budget left.decides right.decides connective).1 over), refl));
         }
 
-        pub step_both : (why : Grown) → (why ≡ grown.Over → BothExceed a b budget) → IsCompileError (connect connective f g) e before budget (step_error (after + 1) why)
+        pub step_both : (why : Grown) → (why ≡ grown.Over → StepExceeds a b budget) → IsCompileError (connect connective f g) e before budget (step_error (after + 1) why)
         step_both grown.Over over =
             let at : after + 1 ≡ before + 1 + length (steps f ++ steps g) = simp length-append (omega arith) in
             with_last (Some (after + 1)) (inl ((Exceeds-connect (members e) f g a b budget left.decides right.decides connective).0 (over refl), ap Some at))
         step_both grown.Memory over = tt
 
   module _ (x : Var) (f : Tree) (a : Automaton) (part : IsMade f e before budget a) where
-    pub made_ex : (c : Automaton) → Decides c (Ex x f) (members e) → (ExExceeds x a budget → ⊥) → IsMade (Ex x f) e before budget c
+    pub made_ex : (c : Automaton) → Decides c (Ex x f) (members e) → (ForgettingExceeds x a budget → ⊥) → IsMade (Ex x f) e before budget c
     made_ex c decides none = record {
       decides = decides;
       within = FirstOver-append (steps f) (Ex x f ∷ []) (members e) budget (before + 1) None part.within
           (inr (λ over. none ((Exceeds-Ex (members e) x f a budget part.decides).1 over), refl));
     }
 
-    pub step_ex : (done : ℕ) (why : Grown) → done ≡ before + length (steps f) → (why ≡ grown.Over → ExExceeds x a budget) → IsCompileError (Ex x f) e before budget (step_error (done + 1) why)
+    pub step_ex : (done : ℕ) (why : Grown) → done ≡ before + length (steps f)
+        → (why ≡ grown.Over → ForgettingExceeds x a budget) → IsCompileError (Ex x f) e before budget (step_error (done + 1) why)
     step_ex done grown.Over counts over =
         let at : done + 1 ≡ before + 1 + length (steps f) = omega arith in
         FirstOver-append (steps f) (Ex x f ∷ []) (members e) budget (before + 1) (Some (done + 1)) part.within

@@ -23,7 +23,8 @@ None_of f entries = All (λ entry. tree_of entry.formula ≢ f) entries
 pub none_at_end : (entries : List Entry) (f : Tree) (place : ℕ) → length entries ≤ place → None_of f (take place entries) → None_of f entries
 none_at_end entries f place past none = subst (None_of f) (take_all place entries past) none
 
-pub found_at : (entries : List Entry) (f : Tree) (place : ℕ) (entry : Entry) → place < length entries → entry ≡ get_or entries place entry → tree_of entry.formula ≡ f → IsPlaceOf entries f place
+pub found_at : (entries : List Entry) (f : Tree) (place : ℕ) (entry : Entry) → place < length entries
+    → entry ≡ get_or entries place entry → tree_of entry.formula ≡ f → IsPlaceOf entries f place
 found_at entries f place entry within is same = record {
   entry = entry;
   there = slice_get_read entries (length entries) place entry refl within is;

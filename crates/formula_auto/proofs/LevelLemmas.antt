@@ -17,7 +17,8 @@ abbrev pub level_of : List Automaton → ℕ → List Entry → LevelState
 level_of sets budget items = record { sets = sets; budget = budget; pairs = map entry_of items }
 
 module _ (sets : List Automaton) (budget : ℕ) (items : List Entry) (l : LevelState) (view_is : level_of sets budget items ≡ l) where
-  pub pair_found : (slice : List Entry) (f : Tree) (place : Option ℕ) → slice ≡ items → IsLevel (level_of sets budget items) → IfSome place (IsPlaceOf slice f) → IfSome place (IsPairAt l f)
+  pub pair_found : (slice : List Entry) (f : Tree) (place : Option ℕ) → slice ≡ items
+      → IsLevel (level_of sets budget items) → IfSome place (IsPlaceOf slice f) → IfSome place (IsPairAt l f)
   pair_found slice f None same level some = some
   pair_found slice f (Some k) same level some =
       let at : IsPlaceOf items f k = subst (λ es. IsPlaceOf es f k) same some in

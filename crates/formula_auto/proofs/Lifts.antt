@@ -76,12 +76,14 @@ others-step : (b : Bool) (g : Var) (gs w : List Var) (letter bit one half : ℕ)
 others-step true g gs w letter bit one half less apart is_one is_half within = restrict-later g gs w bit one less apart ∙ is_one within
 others-step false g gs w letter bit one half less apart is_one is_half within =
     let two : 2 ^ suc (length w) ≡ 2 * 2 ^ length w = omega arith in
-    let first : bit_at (letter % 2 + 2 * half) (place (g ∷ gs) g) ≡ letter % 2 = ap (λ k. bit_at (letter % 2 + 2 * half) k) (place-here g g gs refl) ∙ bit_at-first (letter % 2) half (low letter) in
+    let first : bit_at (letter % 2 + 2 * half) (place (g ∷ gs) g) ≡ letter % 2 =
+    ap (λ k. bit_at (letter % 2 + 2 * half) k) (place-here g g gs refl) ∙ bit_at-first (letter % 2) half (low letter) in
     let rest : restrict (g ∷ gs) w (letter % 2 + 2 * half) ≡ letter / 2 = restrict-later g gs w (letter % 2) half (low letter) apart ∙ is_half (omega (arith, two)) in
     ap (λ n. n + 2 * restrict (g ∷ gs) w (letter % 2 + 2 * half)) first ∙ (ap (λ n. letter % 2 + 2 * n) rest ∙ (omega arith))
 
 -- the other tracks have the letter
-pub restrict-inserted : (x : Var) (gs : List Var) (letter bit : ℕ) → bit < 2 → Apart gs → letter < 2 ^ length (without_var x gs) → restrict gs (without_var x gs) (inserted x gs letter bit) ≡ letter
+pub restrict-inserted : (x : Var) (gs : List Var) (letter bit : ℕ) → bit < 2 → Apart gs → letter < 2 ^ length (without_var x gs)
+    → restrict gs (without_var x gs) (inserted x gs letter bit) ≡ letter
 restrict-inserted x [] letter bit less apart within = omega arith
 restrict-inserted x (g ∷ gs) letter bit less apart within =
     others-step (g.0 == x.0) g gs (without_var x gs) letter bit (inserted x gs letter bit) (inserted x gs (letter / 2) bit) less

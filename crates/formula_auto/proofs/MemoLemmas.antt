@@ -222,7 +222,8 @@ module _ (budget found : ℕ) (items longer : List Entry) (m : MemoState) (en : 
       let old : MemoState = state_of budget items found in
       let new_to : Contains (known old) (tree_of en.formula) → ⊥ = subst (λ t. Contains (known old) t → ⊥) (sym tree) (subst (λ n. Contains (known n) f → ⊥) (sym view) unknown) in
       let yes : nat_lt (length (map entry_of items)) (2 ^ 32 - 1) ≡ true = (let fits = room in grind (arith, fits)) in
-      let entered : with_entry (map entry_of items) (entry_of en) ≡ map entry_of longer = ap (λ b. if b then map entry_of items ++ entry_of en ∷ [] else map entry_of items) yes ∙ sym entries_are in
+      let entered : with_entry (map entry_of items) (entry_of en) ≡ map entry_of longer =
+      ap (λ b. if b then map entry_of items ++ entry_of en ∷ [] else map entry_of items) yes ∙ sym entries_are in
       let after : IsMemoAfter old (record { budget = budget; entries = with_entry (map entry_of items) (entry_of en); found = found }) (tree_of en.formula ∷ []) =
       after-with_entry old en.formula en.auto new_to in
       let whole : IsMemoAfter old (state_of budget longer found) (tree_of en.formula ∷ []) =

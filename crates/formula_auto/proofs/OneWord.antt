@@ -45,7 +45,8 @@ power_is ls ms size = ap (λ n. 2 ^ n) size
 shorter : (l m : ℕ) (ls ms : List ℕ) → length (l ∷ ls) ≡ length (m ∷ ms) → length ls ≡ length ms
 shorter l m ls ms size = omega arith
 
-same_letters : (k : ℕ) (ps qs : List ℕ) → All (λ l. l < 2 ^ k) ps → All (λ l. l < 2 ^ k) qs → length ps ≡ length qs → ((t : ℕ) → t < k → low_value ps t ≡ low_value qs t) → ps ≡ qs
+same_letters : (k : ℕ) (ps qs : List ℕ) → All (λ l. l < 2 ^ k) ps → All (λ l. l < 2 ^ k) qs
+    → length ps ≡ length qs → ((t : ℕ) → t < k → low_value ps t ≡ low_value qs t) → ps ≡ qs
 same_letters k [] [] p q size h = refl
 same_letters k [] (m ∷ ms) p q size h = absurd (omega arith)
 same_letters k (l ∷ ls) [] p q size h = absurd (omega arith)

@@ -5,7 +5,7 @@ use Rattle.std.proofs.lemmas.Bool.{cases_lt}
 use Rattle.std.proofs.lemmas.Option.{none-some, same_Some}
 use Rattle.auto_core.specs.Automaton.{Automaton}
 use Rattle.auto_core.specs.Reduced.{IsReduced}
-use Rattle.lin_formula.specs.Tree.{Tree, steps}
+use Rattle.lin_formula.specs.Tree.{Tree, HasStep, steps}
 use Rattle.lin_formula.specs.declared.formula.Formula.{Formula}
 use Rattle.lin_formula.specs.SetOf.{SetOf, members}
 use Rattle.formula_auto.specs.Decides.{Decides}
@@ -41,17 +41,17 @@ one_automaton m l (Paired place) a b left right =
 one_automaton m l (Named set) a b left right = same_Some a b (sym left ∙ right)
 
 -- entries are only added
-pub part-after : (old new : MemoState) (fs : List Tree) (l k : LevelState) (part : Part) (a : Automaton) → IsPart old l part a → IsMemoAfter old new fs → LevelGrows l k → IsPart new k part a
-part-after old new fs l k (Fresh c) a has after grows = has
-part-after old new fs l k (Kept place) a has after grows = (
+pub part-after : {old new : MemoState} {fs : List Tree} {l k : LevelState} (part : Part) (a : Automaton) → IsPart old l part a → IsMemoAfter old new fs → LevelGrows l k → IsPart new k part a
+part-after {old} {new} {fs} {l} {k} (Fresh c) a has after grows = has
+part-after {old} {new} {fs} {l} {k} (Kept place) a has after grows = (
   has.0,
   subst (λ entries. slice_get entries place ≡ Some (has.0, a)) (sym after.entries) (get-append old.entries after.added place (has.0, a) has.1),
 )
-part-after old new fs l k (Paired place) a has after grows = (
+part-after {old} {new} {fs} {l} {k} (Paired place) a has after grows = (
   has.0,
   subst (λ pairs. slice_get pairs place ≡ Some (has.0, a)) (sym grows.pairs) (get-append l.pairs grows.added place (has.0, a) has.1),
 )
-part-after old new fs l k (Named set) a has after grows = subst (λ sets. slice_get sets set.0 ≡ Some a) (sym grows.sets) has
+part-after {old} {new} {fs} {l} {k} (Named set) a has after grows = subst (λ sets. slice_get sets set.0 ≡ Some a) (sym grows.sets) has
 
 pub same_accessible : {n m : ℕ} {a : Automaton} → n ≡ m → IsAccessible n a → IsAccessible m a
 same_accessible {a = a} same = subst (λ n. IsAccessible n a) same
@@ -103,12 +103,13 @@ module _ {f : Tree} {e : ℕ → SetOf} {course : Course} {l : LevelState} where
     pub lent-later : {later : MemoState} {fs : List Tree} {k : LevelState} {a : Automaton} → IsMemoAfter new later fs → LevelGrows l k → IsPart later k made.part a
         → IsRemembered f e course old new a made.done
     lent-later {later = later} {fs = fs} {k = k} {a = a} after grows has =
-        let still = part-after new later fs l k made.part part.auto part.has after grows in
+        let still = part-after made.part part.auto part.has after grows in
         subst (λ b. IsRemembered f e course old new b made.done) (one_automaton later k made.part part.auto a still has) part.remembered
 
 -- made of a whole formula: as its last step made it, or reduced
-pub compiled_on : {f : Tree} {e : ℕ → SetOf} {r : Recall} {old new : MemoState} {l : LevelState} {made : Remembered} {a : Automaton} → IsRememberedPart f e (start r) old new l made
-    → ((b : Automaton) → IsPart new l made.part b → AcceptSame b a) → (0 < length (steps f) → IsPart new l made.part a) → (length (steps f) ≤ 0 → IsReduced a) → IsCompiledOn f e 0 old.budget a
+pub compiled_on : {f : Tree} {e : ℕ → SetOf} {r : Recall} {old new : MemoState} {l : LevelState} {made : Remembered} {a : Automaton}
+    → IsRememberedPart f e (start r) old new l made → ((b : Automaton) → IsPart new l made.part b → AcceptSame b a)
+    → (HasStep f → IsPart new l made.part a) → (length (steps f) ≤ 0 → IsReduced a) → IsCompiledOn f e 0 old.budget a
 compiled_on {f = f} {l = l} {a = a} part same as_it_is reduced = record {
   made = made_same (same part.auto part.has) part.remembered.made;
   reached = elim (cases_lt 0 (length (steps f))) [

@@ -1,9 +1,11 @@
 -- What a formula says of a word, by what its parts say.
-use Rattle.std.proofs.Common.{◌≡◌, ◌↔◌, ◌⊎◌, ℕ, List, length, sym, ap, ◌∙◌, subst, inl, inr}
+use Rattle.std.proofs.Common.{◌≡◌, ◌↔◌, ℕ, List, length, sym, ap, ◌∙◌, subst, inl, inr}
 use Rattle.track_word.specs.declared.tracks.Var.{Var}
 use Rattle.track_word.specs.Word.{IsWord}
 use Rattle.track_word.specs.Tracks.{with_vars, part_of, word_values}
 use Rattle.auto_core.specs.Automaton.{Automaton, Accepts}
+use Rattle.auto_bool.specs.Words.{AcceptsBoth, AcceptsEither, AcceptsFirstOnly}
+use Rattle.auto_reduce.specs.Tables.{HasSameWords}
 use Rattle.lin_formula.specs.Tree.{Tree, Not, And, Or, free_vars}
 use Rattle.lin_formula.specs.Holds.{Sets, Holds}
 use Rattle.lin_formula.specs.Free.{IsFree}
@@ -27,57 +29,47 @@ module _ (e : Sets) (f g : Tree) (a b m : Automaton) (left : Decides a f e) (rig
   tracks_is : m.tracks ≡ with_vars (free_vars f) (free_vars g)
   tracks_is = tracks ∙ (ap (λ t. with_vars t b.tracks) left.tracks ∙ ap (λ t. with_vars (free_vars f) t) right.tracks)
 
-  -- what an automaton accepts of the part of a word
-  pub left_part : (word : List ℕ) → IsWord (length (with_vars (free_vars f) (free_vars g))) word
-      → Accepts a (part_of m.tracks a.tracks word) ↔ Holds f e (word_values (with_vars (free_vars f) (free_vars g)) word)
-  left_part word is =
-      let same : part_of m.tracks a.tracks word ≡ part_of (with_vars (free_vars f) (free_vars g)) (free_vars f) word =
-      ap (λ t. part_of t a.tracks word) tracks_is ∙ ap (λ t. part_of (with_vars (free_vars f) (free_vars g)) t word) left.tracks in
-      let holds = Holds-part f e (with_vars (free_vars f) (free_vars g)) word in
-      let says = left.words (part_of (with_vars (free_vars f) (free_vars g)) (free_vars f) word) (IsWord-part (with_vars (free_vars f) (free_vars g)) (free_vars f) word is) in
-      (λ h. holds.1 (says.0 (subst (Accepts a) same h)), λ h. subst (Accepts a) (sym same) (says.1 (holds.0 h)))
-
-  pub right_part : (word : List ℕ) → IsWord (length (with_vars (free_vars f) (free_vars g))) word
-      → Accepts b (part_of m.tracks b.tracks word) ↔ Holds g e (word_values (with_vars (free_vars f) (free_vars g)) word)
-  right_part word is =
-      let same : part_of m.tracks b.tracks word ≡ part_of (with_vars (free_vars f) (free_vars g)) (free_vars g) word =
-      ap (λ t. part_of t b.tracks word) tracks_is ∙ ap (λ t. part_of (with_vars (free_vars f) (free_vars g)) t word) right.tracks in
-      let holds = Holds-part g e (with_vars (free_vars f) (free_vars g)) word in
-      let says = right.words (part_of (with_vars (free_vars f) (free_vars g)) (free_vars g) word) (IsWord-part (with_vars (free_vars f) (free_vars g)) (free_vars g) word is) in
-      (λ h. holds.1 (says.0 (subst (Accepts b) same h)), λ h. subst (Accepts b) (sym same) (says.1 (holds.0 h)))
+  -- what an automaton of a part accepts of the part of a word
+  part_says : (h : Tree) (c : Automaton) → Decides c h e → (word : List ℕ) → IsWord (length (with_vars (free_vars f) (free_vars g))) word
+      → Accepts c (part_of m.tracks c.tracks word) ↔ Holds h e (word_values (with_vars (free_vars f) (free_vars g)) word)
+  part_says h c decides word is =
+      let all = with_vars (free_vars f) (free_vars g) in
+      let same : part_of m.tracks c.tracks word ≡ part_of all (free_vars h) word =
+      ap (λ t. part_of t c.tracks word) tracks_is ∙ ap (λ t. part_of all t word) decides.tracks in
+      let holds = Holds-part h e all word in
+      let says = decides.words (part_of all (free_vars h) word) (IsWord-part all (free_vars h) word is) in
+      (λ k. holds.1 (says.0 (subst (Accepts c) same k)), λ k. subst (Accepts c) (sym same) (says.1 (holds.0 k)))
 
   over_tracks : (word : List ℕ) → IsWord (length (with_vars (free_vars f) (free_vars g))) word → IsWord (length m.tracks) word
   over_tracks word is = subst (λ t. IsWord (length t) word) (sym tracks_is) is
 
-  pub Decides-And : ((word : List ℕ) → IsWord (length m.tracks) word → Accepts m word ↔ (Accepts a (part_of m.tracks a.tracks word) × Accepts b (part_of m.tracks b.tracks word)))
-      → Decides m (And f g) e
+  pub Decides-And : AcceptsBoth a b m → Decides m (And f g) e
   Decides-And words = record {
     tracks = tracks_is;
     words = λ word is.
         let w = words word (over_tracks word is) in
-        let l = left_part word is in
-        let r = right_part word is in
+        let l = part_says f a left word is in
+        let r = part_says g b right word is in
         (λ h. let p = w.0 h in (l.0 p.0, r.0 p.1), λ h. w.1 (l.1 h.0, r.1 h.1));
   }
 
-  pub Decides-Or : ((word : List ℕ) → IsWord (length m.tracks) word → Accepts m word ↔ (Accepts a (part_of m.tracks a.tracks word) ⊎ Accepts b (part_of m.tracks b.tracks word))) → Decides m (Or f g) e
+  pub Decides-Or : AcceptsEither a b m → Decides m (Or f g) e
   Decides-Or words = record {
     tracks = tracks_is;
     words = λ word is.
         let w = words word (over_tracks word is) in
-        let l = left_part word is in
-        let r = right_part word is in
+        let l = part_says f a left word is in
+        let r = part_says g b right word is in
         (λ h. elim (w.0 h) [ inl p ↦ inl (l.0 p) | inr p ↦ inr (r.0 p) ], λ h. w.1 (elim h [ inl p ↦ inl (l.1 p) | inr p ↦ inr (r.1 p) ]));
   }
 
-  pub Decides-AndNot : ((word : List ℕ) → IsWord (length m.tracks) word
-      → Accepts m word ↔ (Accepts a (part_of m.tracks a.tracks word) × (¬ Accepts b (part_of m.tracks b.tracks word)))) → Decides m (And f (Not g)) e
+  pub Decides-AndNot : AcceptsFirstOnly a b m → Decides m (And f (Not g)) e
   Decides-AndNot words = record {
     tracks = tracks_is;
     words = λ word is.
         let w = words word (over_tracks word is) in
-        let l = left_part word is in
-        let r = right_part word is in
+        let l = part_says f a left word is in
+        let r = part_says g b right word is in
         (λ h. let p = w.0 h in (l.0 p.0, λ holds. p.1 (r.1 holds)), λ h. w.1 (l.1 h.0, λ accepts. h.1 (r.0 accepts)));
   }
 
@@ -92,9 +84,9 @@ Decides-Not e f a n decides tracks words = record {
 }
 
 -- the same words over the same tracks
-pub Decides-same : (e : Sets) (f : Tree) (a r : Automaton) → Decides a f e → r.tracks ≡ a.tracks
-    → ((word : List ℕ) → IsWord (length a.tracks) word → Accepts r word ↔ Accepts a word) → Decides r f e
-Decides-same e f a r decides tracks words = record {
+pub Decides-same : {e : Sets} {f : Tree} {a r : Automaton} → Decides a f e → r.tracks ≡ a.tracks
+    → HasSameWords a r → Decides r f e
+Decides-same decides tracks words = record {
   tracks = tracks ∙ decides.tracks;
   words = λ word is.
       let w = words word (subst (λ t. IsWord (length t) word) (sym decides.tracks) is) in

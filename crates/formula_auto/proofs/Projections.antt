@@ -7,7 +7,8 @@ use Rattle.track_word.specs.declared.tracks.Var.{Var}
 use Rattle.track_word.specs.Word.{IsWord, val, repeated}
 use Rattle.track_word.specs.Tracks.{IsAscending, place, without_var, word_values}
 use Rattle.track_word.proofs.Repeats.{val-repeated}
-use Rattle.auto_core.specs.Automaton.{Automaton, Accepts}
+use Rattle.auto_core.specs.Automaton.{Automaton}
+use Rattle.auto_project.specs.Lifted.{AcceptsLifted}
 use Rattle.auto_core.specs.Spread.{IsLift}
 use Rattle.lin_formula.specs.Tree.{Tree, Ex, free_vars}
 use Rattle.lin_formula.specs.Holds.{Sets, Holds, with_value}
@@ -53,7 +54,8 @@ module _ (x : Var) (gs : List Var) (word lift : List ℕ) (is_lift : IsLift (wit
       sym (val-repeated word (place (without_var x gs) y) is_lift.times)
       ∙ (ap (λ w. val w (place (without_var x gs) y)) (sym is_lift.repeats) ∙ val-part gs (without_var x gs) y lift there)
 
-  at_track : (n : ℤ) → (IsOneOf x gs → val lift (place gs x) ≡ n) → (y : Var) → IsOneOf y gs → Cases y x → with_value (word_values (without_var x gs) word) x n y.0 ≡ word_values gs lift y.0
+  at_track : (n : ℤ) → (IsOneOf x gs → val lift (place gs x) ≡ n) → (y : Var) → IsOneOf y gs → Cases y x
+      → with_value (word_values (without_var x gs) word) x n y.0 ≡ word_values gs lift y.0
   at_track n value y one (Same is) =
       let same : y.0 == x.0 ≡ true = eq-eqb y.0 x.0 (ap (λ (v : Var). v.0) is) in
       let there : IsOneOf x gs = subst (λ v. IsOneOf v gs) is one in
@@ -91,7 +93,7 @@ Says-Ex e x g word is = (
 )
 
 pub Decides-Ex : (e : Sets) (x : Var) (g : Tree) (a m : Automaton) → Decides a g e → m.tracks ≡ without_var x a.tracks
-    → ((word : List ℕ) → IsWord (length m.tracks) word → Accepts m word ↔ ((lift : List ℕ) × IsLift m.tracks a.tracks word lift × Accepts a lift))
+    → AcceptsLifted a m
     → Decides m (Ex x g) e
 Decides-Ex e x g a m decides tracks words =
     let tracks_is : m.tracks ≡ without_var x (free_vars g) = tracks ∙ ap (λ t. without_var x t) decides.tracks in

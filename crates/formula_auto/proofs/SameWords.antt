@@ -1,23 +1,17 @@
 -- A spread depends on the sets of words alone.
-use Rattle.std.proofs.Common.{◌≢◌, ◌↔◌, ℕ, ◌^◌, ◌<◌, List, [], ◌∷◌, ◌++◌, length, refl, arith}
+use Rattle.std.proofs.Common.{◌↔◌, ℕ, ◌^◌, ◌<◌, List, ◌++◌, length, arith}
 use Rattle.std.specs.List.{All}
-use Rattle.std.proofs.lemmas.List.Elements.{All-append, All-map, All-weaker}
+use Rattle.std.proofs.lemmas.List.Elements.{All-map, All-weaker}
 use Rattle.track_word.specs.declared.tracks.Var.{Var}
 use Rattle.track_word.specs.Word.{IsWord}
 use Rattle.track_word.specs.Tracks.{with_vars, without_var, part_of, restrict}
 use Rattle.auto_core.specs.Spread.{SameResidual, AlikeInBoth, LiftsInto, AlikeLifted, HasMoreClasses, BothSpreadExceeds, ExSpreadExceeds}
 use Rattle.auto_core.proofs.Restricted.{restrict-below}
 use Rattle.auto_bool.proofs.Spreads.{not_nil-map}
-
-pub not_nil-append : (v letters : List ℕ) → v ≢ [] → v ++ letters ≢ []
-not_nil-append [] letters h e = h refl
-not_nil-append (x ∷ v) letters h e = cc
+use Rattle.auto_reduce.proofs.Leads as leads
 
 pub IsWord-append : (k : ℕ) (v letters : List ℕ) → IsWord k v → All (λ l. l < 2 ^ k) letters → IsWord k (v ++ letters)
-IsWord-append k v letters is are = record {
-  nonempty = not_nil-append v letters is.nonempty;
-  letters = All-append (λ l. l < 2 ^ k) v letters is.letters are;
-}
+IsWord-append = leads.IsWord-append
 
 pub IsWord-part : (all some : List Var) (v : List ℕ) → IsWord (length all) v → IsWord (length some) (part_of all some v)
 IsWord-part all some v is = record {

@@ -71,7 +71,8 @@ pub cases_of : (x y : Var) → Cases x y
 cases_of x y = cases_at x y (x.0 == y.0) refl
 
 restrict_cases : (all : List Var) (x : Var) (some : List Var) (y : Var) (letter : ℕ) → IsOneOf y (x ∷ some) → Cases y x
-    → (IsOneOf y some → bit_at (restrict all some letter) (place some y) ≡ bit_at letter (place all y)) → bit_at (restrict all (x ∷ some) letter) (place (x ∷ some) y) ≡ bit_at letter (place all y)
+    → (IsOneOf y some → bit_at (restrict all some letter) (place some y) ≡ bit_at letter (place all y))
+    → bit_at (restrict all (x ∷ some) letter) (place (x ∷ some) y) ≡ bit_at letter (place all y)
 restrict_cases all x some y letter h (Same is) rest =
     ap (λ k. bit_at (restrict all (x ∷ some) letter) k) (place-here y x some is)
     ∙ (bit_at-first (bit_at letter (place all x)) (restrict all some letter) (bit_at-lt letter (place all x)) ∙ ap (λ v. bit_at letter (place all v)) (sym is))

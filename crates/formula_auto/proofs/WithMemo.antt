@@ -13,7 +13,9 @@ use Rattle.formula_auto.specs.Connected.{connected}
 use Rattle.formula_auto.specs.Decides.{Decides}
 use Rattle.formula_auto.specs.Compiled.{IsMade, IsCompileError}
 use Rattle.formula_auto.specs.StepError.{step_error}
-use Rattle.formula_auto.specs.Nodes.{AcceptSame, DecidesNot, DecidesEx, DecidesBoth, BothExceed, ExExceeds}
+use Rattle.auto_bool.specs.Words.{StepExceeds}
+use Rattle.auto_project.specs.Lifted.{ForgettingExceeds}
+use Rattle.formula_auto.specs.Nodes.{AcceptSame, DecidesNot, DecidesEx, DecidesBoth}
 use Rattle.formula_auto.specs.PlainParts.{plain_within}
 use Rattle.formula_auto.specs.Recalled.{is_recalled, start, MayBeOneStep}
 use Rattle.formula_auto.specs.Step.{FirstOver}
@@ -65,17 +67,17 @@ module _ {e : ℕ → SetOf} {course : Course} {f : Tree} {m0 m1 : MemoState} wh
     }
 
     module _ {a : Automaton} {last : ℕ} (part : IsRemembered f e course m0 m1 a last) where
-      pub remembered_ex : {c : Automaton} → DecidesEx x a c → (ExExceeds x a m1.budget → ⊥) → IsRemembered (Ex x f) e course m0 m1 c (last + 1)
+      pub remembered_ex : {c : Automaton} → DecidesEx x a c → (ForgettingExceeds x a m1.budget → ⊥) → IsRemembered (Ex x f) e course m0 m1 c (last + 1)
       remembered_ex {c = c} decides none = record {
         counts = omega (arith, part.counts, length-append (steps f) (Ex x f ∷ []));
         made = made_ex e m0.budget course.before x f a part.made c (decides f e part.made.decides)
-            (subst (λ b. ExExceeds x a b → ⊥) part.after.budget none);
+            (subst (λ b. ForgettingExceeds x a b → ⊥) part.after.budget none);
         after = after_one (of_one-ex course.recall x f outside) part.after;
       }
 
-      pub interrupted_at_ex : (why : Grown) → (why ≡ grown.Over → ExExceeds x a m1.budget) → IsInterrupted (Ex x f) e course m0 m1 (step_error (last + 1) why)
+      pub interrupted_at_ex : (why : Grown) → (why ≡ grown.Over → ForgettingExceeds x a m1.budget) → IsInterrupted (Ex x f) e course m0 m1 (step_error (last + 1) why)
       interrupted_at_ex why over = record {
-        error = step_ex e m0.budget course.before x f a part.made last why part.counts (subst (λ b. why ≡ grown.Over → ExExceeds x a b) part.after.budget over);
+        error = step_ex e m0.budget course.before x f a part.made last why part.counts (subst (λ b. why ≡ grown.Over → ForgettingExceeds x a b) part.after.budget over);
         stopped = stopped_at_one (of_one-ex course.recall x f outside) part.after
             (λ step is. let at = number_of (last + 1) why step is in omega (arith, at, part.counts));
       }
@@ -116,18 +118,18 @@ module _ (pair : Pair) {e : ℕ → SetOf} {course : Course} {m0 m1 : MemoState}
       right_made : IsMade (right_of pair) e last m0.budget b
       right_made = subst (λ n. IsMade (right_of pair) e last n b) left.after.budget right.made
 
-      pub remembered_both : {c : Automaton} → DecidesBoth pair.connective a b c → (BothExceed a b m2.budget → ⊥) → IsRemembered (connected pair) e course m0 m2 c (end + 1)
+      pub remembered_both : {c : Automaton} → DecidesBoth pair.connective a b c → (StepExceeds a b m2.budget → ⊥) → IsRemembered (connected pair) e course m0 m2 c (end + 1)
       remembered_both {c = c} decides none = record {
         counts = omega (arith, left.counts, right.counts, size-connect pair.connective (left_of pair) (right_of pair));
         made = made_both e m0.budget course.before pair.connective (left_of pair) (right_of pair) a last left.counts left.made b end right.counts right_made c
-            (decides (left_of pair) (right_of pair) e left.made.decides right.made.decides) (subst (λ n. BothExceed a b n → ⊥) same_budget none);
+            (decides (left_of pair) (right_of pair) e left.made.decides right.made.decides) (subst (λ n. StepExceeds a b n → ⊥) same_budget none);
         after = after_two (of_pair course.recall pair outside one) left.after right.after;
       }
 
-      pub interrupted_at_both : (why : Grown) → (why ≡ grown.Over → BothExceed a b m2.budget) → IsInterrupted (connected pair) e course m0 m2 (step_error (end + 1) why)
+      pub interrupted_at_both : (why : Grown) → (why ≡ grown.Over → StepExceeds a b m2.budget) → IsInterrupted (connected pair) e course m0 m2 (step_error (end + 1) why)
       interrupted_at_both why over = record {
         error = step_both e m0.budget course.before pair.connective (left_of pair) (right_of pair) a last left.counts left.made b end right.counts right_made why
-            (subst (λ n. why ≡ grown.Over → BothExceed a b n) same_budget over);
+            (subst (λ n. why ≡ grown.Over → StepExceeds a b n) same_budget over);
         stopped = stopped_at_two (of_pair course.recall pair outside one) left.after right.after
             (λ step is. let at = number_of (end + 1) why step is in omega (arith, at, left.counts, right.counts));
       }

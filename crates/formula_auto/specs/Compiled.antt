@@ -1,10 +1,10 @@
 -- What a formula asks of the table of sets, and what compiling it answers.
-use Rattle.std.specs.Prelude.{◌≡◌, ℕ, ◌+◌, ◌<◌, ◌≤◌, List, length, All, Result, Ok, Err, Some, None, slice_get}
+use Rattle.std.specs.Prelude.{◌≡◌, ℕ, ◌+◌, ◌≤◌, List, length, All, Result, Ok, Err, Some, None, slice_get}
 use Rattle.limits.specs.declared.numbers.TheConstants.{MOST_TRACKS}
 use Rattle.auto_core.specs.Automaton.{Automaton}
 use Rattle.auto_core.specs.Reduced.{AllReached, IsReduced}
 use Rattle.auto_core.specs.Integers.{DecidesIntegers}
-use Rattle.lin_formula.specs.Tree.{Tree, IsWellMade, vars_of, steps, memberships}
+use Rattle.lin_formula.specs.Tree.{Tree, IsWellMade, HasStep, vars_of, steps, memberships}
 use Rattle.lin_formula.specs.SetOf.{SetOf, members}
 use Rattle.formula_auto.specs.Step.{FirstOver}
 use Rattle.formula_auto.specs.Decides.{Decides}
@@ -49,7 +49,7 @@ pub record IsCompiled (f : Tree) (e : ℕ → SetOf) (before budget : ℕ) (a : 
 pub record IsCompiledOn (f : Tree) (e : ℕ → SetOf) (before budget : ℕ) (a : Automaton) : Type 0 where
   pub made : IsMade f e before budget a
   pub reached : AllReached a
-  pub few : 0 < length (steps f) → length a.accept ≤ budget
+  pub few : HasStep f → length a.accept ≤ budget
 
 -- the step, counted on from the steps before, is the first that exceeds the budget
 abbrev pub IsCompileError : Tree → (ℕ → SetOf) → ℕ → ℕ → CompileError → Type 0

@@ -1,13 +1,13 @@
 -- What a memo keeps, and how that changes.
-use Rattle.std.specs.Prelude.{◌≡◌, ◌⊎◌, ℕ, ◌+◌, ◌-◌, ◌≤◌, ◌<◌, ◌^◌, min, nat_lt, if◌then◌else◌, IsTrue, List, [], ◌∷◌, ◌++◌, map, length, All, Contains, Some, None, slice_get}
+use Rattle.std.specs.Prelude.{◌≡◌, ◌⊎◌, ℕ, ◌+◌, ◌-◌, ◌≤◌, ◌<◌, ◌^◌, min, nat_lt, if◌then◌else◌, IsTrue, List, [], ◌∷◌, ◌++◌, map, length, All, Contains, Some, slice_get}
 use Rattle.limits.specs.declared.numbers.TheConstants.{MOST_STATES}
 use Rattle.auto_core.specs.Automaton.{Automaton}
 use Rattle.auto_core.specs.Reduced.{IsReduced}
-use Rattle.lin_formula.specs.Tree.{Tree, steps}
+use Rattle.lin_formula.specs.Tree.{Tree}
 use Rattle.lin_formula.specs.TreeOf.{tree_of}
 use Rattle.lin_formula.specs.declared.formula.Formula.{Formula}
 use Rattle.lin_formula.specs.SetOf.{SetOf, members}
-use Rattle.formula_auto.specs.Step.{FirstOver}
+use Rattle.formula_auto.specs.Step.{StaysWithin}
 use Rattle.formula_auto.specs.Decides.{Decides}
 use Rattle.formula_auto.specs.PlainParts.{is_plain, plain_within}
 use Rattle.formula_auto.specs.declared.errors.CompileError.{CompileError}
@@ -26,7 +26,7 @@ pub record IsEntry (budget : ℕ) (f : Tree) (a : Automaton) : Type 0 where
   pub reduced : IsReduced a
   pub few : length a.accept ≤ budget
   pub decides : (e : ℕ → SetOf) → Decides a f (members e)
-  pub within : (e : ℕ → SetOf) → FirstOver (steps f) (members e) budget 1 None
+  pub within : (e : ℕ → SetOf) → StaysWithin f (members e) budget
 
 pub record IsMemo (m : MemoState) : Type 0 where
   pub least : 1 ≤ m.budget
@@ -45,6 +45,10 @@ pub record IsEntryAt (m : MemoState) (f : Tree) (place : ℕ) : Type 0 where
 -- the formulas of the entries
 abbrev pub known : MemoState → List Tree
 known m = map (λ entry. tree_of entry.0) m.entries
+
+-- the formula has an entry
+abbrev pub IsKnown : MemoState → Tree → Type 0
+IsKnown m f = Contains (known m) f
 
 -- one more, but no more than 64 bits hold
 abbrev pub counted : ℕ → ℕ

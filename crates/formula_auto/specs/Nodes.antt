@@ -1,9 +1,8 @@
 -- One node of a formula: an automaton of it, from automata of its parts.
-use Rattle.std.specs.Prelude.{◌≡◌, ◌↔◌, ℕ, List, length}
+use Rattle.std.specs.Prelude.{◌≡◌, ◌≤◌, ℕ, List, length}
 use Rattle.track_word.specs.declared.tracks.Var.{Var}
-use Rattle.track_word.specs.Word.{IsWord}
-use Rattle.auto_core.specs.Automaton.{Automaton, Accepts}
-use Rattle.auto_core.specs.Spread.{BothSpreadExceeds, ExSpreadExceeds}
+use Rattle.auto_core.specs.Automaton.{Automaton}
+use Rattle.auto_reduce.specs.Tables.{HasSameWords}
 use Rattle.lin_formula.specs.Tree.{Tree, Among, Not, Ex}
 use Rattle.lin_formula.specs.SetOf.{SetOf, Table, members}
 use Rattle.formula_auto.specs.Decides.{Decides}
@@ -18,7 +17,11 @@ DecidesAmong set vars a =
 -- the second automaton accepts the words that the first one does, over the same tracks
 pub record AcceptSame (a c : Automaton) : Type 0 where
   pub tracks : c.tracks ≡ a.tracks
-  pub words : (word : List ℕ) → IsWord (length a.tracks) word → Accepts c word ↔ Accepts a word
+  pub words : HasSameWords a c
+
+-- the first automaton has no more states than the second one
+abbrev pub IsNoLarger : Automaton → Automaton → Type 0
+IsNoLarger c a = length c.accept ≤ length a.accept
 
 -- it decides Not of each formula that the first one decides
 abbrev pub DecidesNot : Automaton → Automaton → Type 0
@@ -34,11 +37,3 @@ abbrev pub DecidesBoth : Connective → Automaton → Automaton → Automaton �
 DecidesBoth connective a b c =
     (f g : Tree) (e : ℕ → SetOf) → Decides a f (members e) → Decides b g (members e)
     → Decides c (connect connective f g) (members e)
-
--- a step that puts together what two automata decide has to tell apart more words than the budget
-abbrev pub BothExceed : Automaton → Automaton → ℕ → Type 0
-BothExceed a b budget = BothSpreadExceeds a.tracks b.tracks (Accepts a) (Accepts b) budget
-
--- Ex of what an automaton decides does
-abbrev pub ExExceeds : Var → Automaton → ℕ → Type 0
-ExExceeds x a budget = ExSpreadExceeds x a.tracks (Accepts a) budget

@@ -1,16 +1,17 @@
 -- The automaton of a part of a formula, of its own, in a memo or in a level.
-use Rattle.std.specs.Prelude.{◌≡◌, ℕ, ◌<◌, length, Some, slice_get, List}
+use Rattle.std.specs.Prelude.{◌≡◌, ℕ, Some, slice_get, List}
 use Rattle.auto_core.specs.Automaton.{Automaton}
 use Rattle.track_word.specs.declared.tracks.Var.{Var}
-use Rattle.lin_formula.specs.Tree.{Tree, Among, steps}
+use Rattle.lin_formula.specs.Tree.{Tree, Among, HasStep}
 use Rattle.lin_formula.specs.declared.formula.Formula.{Formula}
 use Rattle.lin_formula.specs.SetOf.{SetOf, members, tables}
 use Rattle.formula_auto.specs.Decides.{Decides}
 use Rattle.formula_auto.specs.MemoState.{MemoState}
 use Rattle.formula_auto.specs.LevelState.{LevelState}
 use Rattle.formula_auto.specs.Compiled.{IsAccessible}
-use Rattle.formula_auto.specs.Remembered.{IsRemembered}
+use Rattle.formula_auto.specs.Remembered.{IsRemembered, IsInterrupted}
 use Rattle.formula_auto.specs.declared.course.Course.{Course}
+use Rattle.formula_auto.specs.declared.errors.CompileError.{CompileError}
 use Rattle.formula_auto.specs.declared.part.Part.{Part}
 use Rattle.formula_auto.specs.declared.part.Part.TheVariants.{Fresh, Kept, Paired, Named}
 use Rattle.formula_auto.specs.declared.part.Remembered.{Remembered}
@@ -32,5 +33,14 @@ pub record IsRememberedPart (f : Tree) (e : ℕ → SetOf) (course : Course) (ol
     (level : LevelState) (made : Remembered) : Type 0 where
   pub auto : Automaton
   pub has : IsPart new level made.part auto
-  pub accessible : 0 < length (steps f) → IsAccessible old.budget auto
+  pub accessible : HasStep f → IsAccessible old.budget auto
   pub remembered : IsRemembered f e course old new auto made.done
+
+-- the part has the automaton that compiling it on a level makes
+abbrev pub IsRememberedOn : Tree → Course → MemoState → MemoState → LevelState → LevelState → Remembered → Type 0
+IsRememberedOn f course old new level new_level made =
+    IsRememberedPart f (tables level.sets) course old new new_level made
+
+-- why a part has no automaton on a level, and the memo then
+abbrev pub IsInterruptedOn : Tree → Course → MemoState → MemoState → LevelState → CompileError → Type 0
+IsInterruptedOn f course old new level why = IsInterrupted f (tables level.sets) course old new why

@@ -2,7 +2,7 @@
 use Rattle.std.specs.Prelude.{◌≡◌, ◌⊎◌, ℕ, ◌+◌, List, [], ◌∷◌, Option, Some, None}
 use Rattle.track_word.specs.Tracks.{word_values}
 use Rattle.auto_core.specs.Spread.{BothSpreadExceeds, ExSpreadExceeds}
-use Rattle.lin_formula.specs.Tree.{Tree, And, Or, Ex, free_vars}
+use Rattle.lin_formula.specs.Tree.{Tree, And, Or, Ex, free_vars, steps}
 use Rattle.lin_formula.specs.Holds.{Sets, Holds}
 
 -- the words over the free variables whose values the formula holds of
@@ -22,3 +22,7 @@ FirstOver [] e budget from answer = answer ≡ None
 FirstOver (step ∷ rest) e budget from answer =
     (Exceeds step e budget × (answer ≡ Some from))
     ⊎ ((¬ Exceeds step e budget) × FirstOver rest e budget (from + 1) answer)
+
+-- no step of a formula exceeds the budget
+abbrev pub StaysWithin : Tree → Sets → ℕ → Type 0
+StaysWithin f e budget = FirstOver (steps f) e budget 1 None

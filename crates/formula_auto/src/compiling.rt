@@ -1,26 +1,25 @@
 //! The way down a formula and up again, a step at a time. What was made of a plain formula once is taken from the memo, and what was
 //! made of And of two sets from the level.
-ghost use Rattle.std.specs.Prelude.{◌≡◌, ◌+◌, ◌<◌, ◌≤◌, ◌^◌, ℕ, length, Contains, IfOk, IfErr, OnOk, None, true, false};
+ghost use Rattle.std.specs.Prelude.{◌≡◌, ◌+◌, ◌<◌, ◌≤◌, ◌^◌, length, IfOk, IfErr, OnOk, true, false};
 ghost use Rattle.auto_core.specs.Automaton.{Automaton};
 ghost use Rattle.auto_core.specs.Integers.{DecidesIntegers};
 ghost use Rattle.auto_core.specs.Reduced.{AllReached, IsReduced};
 ghost use Rattle.lin_formula.specs.Tree as tree;
-ghost use Rattle.lin_formula.specs.Tree.{steps};
+ghost use Rattle.lin_formula.specs.Tree.{HasStep, steps};
 ghost use Rattle.lin_formula.specs.TreeOf.{tree_of};
 ghost use Rattle.lin_formula.specs.SetOf.{tables, members};
-ghost use Rattle.formula_auto.specs.Step.{FirstOver};
+ghost use Rattle.formula_auto.specs.Step.{StaysWithin};
 ghost use Rattle.formula_auto.specs.Decides.{Decides};
 ghost use Rattle.formula_auto.specs.Nodes.{AcceptSame};
 ghost use Rattle.formula_auto.specs.Connected.{connected};
-ghost use Rattle.formula_auto.specs.Compiled.{IsAccessible, IsCompilable, IsCompiled, IsCompiledOn, IsCompileError};
+ghost use Rattle.formula_auto.specs.Compiled.{IsCompilable, IsCompiled, IsCompiledOn, IsCompileError};
 ghost use Rattle.formula_auto.specs.Ready.{IsReady};
 ghost use Rattle.formula_auto.specs.PlainParts.{plain_parts};
 ghost use Rattle.formula_auto.specs.Recalled.{is_recalled, recalled_parts, start, MayBeOneStep};
 ghost use Rattle.formula_auto.specs.LevelState.{LevelGrows};
 ghost use Rattle.formula_auto.specs.LevelState as level_state;
-ghost use Rattle.formula_auto.specs.MemoState.{IsMemoAfter, IsMemoStopped, known};
-ghost use Rattle.formula_auto.specs.Remembered.{IsInterrupted};
-ghost use Rattle.formula_auto.specs.PartOf.{IsPart, IsRememberedPart};
+ghost use Rattle.formula_auto.specs.MemoState.{IsMemoAfter, IsMemoStopped, IsKnown};
+ghost use Rattle.formula_auto.specs.PartOf.{IsPart, IsRememberedOn, IsInterruptedOn};
 
 use crate::connective::{Connective, Pair};
 use crate::course::{Course, Recall};
@@ -50,7 +49,7 @@ pub fn compile(
     ensures reduced { IfOk result IsReduced }
     ensures decides { IfOk result (λ a. Decides a (tree_of f.now) (members (tables sets.now))) }
     ensures integers { IfOk result DecidesIntegers }
-    ensures within { OnOk result (FirstOver (steps (tree_of f.now)) (members (tables sets.now)) budget 1 None) }
+    ensures within { OnOk result (StaysWithin (tree_of f.now) (members (tables sets.now)) budget) }
     ensures over { IfErr result (IsCompileError (tree_of f.now) (tables sets.now) 0 budget) }
 {
     let mut memo = Memo::new(alloc, budget);
@@ -98,8 +97,7 @@ impl Memo {
         ensures reduced { IfOk result IsReduced }
         ensures decides { IfOk result (λ a. Decides a (tree_of f.now) (members (tables sets.now))) }
         ensures integers { IfOk result DecidesIntegers }
-        ensures within { OnOk result
-            (FirstOver (steps (tree_of f.now)) (members (tables sets.now)) self.old.budget 1 None) }
+        ensures within { OnOk result (StaysWithin (tree_of f.now) (members (tables sets.now)) self.old.budget) }
         ensures over { IfErr result (IsCompileError (tree_of f.now) (tables sets.now) 0 self.old.budget) }
         ensures budget { self.new.budget ≡ self.old.budget }
         ensures after { OnOk result (IsMemoAfter self.old self.new (plain_parts (tree_of f.now))) }
@@ -121,12 +119,10 @@ impl Memo {
         requires few_steps { length (steps (tree_of f.now)) < 2 ^ 31 }
         requires same_budget { level.old.budget ≡ self.old.budget }
         ensures reached { IfOk result AllReached }
-        ensures few { IfOk result
-            (λ a. 0 < length (steps (tree_of f.now)) → length a.accept ≤ self.old.budget) }
+        ensures few { IfOk result (λ a. HasStep (tree_of f.now) → length a.accept ≤ self.old.budget) }
         ensures decides { IfOk result (λ a. Decides a (tree_of f.now) (members (tables level.old.sets))) }
         ensures integers { IfOk result DecidesIntegers }
-        ensures within { OnOk result
-            (FirstOver (steps (tree_of f.now)) (members (tables level.old.sets)) self.old.budget 1 None) }
+        ensures within { OnOk result (StaysWithin (tree_of f.now) (members (tables level.old.sets)) self.old.budget) }
         ensures over { IfErr result (IsCompileError (tree_of f.now) (tables level.old.sets) 0 self.old.budget) }
         ensures budget { self.new.budget ≡ self.old.budget }
         ensures after { OnOk result (IsMemoAfter self.old self.new (plain_parts (tree_of f.now))) }
@@ -150,8 +146,7 @@ impl Memo {
         requires same_budget { level.old.budget ≡ self.old.budget }
         ensures compiled { IfOk result (IsCompiled (tree_of f.now) (tables level.old.sets) 0 self.old.budget) }
         ensures after { OnOk result (IsMemoAfter self.old self.new (recalled_parts recall (tree_of f.now))) }
-        ensures err { IfErr result
-            (IsInterrupted (tree_of f.now) (tables level.old.sets) (start recall) self.old self.new) }
+        ensures err { IfErr result (IsInterruptedOn (tree_of f.now) (start recall) self.old self.new level.old) }
     {
         let made = self.compiled(alloc, f, level, Course { before: 0, recall })?;
         Ok(self.taken(alloc, level, made.part)?)
@@ -169,8 +164,7 @@ impl Memo {
         requires same_budget { level.old.budget ≡ self.old.budget }
         ensures compiled { IfOk result (IsCompiledOn (tree_of f.now) (tables level.old.sets) 0 self.old.budget) }
         ensures after { OnOk result (IsMemoAfter self.old self.new (plain_parts (tree_of f.now))) }
-        ensures err { IfErr result
-            (IsInterrupted (tree_of f.now) (tables level.old.sets) (start Recall.Plain) self.old self.new) }
+        ensures err { IfErr result (IsInterruptedOn (tree_of f.now) (start Recall.Plain) self.old self.new level.old) }
         ensures grows { LevelGrows level.old level.new }
     {
         let course = Course {
@@ -191,8 +185,7 @@ impl Memo {
     ) -> Result<Auto, AllocError>
         requires { (a : Automaton) × IsPart self.now level.now part a }
         ensures same { IfOk result (λ made. (a : Automaton) → IsPart self.now level.now part a → AcceptSame a made) }
-        ensures as_it_is { IfOk result
-            (λ made. 0 < length (steps (tree_of f.now)) → IsPart self.now level.now part made) }
+        ensures as_it_is { IfOk result (λ made. HasStep (tree_of f.now) → IsPart self.now level.now part made) }
         ensures reduced { IfOk result (λ made. length (steps (tree_of f.now)) ≤ 0 → IsReduced made) }
     {
         if has_step(f) {
@@ -213,9 +206,8 @@ impl Memo {
         requires same_budget { level.old.budget ≡ self.old.budget }
         requires ready { IsReady (tree_of f.now) level.old.sets }
         requires room { course.before + length (steps (tree_of f.now)) < 2 ^ 32 }
-        ensures ok { IfOk result
-            (IsRememberedPart (tree_of f.now) (tables level.old.sets) course self.old self.new level.new) }
-        ensures err { IfErr result (IsInterrupted (tree_of f.now) (tables level.old.sets) course self.old self.new) }
+        ensures ok { IfOk result (IsRememberedOn (tree_of f.now) course self.old self.new level.old level.new) }
+        ensures err { IfErr result (IsInterruptedOn (tree_of f.now) course self.old self.new level.old) }
         ensures grows { LevelGrows level.old level.new }
     {
         if is_looked_up(f, course.recall) {
@@ -240,9 +232,8 @@ impl Memo {
         requires same_budget { level.old.budget ≡ self.old.budget }
         requires ready { IsReady (tree_of f.now) level.old.sets }
         requires room { course.before + length (steps (tree_of f.now)) < 2 ^ 32 }
-        ensures ok { IfOk result
-            (IsRememberedPart (tree_of f.now) (tables level.old.sets) course self.old self.new level.new) }
-        ensures err { IfErr result (IsInterrupted (tree_of f.now) (tables level.old.sets) course self.old self.new) }
+        ensures ok { IfOk result (IsRememberedOn (tree_of f.now) course self.old self.new level.old level.new) }
+        ensures err { IfErr result (IsInterruptedOn (tree_of f.now) course self.old self.new level.old) }
         ensures grows { LevelGrows level.old level.new }
     {
         match self.find(f) {
@@ -267,13 +258,12 @@ impl Memo {
         course: Course,
     ) -> Result<Remembered, CompileError>
         requires recalled { is_recalled course.recall (tree_of f.now) ≡ true }
-        requires unknown { ¬ Contains (known self.old) (tree_of f.now) }
+        requires unknown { ¬ IsKnown self.old (tree_of f.now) }
         requires same_budget { level.old.budget ≡ self.old.budget }
         requires ready { IsReady (tree_of f.now) level.old.sets }
         requires room { course.before + length (steps (tree_of f.now)) < 2 ^ 32 }
-        ensures ok { IfOk result
-            (IsRememberedPart (tree_of f.now) (tables level.old.sets) course self.old self.new level.new) }
-        ensures err { IfErr result (IsInterrupted (tree_of f.now) (tables level.old.sets) course self.old self.new) }
+        ensures ok { IfOk result (IsRememberedOn (tree_of f.now) course self.old self.new level.old level.new) }
+        ensures err { IfErr result (IsInterruptedOn (tree_of f.now) course self.old self.new level.old) }
         ensures grows { LevelGrows level.old level.new }
     {
         let alone = Course {
@@ -302,9 +292,8 @@ impl Memo {
         requires same_budget { level.old.budget ≡ self.old.budget }
         requires ready { IsReady (tree_of f.now) level.old.sets }
         requires room { course.before + length (steps (tree_of f.now)) < 2 ^ 32 }
-        ensures ok { IfOk result
-            (IsRememberedPart (tree_of f.now) (tables level.old.sets) course self.old self.new level.new) }
-        ensures err { IfErr result (IsInterrupted (tree_of f.now) (tables level.old.sets) course self.old self.new) }
+        ensures ok { IfOk result (IsRememberedOn (tree_of f.now) course self.old self.new level.old level.new) }
+        ensures err { IfErr result (IsInterruptedOn (tree_of f.now) course self.old self.new level.old) }
         ensures grows { LevelGrows level.old level.new }
     {
         if let Some(place) = level.find(f) {
@@ -335,9 +324,8 @@ impl Memo {
         requires same_budget { level.old.budget ≡ self.old.budget }
         requires ready { IsReady (tree_of f.now) level.old.sets }
         requires room { course.before + length (steps (tree_of f.now)) < 2 ^ 32 }
-        ensures ok { IfOk result
-            (IsRememberedPart (tree_of f.now) (tables level.old.sets) course self.old self.new level.new) }
-        ensures err { IfErr result (IsInterrupted (tree_of f.now) (tables level.old.sets) course self.old self.new) }
+        ensures ok { IfOk result (IsRememberedOn (tree_of f.now) course self.old self.new level.old level.new) }
+        ensures err { IfErr result (IsInterruptedOn (tree_of f.now) course self.old self.new level.old) }
         ensures grows { LevelGrows level.old level.new }
     {
         match f {
@@ -400,10 +388,8 @@ impl Memo {
         requires same_budget { level.old.budget ≡ self.old.budget }
         requires ready { IsReady (connected pair) level.old.sets }
         requires room { course.before + length (steps (connected pair)) < 2 ^ 32 }
-        ensures ok { IfOk result
-            (IsRememberedPart (connected pair.entry) (tables level.old.sets) course self.old self.new level.new) }
-        ensures err { IfErr result
-            (IsInterrupted (connected pair.entry) (tables level.old.sets) course self.old self.new) }
+        ensures ok { IfOk result (IsRememberedOn (connected pair.entry) course self.old self.new level.old level.new) }
+        ensures err { IfErr result (IsInterruptedOn (connected pair.entry) course self.old self.new level.old) }
         ensures grows { LevelGrows level.old level.new }
     {
         let left = self.compiled(alloc, pair.left, level, course)?;

@@ -1,12 +1,12 @@
 //! Automata of plain formulas, kept from one compilation to the next.
-ghost use Rattle.std.specs.Prelude.{◌≡◌, ◌≤◌, [], ◌∷◌, length, Contains, MatchOption, IfOk, OnOk, OnErr};
+ghost use Rattle.std.specs.Prelude.{◌≡◌, [], ◌∷◌, length, MatchOption, IfOk, OnOk, OnErr};
 ghost use Rattle.auto_core.specs.Automaton.{Automaton};
 ghost use Rattle.auto_core.specs.Reduced.{IsReduced};
 ghost use Rattle.lin_formula.specs.TreeOf.{tree_of};
-ghost use Rattle.formula_auto.specs.MemoState.{IsMemo, IsMemoAfter, IsEntry, IsEntryAt, known, counted};
+ghost use Rattle.formula_auto.specs.MemoState.{IsMemo, IsMemoAfter, IsEntry, IsEntryAt, IsKnown, counted};
 ghost use Rattle.formula_auto.specs.LevelState.{LevelState};
 ghost use Rattle.formula_auto.specs.PartOf.{IsPart};
-ghost use Rattle.formula_auto.specs.Nodes.{AcceptSame};
+ghost use Rattle.formula_auto.specs.Nodes.{AcceptSame, IsNoLarger};
 
 use crate::entry::{Entry, place_of};
 use crate::level::Level;
@@ -91,8 +91,7 @@ impl Memo {
 
     /// The place of the entry of a formula.
     pub(crate) fn find(&self, f: &Formula) -> Option<usize>
-        ensures { MatchOption result
-            (¬ Contains (known self.now) (tree_of f.now)) (IsEntryAt self.now (tree_of f.now)) }
+        ensures { MatchOption result (¬ IsKnown self.now (tree_of f.now)) (IsEntryAt self.now (tree_of f.now)) }
     {
         let place = place_of(self.entries.as_slice(), f);
         place
@@ -144,8 +143,7 @@ impl Memo {
         requires { (a : Automaton) × IsPart self.now level.now part a }
         ensures reduced { IfOk result IsReduced }
         ensures same { IfOk result (λ taken. (a : Automaton) → IsPart self.now level.now part a → AcceptSame a taken) }
-        ensures fewer { IfOk result
-            (λ taken. (a : Automaton) → IsPart self.now level.now part a → length taken.accept ≤ length a.accept) }
+        ensures fewer { IfOk result (λ taken. (a : Automaton) → IsPart self.now level.now part a → IsNoLarger taken a) }
     {
         match part {
             Part::Fresh(auto) => reduced(alloc, &auto),
@@ -170,7 +168,7 @@ impl Memo {
         auto: Auto,
     ) -> Result<Part, AllocError>
         requires entry { IsEntry self.old.budget (tree_of f.now) auto }
-        requires unknown { ¬ Contains (known self.old) (tree_of f.now) }
+        requires unknown { ¬ IsKnown self.old (tree_of f.now) }
         ensures ok { OnOk result (IsMemoAfter self.old self.new (tree_of f.now ∷ [])) }
         ensures part { IfOk result (λ part. (level : LevelState) → IsPart self.new level part auto) }
         ensures err { OnErr result (self.new ≡ self.old) }

@@ -9,7 +9,9 @@ ghost use Rattle.lin_formula.specs.Tree as tree;
 ghost use Rattle.lin_formula.specs.SetOf.{SetOf, members};
 ghost use Rattle.formula_auto.specs.Decides.{Decides};
 ghost use Rattle.formula_auto.specs.Compiled.{IsAccessible};
-ghost use Rattle.formula_auto.specs.Nodes.{AcceptSame, DecidesAmong, DecidesNot, DecidesEx, DecidesBoth, BothExceed, ExExceeds};
+ghost use Rattle.auto_bool.specs.Words.{StepExceeds};
+ghost use Rattle.auto_project.specs.Lifted.{ForgettingExceeds};
+ghost use Rattle.formula_auto.specs.Nodes.{AcceptSame, DecidesAmong, DecidesNot, DecidesEx, DecidesBoth};
 
 use crate::connective::Connective;
 use auto_bool::{difference_within, join_within, meet_within, not};
@@ -64,8 +66,8 @@ pub fn joined(
     requires { length (with_vars a.now.tracks b.now.tracks) ≤ MOST_TRACKS }
     ensures decides { IfOk result (DecidesBoth connective a.now b.now) }
     ensures accessible { IfOk result (IsAccessible budget) }
-    ensures within { OnOk result (¬ BothExceed a.now b.now budget) }
-    ensures over { result ≡ Err Grown.Over → BothExceed a.now b.now budget }
+    ensures within { OnOk result (¬ StepExceeds a.now b.now budget) }
+    ensures over { result ≡ Err Grown.Over → StepExceeds a.now b.now budget }
 {
     let c = product(alloc, connective, a, b, budget)?;
     Ok(merged(alloc, &c)?)
@@ -82,8 +84,8 @@ fn product(
     requires { length (with_vars a.now.tracks b.now.tracks) ≤ MOST_TRACKS }
     ensures decides { IfOk result (DecidesBoth connective a.now b.now) }
     ensures accessible { IfOk result (IsAccessible budget) }
-    ensures within { OnOk result (¬ BothExceed a.now b.now budget) }
-    ensures over { result ≡ Err Grown.Over → BothExceed a.now b.now budget }
+    ensures within { OnOk result (¬ StepExceeds a.now b.now budget) }
+    ensures over { result ≡ Err Grown.Over → StepExceeds a.now b.now budget }
 {
     match product_within(alloc, connective, a, b, budget) {
         Ok(c) => Ok(c),
@@ -103,8 +105,8 @@ fn product_within(
     requires { length (with_vars a.now.tracks b.now.tracks) ≤ MOST_TRACKS }
     ensures decides { IfOk result (DecidesBoth connective a.now b.now) }
     ensures accessible { IfOk result (IsAccessible budget) }
-    ensures within { OnOk result (¬ BothExceed a.now b.now budget) }
-    ensures over { IsReduced a.now → IsReduced b.now → result ≡ Err Grown.Over → BothExceed a.now b.now budget }
+    ensures within { OnOk result (¬ StepExceeds a.now b.now budget) }
+    ensures over { IsReduced a.now → IsReduced b.now → result ≡ Err Grown.Over → StepExceeds a.now b.now budget }
 {
     let _ = a.states(); // for its invariant
     let _ = b.states(); // for its invariant
@@ -125,8 +127,8 @@ fn reduced_product(
     requires { length (with_vars a.now.tracks b.now.tracks) ≤ MOST_TRACKS }
     ensures decides { IfOk result (DecidesBoth connective a.now b.now) }
     ensures accessible { IfOk result (IsAccessible budget) }
-    ensures within { OnOk result (¬ BothExceed a.now b.now budget) }
-    ensures over { result ≡ Err Grown.Over → BothExceed a.now b.now budget }
+    ensures within { OnOk result (¬ StepExceeds a.now b.now budget) }
+    ensures over { result ≡ Err Grown.Over → StepExceeds a.now b.now budget }
 {
     let left = reduced(alloc, a)?;
     let right = reduced(alloc, b)?;
@@ -137,8 +139,8 @@ fn reduced_product(
 pub fn projection(alloc: Global, var: Var, a: &Auto, budget: Budget) -> Result<Auto, Grown>
     ensures decides { IfOk result (DecidesEx var a.now) }
     ensures accessible { IfOk result (IsAccessible budget) }
-    ensures within { OnOk result (¬ ExExceeds var a.now budget) }
-    ensures over { result ≡ Err Grown.Over → ExExceeds var a.now budget }
+    ensures within { OnOk result (¬ ForgettingExceeds var a.now budget) }
+    ensures over { result ≡ Err Grown.Over → ForgettingExceeds var a.now budget }
 {
     let c = forgotten(alloc, var, a, budget)?;
     Ok(merged(alloc, &c)?)
@@ -148,8 +150,8 @@ pub fn projection(alloc: Global, var: Var, a: &Auto, budget: Budget) -> Result<A
 fn forgotten(alloc: Global, var: Var, a: &Auto, budget: Budget) -> Result<Auto, Grown>
     ensures decides { IfOk result (DecidesEx var a.now) }
     ensures accessible { IfOk result (IsAccessible budget) }
-    ensures within { OnOk result (¬ ExExceeds var a.now budget) }
-    ensures over { result ≡ Err Grown.Over → ExExceeds var a.now budget }
+    ensures within { OnOk result (¬ ForgettingExceeds var a.now budget) }
+    ensures over { result ≡ Err Grown.Over → ForgettingExceeds var a.now budget }
 {
     match forgotten_within(alloc, var, a, budget) {
         Ok(c) => Ok(c),
@@ -162,8 +164,8 @@ fn forgotten(alloc: Global, var: Var, a: &Auto, budget: Budget) -> Result<Auto, 
 fn forgotten_within(alloc: Global, var: Var, a: &Auto, budget: Budget) -> Result<Auto, Grown>
     ensures decides { IfOk result (DecidesEx var a.now) }
     ensures accessible { IfOk result (IsAccessible budget) }
-    ensures within { OnOk result (¬ ExExceeds var a.now budget) }
-    ensures over { IsReduced a.now → result ≡ Err Grown.Over → ExExceeds var a.now budget }
+    ensures within { OnOk result (¬ ForgettingExceeds var a.now budget) }
+    ensures over { IsReduced a.now → result ≡ Err Grown.Over → ForgettingExceeds var a.now budget }
 {
     let _ = a.states(); // for its invariant
     forget_within(alloc, a, var, budget)
@@ -172,8 +174,8 @@ fn forgotten_within(alloc: Global, var: Var, a: &Auto, budget: Budget) -> Result
 fn reduced_forgotten(alloc: Global, var: Var, a: &Auto, budget: Budget) -> Result<Auto, Grown>
     ensures decides { IfOk result (DecidesEx var a.now) }
     ensures accessible { IfOk result (IsAccessible budget) }
-    ensures within { OnOk result (¬ ExExceeds var a.now budget) }
-    ensures over { result ≡ Err Grown.Over → ExExceeds var a.now budget }
+    ensures within { OnOk result (¬ ForgettingExceeds var a.now budget) }
+    ensures over { result ≡ Err Grown.Over → ForgettingExceeds var a.now budget }
 {
     let inner = reduced(alloc, a)?;
     forgotten_within(alloc, var, &inner, budget)

@@ -7,24 +7,22 @@ use Rattle.auto_merge.proofs.class_states.over_classes.Goals as goal
 
 pub picked-requires : goal.picked-requires
 picked-requires c =
-    let m = c.args.merging in
     rw (c.as_slice-2.ensures.value, c.row_nodes.ensures)
-    (owners_rows c.args.a.now m.table.items m.owners.items c.diagrams-from.ensures.nodes c.tracks.ensures.valid c.requires.merging.classes
-    c.requires.all)
+    (owners_rows c.diagrams-from.ensures.nodes c.tracks.ensures.valid c.requires.merging.classes c.requires.all)
 
 pub lead_rows-requires-clause-known : goal.lead_rows-requires-clause-known
 lead_rows-requires-clause-known c =
     let m = c.args.merging in
     let picked : ArePicked c.args.a.now.row_nodes m.owners.items c.in_ok-rows.rows.items = rw (c.as_slice-2.ensures.value, c.row_nodes.ensures) at c.in_ok-rows.ensures in
     rw (c.as_slice-4.ensures.value, c.diagrams-from.ensures.shapes)
-    (nodes_known c.args.a.now m.table.items m.owners.items c.diagrams-from.ensures.nodes c.tracks.ensures.valid c.requires.merging.classes c.requires.all c.in_ok-rows.rows.items picked)
+    (nodes_known c.diagrams-from.ensures.nodes c.tracks.ensures.valid c.requires.merging.classes c.requires.all picked)
 
 pub lead_rows-requires-clause-leaves : goal.lead_rows-requires-clause-leaves
 lead_rows-requires-clause-leaves c =
     let m = c.args.merging in
     let picked : ArePicked c.args.a.now.row_nodes m.owners.items c.in_ok-rows.rows.items = rw (c.as_slice-2.ensures.value, c.row_nodes.ensures) at c.in_ok-rows.ensures in
     rw (c.as_slice-4.ensures.value, c.diagrams-from.ensures.shapes, c.as_slice-3.ensures.value)
-    (nodes_in_table c.args.a.now m.table.items m.owners.items c.diagrams-from.ensures.nodes c.tracks.ensures.valid c.requires.merging.classes c.requires.all c.in_ok-rows.rows.items picked)
+    (nodes_in_table c.diagrams-from.ensures.nodes c.tracks.ensures.valid c.requires.merging.classes c.requires.all picked)
 
 pub from_diagrams-requires : goal.from_diagrams-requires
 from_diagrams-requires c =
@@ -36,8 +34,7 @@ from_diagrams-requires c =
     rw (c.as_slice-4.ensures.value, c.diagrams-from.ensures.shapes, c.as_slice-3.ensures.value, c.first_node.ensures.is) at c.in_ok-led.ensures in
     let copied : c.in_ok-tracks.tracks.items ≡ c.tracks.result.now = search rules in
     rw (copied, c.tracks.ensures.tracks)
-    (AreRows-classes a m.table.items m.owners.items c.diagrams-from.ensures.nodes c.tracks.ensures.valid c.requires.merging.classes c.requires.all c.in_ok-rows.rows.items picked
-    c.lead_rows.new.to c.in_ok-led.led led c.in_ok-accept.accept.items are_flags)
+    (AreRows-classes c.diagrams-from.ensures.nodes c.tracks.ensures.valid c.requires.merging.classes c.requires.all picked led are_flags)
 
 pub returns : goal.returns
 returns c =
@@ -51,5 +48,4 @@ returns c =
     let made = c.from_diagrams.ensures in
     let is = is_dense _ _ _ _ _ _ made.tracks made.first made.next made.accept made.shapes made.first_node made.row_nodes in
     rw (is, copied, c.tracks.ensures.tracks)
-    (IsMergedBy-classes a m.table.items m.owners.items c.diagrams-from.ensures.nodes c.tracks.ensures.valid c.requires.merging.classes c.requires.all c.in_ok-rows.rows.items picked
-    c.lead_rows.new.to c.in_ok-led.led led c.in_ok-accept.accept.items are_flags)
+    (IsMergedBy-classes c.diagrams-from.ensures.nodes c.tracks.ensures.valid c.requires.merging.classes c.requires.all picked led are_flags)

@@ -5,10 +5,10 @@ use Rattle.auto_merge.proofs.keys.+key_of.Goals as goal
 use Rattle.auto_merge.proofs.keys.+key_of.Goals.{In_ok-keep, After-from_residual-in_err-keep, in-Leaf+in_ok-key-in-Leaf, in-Test+in_ok-low-in-Test+in_ok-high-in-Test+in_ok-made-in-Test}
 
 pub returns-in-Some-clause-key : goal.returns-in-Some-clause-key
-returns-in-Some-clause-key t c = IsKey-given _ _ _ _ _ _ (c.requires.remembered.given _ _ (sym c.in-Some.ensures))
+returns-in-Some-clause-key t c = IsKey-given (c.requires.remembered.given _ _ (sym c.in-Some.ensures))
 
 pub returns-in-Some-answer-clause-key : goal.returns-in-Some-answer-clause-key
-returns-in-Some-answer-clause-key t c = IsKey-own _ _ _ _ _ _ (c.requires.open.own_at _ _ (sym c.in-Some-answer.ensures))
+returns-in-Some-answer-clause-key t c = IsKey-own (c.requires.open.own_at _ _ (sym c.in-Some-answer.ensures))
 
 pub leaf_key-requires : goal.leaf_key-requires
 leaf_key-requires t c =
@@ -67,11 +67,11 @@ returns-in_err-made-in-Test-clause-remembered t c = RemembersGiven-grows c.node.
 
 made : (t : ℕ) (c : In_ok-keep t) → IsKey c.args.guide.now.from.now c.match-shape.to c.args.guide.now.table.now c.args.guide.now.own c.args.node c.match-shape.key
 made t c = elim c.match-shape.branch [
-  | in-Leaf+in_ok-key-in-Leaf w ↦ rw (w.to-is, w.key-is) (let e = w.in_ok-key-in-Leaf.ensures in IsKey-leaf _ _ _ _ _ _ _ w.in-Leaf.ensures.at e.known e.map e.top e.own e.whole)
+  | in-Leaf+in_ok-key-in-Leaf w ↦ rw (w.to-is, w.key-is) (let e = w.in_ok-key-in-Leaf.ensures in IsKey-leaf w.in-Leaf.ensures.at e.known e.map e.top e.own e.whole)
   | in-Test+in_ok-low-in-Test+in_ok-high-in-Test+in_ok-made-in-Test w ↦ rw (w.to-is, w.key-is) (
       let e = w.in_ok-made-in-Test.ensures in
       let k = w.test_key-key.ensures in
-      IsKey-test _ _ _ _ _ _ _ _ _ _ _ _ _ _ w.in-Test.ensures.at w.in-Test.ensures.fits w.in_ok-low-in-Test.ensures.key
+      IsKey-test w.in-Test.ensures.at w.in-Test.ensures.fits w.in_ok-low-in-Test.ensures.key
       w.in_ok-high-in-Test.ensures.grows w.in_ok-high-in-Test.ensures.key e.grows k.node e.known e.map e.top k.whole)
 ]
 
@@ -83,11 +83,11 @@ before t c = elim c.match-shape.branch [
 
 made_err : (t : ℕ) (c : After-from_residual-in_err-keep t) → IsKey c.args.guide.now.from.now c.match-shape.to c.args.guide.now.table.now c.args.guide.now.own c.args.node c.match-shape.key
 made_err t c = elim c.match-shape.branch [
-  | in-Leaf+in_ok-key-in-Leaf w ↦ rw (w.to-is, w.key-is) (let e = w.in_ok-key-in-Leaf.ensures in IsKey-leaf _ _ _ _ _ _ _ w.in-Leaf.ensures.at e.known e.map e.top e.own e.whole)
+  | in-Leaf+in_ok-key-in-Leaf w ↦ rw (w.to-is, w.key-is) (let e = w.in_ok-key-in-Leaf.ensures in IsKey-leaf w.in-Leaf.ensures.at e.known e.map e.top e.own e.whole)
   | in-Test+in_ok-low-in-Test+in_ok-high-in-Test+in_ok-made-in-Test w ↦ rw (w.to-is, w.key-is) (
       let e = w.in_ok-made-in-Test.ensures in
       let k = w.test_key-key.ensures in
-      IsKey-test _ _ _ _ _ _ _ _ _ _ _ _ _ _ w.in-Test.ensures.at w.in-Test.ensures.fits w.in_ok-low-in-Test.ensures.key
+      IsKey-test w.in-Test.ensures.at w.in-Test.ensures.fits w.in_ok-low-in-Test.ensures.key
       w.in_ok-high-in-Test.ensures.grows w.in_ok-high-in-Test.ensures.key e.grows k.node e.known e.map e.top k.whole)
 ]
 

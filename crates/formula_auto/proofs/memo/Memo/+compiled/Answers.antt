@@ -170,7 +170,7 @@ both-overflow_add-step t c =
 pub both-automata-requires-clause-left : goal.both-automata-requires-clause-left
 both-automata-requires-clause-left t c =
     let left = c.in_ok-left.ensures.ok in
-    (left.auto, part-after _ _ _ _ _ c.in_ok-left.left.part left.auto left.has c.in_ok-right.ensures.ok.remembered.after c.compiled-2.ensures.grows)
+    (left.auto, part-after c.in_ok-left.left.part left.auto left.has c.in_ok-right.ensures.ok.remembered.after c.compiled-2.ensures.grows)
 
 pub both-automata-requires-clause-right : goal.both-automata-requires-clause-right
 both-automata-requires-clause-right t c = (c.in_ok-right.ensures.ok.auto, c.in_ok-right.ensures.ok.has)
