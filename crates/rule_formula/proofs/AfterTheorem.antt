@@ -58,7 +58,10 @@ man_is stock mask i n t man r o f apart q h k m b is at =
           let on : without live t k ≡ true = kept_live (live k) k t (subst (λ j. live j ≡ true) (sym e) o.live) (λ w. option_untaken stock mask i n t man r o (sym e ∙ w)) in
           let place : place_at (without live t k) (moved f i h.to k) ≡ At h.to.x h.to.y =
           place_is (without live t k) (moved f i h.to k) on ∙ ap (λ (z : Square). At z.x z.y) (moved_same f i k h.to e) in
-          b_is ∙ ap (λ (a : Man). record a { place = At h.to.x h.to.y }) mine ∙ ap (λ (a : Man). record a { place = At h.to.x h.to.y }) (sym same) ∙ ap (λ x. record m { place = x }) (sym place)
+          b_is
+          ∙ ap (λ (a : Man). record a { place = At h.to.x h.to.y }) mine
+          ∙ ap (λ (a : Man). record a { place = At h.to.x h.to.y }) (sym same)
+          ∙ ap (λ x. record m { place = x }) (sym place)
       | inr other_than ↦
           let here : man_at p k ≡ Some (man_placed live f k m) = placed_man stock live man.side f k m is in
           let left : IsLeftBy h.to (man_placed live f k m) b = h.step.after.others k (man_placed live f k m) b other_than here at in

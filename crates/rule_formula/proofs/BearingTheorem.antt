@@ -65,7 +65,8 @@ record IsListed (stock : List Man) (mask : ℕ) (s : Side) (g : ℕ) (b : Bearin
   serves : serves_captures man.kind b.ray ≡ true
   king : b.king ≡ g
 
-bearings_from : (stock : List Man) (mask : ℕ) (s : Side) (g k : ℕ) (m : Man) (b : Bearing) → stock_man stock k ≡ Some m → Contains (man_bearings mask s g k (Some m)) b → IsListed stock mask s g b
+bearings_from : (stock : List Man) (mask : ℕ) (s : Side) (g k : ℕ) (m : Man) (b : Bearing)
+    → stock_man stock k ≡ Some m → Contains (man_bearings mask s g k (Some m)) b → IsListed stock mask s g b
 bearings_from stock mask s g k m b is h =
     let w = (only_if (is_live mask k && is_side m.side s) (along_rays m.kind k g (length (rays_of m.kind m.side))) b).0 h in
     let alive = both_true (is_live mask k) (is_side m.side s) w.0 in

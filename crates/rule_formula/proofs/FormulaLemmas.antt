@@ -61,7 +61,8 @@ other_is true i j k = (λ h. (refl, grind (arith, nat_tests), grind (arith, nat_
 other_is false i j k = (λ h. absurd (cc), λ h. absurd (cc))
 
 -- by number or by man
-pub each_other : (stock : List Man) (live : ℕ → Bool) (i j : ℕ) (P : ℕ → Type 0) → (d : Man) → Each (λ k. IsTrue (is_other live i j k) → P k) (length stock) ↔ EachOther stock live i j P
+pub each_other : (stock : List Man) (live : ℕ → Bool) (i j : ℕ) (P : ℕ → Type 0) → (d : Man)
+    → Each (λ k. IsTrue (is_other live i j k) → P k) (length stock) ↔ EachOther stock live i j P
 each_other stock live i j P d = (
   λ h k m is on first second.
       let at = stock_number stock k m is in h k at.low at.high ((other_is (live k) i j k).1 (on, first, second)),

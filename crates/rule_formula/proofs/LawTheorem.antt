@@ -29,7 +29,9 @@ square_or (Some z) = z
 pub squares_of : Position → ℕ → Square
 squares_of p k = square_or (man_square (stock_man p.men k))
 
-men_self : (n : ℕ) (ms : List Man) (live : ℕ → Bool) (f : ℕ → Square) → ((i k : ℕ) (m : Man) → k ≡ n + i → slice_get ms i ≡ Some m → place_at (live k) (f k) ≡ m.place) → men_from n ms live f ≡ ms
+men_self : (n : ℕ) (ms : List Man) (live : ℕ → Bool) (f : ℕ → Square)
+    → ((i k : ℕ) (m : Man) → k ≡ n + i → slice_get ms i ≡ Some m → place_at (live k) (f k) ≡ m.place)
+    → men_from n ms live f ≡ ms
 men_self n [] live f h = refl
 men_self n (m ∷ ms) live f h =
     ap (λ a. record m { place = a } ∷ men_from (suc n) ms live f) (h 0 n m (omega arith) refl)
@@ -48,7 +50,8 @@ gone_at mask i k e ne =
     let there : k - 1 ≡ i = omega (arith, e) in
     subst (λ j. (bit_at mask j == 1) ≡ false) (sym there) (off_test (bit_at mask i) ne)
 
-place_self : (b : Bool) (q : Place) (z : Square) → (q ≡ Gone → b ≡ false) → (q ≢ Gone → b ≡ true) → ((x y : ℤ) → q ≡ At x y → z ≡ record { x = x; y = y }) → place_at b z ≡ q
+place_self : (b : Bool) (q : Place) (z : Square) → (q ≡ Gone → b ≡ false) → (q ≢ Gone → b ≡ true)
+    → ((x y : ℤ) → q ≡ At x y → z ≡ record { x = x; y = y }) → place_at b z ≡ q
 place_self true Gone z off on here = let e : true ≡ false = off refl in absurd (cc)
 place_self false Gone z off on here = refl
 place_self true (At x y) z off on here = ap (λ (a : Square). At a.x a.y) (here x y refl)
@@ -91,7 +94,8 @@ no_king_taken p i z q sound step k m is enemy stands king =
     let check : InCheck p (other p.turn) = any_at p (λ m. (m.side ≡ other p.turn) × (m.kind ≡ King) × IsLiveAnd m (Attacked p (other (other p.turn)))) k m is (enemy, king, live) in
     sound.other_safe check
 
-side_of_option : (p : Position) (mask : ℕ) (f : ℕ → Square) (q : Position) (o : Opt) (w : IsOptionOf p.men mask o) → TakesOption o (placed p.men (is_live mask) p.turn f) q → w.man.side ≡ p.turn
+side_of_option : (p : Position) (mask : ℕ) (f : ℕ → Square) (q : Position) (o : Opt) (w : IsOptionOf p.men mask o)
+    → TakesOption o (placed p.men (is_live mask) p.turn f) q → w.man.side ≡ p.turn
 side_of_option p mask f q o w takes =
     let same : takes.steps.step.man ≡ man_placed (is_live mask) f o.man w.man = same_man p.men (is_live mask) p.turn f o.man w.man takes.steps.step.man w.is.is_man takes.steps.step.is_man in
     sym (ap (λ (a : Man). a.side) same) ∙ takes.steps.step.his_turn

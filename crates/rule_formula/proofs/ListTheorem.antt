@@ -195,7 +195,8 @@ serves_from k n zero low h = absurd (omega (arith, low))
 serves_from k n (suc t) low h = h
 
 -- the options of man i in the list are his
-option_from : (stock : List Man) (mask : ℕ) (s : Side) (i : ℕ) (m : Man) (o : Opt) → stock_man stock i ≡ Some m → Contains (man_options stock mask s i (Some m)) o → IsOptionOfSide stock mask s o
+option_from : (stock : List Man) (mask : ℕ) (s : Side) (i : ℕ) (m : Man) (o : Opt) → stock_man stock i ≡ Some m
+    → Contains (man_options stock mask s i (Some m)) o → IsOptionOfSide stock mask s o
 option_from stock mask s i m o is h =
     let w = (only_if (is_live mask i && is_side m.side s) (rays_to stock mask s m.kind i (length (rays_of m.kind m.side))) o).0 h in
     let alive = both_true (is_live mask i) (is_side m.side s) w.0 in
@@ -254,7 +255,8 @@ man_lists stock mask s o m r is his =
     in
     subst (λ x. Contains (man_options stock mask s o.man x) o) (sym is.is_man) inside
 
-lists : (stock : List Man) (mask : ℕ) (s : Side) (n : ℕ) (o : Opt) (m : Man) (r : Ray) → IsOption stock mask o.man o.ray o.taken m r → m.side ≡ s → o.man ≤ n → Contains (options_to stock mask s n) o
+lists : (stock : List Man) (mask : ℕ) (s : Side) (n : ℕ) (o : Opt) (m : Man) (r : Ray)
+    → IsOption stock mask o.man o.ray o.taken m r → m.side ≡ s → o.man ≤ n → Contains (options_to stock mask s n) o
 lists stock mask s zero o m r is his high =
     let at = stock_number stock o.man m is.is_man in absurd (omega (arith, at.low))
 lists stock mask s (suc n) o m r is his high =

@@ -121,7 +121,8 @@ placed_is : (p : Position) (side : Side) (m : ℕ) (q : Position) (f : ℕ → S
 placed_is p side m q f fits mask tuple =
     let v = valued p.men (is_live m) side f (placed p.men (is_live m) side f) refl in
     let at : placed p.men (is_live m) side (squares v.values) ≡ q =
-    subst (λ n. values_at (tracks_of p.men (is_live n)) v.values ≡ tuple_of q → placed p.men (is_live n) side (squares v.values) ≡ q) mask (fits_values p side q v.values fits) (v.tuple ∙ sym tuple) in
+    subst (λ n. values_at (tracks_of p.men (is_live n)) v.values ≡ tuple_of q → placed p.men (is_live n) side (squares v.values) ≡ q) mask
+    (fits_values p side q v.values fits) (v.tuple ∙ sym tuple) in
     sym at ∙ v.is
 
 -- a set of positions of the game has live men on distinct squares
@@ -270,7 +271,9 @@ bearings_mean p m b w =
     }
 
 -- values that put each man on his square give the position
-placed_point : (p : Position) (v : Values) → ((k : ℕ) (m : Man) (z : Square) → stock_man p.men k ≡ Some m → StandsOn m z → squares v k ≡ z) → placed p.men (is_live (mask_of p)) p.turn (squares v) ≡ p
+placed_point : (p : Position) (v : Values)
+    → ((k : ℕ) (m : Man) (z : Square) → stock_man p.men k ≡ Some m → StandsOn m z → squares v k ≡ z)
+    → placed p.men (is_live (mask_of p)) p.turn (squares v) ≡ p
 placed_point p v h =
     placed_same p.men (is_live (mask_of p)) p.turn (squares v) (squares_of p)
     (λ k low high on.

@@ -118,7 +118,8 @@ pub ray_at_is : (stock : List Man) (k n : ℕ) (m : Man) (r : Ray) → stock_man
 ray_at_is stock k n m r is ray = sym (ap (man_ray n) is ∙ ap ray_or_none ray)
 
 -- the ray that the code finds is the man's
-pub found_ray : (stock : List Man) (k n : ℕ) (m : Man) (found r : Ray) → stock_man stock k ≡ Some m → ray_of m.kind m.side n ≡ Some r → Some found ≡ ray_of m.kind m.side n → found ≡ ray_at stock k n
+pub found_ray : (stock : List Man) (k n : ℕ) (m : Man) (found r : Ray) → stock_man stock k ≡ Some m
+    → ray_of m.kind m.side n ≡ Some r → Some found ≡ ray_of m.kind m.side n → found ≡ ray_at stock k n
 found_ray stock k n m found r is ray here =
     let both : Some found ≡ Some r = here ∙ ray in let same : found ≡ r = cc in same ∙ ray_at_is stock k n m r is ray
 
@@ -126,12 +127,14 @@ found_ray stock k n m found r is ray here =
 pub tree_at : (make : ℕ → Ray → Tree) (t : Tree) (n m : ℕ) (r q : Ray) → t ≡ make n r → n ≡ m → r ≡ q → t ≡ make m q
 tree_at make t n m r q is count ray = is ∙ ap (λ k. make k r) count ∙ ap (make m) ray
 
-pub image_told : (stock : List Man) (mask : ℕ) (o : Opt) (s : ℕ) (t : Tree) → length stock ≤ 8 → IsOptionOf stock mask o → t ≡ image_of stock mask o s → (e : Sets) → ImageHolds e stock mask o s t
+pub image_told : (stock : List Man) (mask : ℕ) (o : Opt) (s : ℕ) (t : Tree) → length stock ≤ 8
+    → IsOptionOf stock mask o → t ≡ image_of stock mask o s → (e : Sets) → ImageHolds e stock mask o s t
 image_told stock mask o s t few w is =
     image_means stock mask o s w.man w.ray t few w.is
     (is ∙ ap (λ r. image_tree (length stock) mask o.man r o.taken s) (sym (ray_at_is stock o.man o.ray w.man w.ray w.is.is_man w.is.ray)))
 
-pub pre_told : (stock : List Man) (mask : ℕ) (o : Opt) (s q : ℕ) (t : Tree) → length stock ≤ 8 → IsOptionOf stock mask o → t ≡ pre_of stock mask o s q → (e : Sets) → PreHolds e stock mask o s q t
+pub pre_told : (stock : List Man) (mask : ℕ) (o : Opt) (s q : ℕ) (t : Tree) → length stock ≤ 8
+    → IsOptionOf stock mask o → t ≡ pre_of stock mask o s q → (e : Sets) → PreHolds e stock mask o s q t
 pre_told stock mask o s q t few w is =
     pre_means stock mask o s q w.man w.ray t few w.is
     (is ∙ ap (λ r. pre_tree (length stock) mask o.man r o.taken s q) (sym (ray_at_is stock o.man o.ray w.man w.ray w.is.is_man w.is.ray)))

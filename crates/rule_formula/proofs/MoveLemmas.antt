@@ -360,7 +360,8 @@ placed_square true true y z e d h = let s : Some y ≡ Some z = ap place_square 
 placed_square true false y z e d h = absurd (cc)
 placed_square false c y z e d h = absurd (cc)
 
-taken_square : (stock : List Man) (mask i n t : ℕ) (man : Man) (r : Ray) → IsOption stock mask i n t man r → (f g : ℕ → Square) → IsStepOf stock mask i r t man f g → 0 < t → f t ≡ g i
+taken_square : (stock : List Man) (mask i n t : ℕ) (man : Man) (r : Ray) → IsOption stock mask i n t man r
+    → (f g : ℕ → Square) → IsStepOf stock mask i r t man f g → 0 < t → f t ≡ g i
 taken_square stock mask i n zero man r o f g h low = absurd (omega arith)
 taken_square stock mask i n (suc t) man r o f g h low =
     let same : h.takes.0 ≡ man_placed (is_live mask) f (suc t) o.prey.0 = same_man stock (is_live mask) man.side f (suc t) o.prey.0 h.takes.0 o.prey.1 h.takes.1 in

@@ -39,7 +39,8 @@ old_other r i t k first second = if_other k i (spare r i) (if k == t then own i 
 new_other : (r : Ray) (i t k : ℕ) → k ≢ i → k ≢ t → new_seats r i t k ≡ own k
 new_other r i t k first second = if_other k i (new_seat r i t) (if k == t then new_seat r i t else own k) first ∙ if_other k t (new_seat r i t) (own k) second
 
-old_squares : (r : Ray) (i t k : ℕ) (w : Values) (z : Square) → (k ≡ i → z ≡ at w (spare r i)) → (k ≢ i → k ≡ t → z ≡ at w (own i)) → (k ≢ i → k ≢ t → z ≡ at w (own k)) → z ≡ at w (old_seats r i t k)
+old_squares : (r : Ray) (i t k : ℕ) (w : Values) (z : Square) → (k ≡ i → z ≡ at w (spare r i))
+    → (k ≢ i → k ≡ t → z ≡ at w (own i)) → (k ≢ i → k ≢ t → z ≡ at w (own k)) → z ≡ at w (old_seats r i t k)
 old_squares r i t k w z mover taken others =
     elim (same_number k i) [
       | inl e ↦ mover e ∙ ap (at w) (sym (if_same k i (spare r i) (if k == t then own i else own k) e))
@@ -49,7 +50,8 @@ old_squares r i t k w z mover taken others =
       ]
     ]
 
-new_squares : (r : Ray) (i t k : ℕ) (w : Values) (z : Square) → (k ≡ i → z ≡ at w (new_seat r i t)) → (k ≢ i → k ≢ t → z ≡ at w (own k)) → k ≢ t → z ≡ at w (new_seats r i t k)
+new_squares : (r : Ray) (i t k : ℕ) (w : Values) (z : Square) → (k ≡ i → z ≡ at w (new_seat r i t))
+    → (k ≢ i → k ≢ t → z ≡ at w (own k)) → k ≢ t → z ≡ at w (new_seats r i t k)
 new_squares r i t k w z mover others second =
     elim (same_number k i) [
       | inl e ↦ mover e ∙ ap (at w) (sym (if_same k i (new_seat r i t) (if k == t then new_seat r i t else own k) e))
@@ -129,7 +131,8 @@ image_holds stock mask i n t man r short o s e v apart =
           (λ first e. ap f e ∙ move.taken (subst (λ j. 0 < j) e some) ∙ sym (kept z i man o.is_man))
           (λ first second. move.stay k m is on first second ∙ sym (kept z k m is))
           in
-          let here : IsMember e s (placed stock live man.side (λ k. at w (old_seats r i t k))) = subst (IsMember e s) (placed_same stock live man.side f (λ k. at w (old_seats r i t k)) same) member in
+          let here : IsMember e s (placed stock live man.side (λ k. at w (old_seats r i t k))) =
+          subst (IsMember e s) (placed_same stock live man.side f (λ k. at w (old_seats r i t k)) same) member in
           let goes = parts_of stock live i r t f (squares v) (λ k. at w (own k)) (at w (spare r i)) (at w (own i)) (sym from) (sym (kept z i man o.is_man))
           (λ k m is on first second. move.stay k m is on first second ∙ sym (kept z k m is)) move
           in
@@ -141,7 +144,8 @@ abbrev pre_values : Ray → ℕ → Values → Square → Values
 pre_values r zero v z = swept_values r v z
 pre_values r (suc t) v z = v
 
-pre_tree_holds : (n mask i : ℕ) (r : Ray) (t : ℕ) (s q : ℕ) (e : Sets) (v : Values) → Holds (pre_tree n mask i r t s q) e v ↔ ((z : Square) × Holds (pre_body n mask i r t s q) e (pre_values r t v z))
+pre_tree_holds : (n mask i : ℕ) (r : Ray) (t : ℕ) (s q : ℕ) (e : Sets) (v : Values)
+    → Holds (pre_tree n mask i r t s q) e v ↔ ((z : Square) × Holds (pre_body n mask i r t s q) e (pre_values r t v z))
 pre_tree_holds n mask i r zero s q e v =
     let outer = ex_swept_holds r.dx elsewhere.x (ex_swept r.dy elsewhere.y (pre_body n mask i r 0 s q)) e v in
     let inner = λ (u : Values). ex_swept_holds r.dy elsewhere.y (pre_body n mask i r 0 s q) e u in (

@@ -132,7 +132,8 @@ goes_lives Knight p m z g = bears_lives p m z g
 goes_lives Pawn p m z (inl g) = bears_lives p m z g.0
 goes_lives Pawn p m z (inr g) = (record { x = z.x; y = z.y -ℤ forward m.side }, g.0)
 
-prey_of : (stock : List Man) (mask k : ℕ) (side : Side) (m : Man) → stock_man stock k ≡ Some m → is_live mask k ≡ true → m.side ≡ other side → m.kind ≢ King → IsPrey stock mask side k
+prey_of : (stock : List Man) (mask k : ℕ) (side : Side) (m : Man) → stock_man stock k ≡ Some m → is_live mask k ≡ true
+    → m.side ≡ other side → m.kind ≢ King → IsPrey stock mask side k
 prey_of stock mask zero side m is on enemy piece = tt
 prey_of stock mask (suc k) side m is on enemy piece = (m, is, on, enemy, piece)
 

@@ -28,7 +28,8 @@ and_maybe_holds : (o : Option Tree) (g : Tree) (e : Sets) (v : Values) → Holds
 and_maybe_holds None g e v = (λ h. (tt, h), λ h. h.1)
 and_maybe_holds (Some f) g e v = (λ h. (h.0, h.1), λ h. (h.0, h.1))
 
-with_square_holds : (o : Option Tree) (s : Seat) (x : Option Square) (e : Sets) (v : Values) → MaybeHolds (with_square o s x) e v ↔ (MaybeHolds o e v × ((z : Square) → x ≡ Some z → at v s ≡ z))
+with_square_holds : (o : Option Tree) (s : Seat) (x : Option Square) (e : Sets) (v : Values)
+    → MaybeHolds (with_square o s x) e v ↔ (MaybeHolds o e v × ((z : Square) → x ≡ Some z → at v s ≡ z))
 with_square_holds o s None e v = (λ h. (h, λ z is. absurd (cc)), λ h. h.0)
 with_square_holds o s (Some y) e v =
     let first = and_maybe_holds o (tree.Value s.x y.x) e v in (
@@ -40,7 +41,8 @@ with_square_holds o s (Some y) e v =
           (first.1 (h.0, ap (λ (z : Square). z.x) here), ap (λ (z : Square). z.y) here),
     )
 
-point_to_holds : (men : List Man) (n : ℕ) (e : Sets) (v : Values) → MaybeHolds (point_to men n) e v ↔ Each (λ k. (z : Square) → man_square (stock_man men k) ≡ Some z → squares v k ≡ z) n
+point_to_holds : (men : List Man) (n : ℕ) (e : Sets) (v : Values)
+    → MaybeHolds (point_to men n) e v ↔ Each (λ k. (z : Square) → man_square (stock_man men k) ≡ Some z → squares v k ≡ z) n
 point_to_holds men zero e v = (λ h k low high. absurd (omega arith), λ h. tt)
 point_to_holds men (suc n) e v =
     let before = point_to_holds men n e v in

@@ -26,7 +26,7 @@ use Rattle.rule_formula.specs.Placed.{IsLiveIn, is_live, stock_man, without}
 use Rattle.rule_formula.specs.Seats.{elsewhere, new_seat, new_seats, old_seats, own, seats_with, spare, swept, vars_to}
 use Rattle.rule_formula.specs.Trees.{AreApart, IsCounted, IsDrawn, Suits, ahead, and_all, and_maybe, bear_of, bear_tree, clear, clear_as, difference, ex_swept, falling, image_body, image_of, image_tree, is_other, line, line_atoms, man_square, on, on_as, ordered, past, point_of, point_to, pre_body, pre_of, pre_tree, ray_at, ray_atoms, rising, safe_of, safe_tree, tracks_of, twins_tree, unless_same, atoms_as, with_square}
 use Rattle.rule_formula.specs.Meaning.{IsBearer, IsOptionOf, IsPrey}
-use Rattle.rule_formula.specs.Size.{IsModest, IsOver, NamesBoth, NamesOnly}
+use Rattle.rule_formula.specs.Size.{IsModest, IsOver, NamesBoth, NamesOnly, NamesBeforeAndAfter}
 use Rattle.rule_formula.proofs.ApartLemmas.{apart_back, apart_counted, apart_drawn, own_others}
 use Rattle.rule_formula.proofs.BearLemmas.{IsNumber, stock_number}
 use Rattle.rule_formula.proofs.FineLemmas.{IsFine, IsLow, fine_few, fine_made, fine_names, four_atom, two_atom}
@@ -147,7 +147,8 @@ ahead_fine P (pos zero) dy a b extent from to counted = ordered_fine P dy a.y b.
 ahead_fine P (pos (suc dx)) dy a b extent from to counted = ordered_fine P (pos (suc dx)) a.x b.x (past extent) (counted.across (λ e. omega (arith, ints, e))) from.x_low to.x_low (past_bound extent)
 ahead_fine P (negsuc dx) dy a b extent from to counted = ordered_fine P (negsuc dx) a.x b.x (past extent) (counted.across (λ e. omega (arith, ints, e))) from.x_low to.x_low (past_bound extent)
 
-on_fine : (P : ℕ × List Var → Type 0) (far : Bool) (dx dy : ℤ) (a b z : Seat) (extent : Extent) → IsGood a → IsGood b → IsGood z → AreApart a z → AreApart z b → IsFine P (on_as far dx dy a b z extent)
+on_fine : (P : ℕ × List Var → Type 0) (far : Bool) (dx dy : ℤ) (a b z : Seat) (extent : Extent) → IsGood a → IsGood b
+    → IsGood z → AreApart a z → AreApart z b → IsFine P (on_as far dx dy a b z extent)
 on_fine P true dx dy a b z extent from to middle first last = (
   (line_fine P dx dy a z from middle (apart_drawn dx dy a z first), ahead_fine P dx dy a z Before from middle (apart_counted dx dy a z first)),
   ahead_fine P dx dy z b extent middle to (apart_counted dx dy z b last),
@@ -279,7 +280,8 @@ path_fine P f r a b extent live i j m h ray from to suits few first last =
     (λ k low high other second. let small : k ≤ 8 = omega (arith, high, few) in
     on_fine P r.far r.dx r.dy a b (own k) extent from to (own_good k low small) (first k low small other second) (last k low small other second))
 
-image_fine : (P : ℕ × List Var → Type 0) (n mask i t s : ℕ) (r : Ray) → n ≤ 8 → 0 < i → i ≤ 8 → IsGoodRay r → P (s, vars_to (old_seats r i t) (is_live mask) n) → IsFine P (image_tree n mask i r t s)
+image_fine : (P : ℕ × List Var → Type 0) (n mask i t s : ℕ) (r : Ray) → n ≤ 8 → 0 < i → i ≤ 8 → IsGoodRay r
+    → P (s, vars_to (old_seats r i t) (is_live mask) n) → IsFine P (image_tree n mask i r t s)
 image_fine P n mask i t s r few low high ray named =
     let from : IsGood (spare r i) = spare_good r i low high in
     let to : IsGood (own i) = own_good i low high in
@@ -401,14 +403,16 @@ if_steps : (b : Bool) (f g : Tree) → length (steps g) ≤ 2 → length (steps 
 if_steps true f g h = let e = and_steps f (tree.Not g) in omega (arith, e, h)
 if_steps false f g h = omega arith
 
-clear_steps : (f : Tree) (hit : ℕ → Tree) (live : ℕ → Bool) (i j n : ℕ) → ((k : ℕ) → length (steps (hit k)) ≤ 2) → length (steps (clear f hit live i j n)) ≤ length (steps f) + 3 * n
+clear_steps : (f : Tree) (hit : ℕ → Tree) (live : ℕ → Bool) (i j n : ℕ) → ((k : ℕ) → length (steps (hit k)) ≤ 2)
+    → length (steps (clear f hit live i j n)) ≤ length (steps f) + 3 * n
 clear_steps f hit live i j zero h = omega arith
 clear_steps f hit live i j (suc n) h =
     let rest = clear_steps f hit live i j n h in
     let step = if_steps (is_other live i j (suc n)) (clear f hit live i j n) (hit (suc n)) (h (suc n)) in
     omega (arith, rest, step)
 
-clear_as_steps : (b : Bool) (f : Tree) (hit : ℕ → Tree) (live : ℕ → Bool) (i j n : ℕ) → ((k : ℕ) → length (steps (hit k)) ≤ 2) → length (steps (clear_as b f hit live i j n)) ≤ length (steps f) + 3 * n
+clear_as_steps : (b : Bool) (f : Tree) (hit : ℕ → Tree) (live : ℕ → Bool) (i j n : ℕ)
+    → ((k : ℕ) → length (steps (hit k)) ≤ 2) → length (steps (clear_as b f hit live i j n)) ≤ length (steps f) + 3 * n
 clear_as_steps true f hit live i j n h = clear_steps f hit live i j n h
 clear_as_steps false f hit live i j n h = omega arith
 
@@ -576,7 +580,8 @@ unfolding any_set
 image_modest stock mask o s t few w is =
     modest any_set t (image_of stock mask o s) is (image_is_fine any_set stock mask o s few w tt) (image_steps (length stock) mask o.man o.taken s (ray_at stock o.man o.ray) few)
 
-pub image_names : (stock : List Man) (mask : ℕ) (o : Opt) (s : ℕ) (t : Tree) → length stock ≤ 8 → IsOptionOf stock mask o → t ≡ image_of stock mask o s → NamesOnly s (tracks_of stock (is_live mask)) t
+pub image_names : (stock : List Man) (mask : ℕ) (o : Opt) (s : ℕ) (t : Tree) → length stock ≤ 8
+    → IsOptionOf stock mask o → t ≡ image_of stock mask o s → NamesOnly s (tracks_of stock (is_live mask)) t
 image_names stock mask o s t few w is =
     let P = IsOver s (tracks_of stock (is_live mask)) in
     subst (NamesOnly s (tracks_of stock (is_live mask))) (sym is)
@@ -597,7 +602,7 @@ pre_modest stock mask o s q t few w is =
     modest any_set t (pre_of stock mask o s q) is (pre_is_fine any_set stock mask o s q few w tt tt) (pre_steps (length stock) mask o.man o.taken s q (ray_at stock o.man o.ray) few)
 
 pub pre_names : (stock : List Man) (mask : ℕ) (o : Opt) (s q : ℕ) (t : Tree) → length stock ≤ 8 → IsOptionOf stock mask o
-    → t ≡ pre_of stock mask o s q → NamesBoth s (tracks_of stock (is_live mask)) q (tracks_of stock (without (is_live mask) o.taken)) t
+    → t ≡ pre_of stock mask o s q → NamesBeforeAndAfter stock mask o s q t
 pre_names stock mask o s q t few w is =
     let tracks : List Var = tracks_of stock (is_live mask) in
     let others : List Var = tracks_of stock (without (is_live mask) o.taken) in
@@ -629,7 +634,8 @@ bear_modest stock mask k n g s t few w is =
     let low = bear_steps (length stock) mask k g s (ray_at stock k n) few in
     modest any_set t (bear_of stock mask k n g s) is (bear_is_fine any_set stock mask k n g s few w tt) (omega (arith, low))
 
-pub bear_names : (stock : List Man) (mask k n g s : ℕ) (t : Tree) → length stock ≤ 8 → IsBearer stock mask k n g → t ≡ bear_of stock mask k n g s → NamesOnly s (tracks_of stock (is_live mask)) t
+pub bear_names : (stock : List Man) (mask k n g s : ℕ) (t : Tree) → length stock ≤ 8 → IsBearer stock mask k n g
+    → t ≡ bear_of stock mask k n g s → NamesOnly s (tracks_of stock (is_live mask)) t
 bear_names stock mask k n g s t few w is =
     let P = IsOver s (tracks_of stock (is_live mask)) in
     subst (NamesOnly s (tracks_of stock (is_live mask))) (sym is)
@@ -640,7 +646,8 @@ unfolding any_set
 safe_modest stock mask k n g s t few w is =
     modest any_set t (safe_of stock mask k n g s) is (safe_is_fine any_set stock mask k n g s few w tt) (safe_steps (length stock) mask k g s (ray_at stock k n) few)
 
-pub safe_names : (stock : List Man) (mask k n g s : ℕ) (t : Tree) → length stock ≤ 8 → IsBearer stock mask k n g → t ≡ safe_of stock mask k n g s → NamesOnly s (tracks_of stock (is_live mask)) t
+pub safe_names : (stock : List Man) (mask k n g s : ℕ) (t : Tree) → length stock ≤ 8 → IsBearer stock mask k n g
+    → t ≡ safe_of stock mask k n g s → NamesOnly s (tracks_of stock (is_live mask)) t
 safe_names stock mask k n g s t few w is =
     let P = IsOver s (tracks_of stock (is_live mask)) in
     subst (NamesOnly s (tracks_of stock (is_live mask))) (sym is)

@@ -64,7 +64,8 @@ spare_y d (pos (suc e)) v k z y low is h = value_same (swept_value d v elsewhere
 spare_y d (negsuc e) v k z y low is h = value_same (swept_value d v elsewhere.x z.x) elsewhere.y z.y 17 refl ∙ is
 
 -- the spare seat has the square, if that shares with the man's own what the ray leaves alone
-pub spare_is : (r : Ray) (v : Values) (i : ℕ) (z : Square) → 0 < i → i ≤ 8 → (r.dx ≡ pos 0 → (squares v i).x ≡ z.x) → (r.dy ≡ pos 0 → (squares v i).y ≡ z.y) → at (swept_values r v z) (spare r i) ≡ z
+pub spare_is : (r : Ray) (v : Values) (i : ℕ) (z : Square) → 0 < i → i ≤ 8 → (r.dx ≡ pos 0 → (squares v i).x ≡ z.x)
+    → (r.dy ≡ pos 0 → (squares v i).y ≡ z.y) → at (swept_values r v z) (spare r i) ≡ z
 spare_is r v i z low high across along =
     square_at (at (swept_values r v z) (spare r i)) z (spare_x r.dx r.dy v (2 * i - 2) z z.x (omega arith) refl across) (spare_y r.dx r.dy v (2 * i - 1) z z.y (omega arith) refl along)
 

@@ -296,7 +296,8 @@ own_seat_in : (live : ℕ → Bool) (n k : ℕ) → 0 < k → k ≤ n → live k
 own_seat_in live n k low high on =
     record { across = record { number = k; low = low; high = high; on = on; is = inl refl }; along = record { number = k; low = low; high = high; on = on; is = inr refl } }
 
-among_in : (T : Var → Type 0) (s : ℕ) (seats : ℕ → Seat) (live : ℕ → Bool) (n : ℕ) → ((k : ℕ) → 0 < k → k ≤ n → live k ≡ true → SeatIn T (seats k)) → FreeIn T (tree.Among s (vars_to seats live n))
+among_in : (T : Var → Type 0) (s : ℕ) (seats : ℕ → Seat) (live : ℕ → Bool) (n : ℕ)
+    → ((k : ℕ) → 0 < k → k ≤ n → live k ≡ true → SeatIn T (seats k)) → FreeIn T (tree.Among s (vars_to seats live n))
 among_in T s seats live n h z is =
     let w = seated seats live n z is in
     let seat = h w.number w.low w.high w.on in
@@ -330,7 +331,8 @@ pre_body_in U n mask i t s q r from to each =
     (λ k low high alive. seats_in U i t k (new_seat r i t) (new_seat r i t) to to (λ first second. each k low high (was_live (is_live mask k) k t alive).0))))
     from to (λ k low high alive other. each k low high alive)
 
-pre_tree_in : (n mask i t s q : ℕ) (r : Ray) → 0 < i → i ≤ n → is_live mask i ≡ true → (0 < t → (t ≤ n) × (is_live mask t ≡ true)) → FreeIn (IsSeated own (is_live mask) n) (pre_tree n mask i r t s q)
+pre_tree_in : (n mask i t s q : ℕ) (r : Ray) → 0 < i → i ≤ n → is_live mask i ≡ true
+    → (0 < t → (t ≤ n) × (is_live mask t ≡ true)) → FreeIn (IsSeated own (is_live mask) n) (pre_tree n mask i r t s q)
 pre_tree_in n mask i zero s q r low high on prey =
     let T = IsSeated own (is_live mask) n in
     let mover : SeatIn T (own i) = own_seat_in (is_live mask) n i low high on in
@@ -342,7 +344,8 @@ pre_tree_in n mask i (suc t) s q r low high on prey =
     pre_body_in (IsSeated own (is_live mask) n) n mask i (suc t) s q r (own_seat_in (is_live mask) n i low high on) (own_seat_in (is_live mask) n (suc t) (omega arith) w.0 w.1)
     (λ k first last alive. own_seat_in (is_live mask) n k first last alive)
 
-bear_tree_in : (n mask k g s : ℕ) (r : Ray) → 0 < k → k ≤ n → is_live mask k ≡ true → 0 < g → g ≤ n → is_live mask g ≡ true → FreeIn (IsSeated own (is_live mask) n) (bear_tree n mask k r g s)
+bear_tree_in : (n mask k g s : ℕ) (r : Ray) → 0 < k → k ≤ n → is_live mask k ≡ true → 0 < g → g ≤ n
+    → is_live mask g ≡ true → FreeIn (IsSeated own (is_live mask) n) (bear_tree n mask k r g s)
 bear_tree_in n mask k g s r low high alive_k first last target =
     let T = IsSeated own (is_live mask) n in
     let from : SeatIn T (own k) = own_seat_in (is_live mask) n k low high alive_k in
@@ -416,7 +419,8 @@ tracks_are live n f only all =
     (λ z is. (free_vars-free f z).1 (all z (seated own live n z is)))
 
 -- the free variables of twins are those of the live men
-pub twins_tracks : (n mask a b s : ℕ) → 0 < a → a ≤ n → is_live mask a ≡ true → 0 < b → b ≤ n → is_live mask b ≡ true → free_vars (twins_tree n mask a b s) ≡ vars_to own (is_live mask) n
+pub twins_tracks : (n mask a b s : ℕ) → 0 < a → a ≤ n → is_live mask a ≡ true → 0 < b → b ≤ n → is_live mask b ≡ true
+    → free_vars (twins_tree n mask a b s) ≡ vars_to own (is_live mask) n
 twins_tracks n mask a b s low_a high_a on_a low_b high_b on_b =
     let T = IsSeated own (is_live mask) n in
     let first = own_seat_in (is_live mask) n a low_a high_a on_a in
@@ -535,7 +539,8 @@ with_first i j a b = grind (arith, nat_tests)
 with_other : (i j k : ℕ) (a b : Seat) → k ≢ i → k ≢ j → seats_with i a j b k ≡ own k
 with_other i j k a b first second = grind (arith, nat_tests)
 
-image_body_in : (n mask i t s : ℕ) (r : Ray) → 0 < i → i ≤ n → is_live mask i ≡ true → i ≢ t → FreeIn (InBody (IsSeated own (without (is_live mask) t) n) r) (image_body n mask i r t s)
+image_body_in : (n mask i t s : ℕ) (r : Ray) → 0 < i → i ≤ n → is_live mask i ≡ true → i ≢ t
+    → FreeIn (InBody (IsSeated own (without (is_live mask) t) n) r) (image_body n mask i r t s)
 image_body_in n mask i t s r low high on ne =
     let T = IsSeated own (without (is_live mask) t) n in
     let U = InBody T r in
@@ -555,7 +560,8 @@ image_tree_in n mask i t s r low high on ne =
     swept_in T r.dx elsewhere.x (ex_swept r.dy elsewhere.y (image_body n mask i r t s))
     (swept_in (λ z. T z ⊎ ((z ≡ elsewhere.x) × (r.dx ≢ pos 0))) r.dy elsewhere.y (image_body n mask i r t s) (image_body_in n mask i t s r low high on ne))
 
-image_body_free : (n mask i t s : ℕ) (r : Ray) (z : Var) → n ≤ 8 → 0 < i → i ≤ n → is_live mask i ≡ true → IsSeated own (without (is_live mask) t) n z → IsFree z (image_body n mask i r t s)
+image_body_free : (n mask i t s : ℕ) (r : Ray) (z : Var) → n ≤ 8 → 0 < i → i ≤ n → is_live mask i ≡ true
+    → IsSeated own (without (is_live mask) t) n z → IsFree z (image_body n mask i r t s)
 image_body_free n mask i t s r z few low high alive_i w =
     let among : Tree = tree.Among s (vars_to (old_seats r i t) (is_live mask) n) in
     let atoms : List Tree = ray_atoms r (spare r i) (own i) in
@@ -584,13 +590,15 @@ image_body_free n mask i t s r z few low high alive_i w =
           ]
     ]
 
-image_free : (n mask i t s : ℕ) (r : Ray) (z : Var) → n ≤ 8 → 0 < i → i ≤ n → is_live mask i ≡ true → IsSeated own (without (is_live mask) t) n z → IsFree z (image_tree n mask i r t s)
+image_free : (n mask i t s : ℕ) (r : Ray) (z : Var) → n ≤ 8 → 0 < i → i ≤ n → is_live mask i ≡ true
+    → IsSeated own (without (is_live mask) t) n z → IsFree z (image_tree n mask i r t s)
 image_free n mask i t s r z few low high on w =
     let small : z.0 < 16 = own_low (without (is_live mask) t) n z few w in
     swept_free r.dx elsewhere.x (ex_swept r.dy elsewhere.y (image_body n mask i r t s)) z (not_var z 16 small)
     (swept_free r.dy elsewhere.y (image_body n mask i r t s) z (not_var z 17 (omega (arith, small))) (image_body_free n mask i t s r z few low high on w))
 
-pub image_tracks : (stock : List Man) (mask : ℕ) (o : Opt) (s : ℕ) → length stock ≤ 8 → IsOptionOf stock mask o → free_vars (image_of stock mask o s) ≡ tracks_of stock (without (is_live mask) o.taken)
+pub image_tracks : (stock : List Man) (mask : ℕ) (o : Opt) (s : ℕ) → length stock ≤ 8 → IsOptionOf stock mask o
+    → free_vars (image_of stock mask o s) ≡ tracks_of stock (without (is_live mask) o.taken)
 image_tracks stock mask o s few w =
     let number : IsNumber stock o.man = stock_number stock o.man w.man w.is.is_man in
     let ne : o.man ≢ o.taken = option_untaken stock mask o.man o.ray o.taken w.man w.ray w.is in

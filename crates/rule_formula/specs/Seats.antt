@@ -4,6 +4,7 @@ use Rattle.game_rules.specs.declared.men.Square.{Square}
 use Rattle.track_word.specs.declared.tracks.Var.{Var}
 use Rattle.track_word.specs.Tracks.{Values}
 use Rattle.rule_formula.specs.declared.seats.Seat.{Seat}
+use Rattle.rule_formula.specs.declared.seats.Seats.{Seats}
 use Rattle.game_rules.specs.declared.men.Ray.{Ray}
 
 abbrev pub var : ℕ → Var
@@ -42,6 +43,10 @@ spare r i = record { x = swept r.dx (own i).x elsewhere.x; y = swept r.dy (own i
 -- man i in the seat a, man j in the seat b, and the others in their own
 abbrev pub seats_with : ℕ → Seat → ℕ → Seat → ℕ → Seat
 seats_with i a j b k = if k == i then a else if k == j then b else own k
+
+-- where the men's squares stand by these seats
+abbrev pub seat_of : Seats → ℕ → Seat
+seat_of s k = seats_with s.first s.first_seat s.second s.second_seat k
 
 -- the seats before a move: man i in his old seat, the taken man where man i is now
 abbrev pub old_seats : Ray → ℕ → ℕ → ℕ → Seat

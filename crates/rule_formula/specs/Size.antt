@@ -1,7 +1,11 @@
 -- How large a formula of the rules is, and which sets it names.
 use Rattle.std.specs.Prelude.{◌≡◌, ◌⊎◌, ℕ, ◌<◌, ◌≤◌, List, length, All}
+use Rattle.game_rules.specs.declared.men.Man.{Man}
 use Rattle.track_word.specs.declared.tracks.Var.{Var}
 use Rattle.lin_formula.specs.Tree.{IsWellMade, Tree, memberships, steps, vars_of}
+use Rattle.rule_formula.specs.declared.opt.Opt.{Opt}
+use Rattle.rule_formula.specs.Placed.{is_live, without}
+use Rattle.rule_formula.specs.Trees.{tracks_of}
 
 -- well made, with at most eighteen variables and fewer than a hundred steps
 pub record IsModest (t : Tree) : Type 0 where
@@ -21,3 +25,8 @@ NamesOnly s tracks t = All (IsOver s tracks) (memberships t)
 -- only these two sets are named
 abbrev pub NamesBoth : ℕ → List Var → ℕ → List Var → Tree → Type 0
 NamesBoth s tracks q others t = All (λ m. IsOver s tracks m ⊎ IsOver q others m) (memberships t)
+
+-- only the set before a step by the option is named, over the live men, and the set after it, over those who are still live
+abbrev pub NamesBeforeAndAfter : List Man → ℕ → Opt → ℕ → ℕ → Tree → Type 0
+NamesBeforeAndAfter stock mask o before after t =
+    NamesBoth before (tracks_of stock (is_live mask)) after (tracks_of stock (without (is_live mask) o.taken)) t

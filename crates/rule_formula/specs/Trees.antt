@@ -1,12 +1,16 @@
 -- The formulas of the rules.
 use Rattle.std.specs.Prelude.{◌≡◌, ◌≢◌, Option, Some, None, ℕ, zero, suc, Bool, true, false, ◌==◌, ◌&&◌, not, if◌then◌else◌, List, [], ◌∷◌, ◌++◌, length, ℤ, pos, negsuc}
+use Rattle.std.specs.Option.{option_map}
 use Rattle.track_word.specs.declared.tracks.Var.{Var}
 use Rattle.track_word.specs.declared.atoms.Rel.{Rel}
 use Rattle.track_word.specs.declared.atoms.Rel.TheVariants.{Le, Eq}
 use Rattle.lin_formula.specs.Tree.{Tree}
+use Rattle.lin_formula.specs.TreeOf.{tree_of}
+use Rattle.lin_formula.specs.declared.formula.Formula.{Formula}
 use Rattle.rule_formula.specs.declared.atoms.Extent.{Extent}
 use Rattle.rule_formula.specs.declared.atoms.Extent.TheVariants.{Onto, Before}
 use Rattle.rule_formula.specs.declared.seats.Seat.{Seat}
+use Rattle.rule_formula.specs.declared.seats.Seats.{Seats}
 use Rattle.game_rules.specs.declared.men.Ray.{Ray}
 use Rattle.rule_formula.specs.Placed.{is_live, stock_man, without}
 use Rattle.game_rules.specs.declared.men.Man.{Man}
@@ -14,7 +18,7 @@ use Rattle.game_rules.specs.declared.men.Square.{Square}
 use Rattle.game_rules.specs.Game.{square_of}
 use Rattle.game_rules.specs.Rays.{leap, ray_of}
 use Rattle.rule_formula.specs.declared.opt.Opt.{Opt}
-use Rattle.rule_formula.specs.Seats.{elsewhere, own, new_seat, new_seats, old_seats, spare, vars_to}
+use Rattle.rule_formula.specs.Seats.{elsewhere, own, new_seat, new_seats, old_seats, seat_of, spare, vars_to}
 use Rattle.lin_formula.specs.Tree as tree
 
 -- the formula and each of the list, nested to the left
@@ -121,6 +125,19 @@ abbrev pub ex_swept : ℤ → Var → Tree → Tree
 ex_swept (pos zero) x f = f
 ex_swept _ x f = tree.Ex x f
 
+-- a position of the set, with the men of the mask but one on these seats
+abbrev pub among_tree : ℕ → ℕ → ℕ → Seats → ℕ → Tree
+among_tree n mask gone seats s = tree.Among s (vars_to (seat_of seats) (without (is_live mask) gone) n)
+
+-- a position of the set, with the men of the mask on their own seats
+abbrev pub own_tree : ℕ → ℕ → ℕ → Tree
+own_tree n mask s = tree.Among s (vars_to own (is_live mask) n)
+
+-- and man i goes along the ray, taking man t, to a position of the other set
+abbrev pub both_tree : ℕ → ℕ → ℕ → Ray → ℕ → ℕ → ℕ → Tree
+both_tree n mask i r t s q =
+    tree.And (own_tree n mask s) (tree.Among q (vars_to (new_seats r i t) (without (is_live mask) t) n))
+
 abbrev pub image_body : ℕ → ℕ → ℕ → Ray → ℕ → ℕ → Tree
 image_body n mask i r t s =
     clear (and_all (tree.Among s (vars_to (old_seats r i t) (is_live mask) n)) (ray_atoms r (spare r i) (own i)))
@@ -132,11 +149,7 @@ image_tree n mask i r t s = ex_swept r.dx elsewhere.x (ex_swept r.dy elsewhere.y
 
 abbrev pub pre_body : ℕ → ℕ → ℕ → Ray → ℕ → ℕ → ℕ → Tree
 pre_body n mask i r t s q =
-    clear
-    (and_all
-    (tree.And (tree.Among s (vars_to own (is_live mask) n))
-    (tree.Among q (vars_to (new_seats r i t) (without (is_live mask) t) n)))
-    (ray_atoms r (own i) (new_seat r i t)))
+    clear (and_all (both_tree n mask i r t s q) (ray_atoms r (own i) (new_seat r i t)))
     (λ k. on r (own i) (new_seat r i t) Onto (own k)) (is_live mask) i t n
 
 abbrev pub pre_tree : ℕ → ℕ → ℕ → Ray → ℕ → ℕ → ℕ → Tree
@@ -150,16 +163,20 @@ clear_as false f hit live i j n = f
 -- man k bears along the ray on king g, in a position of the set
 abbrev pub bear_tree : ℕ → ℕ → ℕ → Ray → ℕ → ℕ → Tree
 bear_tree n mask k r g s =
-    clear_as r.far (and_all (tree.Among s (vars_to own (is_live mask) n)) (ray_atoms r (own k) (own g)))
+    clear_as r.far (and_all (own_tree n mask s) (ray_atoms r (own k) (own g)))
     (λ l. on r (own k) (own g) Before (own l)) (is_live mask) k g n
 
 abbrev pub safe_tree : ℕ → ℕ → ℕ → Ray → ℕ → ℕ → Tree
-safe_tree n mask k r g s = tree.And (tree.Among s (vars_to own (is_live mask) n)) (tree.Not (bear_tree n mask k r g s))
+safe_tree n mask k r g s = tree.And (own_tree n mask s) (tree.Not (bear_tree n mask k r g s))
 
 abbrev pub twins_tree : ℕ → ℕ → ℕ → ℕ → ℕ → Tree
 twins_tree n mask a b s =
-    tree.And (tree.And (tree.Among s (vars_to own (is_live mask) n)) (difference (own a).x (own b).x Eq (pos 0)))
+    tree.And (tree.And (own_tree n mask s) (difference (own a).x (own b).x Eq (pos 0)))
     (difference (own a).y (own b).y Eq (pos 0))
+
+-- what a formula says, if there is one
+abbrev pub maybe_tree : Option Formula → Option Tree
+maybe_tree f = option_map tree_of f
 
 abbrev pub and_maybe : Option Tree → Tree → Tree
 and_maybe None g = g

@@ -2,10 +2,7 @@
 
 ghost use Rattle.std.specs.Prelude.{◌≡◌, ◌≢◌, ◌≤◌, ◌<◌, IfOk, pos};
 ghost use Rattle.lin_formula.specs.TreeOf.{tree_of};
-ghost use Rattle.rule_formula.specs.Placed.{is_live as live_in, without};
-ghost use Rattle.rule_formula.specs.Seats.{new_seats, own as own_seat, vars_to};
-ghost use Rattle.rule_formula.specs.Trees.{bear_tree, ex_swept as swept_tree, image_body, image_tree, pre_body, pre_tree, safe_tree, twins_tree};
-ghost use Rattle.lin_formula.specs.Tree as tree;
+ghost use Rattle.rule_formula.specs.Trees.{bear_tree, both_tree, ex_swept as swept_tree, image_body, image_tree, own_tree, pre_body, pre_tree, safe_tree, twins_tree};
 
 use crate::atoms::{Extent, Way, both, difference, not};
 use crate::chains::{Path, among_seats, and_clear, and_ray};
@@ -32,7 +29,7 @@ fn ex_swept(alloc: Global, step: i8, var: Var, f: Formula) -> Result<Formula, Al
 #[tactic(auto, using(crate::proofs::ChainLemmas::more))]
 fn among_own(alloc: Global, count: u8, mask: u8, source: SetId) -> Result<Formula, AllocError>
     requires { count ≤ 8 }
-    ensures { IfOk result (λ f. tree_of f ≡ tree.Among source.0 (vars_to own_seat (live_in mask) count)) }
+    ensures { IfOk result (λ f. tree_of f ≡ own_tree count mask source.0) }
 {
     let seats = Seats {
         first: 0,
@@ -122,9 +119,7 @@ fn among_both(
     requires high { i ≤ 8 }
     requires taken { t ≤ 8 }
     requires apart { i ≢ t }
-    ensures { IfOk result
-        (λ f. tree_of f ≡ tree.And (tree.Among source.0 (vars_to own_seat (live_in mask) count))
-        (tree.Among target.0 (vars_to (new_seats ray i t) (without (live_in mask) t) count))) }
+    ensures { IfOk result (λ f. tree_of f ≡ both_tree count mask i ray t source.0 target.0) }
 {
     let to = new_seat(ray, i, t);
     let seats = Seats {

@@ -2,10 +2,10 @@
 
 ghost use Rattle.std.specs.Prelude.{◌≡◌, ◌≢◌, ◌≤◌, ◌++◌, ◌∷◌, [], ℕ, IfOk, OnOk, pos, true};
 ghost use Rattle.lin_formula.specs.TreeOf.{tree_of};
-ghost use Rattle.rule_formula.specs.Placed.{is_live as live_in, without};
-ghost use Rattle.rule_formula.specs.Seats.{IsSeat, own as own_seat, seats_with, vars_to};
-ghost use Rattle.rule_formula.specs.Trees.{AreApart, line_atoms, Suits, and_all, clear, difference as difference_tree, is_other as other_than, unless_same, ray_atoms};
-ghost use Rattle.rule_formula.specs.Ways.{on_way};
+ghost use Rattle.rule_formula.specs.Placed.{is_live as live_in};
+ghost use Rattle.rule_formula.specs.Seats.{IsSeat, own as own_seat};
+ghost use Rattle.rule_formula.specs.Trees.{AreApart, line_atoms, Suits, among_tree, and_all, difference as difference_tree, is_other as other_than, unless_same, ray_atoms};
+ghost use Rattle.rule_formula.specs.Ways.{clear_path, on_way};
 ghost use Rattle.lin_formula.specs.Tree as tree;
 
 use crate::atoms::{Extent, Way, ahead, both, difference, line, not, on};
@@ -35,10 +35,7 @@ pub(crate) fn among_seats(
     set: SetId,
 ) -> Result<Formula, AllocError>
     requires { count ≤ 8 }
-    ensures { IfOk result
-        (λ f. tree_of f ≡ tree.Among set.0
-        (vars_to (seats_with seats.first seats.first_seat seats.second seats.second_seat)
-        (without (live_in mask) gone) count)) }
+    ensures { IfOk result (λ f. tree_of f ≡ among_tree count mask gone seats set.0) }
 {
     let mut vars = Vec::new(alloc);
     for n in 0..count {
@@ -154,9 +151,7 @@ pub(crate) fn and_clear(
     requires from { IsSeat path.way.from }
     requires first { (k : ℕ) → 1 ≤ k → k ≤ 8 → k ≢ path.first → k ≢ path.second → AreApart path.way.from (own_seat k) }
     requires last { (k : ℕ) → 1 ≤ k → k ≤ 8 → k ≢ path.first → k ≢ path.second → AreApart (own_seat k) path.way.to }
-    ensures { IfOk result
-        (λ g. tree_of g ≡ clear (tree_of f) (λ k. on_way path.way (own_seat k)) (live_in mask) path.first path.second
-        count) }
+    ensures { IfOk result (λ g. tree_of g ≡ clear_path (tree_of f) mask path count) }
 {
     let mut chain = f;
     for n in 0..count {

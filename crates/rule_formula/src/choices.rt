@@ -1,10 +1,10 @@
 //! The options of a side in a mask.
 
-ghost use Rattle.std.specs.Prelude.{◌≡◌, ◌↔◌, ◌≤◌, ◌++◌, Contains, IfOk, OnOk, Some, length};
+ghost use Rattle.std.specs.Prelude.{◌≡◌, ◌↔◌, ◌≤◌, ◌++◌, Contains, IfOk, OnOk, length};
 ghost use Rattle.game_rules.specs.Rays.{rays_of, serves_captures as captures, serves_moves as moves};
 ghost use Rattle.rule_formula.specs.declared.opt.Opt.{Opt};
 ghost use Rattle.rule_formula.specs.Meaning.{IsOptionOfSide};
-ghost use Rattle.rule_formula.specs.Options.{captures_to, is_king as king_of, is_prey as prey_of, is_side as side_of, man_options, option, options_of, ray_options, rays_to};
+ghost use Rattle.rule_formula.specs.Options.{captures_of, his_options, is_king as king_of, is_prey as prey_of, is_side as side_of, option, options_of, ray_options, rays_to};
 
 use crate::opt::Opt;
 use crate::stock::{is_live, man_of};
@@ -69,8 +69,7 @@ fn push_captures(
     man: u8,
     ray: u8,
 ) -> Result<(), AllocError>
-    ensures { OnOk result
-        (options.new.items ≡ options.old.items ++ captures_to stock.now.men mask side man ray (length stock.now.men)) }
+    ensures { OnOk result (options.new.items ≡ options.old.items ++ captures_of stock.now.men mask side man ray) }
 {
     for n in 0..stock.count() {
         let taken = n + 1;
@@ -128,8 +127,7 @@ fn push_man(
 ) -> Result<(), AllocError>
     requires low { 1 ≤ number }
     requires high { number ≤ 8 }
-    ensures { OnOk result
-        (options.new.items ≡ options.old.items ++ man_options stock.now.men mask side number (Some man)) }
+    ensures { OnOk result (options.new.items ≡ options.old.items ++ his_options stock.now.men mask side number man) }
 {
     if !(is_live(mask, number) && is_side(man.side, side)) {
         return Ok(());

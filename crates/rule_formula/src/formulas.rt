@@ -4,11 +4,11 @@ ghost use Rattle.std.specs.Prelude.{◌≡◌, ◌≢◌, ◌≤◌, ◌<◌, Al
 ghost use Rattle.game_rules.specs.declared.men.Man.{Man};
 ghost use Rattle.game_rules.specs.Rays.{ray_of};
 ghost use Rattle.lin_formula.specs.TreeOf.{tree_of};
-ghost use Rattle.rule_formula.specs.Placed.{IsLiveIn, is_live as live_in, stock_man, without};
+ghost use Rattle.rule_formula.specs.Placed.{IsLiveIn, is_live as live_in, stock_man};
 ghost use Rattle.rule_formula.specs.Trees.{bear_of, image_of, pre_of, safe_of, tracks_of, twins_tree};
 ghost use Rattle.rule_formula.specs.Meaning.{IsBear, IsBearer, IsImage, IsOptionOf, IsPre, IsSafe, IsTwins};
 ghost use Rattle.rule_formula.specs.Seats.{own as own_seat, vars_to};
-ghost use Rattle.rule_formula.specs.Size.{IsModest, NamesBoth, NamesOnly};
+ghost use Rattle.rule_formula.specs.Size.{IsModest, NamesBeforeAndAfter, NamesOnly};
 
 use crate::build::{bear, image, pre, safe, twins};
 use crate::opt::Opt;
@@ -100,9 +100,7 @@ pub fn pre_formula(
     ensures tree { IfOk result (λ f. tree_of f ≡ pre_of stock.now.men mask opt source.0 target.0) }
     ensures means { IfOk result (λ f. IsPre stock.now.men mask opt source.0 target.0 (tree_of f)) }
     ensures modest { IfOk result (λ f. IsModest (tree_of f)) }
-    ensures names { IfOk result (λ f.
-        NamesBoth source.0 (tracks_of stock.now.men (live_in mask))
-        target.0 (tracks_of stock.now.men (without (live_in mask) opt.taken)) (tree_of f)) }
+    ensures names { IfOk result (λ f. NamesBeforeAndAfter stock.now.men mask opt source.0 target.0 (tree_of f)) }
 {
     pre_at(alloc, stock, mask, opt, source, target)
 }

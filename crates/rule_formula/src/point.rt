@@ -1,10 +1,9 @@
 //! The formula of one position.
 
 ghost use Rattle.std.specs.Prelude.{◌≡◌, ◌≤◌, [], IfOk, Some, length};
-ghost use Rattle.std.specs.Option.{option_map};
 ghost use Rattle.lin_formula.specs.TreeOf.{tree_of};
 ghost use Rattle.game_rules.specs.Game.{place_square};
-ghost use Rattle.rule_formula.specs.Trees.{and_maybe as maybe_tree, point_of, with_square as square_tree};
+ghost use Rattle.rule_formula.specs.Trees.{and_maybe as and_tree, maybe_tree, point_of, with_square as square_tree};
 ghost use Rattle.rule_formula.specs.Meaning.{HasLiveMan, IsPoint};
 ghost use Rattle.rule_formula.specs.Size.{IsModest};
 ghost use Rattle.lin_formula.specs.Tree.{memberships};
@@ -20,7 +19,7 @@ use std::alloc::{AllocError, Global};
 
 /// The second formula, and the first if there is one.
 fn and_maybe(alloc: Global, first: Option<Formula>, second: Formula) -> Result<Formula, AllocError>
-    ensures { IfOk result (λ f. tree_of f ≡ maybe_tree (option_map tree_of first) (tree_of second)) }
+    ensures { IfOk result (λ f. tree_of f ≡ and_tree (maybe_tree first) (tree_of second)) }
 {
     match first {
         Some(first) => both(alloc, first, second),
@@ -35,8 +34,7 @@ fn with_place(
     seat: Seat,
     place: Place,
 ) -> Result<Option<Formula>, AllocError>
-    ensures { IfOk result
-        (λ all. option_map tree_of all ≡ square_tree (option_map tree_of chain) seat (place_square place)) }
+    ensures { IfOk result (λ all. maybe_tree all ≡ square_tree (maybe_tree chain) seat (place_square place)) }
 {
     match place {
         Place::Gone => Ok(chain),
@@ -49,7 +47,7 @@ fn with_place(
 
 /// The places of the live men, if there are any.
 fn places(alloc: Global, p: &Position) -> Result<Option<Formula>, AllocError>
-    ensures tree { IfOk result (λ all. option_map tree_of all ≡ point_of p.now.men) }
+    ensures tree { IfOk result (λ all. maybe_tree all ≡ point_of p.now.men) }
     ensures few { IfOk result (λ all. length p.now.men ≤ 8) }
 {
     let mut chain = None;

@@ -2,7 +2,7 @@
 
 ghost use Rattle.std.specs.Prelude.{◌≡◌, ◌≤◌, ◌≢◌, ℕ, ◌-◌};
 ghost use Rattle.rule_formula.specs.Trees.{AreApart, Suits};
-ghost use Rattle.rule_formula.specs.Seats.{IsSeat, new_seat as new_place, own as own_seat, seats_with, spare as spare_seat, swept as swept_var};
+ghost use Rattle.rule_formula.specs.Seats.{IsSeat, new_seat as new_place, own as own_seat, seat_of, spare as spare_seat, swept as swept_var};
 
 use game_rules::Ray;
 use track_word::Var;
@@ -87,7 +87,7 @@ impl Seats {
     pub(crate) fn seat(&self, k: u8) -> Seat
         requires low { 1 ≤ k }
         requires high { k ≤ 8 }
-        ensures { result ≡ seats_with self.now.first self.now.first_seat self.now.second self.now.second_seat k }
+        ensures { result ≡ seat_of self.now k }
     {
         if k == self.first {
             self.first_seat
