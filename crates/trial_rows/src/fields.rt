@@ -1,6 +1,6 @@
 //! The fields of a row.
 
-ghost use Rattle.std.specs.Prelude.{◌≡◌, ◌↔◌, [], Some, None, Ok, Err, IsTrue, IsOk, IsOkAnd, IfOk, MatchOption, MatchResult, unwrap_or};
+ghost use Rattle.std.specs.Prelude.{◌≡◌, ◌↔◌, [], Some, None, Ok, Err, IsTrue, IsOk, IsOkAnd, IfErr, IfNone, IfOk, IfSome, MatchOption, OnErr, unwrap_or};
 ghost use Rattle.trial_rows.specs.Fields.{IsNextField};
 
 use crate::errors::RowError;
@@ -33,8 +33,8 @@ impl<'a> Fields<'a> {
 
     /// The next field.
     pub fn word(&mut self) -> Result<&'a str, RowError>
-        ensures { MatchOption self.old ((result ≡ Err RowError.Missing) × (self.new ≡ None))
-            (λ text. IsOkAnd result (λ field. IsNextField text field.now self.new)) }
+        ensures missing { IfNone self.old ((result ≡ Err RowError.Missing) × (self.new ≡ None)) }
+        ensures next { IfSome self.old (λ text. IsOkAnd result (λ field. IsNextField text field.now self.new)) }
     {
         let Some(text) = self.rest else {
             return Err(RowError::Missing);
@@ -104,8 +104,9 @@ impl<'a> Fields<'a> {
 
 /// The number that a field spells.
 pub fn number<T: FromStr<Err = ParseIntError>>(field: &str) -> Result<T, RowError>
-    ensures { MatchResult result (λ number. T.from_str_gives field.now (Ok number))
-        (λ why. (why ≡ RowError.Number) × (error : ParseIntError) × T.from_str_gives field.now (Err error)) }
+    ensures ok { IfOk result (λ number. T.from_str_gives field.now (Ok number)) }
+    ensures refused { OnErr result ((error : ParseIntError) × T.from_str_gives field.now (Err error)) }
+    ensures why { IfErr result (λ why. why ≡ RowError.Number) }
 {
     match field.parse::<T>() {
         Ok(number) => Ok(number),
