@@ -51,11 +51,14 @@ colours-least (s ∷ shifts) each budget h = one_more (open_ways (map equation_o
     one_more ways each budget h = let sum : (ways + 1) * each ≡ ways * each + each = grind arith in omega (arith, h, sum)
 
 -- what decides another formula that says the same, where no step exceeds the budget
-pub compiled-over : {f g : Tree} {sets : List Automaton} {budget each : ℕ} {a : Automaton} (shifts : List Shift) → SaysTheSame f g
+pub compiled-over : {f g : Tree} {budget each : ℕ} {a : Automaton} (sets : List Automaton) (shifts : List Shift) → SaysTheSame f g
     → Decides a g (members (tables sets)) → NoStepExceeds f (tables sets) budget → IsAccessible each a
     → change_colours shifts * each ≤ budget → IsCompiledOver f sets budget a
-compiled-over {f = f} {g = g} {sets = sets} {budget = budget} {each = each} {a = a} shifts says decides within accessible changes = record {
-  made = record { decides = decides-same f (members (tables sets)) g (members (tables sets)) a (says-here says (tables sets)) decides; within = within };
+compiled-over {f = f} {g = g} {budget = budget} {each = each} {a = a} sets shifts says decides within accessible changes = record {
+  made = record {
+    decides = decides-same f (members (tables sets)) g (members (tables sets)) a (says-here says (tables sets)) decides;
+    within = within;
+  };
   reached = accessible.reached;
   few = λ some. let least = colours-least shifts each budget changes in omega (arith, least, accessible.few);
 }

@@ -62,4 +62,4 @@ returns-clause-made c =
     } in
     let shiftable = c.requires.movable.shiftable in
     let within = c.steps_of_an_image_are_within.ensures i e budget each shiftable few in
-    compiled-over i.shifts (c.image_says_what_its_part_says.ensures i shiftable) decides within accessible few.changes
+    compiled-over sets i.shifts (c.image_says_what_its_part_says.ensures i shiftable) decides within accessible few.changes

@@ -28,21 +28,21 @@ share-requires c = rw c.as_slice.ensures.value c.requires.movable.some
 
 pub met-requires-clause-compilable : goal.met-requires-clause-compilable
 met-requires-clause-compilable c =
-    let same = c.sets.ensures ∙ c.compile_on.ensures.same_sets in
+    let same = c.sets-sets.ensures ∙ c.compile_on.ensures.same_sets in
     rw same c.requires.compilable
 
 pub left_of_all-requires : goal.left_of_all-requires
 left_of_all-requires c =
     let i = inverse_of c.args.inverse.now in
     let sets = c.args.level.now.sets in
-    let same = c.sets.ensures ∙ c.compile_on.ensures.same_sets in
+    let same = c.sets-sets.ensures ∙ c.compile_on.ensures.same_sets in
     rw (c.as_slice-2.ensures.value, same)
     (may_ask_met sets i c.requires.compilable c.requires.few_steps c.in_ok-met.met c.requires.movable.shiftable c.in_ok-met.ensures.decides.tracks)
 
 pub taken_back-requires-clause-integers : goal.taken_back-requires-clause-integers
 taken_back-requires-clause-integers c =
     let i = inverse_of c.args.inverse.now in
-    let sets = c.sets.result.now in
+    let sets = c.sets-sets.result.now in
     let left = rw c.as_slice-2.ensures.value at c.in_ok-reached.ensures.left in
     let decides = decides-all sets _ c.in-Some.each (met_tree i) i.image.clear c.in_ok-met.met c.in_ok-reached.reached c.in_ok-met.ensures.decides left in
     Decides-integers (reached_tree i) (members (tables sets)) c.in_ok-reached.reached decides
@@ -58,8 +58,8 @@ returns-clause-made c =
     let met = c.in_ok-met.met in
     let reached = c.in_ok-reached.reached in
     let came = c.in_ok-came.came in
-    let same = c.sets.ensures ∙ c.compile_on.ensures.same_sets in
-    let same_budget = c.budget.ensures.is ∙ c.compile_on.ensures.budget in
+    let same = c.sets-sets.ensures ∙ c.compile_on.ensures.same_sets in
+    let same_budget = c.budget-budget.ensures.is ∙ c.compile_on.ensures.budget in
     let met_decides = rw same at c.in_ok-met.ensures.decides in
     let left = rw (c.as_slice-2.ensures.value, same, c.compile_on.ensures.budget) at c.in_ok-reached.ensures.left in
     let reached_decides = decides-all sets budget each (met_tree i) i.image.clear met reached met_decides left in
@@ -79,4 +79,4 @@ returns-clause-made c =
       few = accessible.few;
     } in
     let within = c.steps_of_an_inverse_image_are_within.ensures i e budget each c.requires.movable few in
-    compiled-over i.image.shifts (c.inverse_image_says_what_came.ensures i c.requires.movable) came_decides within accessible few.changes
+    compiled-over sets i.image.shifts (c.inverse_image_says_what_came.ensures i c.requires.movable) came_decides within accessible few.changes

@@ -1,6 +1,4 @@
-use Rattle.std.proofs.Common.{ap, subst}
-use Rattle.std.proofs.lemmas.Result.{IfOk-weaker}
-use Rattle.near_image.specs.Read.{image_of, inverse_of}
+use Rattle.std.proofs.Common.{length, ap}
 use Rattle.near_image.proofs.inverse_image.taken_back.Goals as goal
 
 pub backs-requires : goal.backs-requires
@@ -10,4 +8,5 @@ pub moved_set-requires-clause-arity : goal.moved_set-requires-clause-arity
 moved_set-requires-clause-arity c = ap length c.tracks.ensures.tracks
 
 pub returns-clause-taken : goal.returns-clause-taken
-returns-clause-taken c = rw (c.tracks.ensures.tracks, c.in_ok-backs.ensures, c.as_slice.ensures.value) at c.moved_set.ensures.decides
+returns-clause-taken c =
+    rw (c.tracks.ensures.tracks, c.in_ok-backs.ensures, c.as_slice.ensures.value, c.new.ensures.items) at c.moved_set.ensures.decides
