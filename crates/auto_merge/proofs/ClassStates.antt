@@ -11,7 +11,7 @@ use Rattle.auto_core.specs.Rows.{AreRows, IsOverNodes, dense}
 use Rattle.auto_core.proofs.RowLemmas.{get_or-row_of, next_state-dense, IsAutomaton-dense}
 use Rattle.auto_refine.specs.Picked.{ArePicked, AreFlags}
 use Rattle.auto_refine.specs.Leading.{IsLedFrom}
-use Rattle.auto_reduce.specs.Tables.{HasSameWords}
+use Rattle.auto_core.specs.Words.{HasSameWords}
 use Rattle.auto_merge.specs.Merging.{AreClasses}
 use Rattle.auto_merge.specs.Merged.{HaveClasses, AreLed, IsMergedBy, IsMerged}
 use Rattle.auto_merge.specs.declared.leading.Led.{Led}

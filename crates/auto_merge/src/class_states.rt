@@ -2,7 +2,7 @@
 ghost use Rattle.std.specs.Prelude.{◌≡◌, ◌≤◌, IfOk, length};
 ghost use Rattle.auto_core.specs.Automaton.{IsAutomaton};
 ghost use Rattle.auto_core.specs.Reduced.{AllReached};
-ghost use Rattle.auto_reduce.specs.Tables.{HasSameWords};
+ghost use Rattle.auto_core.specs.Words.{HasSameWords};
 ghost use Rattle.auto_merge.specs.Merged.{IsMerging, HaveClasses, IsMergedBy, IsMerged};
 
 use crate::leading::lead_rows;

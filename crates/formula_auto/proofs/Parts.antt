@@ -5,7 +5,7 @@ use Rattle.track_word.specs.Word.{IsWord}
 use Rattle.track_word.specs.Tracks.{with_vars, part_of, word_values}
 use Rattle.auto_core.specs.Automaton.{Automaton, Accepts}
 use Rattle.auto_bool.specs.Words.{AcceptsBoth, AcceptsEither, AcceptsFirstOnly}
-use Rattle.auto_reduce.specs.Tables.{HasSameWords}
+use Rattle.auto_core.specs.Words.{HasSameWords}
 use Rattle.lin_formula.specs.Tree.{Tree, Not, And, Or, free_vars}
 use Rattle.lin_formula.specs.Holds.{Sets, Holds}
 use Rattle.lin_formula.specs.Free.{IsFree}

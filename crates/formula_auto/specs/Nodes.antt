@@ -2,7 +2,7 @@
 use Rattle.std.specs.Prelude.{◌≡◌, ◌≤◌, ℕ, List, length}
 use Rattle.track_word.specs.declared.tracks.Var.{Var}
 use Rattle.auto_core.specs.Automaton.{Automaton}
-use Rattle.auto_reduce.specs.Tables.{HasSameWords}
+use Rattle.auto_core.specs.Words.{HasSameWords}
 use Rattle.lin_formula.specs.Tree.{Tree, Among, Not, Ex}
 use Rattle.lin_formula.specs.SetOf.{SetOf, Table, members}
 use Rattle.formula_auto.specs.Decides.{Decides}
