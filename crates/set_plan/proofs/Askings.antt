@@ -32,7 +32,9 @@ module _ {P : Type 0} (part : P) (budget at : ℕ) (item : Item) (items : List I
       (LeadsTo-later (plan.make part at item) next whole budget made ends leads)
 
   -- the next set is not empty
-  pub Ends-some : (made : plan.Made) → LeadsTo (plan.are_empty part at (item ∷ items)) whole budget → Ends (plan.make part at item) budget made → (IsEmpty made.0 → ⊥) → Ends whole budget false
+  pub Ends-some : (made : plan.Made)
+      → LeadsTo (plan.are_empty part at (item ∷ items)) whole budget → Ends (plan.make part at item) budget made
+      → (IsEmpty made.0 → ⊥) → Ends whole budget false
   Ends-some made leads ends some =
       leads.ends false (Ends-bind (plan.make part at item) next budget made false ends
       (Ends-ask_no (Empty (made.0 ∷ [])) (plan.are_empty part made.1 items) (Give false) budget false (some, tt) (Ends-give budget false)))

@@ -12,7 +12,8 @@ use Rattle.set_plan.specs.declared.stop.PlanError.{PlanError}
 use Rattle.set_plan.specs.declared.stop.PlanError.TheVariants as plan_error
 
 -- the first program comes to its end, and then the second takes its entries
-pub Takes-bind : {P A B : Type 0} (m : Program P A) (f : A → Program P B) (xs ys : List (Entry P)) (a : A) (end : Option B) → Takes m xs (Some a) → Takes (f a) ys end → Takes (bind m f) (xs ++ ys) end
+pub Takes-bind : {P A B : Type 0} (m : Program P A) (f : A → Program P B) (xs ys : List (Entry P)) (a : A) (end : Option B)
+    → Takes m xs (Some a) → Takes (f a) ys end → Takes (bind m f) (xs ++ ys) end
 Takes-bind (Give b) f xs ys a end h k =
     elim h.1 [
       | inl e ↦
@@ -126,7 +127,8 @@ module _ {P A : Type 0} (question : Question) (if_yes if_no : Program P A) (budg
   Stops-ask_no name is h = record { entries = h.entries; takes = inr (inr (is, h.takes)); past = h.past }
 
 -- what is said of the steps of one formula is Past of its entry
-pub Past-numbered : {P : Type 0} (part : P) (at from : ℕ) (e : ℕ → SetOf) (fs : List Tree) (budget : ℕ) → FirstOver fs (members e) budget from None → PastStep (numbered part at e fs) budget None
+pub Past-numbered : {P : Type 0} (part : P) (at from : ℕ) (e : ℕ → SetOf) (fs : List Tree) (budget : ℕ)
+    → FirstOver fs (members e) budget from None → PastStep (numbered part at e fs) budget None
 Past-numbered part at from e [] budget h = refl
 Past-numbered part at from e (f ∷ fs) budget h =
     elim h [
@@ -179,7 +181,8 @@ Error-bind m f budget (plan_error.Over name) h = Stops-bind m f budget name h
 Error-bind m f budget plan_error.Memory h = tt
 
 -- where the first program has come to its end, so is one of the second
-pub Error-later : {P A B : Type 0} (m : Program P A) (f : A → Program P B) (budget : ℕ) (a : A) → Ends m budget a → (e : PlanError P) → IsPlanError (f a) budget e → IsPlanError (bind m f) budget e
+pub Error-later : {P A B : Type 0} (m : Program P A) (f : A → Program P B) (budget : ℕ) (a : A)
+    → Ends m budget a → (e : PlanError P) → IsPlanError (f a) budget e → IsPlanError (bind m f) budget e
 Error-later m f budget a ends (plan_error.Over name) h = Stops-bind_later m f budget a name ends h
 Error-later m f budget a ends plan_error.Memory h = tt
 
@@ -198,7 +201,8 @@ pub LeadsTo-self : {P A : Type 0} (m : Program P A) (budget : ℕ) → LeadsTo m
 LeadsTo-self m budget = record { ends = λ v h. h; stops = λ n h. h }
 
 -- where the first of two programs that are left has come to its end, the second is left
-pub LeadsTo-later : {P A B : Type 0} (m : Program P A) (f : A → Program P B) (whole : Program P B) (budget : ℕ) (a : A) → Ends m budget a → LeadsTo (bind m f) whole budget → LeadsTo (f a) whole budget
+pub LeadsTo-later : {P A B : Type 0} (m : Program P A) (f : A → Program P B) (whole : Program P B) (budget : ℕ) (a : A)
+    → Ends m budget a → LeadsTo (bind m f) whole budget → LeadsTo (f a) whole budget
 LeadsTo-later m f whole budget a ends leads = record {
   ends = λ v h. leads.ends v (Ends-bind m f budget a v ends h);
   stops = λ n h. leads.stops n (Stops-bind_later m f budget a n ends h);

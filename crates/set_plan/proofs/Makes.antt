@@ -55,7 +55,9 @@ module _ {P : Type 0} (part : P) (at : ℕ) (item : Item) (budget : ℕ) where
   step-of compile_error.Memory few error = tt
 
   -- an item of one step
-  pub Ends-one : (s : SetOf) (f : Tree) → steps item.formula ≡ f ∷ [] → IsSetOf item s → (Exceeds f (members item.sets) budget → ⊥) → Ends (plan.compute part at item) budget (s, at + 1)
+  pub Ends-one : (s : SetOf) (f : Tree)
+      → steps item.formula ≡ f ∷ [] → IsSetOf item s → (Exceeds f (members item.sets) budget → ⊥)
+      → Ends (plan.compute part at item) budget (s, at + 1)
   Ends-one s f one is none =
       let First : List Tree → Type 0 = λ fs. FirstOver fs (members item.sets) budget 1 None in
       let At : ℕ → Type 0 = λ n. Ends (plan.compute part at item) budget (s, at + n) in

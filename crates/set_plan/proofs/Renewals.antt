@@ -25,7 +25,9 @@ module _ {P : Type 0} (budget : ℕ) where
       ⊎ ((t : SetOf) → SameSets made.0 t → Ends (f so_far) budget (t, made.1))
 
   module _ {X : Type 0} (f : X → plan.Made → Program P plan.Made) (step : (x : X) (so_far made : plan.Made) → Ends (f x so_far) budget made → Renews (f x) so_far made) where
-    both : (x : X) (xs : List X) (so_far next made : plan.Made) → Ends (f x so_far) budget next → Renews (f x) so_far next → Renews (each xs f) next made → Renews (each (x ∷ xs) f) so_far made
+    both : (x : X) (xs : List X) (so_far next made : plan.Made)
+        → Ends (f x so_far) budget next → Renews (f x) so_far next → Renews (each xs f) next made
+        → Renews (each (x ∷ xs) f) so_far made
     both x xs so_far next made first (inl (same, any)) (inl (more, all)) =
         inl (more ∙ same, λ t. Ends-bind (f x (t, so_far.1)) (each xs f) budget (t, next.1) (t, made.1) (any t) (all t))
     both x xs so_far next made first (inr any) (inl (more, all)) =
@@ -70,7 +72,9 @@ module _ {P : Type 0} (budget : ℕ) where
           | inl (empty, gives) ↦
               let nothing : made.0 ≡ Nothing = ap (λ (m : plan.Made). m.0) (Ends-give_is (Nothing, at) made budget gives) in
               absurd (some nothing)
-          | inr (none, computes) ↦ Ends-ask_no (Empty (map item.sets (plan.positives item.formula))) (Give (Nothing, at)) (plan.compute part at item) budget (t, made.1) none (compute-renews computes)
+          | inr (none, computes) ↦
+              Ends-ask_no (Empty (map item.sets (plan.positives item.formula))) (Give (Nothing, at)) (plan.compute part at item) budget
+              (t, made.1) none (compute-renews computes)
         ]
 
   -- where a program may end with any automaton of its set, it does not matter either whether there is one
@@ -138,7 +142,8 @@ module _ {P : Type 0} (budget : ℕ) where
             (Ends-ask_no (Empty (so_far.0 ∷ [])) (Give next) (plan.compute part next.1 (plan.either tracks so_far.0 next.0)) budget (t, made.1) some_s last))
 
         by : (next : plan.Made) → Ends (plan.make part so_far.1 item) budget next
-            → ((IsEmpty next.0 ⊎ ⊥) × Ends {P = P} {A = plan.Made} (Give (so_far.0, next.1)) budget made) ⊎ (((IsEmpty next.0 → ⊥) × Unit {0}) × Ends (or_else so_far.0 next) budget made)
+            → ((IsEmpty next.0 ⊎ ⊥) × Ends {P = P} {A = plan.Made} (Give (so_far.0, next.1)) budget made)
+            ⊎ (((IsEmpty next.0 → ⊥) × Unit {0}) × Ends (or_else so_far.0 next) budget made)
             → Renews (plan.with_item tracks part item) so_far made
         by next one (inl (inl empty, gives)) =
             let is : made ≡ (so_far.0, next.1) = Ends-give_is (so_far.0, next.1) made budget gives in

@@ -184,7 +184,12 @@ module _ (name : ℕ → ℕ) (e : ℕ → SetOf) where
                     is_tuple = ap (λ vars. values_at vars h.values) (sym (free_vars-relabel name f)) ∙ h.is_tuple;
                     holds = (Holds-relabel name (members e) f h.values).0 h.holds;
                   },
-              λ h. record { values = h.values; is_tuple = ap (λ vars. values_at vars h.values) (free_vars-relabel name f) ∙ h.is_tuple; holds = (Holds-relabel name (members e) f h.values).1 h.holds },
+              λ h.
+                  record {
+                    values = h.values;
+                    is_tuple = ap (λ vars. values_at vars h.values) (free_vars-relabel name f) ∙ h.is_tuple;
+                    holds = (Holds-relabel name (members e) f h.values).1 h.holds;
+                  },
             );
         positives = subst Same (sym named) (record { some = (λ h. h, λ h. h); none = (λ h. h, λ h. h) });
       }

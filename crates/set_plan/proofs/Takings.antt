@@ -104,7 +104,9 @@ module _ {P : Type 0} (tracks : List Var) (part : P) (free : free_vars (Or (Amon
       let k = (is.same tuple).0 h in
       (k.values, ap (λ vars. values_at vars k.values) (sym e) ∙ k.is_tuple)
 
-  join_over : (s : SetOf) (next made : Made) → IsOver tracks s → IsOver tracks next.0 → ((tuple : List ℤ) → Member made.0 tuple ↔ (Member s tuple ⊎ Member next.0 tuple)) → IsOver tracks made.0
+  join_over : (s : SetOf) (next made : Made)
+      → IsOver tracks s → IsOver tracks next.0
+      → ((tuple : List ℤ) → Member made.0 tuple ↔ (Member s tuple ⊎ Member next.0 tuple)) → IsOver tracks made.0
   join_over s next made over_s over_n same tuple h = elim ((same tuple).0 h) [ inl a ↦ over_s tuple a | inr b ↦ over_n tuple b ]
 
   -- the union has the tuples of what was there before and those of each item

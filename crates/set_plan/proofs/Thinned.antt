@@ -86,7 +86,9 @@ module _ {P : Type 0} (part : P) (budget : ℕ) where
         let (more, one, last) = Ends-split (with_item tracks part i so_far) (left rest) budget v all in
         Ends-bind (with_item tracks part j so_far) (left js) budget more v (item_same so_far more i j same one) (Ends-thinned rest js more v thin last)
 
-    pub Stops-thinned : (is js : List Item) (so_far : Made) (name : StepName P) → Thinned is js → Stops (unite tracks part so_far is) budget name → Stops (unite tracks part so_far js) budget name
+    pub Stops-thinned : (is js : List Item) (so_far : Made) (name : StepName P)
+        → Thinned is js → Stops (unite tracks part so_far is) budget name
+        → Stops (unite tracks part so_far js) budget name
     Stops-thinned is [] so_far name e h = subst (λ (l : List Item). Stops (unite tracks part so_far l) budget name) e h
     Stops-thinned is (j ∷ js) so_far name (inl (lacks, rest)) h =
         Stops-bind_later (with_item tracks part j so_far) (left js) budget so_far name (item_lacking so_far j lacks) (Stops-thinned is js so_far name rest h)

@@ -104,7 +104,8 @@ stop-stop R (Ask q if_yes if_no) (Give b) budget xs ys x y same t past u over = 
 stop-stop R (Ask q if_yes if_no) (Compute e more) budget xs ys x y same t past u over = absurd same
 
 -- both come to related values
-end-end : {P A B : Type 0} (R : A → B → Type 0) (m : Program P A) (n : Program P B) (xs ys : List (Entry P)) (a : A) (b : B) → Alike R m n → Takes m xs (Some a) → Takes n ys (Some b) → R a b
+end-end : {P A B : Type 0} (R : A → B → Type 0) (m : Program P A) (n : Program P B) (xs ys : List (Entry P)) (a : A) (b : B)
+    → Alike R m n → Takes m xs (Some a) → Takes n ys (Some b) → R a b
 end-end R (Give c) (Give d) xs ys a b same (e, inr is) u = none_some is
 end-end R (Give c) (Give d) xs ys a b same (e, inl is) (f, inr too) = none_some too
 end-end R (Give c) (Give d) xs ys a b same (e, inl is) (f, inl too) =

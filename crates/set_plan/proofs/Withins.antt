@@ -30,7 +30,9 @@ module _ {P : Type 0} (tracks : List Var) (part : P) (budget : ℕ) where
   ends-yes s t rest ends within =
       Ends-bind (remainder tracks part s t) (asked s t) budget rest true ends (Ends-ask_yes (Within s t) (Give true) (Give false) budget true within (Ends-give budget true))
 
-  ends-no : (s t rest : SetOf) → Ends (remainder tracks part s t) budget rest → (((tuple : List ℤ) → Member s tuple → Member t tuple) → ⊥) → Ends (is_within tracks part s t) budget false
+  ends-no : (s t rest : SetOf)
+      → Ends (remainder tracks part s t) budget rest → (((tuple : List ℤ) → Member s tuple → Member t tuple) → ⊥)
+      → Ends (is_within tracks part s t) budget false
   ends-no s t rest ends off =
       Ends-bind (remainder tracks part s t) (asked s t) budget rest false ends (Ends-ask_no (Within s t) (Give true) (Give false) budget false off (Ends-give budget false))
 

@@ -17,3 +17,5 @@ pub mod Unite
 pub mod Relabel
 pub mod Same
 pub mod Sets
+pub mod Making
+pub mod Fold

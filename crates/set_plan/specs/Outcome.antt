@@ -23,6 +23,10 @@ abbrev pub IsPlanError : {P A : Type 0} → Program P A → ℕ → PlanError P 
 IsPlanError program budget (plan_error.Over name) = Stops program budget name
 IsPlanError program budget plan_error.Memory = Unit {0}
 
+-- a value that is handed on as it is
+abbrev pub as_is : {A : Type 0} → A → A
+as_is a = a
+
 -- the value of the program, no step of which passes the budget, or the first step that does; want of memory aside
 abbrev pub Answers : {P A R : Type 0} → Program P A → ℕ → (R → A) → Result R (PlanError P) → Type 0
 Answers program budget view (Ok r) = Ends program budget (view r)

@@ -3,6 +3,7 @@ use Rattle.std.specs.Prelude.{ℕ, zero, suc, ◌+◌, List, [], ◌∷◌, ◌+
 use Rattle.track_word.specs.declared.tracks.Var.{Var}
 use Rattle.lin_formula.specs.Tree.{Tree, Lin, Value, Among, Not, And, Or, Ex, steps}
 use Rattle.lin_formula.specs.SetOf.{SetOf, Nothing}
+use Rattle.set_plan.specs.declared.stop.StepName.{StepName}
 use Rattle.set_plan.specs.Program.{Item, Program, Give, Compute, Ask, Empty, Within, bind, each}
 
 -- two symbols
@@ -49,6 +50,10 @@ with_item tracks part item so_far = bind (make part so_far.1 item) (join tracks 
 -- the union of the items' sets and of what is there so far
 abbrev pub unite : {P : Type 0} → List Var → P → Made → List Item → Program P Made
 unite tracks part so_far items = each items (with_item tracks part) so_far
+
+-- the union of the items' sets, by steps from the one of this name on
+abbrev pub unite_from : {P : Type 0} → List Var → StepName P → List Item → Program P Made
+unite_from tracks from items = unite tracks from.part (Nothing, from.at) items
 
 -- one set without the other, over these tracks
 abbrev pub difference : List Var → SetOf → SetOf → Item

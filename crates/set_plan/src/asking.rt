@@ -1,9 +1,10 @@
 //! Questions whose answers take steps.
-ghost use Rattle.std.specs.Prelude.{ℕ, ◌≡◌, ◌<◌, ◌≤◌, ◌^◌, List, length, map, All, Bool, IfSome};
+ghost use Rattle.std.specs.Prelude.{ℕ, ◌≡◌, ◌<◌, ◌≤◌, ◌^◌, List, length, map, All, IfSome};
 ghost use Rattle.track_word.specs.declared.tracks.Var.{Var};
 ghost use Rattle.lin_formula.specs.TreeOf.{tree_of};
-ghost use Rattle.set_plan.specs.Outcome.{Answers};
-ghost use Rattle.set_plan.specs.Sets.{IsItemOn, IsSetOn, item_of, lent};
+ghost use Rattle.set_plan.specs.Making.{items_over};
+ghost use Rattle.set_plan.specs.Outcome.{Answers, as_is};
+ghost use Rattle.set_plan.specs.Sets.{IsItemOn, IsSetOn, lent};
 ghost use Rattle.set_plan.specs.Unite as plan;
 
 use crate::empty::{is_empty_set, is_none_or_empty};
@@ -27,9 +28,7 @@ pub fn are_empty<P: Copy>(
 ) -> Result<bool, PlanError<P>>
     requires items { (tracks : List Var) × All (IsItemOn tracks sets.now) (map tree_of formulas.now) }
     requires few { length formulas.now < 2 ^ 20 }
-    ensures answers { Answers
-        (plan.are_empty part 1 (map (item_of sets.now) (map tree_of formulas.now)))
-        memo.old.budget (λ (b : Bool). b) result }
+    ensures answers { Answers (plan.are_empty part 1 (items_over sets.now formulas.now)) memo.old.budget as_is result }
     ensures budget { memo.new.budget ≡ memo.old.budget }
 {
     let mut level = memo.level(alloc, sets);
@@ -56,9 +55,7 @@ pub fn is_within<P: Copy>(
 ) -> Result<bool, PlanError<P>>
     requires one { IfSome one (λ a. IsSetOn tracks.now a.now) }
     requires other { IfSome other (λ a. IsSetOn tracks.now a.now) }
-    ensures answers { Answers
-        (plan.is_within tracks.now part (lent one.entry) (lent other.entry))
-        budget (λ (b : Bool). b) result }
+    ensures answers { Answers (plan.is_within tracks.now part (lent one.entry) (lent other.entry)) budget as_is result }
 {
     let left = remainder(alloc, tracks, part, one, other, budget)?;
     let Some(a) = one else {

@@ -1,7 +1,7 @@
 //! One program after another, for each item of a list.
 ghost use Rattle.std.specs.Prelude.{◌≡◌, [], ◌∷◌, List, ℕ, IfOk};
-ghost use Rattle.set_plan.specs.Outcome.{Answers};
-ghost use Rattle.set_plan.specs.Program.{Program, each as each_of};
+ghost use Rattle.set_plan.specs.Fold.{AnswersOn, StillFits, all_of};
+ghost use Rattle.set_plan.specs.Program.{Program};
 
 use crate::stop::PlanError;
 
@@ -40,11 +40,8 @@ pub trait Steps {
         so_far: Self::Value,
     ) -> Result<Self::Value, PlanError<Self::Part>>
         requires fits { (rest : List Self.Item) × fits self.now work.old so_far (item.now ∷ rest) }
-        ensures answers { Answers
-            (program self.now work.old item.now (view self.now work.old so_far))
-            (budget self.now work.old) (view self.now work.new) result }
-        ensures fits { IfOk result (λ value. (rest : List Self.Item)
-            → fits self.now work.old so_far (item.now ∷ rest) → fits self.now work.new value rest) }
+        ensures answers { AnswersOn view budget program self.now work.old work.new item.now so_far result }
+        ensures fits { IfOk result (StillFits (fits self.now) work.old work.new item.now so_far) }
         ensures program { program self.now work.new ≡ program self.now work.old }
         ensures budget { budget self.now work.new ≡ budget self.now work.old }
         ensures keeps { keeps self.now work.old work.new };
@@ -62,9 +59,7 @@ pub fn each<S: Steps>(
     first: S::Value,
 ) -> Result<S::Value, PlanError<S::Part>>
     requires fits { S.fits steps.now work.old first items.now }
-    ensures answers { Answers
-        (each_of items.now (S.program steps.now work.old) (S.view steps.now work.old first))
-        (S.budget steps.now work.old) (S.view steps.now work.new) result }
+    ensures answers { AnswersOn S.view S.budget (all_of S.program) steps.now work.old work.new items.now first result }
     ensures fits { IfOk result (λ value. S.fits steps.now work.new value []) }
     ensures budget { S.budget steps.now work.new ≡ S.budget steps.now work.old }
     ensures keeps { S.keeps steps.now work.old work.new }

@@ -1,8 +1,7 @@
 //! What is left of a set without another.
 ghost use Rattle.std.specs.Prelude.{◌≡◌, ◌≤◌, IfOk, IfSome};
-ghost use Rattle.set_plan.specs.Outcome.{Answers};
-ghost use Rattle.set_plan.specs.Sets.{IsSetOn, lent, left_of, IsLeftOn};
-ghost use Rattle.set_plan.specs.Unite.{remainder as remainder_of};
+ghost use Rattle.set_plan.specs.Making.{AnswersRemainder};
+ghost use Rattle.set_plan.specs.Sets.{IsSetOn, lent, IsLeftOn};
 
 use crate::empty::is_empty_set;
 use crate::pairs::except;
@@ -33,9 +32,7 @@ pub fn remainder<P: Copy>(
 ) -> Result<Left, PlanError<P>>
     requires one { IfSome one (λ a. IsSetOn tracks.now a.now) }
     requires other { IfSome other (λ a. IsSetOn tracks.now a.now) }
-    ensures answers { Answers
-        (remainder_of tracks.now part (lent one.entry) (lent other.entry))
-        budget (left_of (lent one.entry)) result }
+    ensures answers { AnswersRemainder tracks.now part (lent one.entry) (lent other.entry) budget result }
     ensures set { IfOk result (IsLeftOn tracks.now) }
 {
     let Some(b) = other else {

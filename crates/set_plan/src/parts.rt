@@ -3,10 +3,12 @@ ghost use Rattle.std.specs.Prelude.{ℕ, ◌≡◌, ◌<◌, ◌+◌, ◌≤◌,
 ghost use Rattle.auto_core.specs.Reduced.{IsReduced};
 ghost use Rattle.lin_formula.specs.Tree.{free_vars, steps};
 ghost use Rattle.lin_formula.specs.TreeOf.{tree_of};
-ghost use Rattle.lin_formula.specs.SetOf.{Nothing, as_set};
+ghost use Rattle.lin_formula.specs.SetOf.{as_set};
 ghost use Rattle.formula_auto.specs.Compiled.{IsCompilable};
+ghost use Rattle.set_plan.specs.Making as making;
+ghost use Rattle.set_plan.specs.Making.{AnswersMade, item_over, items_over};
 ghost use Rattle.set_plan.specs.Outcome.{Answers};
-ghost use Rattle.set_plan.specs.Sets.{IsSetBy, IsSetOn, IsReachedOn, IsReducedMade, IsItemOn, item_of, made_of};
+ghost use Rattle.set_plan.specs.Sets.{IsSetBy, IsSetOn, IsReachedOn, IsReducedMade, IsItemOn, made_of};
 ghost use Rattle.set_plan.specs.Unite as plan;
 
 use crate::empty::{is_none_or_empty, lacks_a_set};
@@ -35,7 +37,7 @@ pub fn make<P: Copy>(
     requires compilable { IsCompilable (tree_of f.now) sets.now }
     requires few { length (steps (tree_of f.now)) < 1000 }
     requires room { at < 2 ^ 31 }
-    ensures answers { Answers (plan.make part at (item_of sets.now (tree_of f.now))) memo.old.budget made_of result }
+    ensures answers { AnswersMade memo.old (plan.make part at (item_over sets.now f.now)) result }
     ensures set { IfOk result (λ made. IfSome made.set (IsSetBy (tree_of f.now))) }
     ensures room { IfOk result (λ made. made.at < at + 1000) }
     ensures budget { memo.new.budget ≡ memo.old.budget }
@@ -68,8 +70,7 @@ pub fn make_on<P: Copy>(
     requires item { IsItemOn (free_vars (tree_of f.now)) level.old.sets (tree_of f.now) }
     requires same_budget { level.old.budget ≡ memo.old.budget }
     requires room { from.at < 2 ^ 31 }
-    ensures answers { Answers
-        (plan.make from.part from.at (item_of level.old.sets (tree_of f.now))) memo.old.budget made_of result }
+    ensures answers { AnswersMade memo.old (plan.make from.part from.at (item_over level.old.sets f.now)) result }
     ensures set { IfOk result (λ made. IfSome made.set (IsReachedOn (free_vars (tree_of f.now)))) }
     ensures room { IfOk result (λ made. made.at < from.at + 1000) }
     ensures budget { memo.new.budget ≡ memo.old.budget }
@@ -103,8 +104,7 @@ pub fn make_reached<P: Copy>(
 ) -> Result<Made, PlanError<P>>
     requires item { IsItemOn (free_vars (tree_of f.now)) sets.now (tree_of f.now) }
     requires room { from.at < 2 ^ 31 }
-    ensures answers { Answers
-        (plan.make from.part from.at (item_of sets.now (tree_of f.now))) memo.old.budget made_of result }
+    ensures answers { AnswersMade memo.old (plan.make from.part from.at (item_over sets.now f.now)) result }
     ensures set { IfOk result (λ made. IfSome made.set (IsReachedOn (free_vars (tree_of f.now)))) }
     ensures room { IfOk result (λ made. made.at < from.at + 1000) }
     ensures budget { memo.new.budget ≡ memo.old.budget }
@@ -128,8 +128,7 @@ impl<P: Copy> Uniting<'_, P> {
         requires so_far { IfSome so_far (IsReachedOn self.now.tracks.now) }
         requires next { IfSome next.set (IsReachedOn self.now.tracks.now) }
         requires room { next.at < 2 ^ 31 }
-        ensures answers { Answers
-            (plan.join self.now.tracks.now self.now.part (as_set so_far) (made_of next)) budget made_of result }
+        ensures answers { Answers (making.join self.now so_far next) budget made_of result }
         ensures set { IfOk result (λ made. IfSome made.set (IsReachedOn self.now.tracks.now)) }
         ensures room { IfOk result (λ made. made.at ≤ next.at + 1) }
     {
@@ -168,9 +167,7 @@ impl<P: Copy> Uniting<'_, P> {
         requires same_budget { level.old.budget ≡ memo.old.budget }
         requires so_far { IfSome so_far.set (IsReachedOn self.now.tracks.now) }
         requires room { so_far.at + 1001 < 2 ^ 31 }
-        ensures answers { Answers
-            (plan.with_item self.now.tracks.now self.now.part (item_of level.old.sets (tree_of f.now)) (made_of so_far))
-            memo.old.budget made_of result }
+        ensures answers { AnswersMade memo.old (making.with_item self.now level.old.sets f.now so_far) result }
         ensures set { IfOk result (λ made. IfSome made.set (IsReachedOn self.now.tracks.now)) }
         ensures room { IfOk result (λ made. made.at ≤ so_far.at + 1001) }
         ensures budget { memo.new.budget ≡ memo.old.budget }
@@ -200,10 +197,7 @@ impl<P: Copy> Uniting<'_, P> {
         requires same_budget { level.old.budget ≡ memo.old.budget }
         requires few { length formulas.now < 2 ^ 20 }
         requires room { at < 2 ^ 30 }
-        ensures answers { Answers
-            (plan.unite self.now.tracks.now self.now.part (Nothing, at)
-            (map (item_of level.old.sets) (map tree_of formulas.now)))
-            memo.old.budget made_of result }
+        ensures answers { AnswersMade memo.old (making.union_of self.now level.old.sets at formulas.now) result }
         ensures set { IfOk result (λ made. IfSome made.set (IsReachedOn self.now.tracks.now)) }
         ensures budget { memo.new.budget ≡ memo.old.budget }
     {
@@ -241,9 +235,7 @@ pub fn unite<P: Copy>(
     requires items { All (IsItemOn tracks.now sets.now) (map tree_of formulas.now) }
     requires few { length formulas.now < 2 ^ 20 }
     requires room { from.at < 2 ^ 30 }
-    ensures answers { Answers
-        (plan.unite tracks.now from.part (Nothing, from.at) (map (item_of sets.now) (map tree_of formulas.now)))
-        memo.old.budget made_of result }
+    ensures answers { AnswersMade memo.old (plan.unite_from tracks.now from (items_over sets.now formulas.now)) result }
     ensures set { IfOk result (λ made. IfSome made.set (IsSetOn tracks.now)) }
     ensures budget { memo.new.budget ≡ memo.old.budget }
 {
