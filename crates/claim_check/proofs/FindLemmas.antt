@@ -13,7 +13,8 @@ use Rattle.claim_plan.proofs.CheckAnswers.{found-ends, next-leads, stop-errs}
 use Rattle.claim_check.specs.Finds.{Finds}
 
 -- a question that is answered without a step
-pub asked_ends : (budget : ℕ) (q : Question) (P : Type 0) (b : Bool) → IsTrue b ↔ P → (P → IsYes q) → ((P → ⊥) → IsNo q) → Ends {P = PartName} (Ask q (Give true) (Give false)) budget b
+pub asked_ends : (budget : ℕ) (q : Question) (P : Type 0) (b : Bool) → IsTrue b ↔ P → (P → IsYes q)
+    → ((P → ⊥) → IsNo q) → Ends {P = PartName} (Ask q (Give true) (Give false)) budget b
 asked_ends budget q P true same some none = Ends-ask_yes q (Give true) (Give false) budget true (some (same.0 refl)) (Ends-give budget true)
 asked_ends budget q P false same some none = Ends-ask_no q (Give true) (Give false) budget false (none (λ h. let t = same.1 h in absurd (cc))) (Ends-give budget false)
 
@@ -35,7 +36,8 @@ if_ok (Ok value) P holds = holds value
 if_ok (Err e) P holds = tt
 
 -- what is left is gone through, and with it the whole
-pub left_finds : (left whole : Program Finding) (budget now : ℕ) → now ≡ budget → LeadsTo left whole budget → (r : Result Finding (PlanError PartName)) → Finds left now r → Finds whole budget r
+pub left_finds : (left whole : Program Finding) (budget now : ℕ) → now ≡ budget → LeadsTo left whole budget
+    → (r : Result Finding (PlanError PartName)) → Finds left now r → Finds whole budget r
 left_finds left whole budget now same leads (Ok found) h = leads.ends found (subst (λ (b : ℕ). Ends left b found) same h)
 left_finds left whole budget now same leads (Err e) h = LeadsTo-error left whole budget leads e (subst (λ (b : ℕ). IsPlanError left b e) same h)
 

@@ -6,12 +6,10 @@ use Rattle.rule_formula.specs.Fits.{mask_of}
 use Rattle.rule_formula.specs.Placed.{tuple_of}
 use Rattle.set_plan.specs.declared.stop.PlanError.{PlanError}
 use Rattle.mate_plan.specs.Claim.{Claim, claimed_level}
-use Rattle.mate_plan.specs.Plan.{Level}
+use Rattle.mate_plan.specs.Plan.{Level, Program}
 use Rattle.mate_plan.specs.PlanOf.{rules_of}
-use Rattle.mate_plan.specs.Questions.{has_first_move}
 use Rattle.mate_plan.specs.declared.names.PartName.{PartName}
-use Rattle.claim_plan.specs.CheckPlan.{Finding, check_first, check_moving, check_waiting, holds_by, rule_at}
-use Rattle.claim_plan.specs.declared.names.Rule.TheVariants as rule
+use Rattle.claim_plan.specs.CheckPlan.{Finding, check_first, check_move, check_moving, check_waiting}
 use Rattle.claim_check.specs.Finds.{Finds}
 
 module _ (c : Claim) where
@@ -28,12 +26,13 @@ module _ (c : Claim) where
   first_waiting Black White e = refl
 
   module _ (budget : ℕ) where
-    pub moving_finds : (moves : ℕ) (r : Result Finding (PlanError PartName)) → moves ≢ 0 → c.position.turn ≡ c.winner → (level : Level) → level ≡ claimed_level c 1
-        → Finds (holds_by (rule_at 0 (mask_of c.position) rule.First) (has_first_move (rules_of c.position) c.position.turn (mask_of c.position) (tuple_of c.position) level)) budget r
+    pub moving_finds : (moves : ℕ) (r : Result Finding (PlanError PartName)) → moves ≢ 0 → c.position.turn ≡ c.winner
+        → (level : Level) → level ≡ claimed_level c 1
+        → Finds (check_move (rules_of c.position) c.position.turn (mask_of c.position) (tuple_of c.position) level) budget r
         → Finds (check_moving c moves) budget r
     moving_finds zero r some turn level is h = absurd (some refl)
     moving_finds (suc moves) r some turn level is h =
-        let By : Side → Type 0 = λ s. Finds (holds_by (rule_at 0 (mask_of c.position) rule.First) (has_first_move (rules_of c.position) s (mask_of c.position) (tuple_of c.position) level)) budget r in
-        let Into : Level → Type 0 = λ l. Finds
-        (holds_by (rule_at 0 (mask_of c.position) rule.First) (has_first_move (rules_of c.position) c.winner (mask_of c.position) (tuple_of c.position) l)) budget r in
+        let moved : Side → Level → Program Finding = λ s l. check_move (rules_of c.position) s (mask_of c.position) (tuple_of c.position) l in
+        let By : Side → Type 0 = λ s. Finds (moved s level) budget r in
+        let Into : Level → Type 0 = λ l. Finds (moved c.winner l) budget r in
         subst Into is (subst By turn h)

@@ -29,7 +29,8 @@ from_push ply masks (first ∷ plies) sets =
     ap (λ l. sets_of_ply ply masks first ++ l) (from_push (suc ply) masks plies sets ∙ ap (λ n. sets_from (suc ply) masks plies ++ sets_of_ply n masks sets) next)
     ∙ sym (append_assoc (sets_of_ply ply masks first) (sets_from (suc ply) masks plies) (sets_of_ply (ply + suc (length plies)) masks sets))
 
-from_start : (masks : List ℕ) (plies : List (List Automaton)) (sets : List Automaton) → sets_from 0 masks (plies ++ sets ∷ []) ≡ sets_from 0 masks plies ++ sets_of_ply (length plies) masks sets
+from_start : (masks : List ℕ) (plies : List (List Automaton)) (sets : List Automaton)
+    → sets_from 0 masks (plies ++ sets ∷ []) ≡ sets_from 0 masks plies ++ sets_of_ply (length plies) masks sets
 from_start masks plies sets =
     let here : 0 + length plies ≡ length plies = omega arith in
     from_push 0 masks plies sets ∙ ap (λ n. sets_from 0 masks plies ++ sets_of_ply n masks sets) here
@@ -57,7 +58,8 @@ at_places ply (m ∷ masks) (s ∷ left) more (a ∷ sets) is (r, h) =
     let rest : map place_of left ≡ map (λ k. (ply, k)) masks ++ more = cc in
     (record { ply = ap (λ p. p.0) first; mask = ap (λ p. p.1) first; set = r }, at_places ply masks left more sets rest h)
 
-places_left : (ply : ℕ) (masks : List ℕ) (left : List SetHere) (more : List (ℕ × ℕ)) → map place_of left ≡ map (λ m. (ply, m)) masks ++ more → map place_of (drop (length masks) left) ≡ more
+places_left : (ply : ℕ) (masks : List ℕ) (left : List SetHere) (more : List (ℕ × ℕ))
+    → map place_of left ≡ map (λ m. (ply, m)) masks ++ more → map place_of (drop (length masks) left) ≡ more
 places_left ply [] left more is = is
 places_left ply (m ∷ masks) [] more is = absurd (cc)
 places_left ply (m ∷ masks) (s ∷ left) more is =

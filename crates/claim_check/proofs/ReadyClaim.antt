@@ -44,7 +44,8 @@ same_places : (sets : List SetHere) → map {B = ℕ × ℕ} (λ s. (s.ply, s.ma
 same_places [] = refl
 same_places (s ∷ sets) = ap (λ l. (s.ply, s.mask) ∷ l) (same_places sets)
 
-pub places_here : (c : ClaimHere) → HasFile (claim_of c) → (first count : ℕ) (masks : List ℕ) → masks ≡ masks_of c.position → every_second first count ≡ losers_plies c.winner c.position.turn c.moves
+pub places_here : (c : ClaimHere) → HasFile (claim_of c) → (first count : ℕ) (masks : List ℕ)
+    → masks ≡ masks_of c.position → every_second first count ≡ losers_plies c.winner c.position.turn c.moves
     → map {B = ℕ × ℕ} (λ s. (s.ply, s.mask)) c.sets.items ≡ places_with (every_second first count) masks
 places_here c file first count masks are plies =
     let white : c.winner ≡ White = file.white in

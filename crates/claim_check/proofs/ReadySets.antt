@@ -15,5 +15,6 @@ one_on s ready ply mask a signed there = record {
   few = ready.few ply mask a there;
 }
 
-pub claimed_on : (s : ClaimedSets) → IsReady s → AreSigned (claim_in s) → (ply mask : ℕ) (a : Automaton) → claimed_at (claim_in s) ply mask ≡ Some a → IsSetOn (mask_tracks s.position mask) a
+pub claimed_on : (s : ClaimedSets) → IsReady s → AreSigned (claim_in s) → (ply mask : ℕ) (a : Automaton)
+    → claimed_at (claim_in s) ply mask ≡ Some a → IsSetOn (mask_tracks s.position mask) a
 claimed_on s ready signed ply mask a there = one_on s ready ply mask a (signed ply mask a there) there

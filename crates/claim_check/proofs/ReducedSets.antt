@@ -33,7 +33,8 @@ accepts_alike a b word tracks first next accept h =
     back a (sign ∷ letters) h = h
 
 pub reduced_of : (a b m : Automaton) → b.tracks ≡ a.tracks → b.first ≡ a.first → b.next ≡ a.next → b.accept ≡ a.accept
-    → m.tracks ≡ b.tracks → ((word : List ℕ) → IsWord (length b.tracks) word → Accepts m word ↔ Accepts b word) → IsReduced m → length m.accept ≤ length b.accept → IsReducedOf a m
+    → m.tracks ≡ b.tracks → ((word : List ℕ) → IsWord (length b.tracks) word → Accepts m word ↔ Accepts b word)
+    → IsReduced m → length m.accept ≤ length b.accept → IsReducedOf a m
 reduced_of a b m tracks first next accept over words reduced fewer =
     let Long : List Bool → Type 0 = λ flags. length m.accept ≤ length flags in
     let Word : List Var → List ℕ → Type 0 = λ ts word. IsWord (length ts) word in
@@ -92,7 +93,9 @@ one_of : (P : ClaimedSet → Type 0) (cs : List ClaimedSet) (ply mask : ℕ) (a 
 one_of P [] ply mask a h e = none_some (sym e)
 one_of P (c ∷ cs) ply mask a h e = by ((c.ply == ply) && (c.mask == mask)) e (λ k. one_of P cs ply mask a (All-tail P c cs h) k)
   where
-    by : (t : Bool) → (if t then Some c.set else claimed_in cs ply mask) ≡ Some a → (claimed_in cs ply mask ≡ Some a → (s : ClaimedSet) × P s × (s.set ≡ a)) → (s : ClaimedSet) × P s × (s.set ≡ a)
+    by : (t : Bool) → (if t then Some c.set else claimed_in cs ply mask) ≡ Some a
+        → (claimed_in cs ply mask ≡ Some a → (s : ClaimedSet) × P s × (s.set ≡ a))
+        → (s : ClaimedSet) × P s × (s.set ≡ a)
     by true is later = (c, All-head P c cs h, cc)
     by false is later = later is
 

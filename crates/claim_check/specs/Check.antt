@@ -1,7 +1,9 @@
 -- What the check of a claim answers.
 use Rattle.std.specs.Prelude.{◌≡◌, ℕ, Some}
-use Rattle.set_plan.specs.Outcome.{Ends}
+use Rattle.set_plan.specs.Outcome.{Ends, IsPlanError}
+use Rattle.set_plan.specs.declared.stop.PlanError.{PlanError}
 use Rattle.mate_plan.specs.Claim.{Claim}
+use Rattle.mate_plan.specs.declared.names.PartName.{PartName}
 use Rattle.winning_sets.specs.Claimed.{claim_of}
 use Rattle.winning_sets.specs.Solve.{IsSolveError, Solution}
 use Rattle.winning_sets.specs.declared.names.SolveError.TheVariants as solve_error
@@ -21,3 +23,8 @@ abbrev pub IsCheckError : Claim → ℕ → CheckError → Type 0
 IsCheckError c budget (check_error.NotKept failed) = Ends (check_plan c) budget (Some failed)
 IsCheckError c budget (check_error.Over step) = IsSolveError (check_plan c) c.moves budget (solve_error.Over step)
 IsCheckError c budget check_error.Memory = Unit {0}
+
+-- for this reason the plan of a claim of so many moves does not come to its end, and this is the error
+abbrev pub IsErrorFor : ℕ → PlanError PartName → CheckError → Type 0
+IsErrorFor moves reason error =
+    (c : Claim) (budget : ℕ) → c.moves ≡ moves → IsPlanError (check_plan c) budget reason → IsCheckError c budget error

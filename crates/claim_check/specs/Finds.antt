@@ -1,11 +1,27 @@
 -- How a program that finds the first rule that fails is gone through.
-use Rattle.std.specs.Prelude.{ℕ, Result}
+use Rattle.std.specs.Prelude.{ℕ, Bool, Result}
 use Rattle.set_plan.specs.Outcome.{Answers}
 use Rattle.set_plan.specs.declared.stop.PlanError.{PlanError}
 use Rattle.mate_plan.specs.Plan.{Program}
+use Rattle.mate_plan.specs.declared.bench.Work.{Work}
 use Rattle.mate_plan.specs.declared.names.PartName.{PartName}
-use Rattle.claim_plan.specs.CheckPlan.{Finding}
+use Rattle.claim_plan.specs.CheckPlan.{Finding, holds_by}
+use Rattle.claim_plan.specs.declared.names.RuleAt.{RuleAt}
 
 -- to its end, with what it finds, or up to the first step that exceeds the budget, want of memory aside
 abbrev pub Finds : Program Finding → ℕ → Result Finding (PlanError PartName) → Type 0
 Finds program budget result = Answers program budget (λ (found : Finding). found) result
+
+-- the same within the budget of what does the work
+abbrev pub FindsBy : Work → Program Finding → Result Finding (PlanError PartName) → Type 0
+FindsBy work program result = Finds program work.memo.budget result
+
+-- so of any program
+abbrev pub AnswersBy : {A B : Type 0} → Work → Program A → (B → A) → Result B (PlanError PartName) → Type 0
+AnswersBy work program view result = Answers program work.memo.budget view result
+
+-- a program that finds whether the rule holds finds this, where it is gone through to that answer
+abbrev pub IsJudgedBy : RuleAt → Result Bool (PlanError PartName) → Result Finding (PlanError PartName) → Type 0
+IsJudgedBy rule answer result =
+    (program : Program Bool) (budget : ℕ) → Answers program budget (λ (holds : Bool). holds) answer
+    → Finds (holds_by rule program) budget result

@@ -1,9 +1,14 @@
 -- The plies of the loser.
-use Rattle.std.specs.Prelude.{◌+◌, ◌≤◌}
+use Rattle.std.specs.Prelude.{ℕ, ◌+◌, ◌≤◌, List}
 use Rattle.limits.specs.declared.numbers.TheConstants.{MOST_MOVES}
+use Rattle.mate_plan.specs.Claim.{every_second}
 use Rattle.claim_check.specs.declared.plies.Plies.{Plies}
 
 -- they begin at one of the first two plies, and are no more than twenty-one
 pub record AreFew (plies : Plies) : Type 0 where
   pub first : plies.first ≤ 1
   pub count : plies.count ≤ MOST_MOVES + 1
+
+-- one after another
+abbrev pub plies_in : Plies → List ℕ
+plies_in plies = every_second plies.first plies.count

@@ -1,11 +1,15 @@
 -- Claimed sets with which the plan of their claim can be gone through.
-use Rattle.std.specs.Prelude.{◌≡◌, ℕ, ◌≤◌, length, IsSome, Some}
+use Rattle.std.specs.Prelude.{◌≡◌, ℕ, ◌≤◌, List, length, Option, IsSome, Some}
 use Rattle.limits.specs.declared.numbers.TheConstants.{MOST_MOVES, MOST_STATES}
 use Rattle.auto_core.specs.Automaton.{Automaton}
 use Rattle.auto_core.specs.Integers.{DecidesIntegers}
 use Rattle.auto_core.specs.Reduced.{IsReduced}
-use Rattle.rule_formula.specs.Fits.{IsGameMask, masks_of}
-use Rattle.mate_plan.specs.Claim.{Claim, IsClaim, claimed_at}
+use Rattle.lin_formula.specs.SetOf.{Member}
+use Rattle.lin_formula.specs.declared.formula.SetId.{SetId}
+use Rattle.rule_formula.specs.Fits.{IsGameMask, mask_of, masks_of}
+use Rattle.rule_formula.specs.Placed.{tuple_of}
+use Rattle.mate_plan.specs.Claim.{Claim, IsClaim, claimed_at, claimed_level}
+use Rattle.mate_plan.specs.Levels.{level_in}
 use Rattle.winning_sets.specs.Claimed.{claim_of, solution_of}
 use Rattle.winning_sets.specs.declared.claimed.ClaimedSets.{ClaimedSets}
 
@@ -28,3 +32,11 @@ AreThere c ply = (mask : ℕ) → IsGameMask c.position mask → IsSome (claimed
 -- each claimed set decides a set of integers
 abbrev pub AreSigned : Claim → Type 0
 AreSigned c = (ply mask : ℕ) (a : Automaton) → claimed_at c ply mask ≡ Some a → DecidesIntegers a
+
+-- the start is itself claimed, before any move
+abbrev pub IsStartClaimed : Claim → Type 0
+IsStartClaimed c = Member (claimed_level c 0 (mask_of c.position)) (tuple_of c.position)
+
+-- the names in a table are those of what is claimed at the ply
+abbrev pub AreNamesOf : ClaimedSets → ℕ → List Automaton → List (Option SetId) → Type 0
+AreNamesOf s ply table names = level_in s.position table names ≡ claimed_level (claim_in s) ply

@@ -5,7 +5,7 @@ ghost use Rattle.claim_plan.specs.CheckPlan.{check_plan as plan_of};
 ghost use Rattle.strategy_file.specs.Claims.{claim_of};
 ghost use Rattle.strategy_file.specs.Fitting.{HasFile};
 ghost use Rattle.claim_check.specs.Check.{IsCheckError, IsChecked};
-ghost use Rattle.claim_check.specs.Finds.{Finds};
+ghost use Rattle.claim_check.specs.Finds.{FindsBy};
 ghost use Rattle.claim_check.specs.Ready.{IsReady, claim_in};
 
 use crate::error::{CheckError, check_error};
@@ -25,7 +25,7 @@ use winning_sets::{ClaimedSets, Solved};
 fn check_plan(bench: &Bench, work: &mut Work, claimed: &ClaimedSets) -> Found
     requires of { bench.now.position.now ≡ claimed.now.position }
     requires ready { IsReady claimed.now }
-    ensures { Finds (plan_of (claim_in claimed.now)) work.old.memo.budget result }
+    ensures { FindsBy work.old (plan_of (claim_in claimed.now)) result }
 {
     let losers = losers_plies(claimed.winner, claimed.position.turn(), claimed.moves);
     let list = losers.list(bench.alloc)?;

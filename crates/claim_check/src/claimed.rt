@@ -1,13 +1,13 @@
 //! The sets that are claimed, one by one, and as levels of a plan.
 ghost use Rattle.std.specs.Prelude.{◌≡◌, IfOk, option_copied};
-ghost use Rattle.lin_formula.specs.SetOf.{Table, as_set};
+ghost use Rattle.lin_formula.specs.SetOf.{Table};
 ghost use Rattle.rule_formula.specs.Fits.{IsGameMask, masks_of};
 ghost use Rattle.rule_formula.specs.Mean.{mask_tracks as tracks_at};
 ghost use Rattle.set_plan.specs.Program.{Give};
 ghost use Rattle.set_plan.specs.Sets.{Grows, IsNameOn, IsSetOn, set_at};
 ghost use Rattle.mate_plan.specs.Claim.{claimed_at, claimed_level as level_at};
 ghost use Rattle.mate_plan.specs.Levels.{AreNamesIn, level_in};
-ghost use Rattle.claim_check.specs.Ready.{AreSigned, IsReady, claim_in};
+ghost use Rattle.claim_check.specs.Ready.{AreNamesOf, AreSigned, IsReady, claim_in};
 
 use auto_core::Auto;
 use lin_formula::SetId;
@@ -58,8 +58,7 @@ fn claimed_name(
 ) -> Result<Option<SetId>, AllocError>
     requires ready { IsReady claimed.now }
     requires signed { AreSigned (claim_in claimed.now) }
-    ensures set { IfOk result (λ name.
-        set_at work.new.sets name ≡ as_set (claimed_at (claim_in claimed.now) ply mask)) }
+    ensures set { IfOk result (λ name. set_at work.new.sets name ≡ level_at (claim_in claimed.now) ply mask) }
     ensures name { IfOk result (IsNameOn (tracks_at claimed.now.position mask) work.new.sets) }
     ensures grows { Grows work.old.sets work.new.sets }
     ensures budget { work.new.memo.budget ≡ work.old.memo.budget }
@@ -103,8 +102,7 @@ pub(crate) fn claimed_level(
     requires of { bench.now.position.now ≡ claimed.now.position }
     requires ready { IsReady claimed.now }
     requires signed { AreSigned (claim_in claimed.now) }
-    ensures level { IfOk result (λ level.
-        level_in claimed.now.position work.new.sets level ≡ level_at (claim_in claimed.now) ply) }
+    ensures level { IfOk result (AreNamesOf claimed.now ply work.new.sets) }
     ensures names { IfOk result (AreNamesIn claimed.now.position work.new.sets) }
     ensures grows { Grows work.old.sets work.new.sets }
     ensures budget { work.new.memo.budget ≡ work.old.memo.budget }

@@ -1,9 +1,6 @@
 //! Why a claim is not accepted.
-ghost use Rattle.std.specs.Prelude.{ℕ, ◌≡◌};
-ghost use Rattle.set_plan.specs.Outcome.{IsPlanError};
-ghost use Rattle.mate_plan.specs.Claim.{Claim as ClaimOf};
-ghost use Rattle.claim_plan.specs.CheckPlan.{check_plan};
-ghost use Rattle.claim_check.specs.Check.{IsCheckError};
+ghost use Rattle.std.specs.Prelude.{◌≡◌};
+ghost use Rattle.claim_check.specs.Check.{IsErrorFor};
 
 use claim_plan::RuleAt;
 use mate_plan::PartName;
@@ -34,8 +31,7 @@ impl From<AllocError> for CheckError {
 
 /// Why a claim of so many moves is not accepted, from why its plan does not come to its end.
 pub(crate) fn check_error(moves: u8, error: PlanError<PartName>) -> CheckError
-    ensures { (c : ClaimOf) (budget : ℕ) → c.moves ≡ moves
-        → IsPlanError (check_plan c) budget error → IsCheckError c budget result }
+    ensures { IsErrorFor moves error result }
 {
     match error {
         PlanError::Over(name) => CheckError::Over(StepName {

@@ -1,14 +1,12 @@
 //! The rule of the start: the winner has a move from the position into what is claimed, or the position is claimed
 //! itself.
 ghost use Rattle.std.specs.Prelude.{◌≡◌, ◌↔◌, ℕ, IsTrue};
-ghost use Rattle.lin_formula.specs.SetOf.{Member};
 ghost use Rattle.rule_formula.specs.Fits.{mask_of};
-ghost use Rattle.rule_formula.specs.Placed.{tuple_of};
 ghost use Rattle.set_plan.specs.Outcome.{Ends};
-ghost use Rattle.mate_plan.specs.Claim.{claimed_level as level_at};
 ghost use Rattle.claim_plan.specs.CheckPlan as plan;
-ghost use Rattle.claim_check.specs.Finds.{Finds};
-ghost use Rattle.claim_check.specs.Ready.{AreSigned, IsReady, claim_in};
+ghost use Rattle.claim_check.specs.Finds.{FindsBy};
+ghost use Rattle.claim_check.specs.Programs.{check_start_in};
+ghost use Rattle.claim_check.specs.Ready.{AreSigned, IsReady, IsStartClaimed, claim_in};
 
 use crate::claimed::{claimed_level, claimed_set};
 use crate::rules::{Found, judged, judged_by, rule_at};
@@ -28,8 +26,7 @@ fn first_rule(claimed: &ClaimedSets) -> RuleAt
 fn is_claimed(claimed: &ClaimedSets) -> bool
     requires ready { IsReady claimed.now }
     requires signed { AreSigned (claim_in claimed.now) }
-    ensures { IsTrue result
-        ↔ Member (level_at (claim_in claimed.now) 0 (mask_of claimed.now.position)) (tuple_of claimed.now.position) }
+    ensures { IsTrue result ↔ IsStartClaimed (claim_in claimed.now) }
 {
     match claimed_set(claimed, 0, claimed.position.mask()) {
         Some(set) => set.member(coordinates(&claimed.position).as_slice()),
@@ -43,7 +40,7 @@ fn check_moving(bench: &Bench, work: &mut Work, claimed: &ClaimedSets) -> Found
     requires ready { IsReady claimed.now }
     requires signed { AreSigned (claim_in claimed.now) }
     requires turn { claimed.now.position.turn ≡ claimed.now.winner }
-    ensures finds { Finds (plan.check_moving (claim_in claimed.now) claimed.now.moves) work.old.memo.budget result }
+    ensures finds { FindsBy work.old (plan.check_moving (claim_in claimed.now) claimed.now.moves) result }
     ensures budget { work.new.memo.budget ≡ work.old.memo.budget }
 {
     let rule = first_rule(claimed);
@@ -68,9 +65,7 @@ pub(crate) fn check_first(bench: &Bench, work: &mut Work, claimed: &ClaimedSets)
     requires of { bench.now.position.now ≡ claimed.now.position }
     requires ready { IsReady claimed.now }
     requires signed { AreSigned (claim_in claimed.now) }
-    ensures finds { Finds
-        (plan.check_first (claim_in claimed.now) claimed.now.winner claimed.now.position.turn)
-        work.old.memo.budget result }
+    ensures finds { FindsBy work.old (check_start_in claimed.now) result }
     ensures budget { work.new.memo.budget ≡ work.old.memo.budget }
 {
     if claimed.position.turn() == claimed.winner {

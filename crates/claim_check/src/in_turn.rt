@@ -4,7 +4,7 @@ ghost use Rattle.auto_core.specs.Automaton.{Automaton};
 ghost use Rattle.set_plan.specs.Sets.{Grows};
 ghost use Rattle.mate_plan.specs.Plan.{Program};
 ghost use Rattle.claim_plan.specs.CheckPlan as plan;
-ghost use Rattle.claim_check.specs.Finds.{Finds};
+ghost use Rattle.claim_check.specs.Finds.{FindsBy};
 
 use crate::rules::Found;
 use claim_plan::RuleAt;
@@ -26,7 +26,7 @@ pub(crate) trait Checks {
     fn check(&self, work: &mut Work, item: u8) -> Found
         requires fits { fits self.now work.old.sets }
         requires item { takes self.now item }
-        ensures finds { Finds (program self.now work.old.sets item) work.old.memo.budget result }
+        ensures finds { FindsBy work.old (program self.now work.old.sets item) result }
         ensures grows { Grows work.old.sets work.new.sets }
         ensures budget { work.new.memo.budget ≡ work.old.memo.budget }
         ensures fits { fits self.now work.new.sets }
@@ -76,9 +76,7 @@ impl<C: Checks> Steps for InTurn<'_, C> {
 pub(crate) fn first_failing<C: Checks>(checks: &C, work: &mut Work, items: &[u8]) -> Found
     requires fits { C.fits checks.now work.old.sets }
     requires items { All (C.takes checks.now) items.now }
-    ensures finds { Finds
-        (plan.for_each items.now (C.program checks.now work.old.sets))
-        work.old.memo.budget result }
+    ensures finds { FindsBy work.old (plan.for_each items.now (C.program checks.now work.old.sets)) result }
     ensures grows { Grows work.old.sets work.new.sets }
     ensures budget { work.new.memo.budget ≡ work.old.memo.budget }
 {

@@ -1,7 +1,7 @@
 //! The plies of the loser.
 ghost use Rattle.std.specs.Prelude.{◌≡◌, ◌≤◌, All, IfOk};
-ghost use Rattle.claim_check.specs.Plies.{AreFew};
-ghost use Rattle.mate_plan.specs.Claim.{every_second, losers_plies as plies_of};
+ghost use Rattle.claim_check.specs.Plies.{AreFew, plies_in};
+ghost use Rattle.mate_plan.specs.Claim.{losers_plies as plies_of};
 
 use chess_game::Side;
 use limits::MOST_MOVES;
@@ -30,7 +30,7 @@ impl Plies {
     /// The plies, one after another.
     pub(crate) fn list(self, alloc: Global) -> Result<Vec<u8>, AllocError>
         requires few { AreFew self }
-        ensures list { IfOk result (λ plies. plies.items ≡ every_second self.first self.count) }
+        ensures list { IfOk result (λ plies. plies.items ≡ plies_in self) }
         ensures low { IfOk result (λ plies. All (λ ply. ply ≤ 41) plies.items) }
     {
         let mut plies = Vec::new(alloc);
@@ -44,7 +44,7 @@ impl Plies {
 /// The plies of the loser, by the winner and by the side that moves first.
 pub(crate) fn losers_plies(winner: Side, first: Side, moves: u8) -> Plies
     requires { moves ≤ MOST_MOVES }
-    ensures plies { every_second result.first result.count ≡ plies_of winner first moves }
+    ensures plies { plies_in result ≡ plies_of winner first moves }
     ensures few { AreFew result }
 {
     match (winner, first) {

@@ -1,13 +1,12 @@
 //! The sets of a claim as it is read from a file, reduced and ply by ply.
 ghost use Rattle.std.specs.Prelude.{◌≡◌, ◌++◌, ◌∷◌, [], IfOk, OnOk, map};
 ghost use Rattle.std.specs.List.{AllZip};
-ghost use Rattle.mate_plan.specs.Claim.{every_second};
 ghost use Rattle.claim_plan.specs.SameClaims.{IsSameClaim};
 ghost use Rattle.strategy_file.specs.Claims.{claim_of, set_of};
 ghost use Rattle.strategy_file.specs.Fitting.{HasFile};
 ghost use Rattle.strategy_file.specs.StrategyFile.{places_with};
 ghost use Rattle.winning_sets.specs.Claimed.{sets_from};
-ghost use Rattle.claim_check.specs.Plies.{AreFew};
+ghost use Rattle.claim_check.specs.Plies.{AreFew, plies_in};
 ghost use Rattle.claim_check.specs.Ready.{IsReady, claim_in};
 ghost use Rattle.claim_check.specs.Reduced.{AreReduced, IsReducedOf};
 
@@ -55,8 +54,7 @@ fn reduced_plies(
     losers: Plies,
 ) -> Result<Vec<PlySets>, AllocError>
     requires few { AreFew losers }
-    requires places { map (λ s. (s.ply, s.mask)) sets.items
-        ≡ places_with (every_second losers.first losers.count) masks.now }
+    requires places { map (λ s. (s.ply, s.mask)) sets.items ≡ places_with (plies_in losers) masks.now }
     ensures { IfOk result (λ plies. AreReduced (map set_of sets.items) (sets_from 0 masks.now plies.items)) }
 {
     let mut plies = Vec::new(alloc);

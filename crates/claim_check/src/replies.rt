@@ -1,16 +1,11 @@
 //! The rules of the replies: each has an answer into what is claimed two plies later, and where the loser is not in check
 //! he has one.
-ghost use Rattle.std.specs.Prelude.{◌≡◌, suc, ◌+◌, ◌≤◌, All, IfOk};
-ghost use Rattle.game_rules.specs.Game.{other};
+ghost use Rattle.std.specs.Prelude.{◌≡◌, ◌≤◌, All, IfOk};
 ghost use Rattle.rule_formula.specs.Fits.{IsGameMask};
-ghost use Rattle.set_plan.specs.Outcome.{Answers};
 ghost use Rattle.set_plan.specs.Sets.{Grows};
-ghost use Rattle.mate_plan.specs.Claim.{claimed_level as level_at};
-ghost use Rattle.mate_plan.specs.Levels.{level_in};
-ghost use Rattle.mate_plan.specs.Plan.{reach_level as reached_level};
-ghost use Rattle.mate_plan.specs.PlanOf.{rules_of};
 ghost use Rattle.claim_plan.specs.CheckPlan as plan;
-ghost use Rattle.claim_check.specs.Finds.{Finds};
+ghost use Rattle.claim_check.specs.Finds.{AnswersBy, FindsBy};
+ghost use Rattle.claim_check.specs.Programs.{check_all_left_in, check_all_stale_in, check_left_in, check_stale_in, reach_in, reached_in};
 ghost use Rattle.claim_check.specs.Ready.{AreSigned, IsReady, claim_in};
 ghost use Rattle.claim_check.specs.Replies.{AreReplies};
 
@@ -48,10 +43,7 @@ fn replies_at(
     requires ready { IsReady claimed.now }
     requires signed { AreSigned (claim_in claimed.now) }
     requires ply { ply ≤ 41 }
-    ensures reached { Answers
-        (reached_level (rules_of claimed.now.position) (other claimed.now.winner) (suc ply)
-        (level_at (claim_in claimed.now) ply))
-        work.old.memo.budget (λ r. level_in claimed.now.position work.new.sets r.reached) result }
+    ensures reached { AnswersBy work.old (reach_in claimed.now ply) (reached_in claimed.now work.new.sets) result }
     ensures replies { IfOk result (λ r. AreReplies claimed.now ply work.new.sets r) }
     ensures grows { Grows work.old.sets work.new.sets }
     ensures budget { work.new.memo.budget ≡ work.old.memo.budget }
@@ -83,11 +75,7 @@ fn check_left(
     requires of { bench.now.position.now ≡ claimed.now.position }
     requires ready { IsReady claimed.now }
     requires replies { AreReplies claimed.now replies.now.ply work.old.sets replies.now }
-    ensures finds { Finds
-        (plan.check_left (rules_of claimed.now.position) claimed.now.winner (suc replies.now.ply)
-        (level_in claimed.now.position work.old.sets replies.now.reached)
-        (level_at (claim_in claimed.now) (replies.now.ply + 2)) mask)
-        work.old.memo.budget result }
+    ensures finds { FindsBy work.old (check_left_in claimed.now work.old.sets replies.now mask) result }
     ensures grows { Grows work.old.sets work.new.sets }
     ensures budget { work.new.memo.budget ≡ work.old.memo.budget }
 {
@@ -119,11 +107,7 @@ fn check_stale(
     requires ready { IsReady claimed.now }
     requires mask { IsGameMask claimed.now.position mask }
     requires replies { AreReplies claimed.now replies.now.ply work.old.sets replies.now }
-    ensures finds { Finds
-        (plan.check_stale (rules_of claimed.now.position) (other claimed.now.winner) replies.now.ply
-        (level_at (claim_in claimed.now) replies.now.ply)
-        (level_in claimed.now.position work.old.sets replies.now.reached) mask)
-        work.old.memo.budget result }
+    ensures finds { FindsBy work.old (check_stale_in claimed.now work.old.sets replies.now mask) result }
     ensures grows { Grows work.old.sets work.new.sets }
     ensures budget { work.new.memo.budget ≡ work.old.memo.budget }
 {
@@ -151,9 +135,7 @@ struct AnswersByMask<'a> {
 }
 
 impl Checks for AnswersByMask<'_> {
-    ghost program = { λ s sets mask. plan.check_left (rules_of s.claimed.now.position) s.claimed.now.winner
-        (suc s.replies.now.ply) (level_in s.claimed.now.position sets s.replies.now.reached)
-        (level_at (claim_in s.claimed.now) (s.replies.now.ply + 2)) mask };
+    ghost program = { λ s sets mask. check_left_in s.claimed.now sets s.replies.now mask };
 
     ghost fits = { λ s sets. IsReady s.claimed.now × (s.bench.now.position.now ≡ s.claimed.now.position)
         × AreReplies s.claimed.now s.replies.now.ply sets s.replies.now };
@@ -174,9 +156,7 @@ struct StalematesByMask<'a> {
 }
 
 impl Checks for StalematesByMask<'_> {
-    ghost program = { λ s sets mask. plan.check_stale (rules_of s.claimed.now.position) (other s.claimed.now.winner)
-        s.replies.now.ply (level_at (claim_in s.claimed.now) s.replies.now.ply)
-        (level_in s.claimed.now.position sets s.replies.now.reached) mask };
+    ghost program = { λ s sets mask. check_stale_in s.claimed.now sets s.replies.now mask };
 
     ghost fits = { λ s sets. IsReady s.claimed.now × (s.bench.now.position.now ≡ s.claimed.now.position)
         × AreReplies s.claimed.now s.replies.now.ply sets s.replies.now };
@@ -193,12 +173,7 @@ fn check_all_left(bench: &Bench, work: &mut Work, claimed: &ClaimedSets, replies
     requires of { bench.now.position.now ≡ claimed.now.position }
     requires ready { IsReady claimed.now }
     requires replies { AreReplies claimed.now replies.now.ply work.old.sets replies.now }
-    ensures finds { Finds
-        (plan.for_each (rules_of claimed.now.position).masks
-        (plan.check_left (rules_of claimed.now.position) claimed.now.winner (suc replies.now.ply)
-        (level_in claimed.now.position work.old.sets replies.now.reached)
-        (level_at (claim_in claimed.now) (replies.now.ply + 2))))
-        work.old.memo.budget result }
+    ensures finds { FindsBy work.old (check_all_left_in claimed.now work.old.sets replies.now) result }
     ensures grows { Grows work.old.sets work.new.sets }
     ensures budget { work.new.memo.budget ≡ work.old.memo.budget }
 {
@@ -220,12 +195,7 @@ fn check_all_stale(
     requires of { bench.now.position.now ≡ claimed.now.position }
     requires ready { IsReady claimed.now }
     requires replies { AreReplies claimed.now replies.now.ply work.old.sets replies.now }
-    ensures finds { Finds
-        (plan.for_each (rules_of claimed.now.position).masks
-        (plan.check_stale (rules_of claimed.now.position) (other claimed.now.winner) replies.now.ply
-        (level_at (claim_in claimed.now) replies.now.ply)
-        (level_in claimed.now.position work.old.sets replies.now.reached)))
-        work.old.memo.budget result }
+    ensures finds { FindsBy work.old (check_all_stale_in claimed.now work.old.sets replies.now) result }
     ensures grows { Grows work.old.sets work.new.sets }
     ensures budget { work.new.memo.budget ≡ work.old.memo.budget }
 {
@@ -243,7 +213,7 @@ fn check_ply(bench: &Bench, work: &mut Work, claimed: &ClaimedSets, ply: u8) -> 
     requires ready { IsReady claimed.now }
     requires signed { AreSigned (claim_in claimed.now) }
     requires ply { ply ≤ 41 }
-    ensures finds { Finds (plan.check_ply (claim_in claimed.now) ply) work.old.memo.budget result }
+    ensures finds { FindsBy work.old (plan.check_ply (claim_in claimed.now) ply) result }
     ensures grows { Grows work.old.sets work.new.sets }
     ensures budget { work.new.memo.budget ≡ work.old.memo.budget }
 {
@@ -289,9 +259,7 @@ pub(crate) fn check_replies(
     requires ready { IsReady claimed.now }
     requires signed { AreSigned (claim_in claimed.now) }
     requires low { All (λ ply. ply ≤ 41) plies.now }
-    ensures finds { Finds
-        (plan.for_each plies.now (plan.check_ply (claim_in claimed.now)))
-        work.old.memo.budget result }
+    ensures finds { FindsBy work.old (plan.for_each plies.now (plan.check_ply (claim_in claimed.now))) result }
     ensures budget { work.new.memo.budget ≡ work.old.memo.budget }
 {
     first_failing(&RepliesByPly { bench, claimed }, work, plies)

@@ -1,9 +1,7 @@
 //! Rules, kept or not.
-ghost use Rattle.std.specs.Prelude.{ℕ, ◌≡◌, Bool};
-ghost use Rattle.set_plan.specs.Outcome.{Answers};
-ghost use Rattle.mate_plan.specs.Plan.{Program};
+ghost use Rattle.std.specs.Prelude.{◌≡◌};
 ghost use Rattle.claim_plan.specs.CheckPlan as plan;
-ghost use Rattle.claim_check.specs.Finds.{Finds};
+ghost use Rattle.claim_check.specs.Finds.{IsJudgedBy};
 
 use claim_plan::{Rule, RuleAt};
 use mate_plan::PartName;
@@ -28,8 +26,7 @@ pub(crate) fn judged(rule: RuleAt, kept: bool) -> Option<RuleAt>
 
 /// The rule, where it is not kept, as a program answers.
 pub(crate) fn judged_by(rule: RuleAt, answer: Result<bool, PlanError<PartName>>) -> Found
-    ensures { (program : Program Bool) (budget : ℕ) →
-        Answers program budget (λ (b : Bool). b) answer → Finds (plan.holds_by rule program) budget result }
+    ensures { IsJudgedBy rule answer result }
 {
     match answer {
         Ok(kept) => Ok(judged(rule, kept)),

@@ -5,11 +5,10 @@ ghost use Rattle.auto_core.specs.Integers.{DecidesIntegers};
 ghost use Rattle.rule_formula.specs.Fits.{IsGameMask};
 ghost use Rattle.set_plan.specs.Sets.{Grows};
 ghost use Rattle.mate_plan.specs.Claim.{claimed_at, losers_plies};
-ghost use Rattle.mate_plan.specs.Levels.{AreNamesIn, level_in};
-ghost use Rattle.mate_plan.specs.PlanOf.{rules_of};
-ghost use Rattle.mate_plan.specs.Questions as questions;
+ghost use Rattle.mate_plan.specs.Levels.{AreNamesIn};
 ghost use Rattle.claim_plan.specs.CheckPlan as plan;
-ghost use Rattle.claim_check.specs.Finds.{Finds};
+ghost use Rattle.claim_check.specs.Finds.{Finds, FindsBy};
+ghost use Rattle.claim_check.specs.Programs.{check_guard_in, check_same_in};
 ghost use Rattle.claim_check.specs.Ready.{AreThere, IsReady, claim_in};
 
 use crate::claimed::{claimed_set, lone_level};
@@ -37,11 +36,7 @@ fn check_same(bench: &Bench, work: &mut Work, claimed: &ClaimedSets, at: &StageL
     requires ready { IsReady claimed.now }
     requires mask { IsGameMask claimed.now.position at.now.stage.mask }
     requires level { AreNamesIn claimed.now.position work.old.sets at.now.level.now }
-    ensures finds { Finds
-        (plan.holds_by (plan.rule_at at.now.stage.ply at.now.stage.mask Rule.Same)
-        (questions.are_apart claimed.now.position at.now.stage.ply at.now.stage.mask
-        (level_in claimed.now.position work.old.sets at.now.level.now at.now.stage.mask)))
-        work.old.memo.budget result }
+    ensures finds { FindsBy work.old (check_same_in claimed.now work.old.sets at.now) result }
     ensures sets { work.new.sets ≡ work.old.sets }
     ensures budget { work.new.memo.budget ≡ work.old.memo.budget }
 {
@@ -55,10 +50,7 @@ fn check_guard(bench: &Bench, work: &mut Work, claimed: &ClaimedSets, at: &Stage
     requires ready { IsReady claimed.now }
     requires mask { IsGameMask claimed.now.position at.now.stage.mask }
     requires level { AreNamesIn claimed.now.position work.old.sets at.now.level.now }
-    ensures finds { Finds
-        (plan.check_guard (rules_of claimed.now.position) at.now.stage.side at.now.stage.ply at.now.stage.mask
-        (level_in claimed.now.position work.old.sets at.now.level.now at.now.stage.mask))
-        work.old.memo.budget result }
+    ensures finds { FindsBy work.old (check_guard_in claimed.now work.old.sets at.now) result }
     ensures sets { work.new.sets ≡ work.old.sets }
     ensures budget { work.new.memo.budget ≡ work.old.memo.budget }
 {
@@ -72,7 +64,7 @@ fn check_set(bench: &Bench, work: &mut Work, claimed: &ClaimedSets, ply: u8, mas
     requires of { bench.now.position.now ≡ claimed.now.position }
     requires ready { IsReady claimed.now }
     requires there { IsSome (claimed_at (claim_in claimed.now) ply mask) }
-    ensures finds { Finds (plan.check_set (claim_in claimed.now) ply mask) work.old.memo.budget result }
+    ensures finds { FindsBy work.old (plan.check_set (claim_in claimed.now) ply mask) result }
     ensures grows { Grows work.old.sets work.new.sets }
     ensures budget { work.new.memo.budget ≡ work.old.memo.budget }
 {
@@ -128,7 +120,7 @@ fn check_sets_at(bench: &Bench, work: &mut Work, claimed: &ClaimedSets, ply: u8)
     requires of { bench.now.position.now ≡ claimed.now.position }
     requires ready { IsReady claimed.now }
     requires there { AreThere (claim_in claimed.now) ply }
-    ensures finds { Finds (plan.check_sets (claim_in claimed.now) ply) work.old.memo.budget result }
+    ensures finds { FindsBy work.old (plan.check_sets (claim_in claimed.now) ply) result }
     ensures grows { Grows work.old.sets work.new.sets }
     ensures budget { work.new.memo.budget ≡ work.old.memo.budget }
 {
@@ -169,9 +161,7 @@ pub(crate) fn check_sets(
     requires of { bench.now.position.now ≡ claimed.now.position }
     requires ready { IsReady claimed.now }
     requires plies { plies.now ≡ losers_plies claimed.now.winner claimed.now.position.turn claimed.now.moves }
-    ensures finds { Finds
-        (plan.for_each plies.now (plan.check_sets (claim_in claimed.now)))
-        work.old.memo.budget result }
+    ensures finds { FindsBy work.old (plan.for_each plies.now (plan.check_sets (claim_in claimed.now))) result }
     ensures budget { work.new.memo.budget ≡ work.old.memo.budget }
 {
     first_failing(&SetsByPly { bench, claimed }, work, plies)

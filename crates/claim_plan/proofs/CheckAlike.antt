@@ -127,7 +127,8 @@ module _ (rules : Rules) where
       holds_by-alike (rule_at ply mask rule.Left) (are_answered rules side ply r c mask) (are_answered rules side ply q d mask)
       (moves-alike side ply mask kind.Answer kind.Left (r mask) (q mask) c d (reached mask) claimed)
 
-  stale-alike : (side : Side) (ply : ℕ) (c d r q : Level) (mask : ℕ) → SameLevels c d → SameLevels r q → Alike Same (check_stale rules side ply c r mask) (check_stale rules side ply d q mask)
+  stale-alike : (side : Side) (ply : ℕ) (c d r q : Level) (mask : ℕ) → SameLevels c d → SameLevels r q
+      → Alike Same (check_stale rules side ply c r mask) (check_stale rules side ply d q mask)
   stale-alike side ply c d r q mask claimed reached =
       let moves = λ (l : Level) (u : SetOf). have_moves rules side ply mask kind.Reply kind.Stale u l in
       holds_by-alike (rule_at ply mask rule.Stale) (have_replies rules side ply c r mask) (have_replies rules side ply d q mask) (

@@ -98,7 +98,9 @@ module _ (c : Claim) (is : IsClaim c) (mean : RulesMean c.position) (some_point 
       let Side_fits : Side → Type 0 = λ s. Fits p s p in
       let fits = subst Side_fits turn (mean.game.begins is.sound) in
       let Start : Position → Type 0 = λ q. q ≡ p in
-      let stands = pre-stands p mean c.winner 0 kind.First p point first (claimed_level c 1) xs Start (IsClaimed c 1) fits (λ h. is.sound) (λ h. refl, λ h. source) (claimed_stands c is mean 1) t in (
+      let stands =
+      pre-stands p mean c.winner 0 kind.First p point first (claimed_level c 1) xs Start (IsClaimed c 1) fits (λ h. is.sound)
+      (λ h. refl, λ h. source) (claimed_stands c is mean 1) t in (
         λ h.
             let pre = stands.0 h in
             inl (turn, (pre.next, answer_moves c is mean apart safe 1 p pre.next pre.leads pre.step, pre.leads)),

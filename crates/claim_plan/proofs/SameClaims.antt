@@ -90,7 +90,9 @@ module _ (p : Position) (w : Side) (n : ℕ) (xs ys : List ClaimedSet) (same : (
   positions : (ply : ℕ) (q : Position) → IsClaimed (record { position = p; winner = w; moves = n; sets = xs }) ply q ↔ IsClaimed (record { position = p; winner = w; moves = n; sets = ys }) ply q
   positions ply q = (position_along p w n xs ys same ply q, position_along p w n ys xs back ply q)
 
-  positions_back : (ply : ℕ) (q : Position) → IsClaimed (record { position = p; winner = w; moves = n; sets = ys }) ply q ↔ IsClaimed (record { position = p; winner = w; moves = n; sets = xs }) ply q
+  positions_back : (ply : ℕ) (q : Position)
+      → IsClaimed (record { position = p; winner = w; moves = n; sets = ys }) ply q
+      ↔ IsClaimed (record { position = p; winner = w; moves = n; sets = xs }) ply q
   positions_back ply q = ((positions ply q).1, (positions ply q).0)
 
   pub sets_alike : AreCheckedAlike (record { position = p; winner = w; moves = n; sets = xs }) (record { position = p; winner = w; moves = n; sets = ys })

@@ -19,7 +19,7 @@ use Rattle.game_rules.specs.Game.{Mate}
 use Rattle.chess_text.specs.PositionText.{text_of_lines}
 use Rattle.desk_text.proofs.TextSteps.{with_line}
 use Rattle.game_report.specs.Laws.{last_game}
-use Rattle.game_report.specs.Played.{IsDue, IsPlayed, IsSettled, Ports, StopsAt, is_short}
+use Rattle.game_report.specs.Played.{IsDue, IsPlayed, IsSettled, Ports, StopsAt, is_short, ports}
 use Rattle.game_report.specs.Report.{AtLine, AtLines, IsReport, Match, Report, Unless, ends, most_lines}
 use Rattle.game_report.specs.Turns.{AtStart, Comes, EndsAt, IsLosersTurn, Never}
 use Rattle.game_report.specs.declared.play.Ending.{Ending}
@@ -103,9 +103,6 @@ AtRead before read line now more later = AtLine (AtLines before read more) line 
 -- what is to come at the start
 abbrev pub AtFirst : ℕ → Match → Lines → Report → Type 0
 AtFirst before g more later = AtStart (AtLines before 0 more) more g later
-
-abbrev pub ports : List ℕ → Option (List ℕ) → Option (List ℕ) → Ports
-ports pending left written = record { pending = pending; left = left; written = written }
 
 pub at_first : (before : ℕ) (g : Match) (pending : List ℕ) (left written : Option (List ℕ)) → SoFar (AtFirst before g) before 0 g g (ports pending left written) (ports pending left written)
 at_first before g pending left written = record {
@@ -442,7 +439,9 @@ module _ (before read : ℕ) (g now after : Match) (old : Ports) (pending : List
   pub reply_over : length rest ≤ 256 → (ending : Ending) → Comes (Ok (Some ending)) AtReply now after written last → IsPlayed (Ok ending) before g after old (ports rest mid last)
   reply_over few ending comes = came_over AtReply (AtRead before (read + 1) line now) before (read + 1) g now after old rest mid written last came extends few ending comes
 
-  pub reply_failed : length rest ≤ 256 → (why : Failed) → (IsLosersTurn after → (Mate after.position → ⊥) → (more : Lines) → (later : Report) × AtLines before (read + 1) more after later)
+  pub reply_failed : length rest ≤ 256 → (why : Failed)
+      → (IsLosersTurn after → (Mate after.position → ⊥) → (more : Lines)
+      → (later : Report) × AtLines before (read + 1) more after later)
       → Comes (Err why) AtReply now after written last → IsPlayed (Err error.Write) before g after old (ports rest mid last)
   reply_failed few why go comes = came_failed AtReply (AtRead before (read + 1) line now) before (read + 1) g now after old rest mid written last came extends few why go comes
 

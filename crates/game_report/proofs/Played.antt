@@ -159,7 +159,8 @@ module _ (s : Solution) where
           fewer = elim (h.fewer) [ inl mate ↦ inl (ap (λ x. x.ending) is ∙ mate) | inr less ↦ inr (omega (arith, one, count, less)) ];
         }
 
-    typed_time : (left : Lines) (p : Position) (ply : ℕ) (r : Report) (reply : Option Typed) → Loser p ply → (Mate p → ⊥) → AtTyped On left (seen (at s p ply)) r reply → IsInTime (at s p ply) r
+    typed_time : (left : Lines) (p : Position) (ply : ℕ) (r : Report) (reply : Option Typed) → Loser p ply
+        → (Mate p → ⊥) → AtTyped On left (seen (at s p ply)) r reply → IsInTime (at s p ply) r
     typed_time left p ply r None loses none (later, on, is) =
         same_time (at s p ply) r later (ap (λ x. x.games) is) (ap (λ x. x.ending) is) (go p ply later loses none on)
     typed_time left p ply r (Some typed.Quit) loses none is = none_yet (at s p ply) r (ap (λ x. x.games) is) (moves_to_make p ply loses none)
@@ -177,7 +178,8 @@ module _ (s : Solution) where
     line_time : (line : List ℕ) (left : Lines) (p : Position) (ply : ℕ) (r : Report) → Loser p ply → (Mate p → ⊥) → AtLine On line left (seen (at s p ply)) r → IsInTime (at s p ply) r
     line_time line left p ply r loses none (reply, is, goes) = typed_time left p ply r reply loses none goes
 
-  lines_time : (before read : ℕ) (lines : Lines) (p : Position) (ply : ℕ) (r : Report) → Loser p ply → (Mate p → ⊥) → AtLines before read lines (seen (at s p ply)) r → IsInTime (at s p ply) r
+  lines_time : (before read : ℕ) (lines : Lines) (p : Position) (ply : ℕ) (r : Report) → Loser p ply → (Mate p → ⊥)
+      → AtLines before read lines (seen (at s p ply)) r → IsInTime (at s p ply) r
   lines_time before read (full line rest) p ply r loses none h =
       let low = moves_to_make p ply loses none in
       unless (IsInTime (at s p ply)) (read == most_lines) (full line rest) r _ (λ is. none_yet (at s p ply) r is low)

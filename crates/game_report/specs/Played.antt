@@ -22,6 +22,9 @@ pub record Ports : Type 0 where
   pub left : Option (List ℕ)
   pub written : Option (List ℕ)
 
+abbrev pub ports : List ℕ → Option (List ℕ) → Option (List ℕ) → Ports
+ports pending left written = record { pending = pending; left = left; written = written }
+
 -- the game ends because its input does
 abbrev pub is_short : Ending → Bool
 is_short Mated = false

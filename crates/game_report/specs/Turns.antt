@@ -5,9 +5,12 @@ use Rattle.desk_base.specs.Lines.{Lines, ended}
 use Rattle.desk_base.specs.Moves.{AppendsFront}
 use Rattle.desk_base.specs.declared.source.Failed.{Failed}
 use Rattle.game_rules.specs.Game.{Mate, other}
-use Rattle.game_report.specs.Laws.{last_game}
+use Rattle.chess_game.specs.declared.moves.Move.{Move}
+use Rattle.chess_text.specs.declared.replies.Typed.TheVariants as typed
+use Rattle.white_player.specs.Game.{Game}
+use Rattle.game_report.specs.Laws.{last_game, seen}
 use Rattle.game_report.specs.Played.{StopsAt}
-use Rattle.game_report.specs.Report.{AtLoser, AtWinner, Match, Report, ends}
+use Rattle.game_report.specs.Report.{AtLine, AtLoser, AtTyped, AtWinner, Match, Report, ends}
 use Rattle.game_report.specs.declared.play.Ending.{Ending}
 use Rattle.game_report.specs.declared.play.Ending.TheVariants.{NoLine}
 
@@ -49,3 +52,18 @@ Comes (Ok (Some ending)) Says g after old new =
 -- the sink has failed
 Comes (Err why) Says g after old new =
     (report : Report) × Says (EndsAt after) report × AppendsFront old new report.text × IsLosersTurn after
+
+-- what comes of a part of the game of a session, by what is said of it, where no lines come behind
+abbrev pub ComesOf :
+    ((Match → Report → Type 0) → Lines → Match → Report → Type 0) → Result (Option Ending) Failed → (before after : Game)
+    → (old new : Option (List ℕ)) → Type 0
+ComesOf At result before after old new =
+    Comes result (λ On report. At On ended (seen before) report) (seen before) (seen after) old new
+
+-- what is said of a move that is typed
+abbrev pub AtMove : Move → (Match → Report → Type 0) → Lines → Match → Report → Type 0
+AtMove mv On left g report = AtTyped On left g report (Some (typed.Move mv))
+
+-- and of a line
+abbrev pub AtText : List ℕ → (Match → Report → Type 0) → Lines → Match → Report → Type 0
+AtText line On left g report = AtLine On line left g report

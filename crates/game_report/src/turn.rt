@@ -2,12 +2,11 @@
 ghost use Rattle.std.specs.Prelude.{◌≡◌, ◌≤◌, true, false, codes, None, Some, Ok, IfOk, OnErr, OnOk, length};
 ghost use Rattle.std.specs.Io.KnownBytes.{Appends};
 ghost use Rattle.desk_base.specs.Faults.{HasRisen};
-ghost use Rattle.desk_base.specs.Lines.{ended};
 ghost use Rattle.desk_base.specs.Moves.{AppendsFront};
 ghost use Rattle.game_report.specs.Laws.{seen};
 ghost use Rattle.game_report.specs.Report as reports;
-ghost use Rattle.game_report.specs.Report.{AtLine, AtTyped, AtWinner, all_squares};
-ghost use Rattle.game_report.specs.Turns.{AtStart, Comes, IsOpen};
+ghost use Rattle.game_report.specs.Report.{AtWinner, all_squares};
+ghost use Rattle.game_report.specs.Turns.{AtMove, AtStart, AtText, ComesOf, IsOpen};
 ghost use Rattle.white_player.specs.Game.{IsGame};
 
 use crate::play::Ending;
@@ -62,8 +61,7 @@ fn tell_mate<K: Sink>(sink: &mut K, mated: bool) -> Result<Option<Ending>, Faile
 fn win<K: Sink>(session: &mut Session, sink: &mut K) -> Result<Option<Ending>, Failed>
     requires whole { session.old.frame ≡ all_squares }
     requires turn { session.old.position.turn ≡ session.old.solution.winner }
-    ensures comes { Comes result (λ On report. AtWinner On ended (seen session.old) report) (seen session.old)
-        (seen session.new) (K.written sink.old) (K.written sink.new) }
+    ensures comes { ComesOf AtWinner result session.old session.new (K.written sink.old) (K.written sink.new) }
     ensures same { (session.new.solution ≡ session.old.solution) × (session.new.frame ≡ session.old.frame) }
     ensures game { IsGame session.new }
     ensures failed { OnErr result (HasRisen (K.faults sink.old) (K.faults sink.new)) }
@@ -82,8 +80,7 @@ fn win<K: Sink>(session: &mut Session, sink: &mut K) -> Result<Option<Ending>, F
 /// What comes of the start of a game, with either side to move.
 pub(crate) fn open<K: Sink>(session: &mut Session, sink: &mut K) -> Result<Option<Ending>, Failed>
     requires whole { session.old.frame ≡ all_squares }
-    ensures comes { Comes result (λ On report. AtStart On ended (seen session.old) report) (seen session.old)
-        (seen session.new) (K.written sink.old) (K.written sink.new) }
+    ensures comes { ComesOf AtStart result session.old session.new (K.written sink.old) (K.written sink.new) }
     ensures same { (session.new.solution ≡ session.old.solution) × (session.new.frame ≡ session.old.frame) }
     ensures game { IsGame session.new }
     ensures failed { OnErr result (HasRisen (K.faults sink.old) (K.faults sink.new)) }
@@ -100,8 +97,7 @@ pub(crate) fn open<K: Sink>(session: &mut Session, sink: &mut K) -> Result<Optio
 fn make<K: Sink>(session: &mut Session, mv: Move, sink: &mut K) -> Result<Option<Ending>, Failed>
     requires whole { session.old.frame ≡ all_squares }
     requires due { IsOpen (seen session.old) }
-    ensures comes { Comes result (λ On report. AtTyped On ended (seen session.old) report (Some (Typed.Move mv)))
-        (seen session.old) (seen session.new) (K.written sink.old) (K.written sink.new) }
+    ensures comes { ComesOf (AtMove mv) result session.old session.new (K.written sink.old) (K.written sink.new) }
     ensures same { (session.new.solution ≡ session.old.solution) × (session.new.frame ≡ session.old.frame) }
     ensures game { IsGame session.new }
     ensures failed { OnErr result (HasRisen (K.faults sink.old) (K.faults sink.new)) }
@@ -125,8 +121,7 @@ pub(crate) fn reply<K: Sink>(
 ) -> Result<Option<Ending>, Failed>
     requires whole { session.old.frame ≡ all_squares }
     requires due { IsOpen (seen session.old) }
-    ensures comes { Comes result (λ On report. AtLine On line.now ended (seen session.old) report) (seen session.old)
-        (seen session.new) (K.written sink.old) (K.written sink.new) }
+    ensures comes { ComesOf (AtText line.now) result session.old session.new (K.written sink.old) (K.written sink.new) }
     ensures same { (session.new.solution ≡ session.old.solution) × (session.new.frame ≡ session.old.frame) }
     ensures game { IsGame session.new }
     ensures failed { OnErr result (HasRisen (K.faults sink.old) (K.faults sink.new)) }

@@ -6,14 +6,15 @@ use Rattle.game_rules.specs.declared.men.Square.{Square}
 use Rattle.game_laws.specs.OnRay.{IsOnRay}
 use Rattle.chess_game.specs.Way.{IsInside}
 use Rattle.chess_game.specs.declared.way.Frame.{Frame}
-use Rattle.game_session.specs.Along.{IsLeastOf, LeadsAlong}
+use Rattle.game_session.specs.Along.{IsLeastOf, LeadsAlong, LeadsInside}
 use Rattle.game_session.specs.Choice.{FirstOf, IsAlongRay, Leads, target}
 use Rattle.game_session.specs.declared.choice.Choice.{Choice}
 
-module _ (Set : Position → Type 0) (p : Position) (i n : ℕ) where
+module _ {Set : Position → Type 0} {p : Position} {i n : ℕ} where
   -- another set, and other squares
-  abbrev pub led_to : (S T : Square → Type 0) (Other : Position → Type 0) (t : ℕ) (w : LeadsAlong S Set p i n t) → T w.to → Other w.after → LeadsAlong T Other p i n t
-  led_to S T Other t w to after = record {
+  abbrev pub led_to : {S : Square → Type 0} {t : ℕ} (T : Square → Type 0) (Other : Position → Type 0)
+      → (w : LeadsAlong S Set p i n t) → T w.to → Other w.after → LeadsAlong T Other p i n t
+  led_to T Other w to after = record {
     him = w.him;
     from = w.from;
     to = w.to;
@@ -26,10 +27,15 @@ module _ (Set : Position → Type 0) (p : Position) (i n : ℕ) where
     is_in = after;
   }
 
-  module _ (f : Frame) where
+  -- a move of the man so far along his ray is a choice
+  abbrev pub choice_at : {T : Square → Type 0} {t : ℕ} → LeadsAlong T Set p i n t → Choice
+  choice_at {T} {t} w = record { mv = record { man = i; x = w.to.x; y = w.to.y }; ray = n; distance = t }
+
+  module _ {f : Frame} where
     -- a choice goes as far as it says
-    abbrev pub along_of : (T : Square → Type 0) (d : Choice) (q : Position) → d.mv.man ≡ i → d.ray ≡ n → T (target d.mv) → Leads Set f p d q → LeadsAlong T Set p i n d.distance
-    along_of T d q man ray to h = record {
+    abbrev pub along_of : (T : Square → Type 0) {d : Choice} {q : Position} → d.mv.man ≡ i → d.ray ≡ n → T (target d.mv)
+        → Leads Set f p d q → LeadsAlong T Set p i n d.distance
+    along_of T {d} {q} man ray to h = record {
       him = h.man;
       from = h.from;
       to = target d.mv;
@@ -42,12 +48,10 @@ module _ (Set : Position → Type 0) (p : Position) (i n : ℕ) where
       is_in = h.is_in;
     }
 
-    -- and a move of the man so far along his ray is a choice
-    abbrev pub choice_at : (T : Square → Type 0) (t : ℕ) → LeadsAlong T Set p i n t → Choice
-    choice_at T t w = record { mv = record { man = i; x = w.to.x; y = w.to.y }; ray = n; distance = t }
-
-    abbrev pub leads_of : (T : Square → Type 0) (t : ℕ) (w : LeadsAlong T Set p i n t) → IsInside f w.to → Leads Set f p (choice_at T t w) w.after
-    leads_of T t w inside = record {
+    -- and a move of the man leads where its choice does
+    abbrev pub leads_of : {T : Square → Type 0} {t : ℕ} (w : LeadsAlong T Set p i n t) → IsInside f w.to
+        → Leads Set f p (choice_at w) w.after
+    leads_of w inside = record {
       man = w.him;
       from = w.from;
       is_man = w.is_man;
@@ -59,17 +63,14 @@ module _ (Set : Position → Type 0) (p : Position) (i n : ℕ) where
     }
 
     -- the first choice along the ray goes the least distance
-    abbrev Inside : ℕ → Type 0
-    Inside t = LeadsAlong (IsInside f) Set p i n t
+    pub none_least : FirstOf (IsAlongRay i n) Set f p None → (t : ℕ) → LeadsInside f Set p i n t → ⊥
+    none_least none t w = none (choice_at w) w.after (refl, refl) (leads_of w w.is_target)
 
-    pub none_least : FirstOf (IsAlongRay i n) Set f p None → (t : ℕ) → Inside t → ⊥
-    none_least none t w = none (choice_at (IsInside f) t w) w.after (refl, refl) (leads_of (IsInside f) t w w.is_target)
-
-    pub some_least : (c : Choice) → FirstOf (IsAlongRay i n) Set f p (Some c) → IsLeastOf Inside c.distance
-    some_least c h = record {
-      has = along_of (IsInside f) c h.position h.has.0 h.has.1 h.leads.inside h.leads;
+    pub some_least : {c : Choice} → FirstOf (IsAlongRay i n) Set f p (Some c) → IsLeastOf (LeadsInside f Set p i n) c.distance
+    some_least {c} h = record {
+      has = along_of (IsInside f) h.has.0 h.has.1 h.leads.inside h.leads;
       least = λ t w. elim (cases_lt t c.distance) [
-        | inl less ↦ absurd (h.first (choice_at (IsInside f) t w) w.after (refl, refl) (leads_of (IsInside f) t w w.is_target) (inr (sym h.has.0, inr (sym h.has.1, less))))
+        | inl less ↦ absurd (h.first (choice_at w) w.after (refl, refl) (leads_of w w.is_target) (inr (sym h.has.0, inr (sym h.has.1, less))))
         | inr more ↦ more
       ];
     }

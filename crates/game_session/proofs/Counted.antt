@@ -1,5 +1,5 @@
 -- How many moves along a ray lead into the sets: the quiet ones as the search counts its hits, and the capture.
-use Rattle.std.proofs.Common.{◌≡◌, ◌↔◌, ◌⊎◌, inl, inr, ℕ, zero, suc, ◌+◌, ◌<◌, ◌≤◌, false, Some, None, refl, sym, subst, ◌∙◌, arith}
+use Rattle.std.proofs.Common.{◌≡◌, ◌⊎◌, inl, inr, ℕ, zero, suc, ◌+◌, ◌<◌, ◌≤◌, false, Some, None, refl, sym, subst, ◌∙◌, arith}
 use Rattle.std.specs.Prelude.{IsTrue}
 use Rattle.std.proofs.lemmas.Bool.{cases_lt}
 use Rattle.auto_core.specs.Automaton.{Automaton}
@@ -18,11 +18,11 @@ use Rattle.chess_game.specs.declared.way.Frame.{Frame}
 use Rattle.rule_formula.specs.Fits.{mask_of}
 use Rattle.mask_sets.specs.Sets.{IsIn, Table, set_at}
 use Rattle.game_session.specs.Aims.{AreNext, HoldsMen, IsHitAlong, IsLeast, IsMover}
-use Rattle.game_session.specs.Along.{IsClear, IsClearFrom, LeadsAlong, LeadsAnywhere}
+use Rattle.game_session.specs.Along.{IsClear, IsClearForever, IsClearFrom, IsClearTo, LeadsAlong, LeadsAnywhere}
 use Rattle.game_session.specs.Choice.{FirstOf, IsCapture, Leads, target}
 use Rattle.game_session.specs.declared.choice.Choice.{Choice}
 use Rattle.game_session.proofs.Bridges.{along_of, choice_at, leads_of, led_to}
-use Rattle.game_session.proofs.Hits.{along_goes, going, going_at, hit_moves, leads_at, quiet_hit, quiet_unserved, quiet_unset}
+use Rattle.game_session.proofs.Hits.{along_goes, going, going_at, hit_moves, quiet_hit, quiet_unserved, quiet_unset}
 use Rattle.game_session.proofs.Meets.{empty_not_held, of_square, on_square, stands_at}
 use Rattle.game_session.proofs.Ways.{empty_or_held, nobody_before}
 
@@ -60,13 +60,13 @@ module _ (p : Position) (table : Table) (j n : ℕ) (r : Ray) (mover : IsMover p
   module _ (next : AreNext p table) (a : Automaton) (set_is : set_at table (mask_of p) ≡ Some a) (serves : IsTrue (serves_moves mover.man.kind n)) where
     quiet_clear : (t : ℕ) → QuietAt t → IsClear p (suc j) r t × IsHitAlong a p (suc j) r t
     quiet_clear t w =
-        let quiet = quiet_hit p j n r mover table next a set_is (IsEmptySquare p) t w w.is_target in
-        (on_square p (suc j) n r mover (λ b. IsClearFrom p b r t) (record { to = w.to; leads = quiet.0; empty = quiet.1 }), quiet.2)
+        let quiet = quiet_hit mover next set_is w w.is_target in
+        (on_square mover (λ b. IsClearFrom p b r t) (record { to = w.to; leads = quiet.0; empty = quiet.1 }), quiet.2)
 
     clear_quiet : (t : ℕ) → IsClear p (suc j) r t → IsHitAlong a p (suc j) r t → QuietAt t
     clear_quiet t clear hit =
-        let c : IsClearFrom p mover.square r t = of_square p (suc j) n r mover (λ b. IsClearFrom p b r t) clear in
-        let moves = hit_moves p j n r mover table next a set_is t c.to serves c.leads c.empty hit in
+        let c : IsClearFrom p mover.square r t = of_square mover (λ b. IsClearFrom p b r t) clear in
+        let moves = hit_moves mover next set_is serves c.leads c.empty hit in
         record {
           him = mover.man;
           from = mover.square;
@@ -80,13 +80,14 @@ module _ (p : Position) (table : Table) (j n : ℕ) (r : Ray) (mover : IsMover p
           is_in = moves.2;
         }
 
-    pub quiet_counted : (few : Few) (last : ℕ) → ((t : ℕ) → ((1 ≤ t) × (t ≤ last)) ↔ IsClear p (suc j) r t) → HasFew few (λ t. (1 ≤ t) × (t ≤ last) × IsHitAlong a p (suc j) r t) → HasFew few QuietAt
+    pub quiet_counted : (few : Few) (last : ℕ) → IsClearTo p (suc j) r last
+        → HasFew few (λ t. (1 ≤ t) × (t ≤ last) × IsHitAlong a p (suc j) r t) → HasFew few QuietAt
     quiet_counted few last clear has =
         has-same few (λ t. (1 ≤ t) × (t ≤ last) × IsHitAlong a p (suc j) r t) QuietAt has
         (λ t h. clear_quiet t ((clear t).0 (h.0, h.1)) h.2)
         (λ t w. let both = quiet_clear t w in let within = (clear t).1 both.0 in (within.0, within.1, both.1))
 
-    pub quiet_counted_all : (few : Few) → ((t : ℕ) → (1 ≤ t) ↔ IsClear p (suc j) r t) → HasFew few (λ t. (1 ≤ t) × IsHitAlong a p (suc j) r t) → HasFew few QuietAt
+    pub quiet_counted_all : (few : Few) → IsClearForever p (suc j) r → HasFew few (λ t. (1 ≤ t) × IsHitAlong a p (suc j) r t) → HasFew few QuietAt
     quiet_counted_all few clear has =
         has-same few (λ t. (1 ≤ t) × IsHitAlong a p (suc j) r t) QuietAt has
         (λ t h. clear_quiet t ((clear t).0 h.0) h.1)
@@ -98,10 +99,10 @@ module _ (p : Position) (table : Table) (j n : ℕ) (r : Ray) (mover : IsMover p
     held_inside t w = let m = any_is p _ w.is_target in holds m.0 w.to (stands_at p m.0 w.to m.1 m.2 m.3.1)
 
     abbrev choice_of : (t : ℕ) → CaptureAt t → Choice
-    choice_of t w = choice_at (IsIn table) p (suc j) n f (IsHeldBy p (other p.turn)) t w
+    choice_of t w = choice_at w
 
     choice_leads : (t : ℕ) (w : CaptureAt t) → Leads (IsIn table) f p (choice_of t w) w.after
-    choice_leads t w = leads_of (IsIn table) p (suc j) n f (IsHeldBy p (other p.turn)) t w (held_inside t w)
+    choice_leads t w = leads_of w (held_inside t w)
 
     pub none_captured : FirstOf (IsCapture p (suc j) n) (IsIn table) f p None → HasFew Zero CaptureAt
     none_captured none = λ t w. none (choice_of t w) w.after (refl, refl, w.is_target) (choice_leads t w)
@@ -109,7 +110,7 @@ module _ (p : Position) (table : Table) (j n : ℕ) (r : Ray) (mover : IsMover p
     pub one_captured : AreNext p table → (c : Choice) → FirstOf (IsCapture p (suc j) n) (IsIn table) f p (Some c) → HasFew One CaptureAt
     one_captured next c h = (
       c.distance,
-      along_of (IsIn table) p (suc j) n f (IsHeldBy p (other p.turn)) c h.position h.has.0 h.has.1 h.has.2 h.leads,
+      along_of (IsHeldBy p (other p.turn)) h.has.0 h.has.1 h.has.2 h.leads,
       λ u w. elim (cases_lt u c.distance) [
         | inl less ↦ absurd (h.first (choice_of u w) w.after (refl, refl, w.is_target) (choice_leads u w) (inr (sym h.has.0, inr (sym h.has.1, less))))
         | inr high ↦ elim (cases_lt c.distance u) [
@@ -120,35 +121,35 @@ module _ (p : Position) (table : Table) (j n : ℕ) (r : Ray) (mover : IsMover p
     ) where
       passed : (u : ℕ) (w : CaptureAt u) → c.distance < u → IsEmptySquare p (target c.mv)
       passed u w more =
-          let g = along_goes p j n r mover (IsIn table) (IsHeldBy p (other p.turn)) u w in
-          let k = going p table next f j n r mover c h.position h.has.0 h.has.1 h.leads in
-          let at : IsAt g.0.ray c.distance mover.square (target c.mv) = subst (λ b. IsAt b c.distance mover.square (target c.mv)) (sym g.1) (leads_at p table next f j n r mover c h.position k) in
+          let g = along_goes mover w in
+          let k = going next mover h.has.0 h.has.1 h.leads in
+          let at : IsAt g.0.ray c.distance mover.square (target c.mv) = subst (λ b. IsAt b c.distance mover.square (target c.mv)) (sym g.1) (going_at mover k) in
           nobody_before p (suc j) w.to w.after g.2 mover.man mover.is_man mover.square mover.stands n u g.0 c.distance (target c.mv) more at
 
   -- each move is quiet or a capture, and not both
   quiet_or_capture : (t : ℕ) → LeadsAnywhere (IsIn table) p (suc j) n t → QuietAt t ⊎ CaptureAt t
   quiet_or_capture t w =
       let All : Square → Type 0 = λ z. Unit {0} in
-      let g = along_goes p j n r mover (IsIn table) All t w in
+      let g = along_goes mover w in
       elim (empty_or_held p (suc j) w.to w.after g.2 mover.man mover.is_man mover.square mover.stands n t g.0) [
-        | inl none ↦ inl (led_to (IsIn table) p (suc j) n All (IsEmptySquare p) (IsIn table) t w none w.is_in)
-        | inr held ↦ inr (led_to (IsIn table) p (suc j) n All (IsHeldBy p (other p.turn)) (IsIn table) t w held w.is_in)
+        | inl none ↦ inl (led_to (IsEmptySquare p) (IsIn table) w none w.is_in)
+        | inr held ↦ inr (led_to (IsHeldBy p (other p.turn)) (IsIn table) w held w.is_in)
       ]
 
   not_both : (t : ℕ) → QuietAt t → CaptureAt t → ⊥
   not_both t quiet taking =
-      let g = along_goes p j n r mover (IsIn table) (IsEmptySquare p) t quiet in
-      let k = along_goes p j n r mover (IsIn table) (IsHeldBy p (other p.turn)) t taking in
-      let at = going_at p j n r mover quiet.to t quiet.after g in
-      let there = going_at p j n r mover taking.to t taking.after k in
+      let g = along_goes mover quiet in
+      let k = along_goes mover taking in
+      let at = going_at mover g in
+      let there = going_at mover k in
       let same : quiet.to ≡ taking.to = at.leads ∙ sym there.leads in
       empty_not_held p (other p.turn) taking.to (subst (IsEmptySquare p) same quiet.is_target) taking.is_target
 
   pub all_counted : (quiet taking : Few) → HasFew quiet QuietAt → HasFew taking CaptureAt → HasFew (plus_of quiet taking) (LeadsAnywhere (IsIn table) p (suc j) n)
   all_counted quiet taking some others =
       plus-has quiet taking QuietAt CaptureAt (LeadsAnywhere (IsIn table) p (suc j) n) some others
-      (λ t w. led_to (IsIn table) p (suc j) n (IsEmptySquare p) (λ z. Unit {0}) (IsIn table) t w tt w.is_in)
-      (λ t w. led_to (IsIn table) p (suc j) n (IsHeldBy p (other p.turn)) (λ z. Unit {0}) (IsIn table) t w tt w.is_in)
+      (λ t w. led_to (λ z. Unit {0}) (IsIn table) w tt w.is_in)
+      (λ t w. led_to (λ z. Unit {0}) (IsIn table) w tt w.is_in)
       quiet_or_capture not_both
 
 -- the same for a man of any number: man 0 is none
@@ -161,20 +162,20 @@ module _ (p : Position) (table : Table) where
 
   pub unset_of : (i n : ℕ) (r : Ray) → IsMover p i n r → set_at table (mask_of p) ≡ None → HasFew Zero (QuietOf i n)
   unset_of zero n r mover none = absurd (cc)
-  unset_of (suc j) n r mover none = λ t w. quiet_unset p j n r mover table none t w
+  unset_of (suc j) n r mover none = λ t w. quiet_unset mover table none w
 
   pub unserved_of : (i n : ℕ) (r : Ray) (mover : IsMover p i n r) → serves_moves mover.man.kind n ≡ false → HasFew Zero (QuietOf i n)
   unserved_of zero n r mover never = absurd (cc)
-  unserved_of (suc j) n r mover never = λ t w. quiet_unserved p j n r mover (IsIn table) never t w
+  unserved_of (suc j) n r mover never = λ t w. quiet_unserved mover never w
 
   pub counted_of : AreNext p table → (a : Automaton) → set_at table (mask_of p) ≡ Some a → (i n : ℕ) (r : Ray) (mover : IsMover p i n r)
-      → IsTrue (serves_moves mover.man.kind n) → (few : Few) (last : ℕ) → ((t : ℕ) → ((1 ≤ t) × (t ≤ last)) ↔ IsClear p i r t)
+      → IsTrue (serves_moves mover.man.kind n) → (few : Few) (last : ℕ) → IsClearTo p i r last
       → HasFew few (λ t. (1 ≤ t) × (t ≤ last) × IsHitAlong a p i r t) → HasFew few (QuietOf i n)
   counted_of next a is zero n r mover serves few last clear has = absurd (cc)
   counted_of next a is (suc j) n r mover serves few last clear has = quiet_counted p table j n r mover next a is serves few last clear has
 
   pub all_counted_of : AreNext p table → (a : Automaton) → set_at table (mask_of p) ≡ Some a → (i n : ℕ) (r : Ray) (mover : IsMover p i n r)
-      → IsTrue (serves_moves mover.man.kind n) → (few : Few) → ((t : ℕ) → (1 ≤ t) ↔ IsClear p i r t)
+      → IsTrue (serves_moves mover.man.kind n) → (few : Few) → IsClearForever p i r
       → HasFew few (λ t. (1 ≤ t) × IsHitAlong a p i r t) → HasFew few (QuietOf i n)
   all_counted_of next a is zero n r mover serves few clear has = absurd (cc)
   all_counted_of next a is (suc j) n r mover serves few clear has = quiet_counted_all p table j n r mover next a is serves few clear has

@@ -1,5 +1,5 @@
 -- The first move along a ray that leads into the sets: the least hit of the search, or the capture behind all free distances.
-use Rattle.std.proofs.Common.{◌≡◌, ◌≢◌, ◌⊎◌, ◌↔◌, inl, inr, ℕ, zero, suc, ◌<◌, ◌≤◌, ℤ, ◌+◌, length, to_z, of_z, Bor, true, false, List, Option, Some, None, refl, sym, ap, subst, ◌∙◌, arith}
+use Rattle.std.proofs.Common.{◌≡◌, ◌≢◌, ◌⊎◌, inl, inr, ℕ, zero, suc, ◌<◌, ◌≤◌, ℤ, ◌+◌, length, to_z, of_z, Bor, false, List, Option, Some, None, refl, sym, ap, subst, ◌∙◌, arith}
 use Rattle.std.specs.Prelude.{IsTrue, IsSomeAnd, slice_set}
 use Rattle.std.specs.Int.{w8}
 use Rattle.std.proofs.lemmas.Option.{same_Some, slice_get_within}
@@ -22,19 +22,19 @@ use Rattle.game_laws.specs.OnRay.{IsOnRay}
 use Rattle.game_laws.proofs.CheckLemmas.{any_is}
 use Rattle.game_laws.proofs.MoveLemmas.{same_after}
 use Rattle.game_laws.proofs.SoundLemmas.{at_same, fate, fate_kind, fate_side}
-use Rattle.chess_game.specs.Way.{IsFree, IsFreeFrom, IsHit, IsHitFrom, IsInside}
+use Rattle.chess_game.specs.Way.{IsFreeFrom, IsHit, IsHitFrom, IsInside}
 use Rattle.chess_game.specs.declared.moves.Move.{Move}
 use Rattle.chess_game.specs.declared.way.Frame.{Frame}
 use Rattle.rule_formula.specs.Fits.{HasStock, mask_of}
 use Rattle.rule_formula.specs.Placed.{tuple_of}
 use Rattle.rule_formula.proofs.PlacedLemmas.{all_men, stock_man-men}
-use Rattle.game_session.specs.Choice.{FirstOf, IsAlongRay, IsBefore, IsCapture, IsQuiet, Leads, target}
-use Rattle.game_session.specs.Aims.{AreNext, IsAlong, IsHitAlong, IsLeast, IsLeastFound, IsMet, IsMover, tuple_along}
+use Rattle.game_session.specs.Choice.{AreHisSteps, FirstOf, LeadsTo, IsAlongRay, IsBefore, IsCapture, IsQuiet, Leads, target}
+use Rattle.game_session.specs.Aims.{AreNext, IsAlong, IsFreeBetween, IsHitAlong, IsLeast, IsLeastFound, IsMet, IsMover, tuple_along}
 use Rattle.mask_sets.specs.Places.{coordinates_before}
 use Rattle.mask_sets.specs.Sets.{IsIn, Table, set_at}
 use Rattle.game_session.specs.declared.choice.Choice.{Choice}
 use Rattle.game_session.proofs.Bridges.{along_of}
-use Rattle.game_session.proofs.Hits.{choice_hit, going, hit_leads, leads_at, quiet_unserved, quiet_unset}
+use Rattle.game_session.proofs.Hits.{choice_hit, going, going_at, hit_leads, quiet_unserved, quiet_unset}
 use Rattle.game_session.proofs.Meets.{hit, hit_held, hit_to, of_square, on_square, stands_is, steps_right}
 use Rattle.game_session.proofs.Slopes.{ray_slopes, slope_same}
 use Rattle.game_session.proofs.Tuples.{live_room, stands_live}
@@ -56,34 +56,34 @@ module _ (p : Position) (table : Table) (next : AreNext p table) (f : Frame) (j 
   -- without a set there is no quiet move into the sets
   pub none_there : set_at table (mask_of p) ≡ None → Quiet None
   none_there none d q (e, ray, empty) h =
-      quiet_unset p j n r mover table none d.distance (along_of (IsIn table) p (suc j) n f (IsEmptySquare p) d q e ray empty h)
+      quiet_unset mover table none (along_of (IsEmptySquare p) e ray empty h)
 
   -- nor on a ray that does not serve moves
   pub none_served : serves_moves mover.man.kind n ≡ false → Quiet None
   none_served never d q (e, ray, empty) h =
-      quiet_unserved p j n r mover (IsIn table) never d.distance (along_of (IsIn table) p (suc j) n f (IsEmptySquare p) d q e ray empty h)
+      quiet_unserved mover never (along_of (IsEmptySquare p) e ray empty h)
 
-  module _ (a : Automaton) (set_is : set_at table (mask_of p) ≡ Some a) (near far : ℕ) (free : (t : ℕ) → ((near ≤ t) × (t ≤ far)) ↔ IsFree p (suc j) r f t) where
+  module _ (a : Automaton) (set_is : set_at table (mask_of p) ≡ Some a) (near far : ℕ) (free : IsFreeBetween p (suc j) r f near far) where
     -- a quiet move into the sets is hit
     found : (d : Choice) (q : Position) → IsQuiet p (suc j) n d → Leads (IsIn table) f p d q → (near ≤ d.distance) × (d.distance ≤ far) × IsHitAlong a p (suc j) r d.distance
     found d q has h =
-        let hit = choice_hit p table next f j n r mover a d q set_is has h in
-        let within = (free d.distance).1 (on_square p (suc j) n r mover (λ b. IsFreeFrom p b r f d.distance) hit.0) in
+        let hit = choice_hit next mover set_is has h in
+        let within = (free d.distance).1 (on_square mover (λ b. IsFreeFrom p b r f d.distance) hit.0) in
         (within.0, within.1, hit.1)
 
     pub none_hit : ((t : ℕ) → near ≤ t → t ≤ far → IsHitAlong a p (suc j) r t → ⊥) → Quiet None
     none_hit none d q has h = let w = found d q has h in none d.distance w.0 w.1 w.2
 
     pub first_hit : (t : ℕ) (c : Choice) → IsLeast (IsHitAlong a p (suc j) r) near far t → c.mv.man ≡ suc j → c.ray ≡ n → c.distance ≡ t
-        → IsSomeAnd (man_at p (suc j)) (λ m. IsLiveAnd m (λ b. target c.mv ≡ after_steps b t r.dx r.dy)) → IsTrue (serves_moves mover.man.kind n)
+        → LeadsTo p (suc j) r t (target c.mv) → IsTrue (serves_moves mover.man.kind n)
         → Quiet (Some c)
     first_hit t c least man ray far_is leads serves =
-        let at_t : IsFreeFrom p mover.square r f t = of_square p (suc j) n r mover (λ b. IsFreeFrom p b r f t) ((free t).0 (least.from, least.to)) in
+        let at_t : IsFreeFrom p mover.square r f t = of_square mover (λ b. IsFreeFrom p b r f t) ((free t).0 (least.from, least.to)) in
         let w : IsFreeFrom p mover.square r f c.distance = subst (IsFreeFrom p mover.square r f) (sym far_is) at_t in
-        let lead : target c.mv ≡ after_steps mover.square t r.dx r.dy = of_square p (suc j) n r mover (λ b. target c.mv ≡ after_steps b t r.dx r.dy) leads in
+        let lead : target c.mv ≡ after_steps mover.square t r.dx r.dy = of_square mover (λ b. target c.mv ≡ after_steps b t r.dx r.dy) leads in
         let to : target c.mv ≡ w.to = lead ∙ (ap (λ k. after_steps mover.square k r.dx r.dy) (sym far_is) ∙ sym w.leads.leads) in
         let hit : IsHitAlong a p (suc j) r c.distance = subst (IsHitAlong a p (suc j) r) (sym far_is) least.has in
-        let all = hit_leads p table next f j n r mover a c set_is man ray serves w to hit in
+        let all = hit_leads next mover c set_is man ray serves w to hit in
         record {
           has = all.0;
           position = all.1.0;
@@ -98,29 +98,29 @@ module _ (p : Position) (table : Table) (next : AreNext p table) (f : Frame) (j 
   -- a capture along the ray is one of the first man met
   pub capture_met : Sound p → (d : Choice) (q : Position) → IsCapture p (suc j) n d → Leads (IsIn table) f p d q → (h : ℕ) × IsHit p (suc j) r f h
   capture_met sound d q (e, ray, held) h =
-      let g = going p table next f j n r mover d q e ray h in
+      let g = going next mover e ray h in
       let w = any_is p _ held in
       let hit = capture_hit p (suc j) (target d.mv) q g.2 mover.man mover.is_man mover.square mover.stands n d.distance g.0 f h.inside sound.apart w.0 w.1 w.2 w.3.1 in
-      (w.0, on_square p (suc j) n r mover (λ b. IsHitFrom p b r f w.0) (subst (λ k. IsHitFrom p mover.square k f w.0) g.1 hit))
+      (w.0, on_square mover (λ b. IsHitFrom p b r f w.0) (subst (λ k. IsHitFrom p mover.square k f w.0) g.1 hit))
 
   pub none_met : Sound p → ((h : ℕ) → IsHit p (suc j) r f h → ⊥) → Capture None
   none_met sound none d q has h = let w = capture_met sound d q has h in none w.0 w.1
 
   module _ (sound : Sound p) (mv : Move) (man : mv.man ≡ suc j) (met : IsMet p (suc j) r f (target mv)) where
     abbrev there : IsHitFrom p mover.square r f met.number
-    there = hit p (suc j) n r mover f (target mv) met
+    there = hit mover met
 
     there_to : there.to ≡ target mv
-    there_to = hit_to p (suc j) n r mover f (target mv) met
+    there_to = hit_to mover met
 
     there_held : IsEmptySquare p there.to → ⊥
-    there_held = hit_held p (suc j) n r mover f (target mv) met
+    there_held = hit_held mover met
 
     -- each capture along the ray goes there
     where_it_goes : (d : Choice) (q : Position) → IsCapture p (suc j) n d → Leads (IsIn table) f p d q → (d.distance ≡ there.distance) × (target d.mv ≡ target mv)
     where_it_goes d q (e, ray, held) h =
-        let g = going p table next f j n r mover d q e ray h in
-        let at : IsAt r d.distance mover.square (target d.mv) = leads_at p table next f j n r mover d q g in
+        let g = going next mover e ray h in
+        let at : IsAt r d.distance mover.square (target d.mv) = going_at mover g in
         let at_there : IsAt g.0.ray there.distance mover.square there.to = subst (λ k. IsAt k there.distance mover.square there.to) (sym g.1) there.leads in
         let not_before : there.distance < d.distance → ⊥ =
         λ less. there_held
@@ -148,10 +148,9 @@ module _ (p : Position) (table : Table) (next : AreNext p table) (f : Frame) (j 
         out (subst (IsIn table) same h.is_in)
 
     pub some_in : (q : Position) → Legal p mv.man (target mv) q → IsIn table q → (t : ℕ)
-        → IsSomeAnd (man_at p (suc j)) (λ m. IsLiveAnd m (λ b. (r.far ≡ true → t ≡ distance b (target mv)) × (r.far ≡ false → t ≡ 1)))
-        → Capture (Some (record { mv = mv; ray = n; distance = t }))
+        → AreHisSteps p (suc j) r (target mv) t → Capture (Some (record { mv = mv; ray = n; distance = t }))
     some_in q legal is_in t steps =
-        let right : t ≡ there.distance = steps_right p (suc j) n r mover f (target mv) met t steps in
+        let right : t ≡ there.distance = steps_right mover met t steps in
         let at : IsAt r t mover.square (target mv) = subst (λ k. IsAt r k mover.square (target mv)) (sym right) (subst (IsAt r there.distance mover.square) there_to there.leads) in
         let his : Step p (suc j) (target mv) q = subst (λ i. Step p i (target mv) q) man legal.step in
         let on : IsOnRay mover.man mover.square (target mv) n t = record { ray = r; is_ray = mover.is_ray; leads = at } in
@@ -181,7 +180,7 @@ module _ (p : Position) (table : Table) (next : AreNext p table) (f : Frame) (j 
   -- the moves along the ray are the quiet ones and the captures
   which : (d : Choice) (q : Position) → IsAlongRay (suc j) n d → Leads (IsIn table) f p d q → IsQuiet p (suc j) n d ⊎ IsCapture p (suc j) n d
   which d q (e, ray) h =
-      let g = going p table next f j n r mover d q e ray h in
+      let g = going next mover e ray h in
       elim (empty_or_held p (suc j) (target d.mv) q g.2 mover.man mover.is_man mover.square mover.stands n d.distance g.0) [
         | inl none ↦ inl (e, ray, none)
         | inr held ↦ inr (e, ray, held)
@@ -195,9 +194,9 @@ module _ (p : Position) (table : Table) (next : AreNext p table) (f : Frame) (j 
     first = λ d q has into before. elim (which d q has into) [
       | inl quiet ↦ h.first d q quiet into before
       | inr taking ↦
-          let g = going p table next f j n r mover c h.position h.has.0 h.has.1 h.leads in
-          let k = going p table next f j n r mover d q has.0 has.1 into in
-          let at : IsAt g.0.ray d.distance mover.square (target d.mv) = subst (λ b. IsAt b d.distance mover.square (target d.mv)) (sym g.1) (leads_at p table next f j n r mover d q k) in
+          let g = going next mover h.has.0 h.has.1 h.leads in
+          let k = going next mover has.0 has.1 into in
+          let at : IsAt g.0.ray d.distance mover.square (target d.mv) = subst (λ b. IsAt b d.distance mover.square (target d.mv)) (sym g.1) (going_at mover k) in
           let close = nearer d c before (has.0 ∙ sym h.has.0) (has.1 ∙ sym h.has.1) in
           let none = nobody_before p (suc j) (target c.mv) h.position g.2 mover.man mover.is_man mover.square mover.stands n c.distance g.0 d.distance (target d.mv) close at in
           let w = any_is p _ taking.2 in
@@ -234,13 +233,13 @@ module _ (p : Position) (table : Table) (next : AreNext p table) (f : Frame) whe
   quiet_none_served (suc j) n r mover never = none_served p table next f j n r mover never
 
   pub quiet_none_hit : (i n : ℕ) (r : Ray) → IsMover p i n r → (a : Automaton) → set_at table (mask_of p) ≡ Some a → (near far : ℕ)
-      → ((t : ℕ) → ((near ≤ t) × (t ≤ far)) ↔ IsFree p i r f t) → ((t : ℕ) → near ≤ t → t ≤ far → IsHitAlong a p i r t → ⊥) → QuietOf i n None
+      → IsFreeBetween p i r f near far → ((t : ℕ) → near ≤ t → t ≤ far → IsHitAlong a p i r t → ⊥) → QuietOf i n None
   quiet_none_hit zero n r mover a is near far free none = absurd (cc)
   quiet_none_hit (suc j) n r mover a is near far free none = none_hit p table next f j n r mover a is near far free none
 
   pub quiet_first_hit : (i n : ℕ) (r : Ray) (mover : IsMover p i n r) (a : Automaton) → set_at table (mask_of p) ≡ Some a → (near far : ℕ)
-      → ((t : ℕ) → ((near ≤ t) × (t ≤ far)) ↔ IsFree p i r f t) → (t : ℕ) (c : Choice) → IsLeast (IsHitAlong a p i r) near far t → c.mv.man ≡ i
-      → c.ray ≡ n → c.distance ≡ t → IsSomeAnd (man_at p i) (λ m. IsLiveAnd m (λ b. target c.mv ≡ after_steps b t r.dx r.dy))
+      → IsFreeBetween p i r f near far → (t : ℕ) (c : Choice) → IsLeast (IsHitAlong a p i r) near far t → c.mv.man ≡ i
+      → c.ray ≡ n → c.distance ≡ t → LeadsTo p i r t (target c.mv)
       → IsTrue (serves_moves mover.man.kind n) → QuietOf i n (Some c)
   quiet_first_hit zero n r mover a is near far free t c least man ray far_is leads serves = absurd (cc)
   quiet_first_hit (suc j) n r mover a is near far free t c least man ray far_is leads serves =
@@ -262,8 +261,7 @@ module _ (p : Position) (table : Table) (next : AreNext p table) (f : Frame) whe
 
   pub capture_some_in : (i n : ℕ) (r : Ray) → IsMover p i n r → Sound p → (mv : Move) → mv.man ≡ i → IsMet p i r f (target mv) → (q : Position)
       → Legal p mv.man (target mv) q → IsIn table q → (t : ℕ)
-      → IsSomeAnd (man_at p i) (λ m. IsLiveAnd m (λ b. (r.far ≡ true → t ≡ distance b (target mv)) × (r.far ≡ false → t ≡ 1)))
-      → CaptureOf i n (Some (record { mv = mv; ray = n; distance = t }))
+      → AreHisSteps p i r (target mv) t → CaptureOf i n (Some (record { mv = mv; ray = n; distance = t }))
   capture_some_in zero n r mover sound mv man met q legal is_in t steps = absurd (cc)
   capture_some_in (suc j) n r mover sound mv man met q legal is_in t steps =
       some_in p table next f j n r mover sound mv man met q legal is_in t steps
@@ -305,7 +303,9 @@ along_is p i n r fixed place mover same at =
 pub way_right : (p : Position) (i n : ℕ) (r : Ray) (way : Way) → IsMover p i n r → IsAlong p i r way → IsWay way
 way_right p i n r way mover along =
     let short = ray_slopes mover.man.kind mover.man.side n r mover.is_ray in
-    let live : IsSomeAnd (man_at p i) (λ m. m.place ≢ Gone) = subst (λ (o : Option Man). IsSomeAnd o (λ m. m.place ≢ Gone)) (sym mover.is_man) (stands_live mover.man mover.square mover.stands) in
+    let live : IsSomeAnd (man_at p i) (λ m. m.place ≢ Gone) =
+    subst (λ (o : Option Man). IsSomeAnd o (λ m. m.place ≢ Gone)) (sym mover.is_man)
+    (stands_live mover.man mover.square mover.stands) in
     let room = live_room p i live in
     let len = ap length along.fixed in
     record {

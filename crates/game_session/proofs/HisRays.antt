@@ -7,7 +7,7 @@ use Rattle.game_rules.specs.Rays.{ray_of}
 use Rattle.game_rules.specs.declared.men.Man.{Man}
 use Rattle.game_rules.specs.declared.men.Place.TheVariants.{Gone}
 use Rattle.game_rules.specs.declared.men.Ray.{Ray}
-use Rattle.game_session.specs.Aims.{HasRay, IsMover}
+use Rattle.game_session.specs.Aims.{HasRay, IsLiveOf, IsMover}
 use Rattle.game_session.proofs.Picks.{mover_at}
 use Rattle.game_session.proofs.Tuples.{stands_live}
 
@@ -16,7 +16,7 @@ module _ (p : Position) (man number : ℕ) (him : Man) (is : man_at p man ≡ So
   same_mover : (r : Ray) (mover : IsMover p man number r) → mover.man ≡ him
   same_mover r mover = same_Some mover.man him (sym mover.is_man ∙ is)
 
-  moves_on : HasRay p man number → (him.side ≡ p.turn) × (him.place ≢ Gone)
+  moves_on : HasRay p man number → IsLiveOf p.turn him
   moves_on ray =
       let mover = ray.1 in
       let same : mover.man ≡ him = same_mover ray.0 mover in
@@ -25,10 +25,11 @@ module _ (p : Position) (man number : ℕ) (him : Man) (is : man_at p man ≡ So
   goes_on : (ray : HasRay p man number) → ray_of him.kind him.side number ≡ Some ray.0
   goes_on ray = subst (λ m. ray_of m.kind m.side number ≡ Some ray.0) (same_mover ray.0 ray.1) ray.1.is_ray
 
-  pub idle_ray : ((him.side ≡ p.turn) × (him.place ≢ Gone) → ⊥) → IsTrue false ↔ HasRay p man number
+  pub idle_ray : (IsLiveOf p.turn him → ⊥) → IsTrue false ↔ HasRay p man number
   idle_ray idle = (λ t. absurd (cc), λ ray. absurd (idle (moves_on ray)))
 
-  pub live_ray : (him.side ≡ p.turn) × (him.place ≢ Gone) → (found : Option Ray) (test : Bool) → test ≡ is_some found → found ≡ ray_of him.kind him.side number → IsTrue test ↔ HasRay p man number
+  pub live_ray : IsLiveOf p.turn him → (found : Option Ray) (test : Bool) → test ≡ is_some found
+      → found ≡ ray_of him.kind him.side number → IsTrue test ↔ HasRay p man number
   live_ray live (Some r) test is_test is_ray =
-      (λ _. (r, mover_at p man number him r is (subst (λ o. IsSomeAnd o (λ m. (m.side ≡ p.turn) × (m.place ≢ Gone))) (sym is) live) (sym is_ray)), λ _. is_test)
+      (λ _. (r, mover_at p man number him r is (subst (λ o. IsSomeAnd o (IsLiveOf p.turn)) (sym is) live) (sym is_ray)), λ _. is_test)
   live_ray live None test is_test is_ray = (λ t. absurd (cc), λ ray. let none : None ≡ Some ray.0 = is_ray ∙ goes_on ray in absurd (cc))

@@ -25,16 +25,16 @@ use Rattle.game_session.proofs.Ways.{free_step, nobody_to, serves_quiet}
 use Rattle.game_session.proofs.Bridges.{along_of}
 
 -- a live man of the side to move, and one of his rays
-module _ (p : Position) (j n : ℕ) (r : Ray) (mover : IsMover p (suc j) n r) where
+module _ {p : Position} {j n : ℕ} {r : Ray} (mover : IsMover p (suc j) n r) where
   -- he goes along the ray itself
   abbrev pub Going : Square → ℕ → Position → Type 0
   Going z t q = (on : IsOnRay mover.man mover.square z n t) × (on.ray ≡ r) × Step p (suc j) z q
 
-  pub going_at : (z : Square) (t : ℕ) (q : Position) → Going z t q → IsAt r t mover.square z
-  going_at z t q g = subst (λ k. IsAt k t mover.square z) g.1 g.0.leads
+  pub going_at : {z : Square} {t : ℕ} {q : Position} → Going z t q → IsAt r t mover.square z
+  going_at {z} {t} g = subst (λ k. IsAt k t mover.square z) g.1 g.0.leads
 
   -- what is known of a move along the ray
-  module _ (Set : Position → Type 0) (T : Square → Type 0) (t : ℕ) (w : LeadsAlong T Set p (suc j) n t) where
+  module _ {Set : Position → Type 0} {T : Square → Type 0} {t : ℕ} (w : LeadsAlong T Set p (suc j) n t) where
     his_man : w.him ≡ mover.man
     his_man = same_Some w.him mover.man (sym w.is_man ∙ mover.is_man)
 
@@ -48,25 +48,28 @@ module _ (p : Position) (j n : ℕ) (r : Ray) (mover : IsMover p (suc j) n r) wh
         (on, same_Some on.ray r (sym on.is_ray ∙ mover.is_ray), w.legal.step)
 
   -- without a set no quiet move leads into the sets
-  pub quiet_unset : (table : Table) → set_at table (mask_of p) ≡ None → (t : ℕ) → LeadsAlong (IsEmptySquare p) (IsIn table) p (suc j) n t → ⊥
-  quiet_unset table none t w =
+  pub quiet_unset : {t : ℕ} (table : Table) → set_at table (mask_of p) ≡ None
+      → LeadsAlong (IsEmptySquare p) (IsIn table) p (suc j) n t → ⊥
+  quiet_unset table none w =
       let q = w.after in
       let mask : mask_of q ≡ mask_of p = mask_moved p q j w.to mover.square mover.man mover.is_man mover.stands w.legal.step.after w.is_target in
       let no : set_at table (mask_of q) ≡ None = ap (set_at table) mask ∙ none in
       subst (λ (o : Option Automaton). IsSomeAnd o (λ a. IsAccepted a (tuple_of q))) no w.is_in
 
   -- nor is there one on a ray that does not serve moves
-  pub quiet_unserved : (Set : Position → Type 0) → serves_moves mover.man.kind n ≡ false → (t : ℕ) → LeadsAlong (IsEmptySquare p) Set p (suc j) n t → ⊥
-  quiet_unserved Set never t w =
-      let g = along_goes Set (IsEmptySquare p) t w in
+  pub quiet_unserved : {Set : Position → Type 0} {t : ℕ} → serves_moves mover.man.kind n ≡ false
+      → LeadsAlong (IsEmptySquare p) Set p (suc j) n t → ⊥
+  quiet_unserved {Set} {t} never w =
+      let g = along_goes w in
       let serves : serves_moves mover.man.kind n ≡ true = serves_quiet p (suc j) w.to w.after g.2 mover.man mover.is_man mover.square mover.stands n t g.0 w.is_target in
       let no : false ≡ true = sym never ∙ serves in
       cc
 
-  module _ (table : Table) (next : AreNext p table) (a : Automaton) (set_is : set_at table (mask_of p) ≡ Some a) where
+  module _ {table : Table} (next : AreNext p table) {a : Automaton} (set_is : set_at table (mask_of p) ≡ Some a) where
     -- a position after a quiet step along the ray is in the set where the search hits
-    pub hit_is : (q : Position) (z : Square) (t : ℕ) → Step p (suc j) z q → IsEmptySquare p z → IsAt r t mover.square z → IsIn table q ↔ IsHitAlong a p (suc j) r t
-    hit_is q z t step none at =
+    pub hit_is : {q : Position} {z : Square} {t : ℕ} → Step p (suc j) z q → IsEmptySquare p z → IsAt r t mover.square z
+        → IsIn table q ↔ IsHitAlong a p (suc j) r t
+    hit_is {q} {z} {t} step none at =
         let mask : mask_of q ≡ mask_of p = mask_moved p q j z mover.square mover.man mover.is_man mover.stands step.after none in
         let tuple : tuple_of q ≡ tuple_along p (suc j) r t = tuple_hit p q j z mover.square mover.man r t mover.is_man mover.stands step.after none at.leads in
         let there : set_at table (mask_of q) ≡ Some a = ap (set_at table) mask ∙ set_is in
@@ -76,53 +79,49 @@ module _ (p : Position) (j n : ℕ) (r : Ray) (mover : IsMover p (suc j) n r) wh
         )
 
     -- a quiet move into the sets goes over empty squares, and the search hits it
-    pub quiet_hit : (T : Square → Type 0) (t : ℕ) (w : LeadsAlong T (IsIn table) p (suc j) n t) → IsEmptySquare p w.to
+    pub quiet_hit : {T : Square → Type 0} {t : ℕ} (w : LeadsAlong T (IsIn table) p (suc j) n t) → IsEmptySquare p w.to
         → IsAt r t mover.square w.to × ((k : ℕ) (z : Square) → k ≤ t → IsAt r k mover.square z → IsEmptySquare p z) × IsHitAlong a p (suc j) r t
-    quiet_hit T t w none =
-        let g = along_goes (IsIn table) T t w in
-        let at = going_at w.to t w.after g in
+    quiet_hit {T} {t} w none =
+        let g = along_goes w in
+        let at = going_at g in
         let empty = nobody_to p (suc j) w.to w.after g.2 mover.man mover.is_man mover.square mover.stands n t g.0 none in (
           at,
           λ k z low on. empty k z low (subst (λ b. IsAt b k mover.square z) (sym g.1) on),
-          (hit_is w.after w.to t g.2 none at).0 w.is_in,
+          (hit_is g.2 none at).0 w.is_in,
         )
 
     -- a hit over empty squares is a move into the sets
-    pub hit_moves : (t : ℕ) (z : Square) → IsTrue (serves_moves mover.man.kind n) → IsAt r t mover.square z
+    pub hit_moves : {t : ℕ} {z : Square} → IsTrue (serves_moves mover.man.kind n) → IsAt r t mover.square z
         → ((k : ℕ) (b : Square) → k ≤ t → IsAt r k mover.square b → IsEmptySquare p b) → IsHitAlong a p (suc j) r t
         → (q : Position) × Legal p (suc j) z q × IsIn table q
-    hit_moves t z serves at empty hit =
+    hit_moves {t} {z} serves at empty hit =
         let q : Position = position_after p j z in
         let step : Step p (suc j) z q = free_step p mover.man n r mover.is_ray mover.square mover.stands t z at empty j mover.is_man mover.turn serves in
-        let is_in : IsIn table q = (hit_is q z t step (empty t z (omega arith) at) at).1 hit in
+        let is_in : IsIn table q = (hit_is step (empty t z (omega arith) at) at).1 hit in
         (q, record { step = step; safe = next.legal (suc j) z q step is_in }, is_in)
 
 -- the same for choices of moves to squares of a frame
-module _ (p : Position) (table : Table) (next : AreNext p table) (f : Frame) where
-  abbrev pub Into : Choice → Position → Type 0
-  Into c q = Leads (IsIn table) f p c q
-
-  module _ (j n : ℕ) (r : Ray) (mover : IsMover p (suc j) n r) where
-    pub going : (d : Choice) (q : Position) → d.mv.man ≡ suc j → d.ray ≡ n → Into d q → Going p j n r mover (target d.mv) d.distance q
-    going d q e ray h = along_goes p j n r mover (IsIn table) (IsInside f) d.distance (along_of (IsIn table) p (suc j) n f (IsInside f) d q e ray h.inside h)
-
-    pub leads_at : (d : Choice) (q : Position) → (g : Going p j n r mover (target d.mv) d.distance q) → IsAt r d.distance mover.square (target d.mv)
-    leads_at d q g = going_at p j n r mover (target d.mv) d.distance q g
+module _ {p : Position} {table : Table} (next : AreNext p table) {f : Frame} where
+  module _ {j n : ℕ} {r : Ray} (mover : IsMover p (suc j) n r) where
+    pub going : {d : Choice} {q : Position} → d.mv.man ≡ suc j → d.ray ≡ n → Leads (IsIn table) f p d q
+        → Going mover (target d.mv) d.distance q
+    going e ray h = along_goes mover (along_of (IsInside f) e ray h.inside h)
 
     -- a quiet choice is at a free distance, and the search hits it
-    pub choice_hit : (a : Automaton) (d : Choice) (q : Position) → set_at table (mask_of p) ≡ Some a → IsQuiet p (suc j) n d → Into d q
+    pub choice_hit : {a : Automaton} {d : Choice} {q : Position} → set_at table (mask_of p) ≡ Some a → IsQuiet p (suc j) n d
+        → Leads (IsIn table) f p d q
         → IsFreeFrom p mover.square r f d.distance × IsHitAlong a p (suc j) r d.distance
-    choice_hit a d q set_is (e, ray, none) h =
-        let quiet = quiet_hit p j n r mover table next a set_is (IsEmptySquare p) d.distance (along_of (IsIn table) p (suc j) n f (IsEmptySquare p) d q e ray none h) none in
+    choice_hit {a} {d} set_is (e, ray, none) h =
+        let quiet = quiet_hit mover next set_is (along_of (IsEmptySquare p) e ray none h) none in
         (record { to = target d.mv; leads = quiet.0; inside = h.inside; empty = quiet.1 }, quiet.2)
 
     -- a hit at a free distance is a quiet choice into the sets
-    pub hit_leads : (a : Automaton) (c : Choice) → set_at table (mask_of p) ≡ Some a → c.mv.man ≡ suc j → c.ray ≡ n
+    pub hit_leads : {a : Automaton} (c : Choice) → set_at table (mask_of p) ≡ Some a → c.mv.man ≡ suc j → c.ray ≡ n
         → IsTrue (serves_moves mover.man.kind n) → (w : IsFreeFrom p mover.square r f c.distance) → target c.mv ≡ w.to
-        → IsHitAlong a p (suc j) r c.distance → IsQuiet p (suc j) n c × ((q : Position) × Into c q)
-    hit_leads a c set_is e ray serves w to hit =
+        → IsHitAlong a p (suc j) r c.distance → IsQuiet p (suc j) n c × ((q : Position) × Leads (IsIn table) f p c q)
+    hit_leads c set_is e ray serves w to hit =
         let at : IsAt r c.distance mover.square (target c.mv) = subst (IsAt r c.distance mover.square) (sym to) w.leads in
-        let moves = hit_moves p j n r mover table next a set_is c.distance (target c.mv) serves at w.empty hit in (
+        let moves = hit_moves mover next set_is serves at w.empty hit in (
           (e, ray, w.empty c.distance (target c.mv) (omega arith) at),
           (
             moves.0,

@@ -19,11 +19,12 @@ use Rattle.chess_game.specs.Way.{IsHit, IsHitFrom}
 use Rattle.chess_game.specs.declared.way.Frame.{Frame}
 use Rattle.rule_formula.proofs.PlacedLemmas.{all_men}
 use Rattle.game_session.specs.Aims.{HoldsMen, IsMet, IsMover}
-use Rattle.game_session.specs.Along.{IsClear, IsClearFrom}
+use Rattle.game_session.specs.Along.{IsClear, IsClearForever, IsClearFrom, IsClearTo}
+use Rattle.game_session.specs.Choice.{AreHisSteps, AreSteps}
 use Rattle.game_session.proofs.Ways.{any_or_none, first_met}
 
 -- what is said of a live man's square
-module _ (p : Position) (i n : ℕ) (r : Ray) (mover : IsMover p i n r) (P : Square → Type 0) where
+module _ {p : Position} {i n : ℕ} {r : Ray} (mover : IsMover p i n r) (P : Square → Type 0) where
   pub of_square : IsSomeAnd (man_at p i) (λ m. IsLiveAnd m P) → P mover.square
   of_square h =
       let live : IsLiveAnd mover.man P = subst (λ (o : Option Man). IsSomeAnd o (λ m. IsLiveAnd m P)) mover.is_man h in
@@ -48,11 +49,11 @@ stands_at p h z m is on = subst (λ (o : Option Man). IsSomeAnd o (λ k. StandsO
 pub empty_not_held : (p : Position) (s : Side) (z : Square) → IsEmptySquare p z → IsHeldBy p s z → ⊥
 empty_not_held p s z none held = let w = any_is p _ held in (all_men p (λ m. StandsOn m z → ⊥)).0 none w.0 w.1 w.2 w.3.1
 
-module _ (p : Position) (i n : ℕ) (r : Ray) (mover : IsMover p i n r) where
+module _ {p : Position} {i n : ℕ} {r : Ray} (mover : IsMover p i n r) where
   -- the first man met, on his square
-  module _ (f : Frame) (z : Square) (met : IsMet p i r f z) where
+  module _ {f : Frame} {z : Square} (met : IsMet p i r f z) where
     pub hit : IsHitFrom p mover.square r f met.number
-    hit = of_square p i n r mover (λ b. IsHitFrom p b r f met.number) met.hit
+    hit = of_square mover (λ b. IsHitFrom p b r f met.number) met.hit
 
     pub hit_to : hit.to ≡ z
     hit_to =
@@ -66,9 +67,9 @@ module _ (p : Position) (i n : ℕ) (r : Ray) (mover : IsMover p i n r) where
         (all_men p (λ m. StandsOn m hit.to → ⊥)).0 none met.number v.0 v.1 v.2
 
     -- the distance by the squares
-    pub steps_right : (t : ℕ) → IsSomeAnd (man_at p i) (λ m. IsLiveAnd m (λ b. (r.far ≡ true → t ≡ distance b z) × (r.far ≡ false → t ≡ 1))) → t ≡ hit.distance
+    pub steps_right : (t : ℕ) → AreHisSteps p i r z t → t ≡ hit.distance
     steps_right t steps =
-        let by = of_square p i n r mover (λ b. (r.far ≡ true → t ≡ distance b z) × (r.far ≡ false → t ≡ 1)) steps in
+        let by = of_square mover (λ b. AreSteps r b z t) steps in
         elim (true_or_not r.far) [
           | inl is ↦
               by.0 is
@@ -91,23 +92,22 @@ module _ (p : Position) (i n : ℕ) (r : Ray) (mover : IsMover p i n r) where
 
     pub clear_before : (t last : ℕ) → last + 1 ≡ hit.distance → ((1 ≤ t) × (t ≤ last)) ↔ IsClear p i r t
     clear_before t last is = (
-      λ (begun, low). on_square p i n r mover (λ b. IsClearFrom p b r t) (clear_from t (omega (arith, low, is)) begun),
+      λ (begun, low). on_square mover (λ b. IsClearFrom p b r t) (clear_from t (omega (arith, low, is)) begun),
       λ c.
-          let from = of_square p i n r mover (λ b. IsClearFrom p b r t) c in
+          let from = of_square mover (λ b. IsClearFrom p b r t) c in
           let less = clear_less t from in
           (from.leads.begun, omega (arith, less, is)),
     )
 
     -- so one step less than to him is the farthest
-    pub before_hit : (t : ℕ) → IsSomeAnd (man_at p i) (λ m. IsLiveAnd m (λ b. (r.far ≡ true → t ≡ distance b z) × (r.far ≡ false → t ≡ 1)))
-        → (1 ≤ t) × ((u : ℕ) → ((1 ≤ u) × (u ≤ t - 1)) ↔ IsClear p i r u)
+    pub before_hit : (t : ℕ) → AreHisSteps p i r z t → (1 ≤ t) × IsClearTo p i r (t - 1)
     before_hit t steps =
         let right = steps_right t steps in
         let begun = hit.leads.begun in
         (omega (arith, right, begun), λ u. clear_before u (t - 1) (omega (arith, right, begun)))
 
   -- where nobody is met in a frame that holds all men, nobody stands on the ray
-  module _ (f : Frame) (apart : IsApart p) (holds : HoldsMen f p) (none : (h : ℕ) → IsHit p i r f h → ⊥) where
+  module _ {f : Frame} (apart : IsApart p) (holds : HoldsMen f p) (none : (h : ℕ) → IsHit p i r f h → ⊥) where
     nobody_below : (k : ℕ) (l : ℕ) (z : Square) → l < k → IsAt r l mover.square z → IsEmptySquare p z
     nobody_below zero l z less at = absurd (omega (arith, less))
     nobody_below (suc k) l z less at =
@@ -116,29 +116,29 @@ module _ (p : Position) (i n : ℕ) (r : Ray) (mover : IsMover p i n r) where
           | inr (h, m, is, on) ↦
               let before : (t : ℕ) (b : Square) → t < l → IsAt r t mover.square b → IsEmptySquare p b = λ t b fewer on_ray. nobody_below k t b (omega (arith, less, fewer)) on_ray in
               let hits : IsHitFrom p mover.square r f h = first_met p mover.square r f l z at (holds h z (stands_at p h z m is on)) before apart h m is on in
-              absurd (none h (on_square p i n r mover (λ b. IsHitFrom p b r f h) hits))
+              absurd (none h (on_square mover (λ b. IsHitFrom p b r f h) hits))
         ]
 
     nobody : (k : ℕ) (z : Square) → IsAt r k mover.square z → IsEmptySquare p z
     nobody k z at = nobody_below (suc k) k z (omega arith) at
 
     clear_at : (t : ℕ) → IsAt r t mover.square (after_steps mover.square t r.dx r.dy) → IsClear p i r t
-    clear_at t at = on_square p i n r mover (λ b. IsClearFrom p b r t) (record { to = after_steps mover.square t r.dx r.dy; leads = at; empty = λ k z low on. nobody k z on })
+    clear_at t at = on_square mover (λ b. IsClearFrom p b r t) (record { to = after_steps mover.square t r.dx r.dy; leads = at; empty = λ k z low on. nobody k z on })
 
     begun_clear : (t : ℕ) → IsClear p i r t → 1 ≤ t
-    begun_clear t c = (of_square p i n r mover (λ b. IsClearFrom p b r t) c).leads.begun
+    begun_clear t c = (of_square mover (λ b. IsClearFrom p b r t) c).leads.begun
 
-    pub clear_far : r.far ≡ true → (t : ℕ) → (1 ≤ t) ↔ IsClear p i r t
+    pub clear_far : r.far ≡ true → IsClearForever p i r
     clear_far far t = (
       λ begun. clear_at t (record { begun = begun; one = λ near. let no : true ≡ false = sym far ∙ near in absurd (cc); leads = refl }),
       λ c. begun_clear t c,
     )
 
-    pub clear_near : r.far ≡ false → (t : ℕ) → ((1 ≤ t) × (t ≤ 1)) ↔ IsClear p i r t
+    pub clear_near : r.far ≡ false → IsClearTo p i r 1
     clear_near near t = (
       λ (begun, low). clear_at t (record { begun = begun; one = λ is. omega (arith, begun, low); leads = refl }),
       λ c.
-          let from = of_square p i n r mover (λ b. IsClearFrom p b r t) c in
+          let from = of_square mover (λ b. IsClearFrom p b r t) c in
           let one = from.leads.one near in
           (from.leads.begun, omega (arith, one)),
     )

@@ -17,7 +17,7 @@ use Rattle.game_laws.proofs.CheckLemmas.{some_and}
 use Rattle.game_laws.proofs.RayLemmas.{step_one}
 use Rattle.chess_game.specs.declared.way.Frame.{Frame}
 use Rattle.game_session.specs.Choice.{FirstOf, IsAlongRay, IsBefore, IsOf, Leads, Pick}
-use Rattle.game_session.specs.Aims.{IsMover}
+use Rattle.game_session.specs.Aims.{IsLiveOf, IsMover}
 use Rattle.game_session.specs.declared.choice.Choice.{Choice}
 use Rattle.game_session.proofs.Firsts.{man_high}
 use Rattle.game_session.proofs.Tuples.{stands_live}
@@ -45,12 +45,12 @@ eight Knight s = refl
 eight Pawn s = refl
 
 -- a live man's mover
-pub mover_at : (p : Position) (i n : ℕ) (m : Man) (r : Ray) → man_at p i ≡ Some m → IsSomeAnd (man_at p i) (λ h. (h.side ≡ p.turn) × (h.place ≢ Gone))
+pub mover_at : (p : Position) (i n : ℕ) (m : Man) (r : Ray) → man_at p i ≡ Some m → IsSomeAnd (man_at p i) (IsLiveOf p.turn)
     → ray_of m.kind m.side n ≡ Some r → IsMover p i n r
 mover_at p i n m r is live ray = on m.place refl
   where
-    his : (m.side ≡ p.turn) × (m.place ≢ Gone)
-    his = subst (λ (o : Option Man). IsSomeAnd o (λ h. (h.side ≡ p.turn) × (h.place ≢ Gone))) is live
+    his : IsLiveOf p.turn m
+    his = subst (λ (o : Option Man). IsSomeAnd o (IsLiveOf p.turn)) is live
 
     on : (x : Place) → m.place ≡ x → IsMover p i n r
     on Gone e = absurd (his.1 e)
@@ -104,7 +104,7 @@ module _ (Set : Position → Type 0) (f : Frame) (p : Position) where
       by d q into (inr both) = h.first d q (both.0 ∙ h.has) into (inr both)
 
   -- a man who is gone or not of the side has no move
-  pub man_idle : (number : ℕ) (m : Man) → man_at p number ≡ Some m → ((m.side ≡ p.turn) × (m.place ≢ Gone) → ⊥) → FirstOf (IsOf number) Set f p None
+  pub man_idle : (number : ℕ) (m : Man) → man_at p number ≡ Some m → (IsLiveOf p.turn m → ⊥) → FirstOf (IsOf number) Set f p None
   man_idle number m is idle d q e h =
       let same : h.man ≡ m = same_Some h.man m (sym h.is_man ∙ (ap (man_at p) e ∙ is)) in
       let his : h.legal.step.man ≡ h.man = same_Some h.legal.step.man h.man (sym h.legal.step.is_man ∙ h.is_man) in

@@ -144,7 +144,8 @@ any_or_none p z =
     ]
 
 -- what a step along a ray is
-module _ (p : Position) (i : ℕ) (z : Square) (q : Position) (step : Step p i z q) (m : Man) (is : man_at p i ≡ Some m) (a : Square) (stands : StandsOn m a) (n t : ℕ) (on : IsOnRay m a z n t) where
+module _ (p : Position) (i : ℕ) (z : Square) (q : Position) (step : Step p i z q) (m : Man) (is : man_at p i ≡ Some m)
+    (a : Square) (stands : StandsOn m a) (n t : ℕ) (on : IsOnRay m a z n t) where
   his : step.man ≡ m
   his = same_Some step.man m (sym step.is_man ∙ is)
 

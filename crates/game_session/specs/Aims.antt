@@ -1,16 +1,18 @@
 -- What is asked of a move, and what a man's ray makes of the coordinates.
-use Rattle.std.specs.Prelude.{◌≡◌, ℕ, ◌+◌, ◌≤◌, List, ℤ, slice_set, MatchOption, Option, Some}
+use Rattle.std.specs.Prelude.{◌≡◌, ◌≢◌, ◌↔◌, ℕ, ◌+◌, ◌≤◌, List, ℤ, slice_set, MatchOption, Option, Some}
 use Rattle.auto_core.specs.Automaton.{Automaton}
 use Rattle.auto_core.specs.Integers.{IsAccepted}
 use Rattle.auto_search.specs.Way.{value_after}
 use Rattle.auto_search.specs.declared.way.Way.{Way}
 use Rattle.chess_game.specs.Unsoundness.{StandsAt}
-use Rattle.chess_game.specs.Way.{IsHit, IsInside}
+use Rattle.chess_game.specs.Way.{IsFree, IsHit, IsInside}
 use Rattle.chess_game.specs.declared.way.Frame.{Frame}
 use Rattle.game_rules.specs.Game.{InCheck, Position, Sound, StandsOn, Step, man_at}
 use Rattle.game_rules.specs.Rays.{ray_of}
 use Rattle.game_rules.specs.declared.men.Man.{Man}
+use Rattle.game_rules.specs.declared.men.Place.TheVariants.{Gone}
 use Rattle.game_rules.specs.declared.men.Ray.{Ray}
+use Rattle.game_rules.specs.declared.men.Side.{Side}
 use Rattle.game_rules.specs.declared.men.Square.{Square}
 use Rattle.game_session.specs.declared.aim.Aim.{Aim}
 use Rattle.mask_sets.specs.Places.{coordinates_before}
@@ -29,6 +31,10 @@ pub record IsAim (aim : Aim) : Type 0 where
   pub sound : Sound aim.position.now
   pub next : AreNext aim.position.now aim.sets.now
 
+-- he is live, and of the side
+abbrev pub IsLiveOf : Side → Man → Type 0
+IsLiveOf s m = (m.side ≡ s) × (m.place ≢ Gone)
+
 -- man i is a live man of the side to move, and his ray number n is this one
 pub record IsMover (p : Position) (i n : ℕ) (r : Ray) : Type 0 where
   pub man : Man
@@ -45,6 +51,11 @@ HasRay p i n = (r : Ray) × IsMover p i n r
 -- all live men stand in the frame
 abbrev pub HoldsMen : Frame → Position → Type 0
 HoldsMen f p = (i : ℕ) (z : Square) → StandsAt p i z → IsInside f z
+
+-- the distances at which man i may go along the ray, over empty squares to an empty one of the frame, are those from the
+-- one to the other
+abbrev pub IsFreeBetween : Position → ℕ → Ray → Frame → ℕ → ℕ → Type 0
+IsFreeBetween p i r f near far = (t : ℕ) → ((near ≤ t) × (t ≤ far)) ↔ IsFree p i r f t
 
 -- the first man whom man i meets on the ray, in the frame, stands on the square
 pub record IsMet (p : Position) (i : ℕ) (r : Ray) (f : Frame) (z : Square) : Type 0 where

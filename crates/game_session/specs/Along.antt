@@ -1,5 +1,5 @@
 -- How far along a ray a man's moves go that lead into a set: at which distances, how many there are, and the least.
-use Rattle.std.specs.Prelude.{◌≡◌, ℕ, ◌≤◌, IsSomeAnd, MatchOption, Option, Some}
+use Rattle.std.specs.Prelude.{◌≡◌, ◌↔◌, ℕ, ◌≤◌, IsSomeAnd, MatchOption, Option, Some}
 use Rattle.game_rules.specs.Game.{Position, IsEmptySquare, IsHeldBy, IsLiveAnd, Legal, StandsOn, man_at, other}
 use Rattle.game_rules.specs.Rays.{IsAt}
 use Rattle.game_rules.specs.declared.men.Man.{Man}
@@ -8,6 +8,8 @@ use Rattle.game_rules.specs.declared.men.Square.{Square}
 use Rattle.game_laws.specs.OnRay.{IsOnRay}
 use Rattle.chess_game.specs.Way.{IsInside}
 use Rattle.chess_game.specs.declared.way.Frame.{Frame}
+use Rattle.game_session.specs.declared.aim.Aim.{Aim}
+use Rattle.mask_sets.specs.Sets.{IsIn}
 
 -- so far along the ray of this number the man has a legal move, to a square with the property, that leads into the set
 pub record LeadsAlong (Target : Square → Type 0) (Set : Position → Type 0) (p : Position) (man ray distance : ℕ) : Type
@@ -30,6 +32,10 @@ LeadsAnywhere Set p man ray distance = LeadsAlong (λ z. Unit {0}) Set p man ray
 -- to a square of the frame
 abbrev pub LeadsInside : Frame → (Position → Type 0) → Position → ℕ → ℕ → ℕ → Type 0
 LeadsInside frame Set p man ray distance = LeadsAlong (IsInside frame) Set p man ray distance
+
+-- as the aim asks for: to a square of its frame, and into its sets
+abbrev pub LeadsAsAimed : Aim → ℕ → ℕ → ℕ → Type 0
+LeadsAsAimed aim man ray distance = LeadsInside aim.frame (IsIn aim.sets.now) aim.position.now man ray distance
 
 -- to an empty square
 abbrev pub QuietAlong : (Position → Type 0) → Position → ℕ → ℕ → ℕ → Type 0
@@ -57,3 +63,11 @@ pub record IsClearFrom (p : Position) (a : Square) (r : Ray) (distance : ℕ) : 
 -- so far along the ray the man may go to an empty square of the board, over empty squares
 abbrev pub IsClear : Position → ℕ → Ray → ℕ → Type 0
 IsClear p man r distance = IsSomeAnd (man_at p man) (λ m. IsLiveAnd m (λ a. IsClearFrom p a r distance))
+
+-- he may go so at the distances from 1 to the last, and no farther
+abbrev pub IsClearTo : Position → ℕ → Ray → ℕ → Type 0
+IsClearTo p man r last = (t : ℕ) → ((1 ≤ t) × (t ≤ last)) ↔ IsClear p man r t
+
+-- he may go on and on
+abbrev pub IsClearForever : Position → ℕ → Ray → Type 0
+IsClearForever p man r = (t : ℕ) → (1 ≤ t) ↔ IsClear p man r t

@@ -1,18 +1,33 @@
 -- Moves in the order of the rays, and the first of them that leads into a set.
-use Rattle.std.specs.Prelude.{◌≡◌, ◌⊎◌, ℕ, ◌<◌, Option, Some, None}
-use Rattle.game_rules.specs.Game.{Position, IsEmptySquare, IsHeldBy, Legal, StandsOn, man_at, other}
+use Rattle.std.specs.Prelude.{◌≡◌, ◌⊎◌, ℕ, ◌<◌, true, false, Option, Some, None, IsSomeAnd}
+use Rattle.game_rules.specs.Game.{Position, IsEmptySquare, IsHeldBy, IsLiveAnd, Legal, StandsOn, after_steps, man_at, other}
 use Rattle.game_rules.specs.declared.men.Man.{Man}
+use Rattle.game_rules.specs.declared.men.Ray.{Ray}
 use Rattle.game_rules.specs.declared.men.Square.{Square}
+use Rattle.game_laws.specs.Answer.{distance as squares_apart}
 use Rattle.game_laws.specs.OnRay.{IsOnRay}
 use Rattle.chess_game.specs.Way.{IsInside}
 use Rattle.chess_game.specs.declared.moves.Move.{Move}
 use Rattle.chess_game.specs.declared.way.Frame.{Frame}
+use Rattle.game_session.specs.declared.aim.Aim.{Aim}
 use Rattle.game_session.specs.declared.choice.Choice.{Choice}
 use Rattle.mask_sets.specs.Sets.{IsIn, Table}
 
 -- the square that a move goes to
 abbrev pub target : Move → Square
 target mv = record { x = mv.x; y = mv.y }
+
+-- so many steps of the ray lead man i to the square
+abbrev pub LeadsTo : Position → ℕ → Ray → ℕ → Square → Type 0
+LeadsTo p i r distance z = IsSomeAnd (man_at p i) (λ m. IsLiveAnd m (λ a. z ≡ after_steps a distance r.dx r.dy))
+
+-- from the one square to the other, on a far ray, are as many steps as they are apart, and on another ray one
+abbrev pub AreSteps : Ray → Square → Square → ℕ → Type 0
+AreSteps r a z steps = (r.far ≡ true → steps ≡ squares_apart a z) × (r.far ≡ false → steps ≡ 1)
+
+-- and so many from where man i stands
+abbrev pub AreHisSteps : Position → ℕ → Ray → Square → ℕ → Type 0
+AreHisSteps p i r z steps = IsSomeAnd (man_at p i) (λ m. IsLiveAnd m (λ a. AreSteps r a z steps))
 
 -- the move goes so far along that ray of its man, to a square of the frame; it is legal, and leads to q, a position of
 -- the set
@@ -43,6 +58,10 @@ pub record IsFirst (Has : Choice → Type 0) (Set : Position → Type 0) (f : Fr
 abbrev pub FirstOf : (Choice → Type 0) → (Position → Type 0) → Frame → Position → Option Choice → Type 0
 FirstOf Has Set f p None = (d : Choice) (q : Position) → Has d → Leads Set f p d q → ⊥
 FirstOf Has Set f p (Some c) = IsFirst Has Set f p c
+
+-- the first of them as the aim asks for: to a square of its frame, and into its sets
+abbrev pub FirstAsAimed : Aim → (Choice → Type 0) → Option Choice → Type 0
+FirstAsAimed aim Has found = FirstOf Has (IsIn aim.sets.now) aim.frame aim.position.now found
 
 -- the first legal move whose target lies in the frame and that leads into the set, or that there is none
 abbrev pub Pick : (Position → Type 0) → Frame → Position → Option Choice → Type 0

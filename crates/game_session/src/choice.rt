@@ -1,11 +1,10 @@
 //! Moves with their rays.
-ghost use Rattle.std.specs.Prelude.{◌≡◌, ◌≤◌, ◌^◌, ◌+ℤ◌, ◌-ℤ◌, ◌*ℤ◌, pos, unsigned_abs, true, false, FitsSigned, IsSomeAnd};
+ghost use Rattle.std.specs.Prelude.{◌≡◌, ◌≤◌, ◌^◌, ◌+ℤ◌, ◌-ℤ◌, ◌*ℤ◌, pos, unsigned_abs, true, false, FitsSigned};
 ghost use Rattle.std.specs.Int.{w64};
 ghost use Rattle.auto_search.specs.Way.{IsSlope};
-ghost use Rattle.game_rules.specs.Game.{IsLiveAnd, after_steps, man_at};
 ghost use Rattle.game_laws.specs.Answer.{distance as squares_apart};
 ghost use Rattle.chess_game.specs.Way.{IsFree};
-ghost use Rattle.game_session.specs.Choice.{target};
+ghost use Rattle.game_session.specs.Choice.{AreHisSteps, LeadsTo, target};
 ghost use Rattle.game_session.specs.Aims.{IsMover};
 
 use crate::aim::ManRay;
@@ -38,8 +37,7 @@ pub(crate) fn choice_along(p: &Position, frame: Frame, his: ManRay, distance: u1
     ensures man { result.mv.man ≡ his.man }
     ensures ray { result.ray ≡ his.number }
     ensures distance { result.distance ≡ distance }
-    ensures leads { IsSomeAnd (man_at p.now his.man)
-        (λ m. IsLiveAnd m (λ a. target result.mv ≡ after_steps a distance his.ray.dx his.ray.dy)) }
+    ensures leads { LeadsTo p.now his.man his.ray distance (target result.mv) }
 {
     let _ = frame; // for its invariant
     match p.man(his.man).place {
@@ -80,9 +78,7 @@ fn steps_between(ray: Ray, x: i64, y: i64, to_x: i64, to_y: i64) -> u128
 /// How many steps of the ray the move goes, which leads along it.
 pub(crate) fn steps_of(p: &Position, his: ManRay, mv: Move) -> u128
     requires mover { IsMover p.now his.man his.number his.ray }
-    ensures steps { IsSomeAnd (man_at p.now his.man)
-        (λ m. IsLiveAnd m
-        (λ a. (his.ray.far ≡ true → result ≡ squares_apart a (target mv)) × (his.ray.far ≡ false → result ≡ 1))) }
+    ensures steps { AreHisSteps p.now his.man his.ray (target mv) result }
     ensures few { result ≤ 2 ^ 64 }
 {
     match p.man(his.man).place {

@@ -1,13 +1,13 @@
 //! Who may move, and along which rays.
-ghost use Rattle.std.specs.Prelude.{◌≡◌, ◌≢◌, ◌↔◌, ◌≤◌, IsTrue, length, true, false};
-ghost use Rattle.game_session.specs.Aims.{HasRay};
+ghost use Rattle.std.specs.Prelude.{◌≡◌, ◌↔◌, ◌≤◌, IsTrue, length, true, false};
+ghost use Rattle.game_session.specs.Aims.{HasRay, IsLiveOf};
 
 use chess_game::{Man, Place, Position, Side, ray as ray_of_kind};
 
 /// Whether the man is live and of the side.
 pub(crate) fn is_live_of(man: Man, side: Side) -> bool
-    ensures yes { result ≡ true → (man.side ≡ side) × (man.place ≢ Place.Gone) }
-    ensures no { result ≡ false → (man.side ≡ side) × (man.place ≢ Place.Gone) → ⊥ }
+    ensures yes { result ≡ true → IsLiveOf side man }
+    ensures no { result ≡ false → IsLiveOf side man → ⊥ }
 {
     man.side == side && man.place != Place::Gone
 }

@@ -1,10 +1,9 @@
 //! The first move that leads into sets of positions.
-ghost use Rattle.std.specs.Prelude.{◌≡◌, ◌≢◌, ◌≤◌, IsSomeAnd, length};
+ghost use Rattle.std.specs.Prelude.{◌≡◌, ◌≤◌, IsSomeAnd, length};
 ghost use Rattle.game_rules.specs.Game.{Sound, man_at};
-ghost use Rattle.game_rules.specs.declared.men.Place.TheVariants.{Gone};
 ghost use Rattle.mask_sets.specs.Sets.{HaveAtMost, IsIn};
-ghost use Rattle.game_session.specs.Aims.{AreNext, IsAim};
-ghost use Rattle.game_session.specs.Choice.{FirstOf, IsOf, Pick};
+ghost use Rattle.game_session.specs.Aims.{AreNext, IsAim, IsLiveOf};
+ghost use Rattle.game_session.specs.Choice.{FirstAsAimed, IsOf, Pick};
 
 use crate::aim::{Aim, ManRay};
 use crate::choice::Choice;
@@ -18,9 +17,8 @@ use mask_sets::MaskSets;
 fn of_man(search: &mut Search, aim: &Aim, man: u8) -> Option<Choice>
     requires aim { IsAim aim.now }
     requires few { HaveAtMost search.old aim.now.sets.now }
-    requires mover { IsSomeAnd (man_at aim.now.position.now man)
-        (λ m. (m.side ≡ aim.now.position.now.turn) × (m.place ≢ Gone)) }
-    ensures first { FirstOf (IsOf man) (IsIn aim.now.sets.now) aim.now.frame aim.now.position.now result }
+    requires mover { IsSomeAnd (man_at aim.now.position.now man) (IsLiveOf aim.now.position.now.turn) }
+    ensures first { FirstAsAimed aim.now (IsOf man) result }
     ensures kept { search.new ≡ search.old }
 {
     let him = aim.position.man(man);
@@ -46,7 +44,7 @@ fn of_any(search: &mut Search, aim: &Aim, man: u8) -> Option<Choice>
     requires few { HaveAtMost search.old aim.now.sets.now }
     requires first { 1 ≤ man }
     requires last { man ≤ length aim.now.position.now.men }
-    ensures first { FirstOf (IsOf man) (IsIn aim.now.sets.now) aim.now.frame aim.now.position.now result }
+    ensures first { FirstAsAimed aim.now (IsOf man) result }
     ensures kept { search.new ≡ search.old }
 {
     let him = aim.position.man(man);

@@ -1,5 +1,5 @@
 //! How many moves along one ray lead into the sets, and how far the nearest of them goes.
-ghost use Rattle.std.specs.Prelude.{◌≡◌, ◌↔◌, ◌≤◌, ◌^◌, ℕ, length, IfNone, IfSome, IsSomeAnd, IsTrue};
+ghost use Rattle.std.specs.Prelude.{◌≡◌, ◌≤◌, ◌^◌, ℕ, length, IfNone, IfSome, IsSomeAnd, IsTrue};
 ghost use Rattle.auto_core.specs.Integers.{DecidesIntegers};
 ghost use Rattle.auto_search.specs.Fews.{HasFew};
 ghost use Rattle.game_rules.specs.Game.{man_at};
@@ -8,7 +8,7 @@ ghost use Rattle.rule_formula.specs.Placed.{tuple_of};
 ghost use Rattle.chess_game.specs.Way.{IsHit};
 ghost use Rattle.mask_sets.specs.Sets.{HaveAtMost, IsIn};
 ghost use Rattle.game_session.specs.Aims.{HoldsMen, IsAim, IsHitAlong, IsMet, IsMover};
-ghost use Rattle.game_session.specs.Along.{CaptureAlong, IsClear, IsLeastOrNone, LeadsAnywhere, LeadsInside, QuietAlong};
+ghost use Rattle.game_session.specs.Along.{CaptureAlong, IsClearForever, IsClearTo, IsLeastOrNone, LeadsAnywhere, LeadsAsAimed, QuietAlong};
 ghost use Rattle.game_session.specs.Choice.{target};
 
 use crate::aim::{Aim, ManRay};
@@ -75,7 +75,7 @@ fn count_all(search: &mut Search, set: &Auto, p: &Position, his: ManRay) -> Few
 fn steps_before(aim: &Aim, his: ManRay, mv: Move) -> u128
     requires mover { IsMover aim.now.position.now his.man his.number his.ray }
     requires met { IsMet aim.now.position.now his.man his.ray aim.now.frame (target mv) }
-    ensures clear { (t : ℕ) → ((1 ≤ t) × (t ≤ result)) ↔ IsClear aim.now.position.now his.man his.ray t }
+    ensures clear { IsClearTo aim.now.position.now his.man his.ray result }
     ensures few { result ≤ 2 ^ 64 }
 {
     steps_of(aim.position, his, mv) - 1
@@ -85,7 +85,7 @@ fn steps_before(aim: &Aim, his: ManRay, mv: Move) -> u128
 fn last_before(aim: &Aim, his: ManRay, hit: u8) -> u128
     requires mover { IsMover aim.now.position.now his.man his.number his.ray }
     requires hit { IsHit aim.now.position.now his.man his.ray aim.now.frame hit }
-    ensures clear { (t : ℕ) → ((1 ≤ t) × (t ≤ result)) ↔ IsClear aim.now.position.now his.man his.ray t }
+    ensures clear { IsClearTo aim.now.position.now his.man his.ray result }
     ensures few { result ≤ 2 ^ 64 }
 {
     match aim.position.man(hit).place {
@@ -102,10 +102,9 @@ fn last_clear(aim: &Aim, his: ManRay, hits: Option<u8>) -> Option<u128>
     requires holds { HoldsMen aim.now.frame aim.now.position.now }
     requires hit { IfSome hits (IsHit aim.now.position.now his.man his.ray aim.now.frame) }
     requires no_hit { IfNone hits ((i : ℕ) → IsHit aim.now.position.now his.man his.ray aim.now.frame i → ⊥) }
-    ensures last { IfSome result
-        (λ last. (t : ℕ) → ((1 ≤ t) × (t ≤ last)) ↔ IsClear aim.now.position.now his.man his.ray t) }
+    ensures last { IfSome result (IsClearTo aim.now.position.now his.man his.ray) }
     ensures few { IfSome result (λ last. last ≤ 2 ^ 64) }
-    ensures all { IfNone result ((t : ℕ) → (1 ≤ t) ↔ IsClear aim.now.position.now his.man his.ray t) }
+    ensures all { IfNone result (IsClearForever aim.now.position.now his.man his.ray) }
 {
     match hits {
         Some(hit) => Some(last_before(aim, his, hit)),
@@ -119,10 +118,9 @@ fn count_served(search: &mut Search, aim: &Aim, his: ManRay, last: Option<u128>)
     requires serves { IsSomeAnd (man_at aim.now.position.now his.man) (λ m. IsTrue (serving m.kind his.number)) }
     requires aim { IsAim aim.now }
     requires few { HaveAtMost search.old aim.now.sets.now }
-    requires last { IfSome last
-        (λ last. (t : ℕ) → ((1 ≤ t) × (t ≤ last)) ↔ IsClear aim.now.position.now his.man his.ray t) }
+    requires last { IfSome last (IsClearTo aim.now.position.now his.man his.ray) }
     requires bound { IfSome last (λ last. last ≤ 2 ^ 64) }
-    requires all { IfNone last ((t : ℕ) → (1 ≤ t) ↔ IsClear aim.now.position.now his.man his.ray t) }
+    requires all { IfNone last (IsClearForever aim.now.position.now his.man his.ray) }
     ensures few { HasFew result (QuietAlong (IsIn aim.now.sets.now) aim.now.position.now his.man his.number) }
     ensures kept { search.new ≡ search.old }
 {
@@ -192,8 +190,7 @@ fn least_along(search: &mut Search, aim: &Aim, his: ManRay) -> Option<u128>
     requires mover { IsMover aim.now.position.now his.man his.number his.ray }
     requires aim { IsAim aim.now }
     requires few { HaveAtMost search.old aim.now.sets.now }
-    ensures least { IsLeastOrNone
-        (LeadsInside aim.now.frame (IsIn aim.now.sets.now) aim.now.position.now his.man his.number) result }
+    ensures least { IsLeastOrNone (LeadsAsAimed aim.now his.man his.number) result }
     ensures kept { search.new ≡ search.old }
 {
     match along_ray(search, aim, his) {
@@ -209,8 +206,7 @@ pub fn moves_along(search: &mut Search, aim: &Aim, his: ManRay) -> RayMoves
     requires aim { IsAim aim.now }
     requires few { HaveAtMost search.old aim.now.sets.now }
     ensures few { HasFew result.few (LeadsAnywhere (IsIn aim.now.sets.now) aim.now.position.now his.man his.number) }
-    ensures least { IsLeastOrNone
-        (LeadsInside aim.now.frame (IsIn aim.now.sets.now) aim.now.position.now his.man his.number) result.least }
+    ensures least { IsLeastOrNone (LeadsAsAimed aim.now his.man his.number) result.least }
     ensures kept { search.new ≡ search.old }
 {
     RayMoves {

@@ -1,13 +1,13 @@
 //! The first move along one ray that leads into the sets.
-ghost use Rattle.std.specs.Prelude.{◌≡◌, ◌↔◌, ◌≤◌, ◌^◌, ℕ, length, IfNone, IfSome, IsSomeAnd, IsTrue};
+ghost use Rattle.std.specs.Prelude.{◌≡◌, ◌≤◌, ◌^◌, ℕ, length, IfNone, IfSome, IsSomeAnd, IsTrue};
 ghost use Rattle.auto_core.specs.Integers.{DecidesIntegers};
 ghost use Rattle.game_rules.specs.Game.{man_at};
 ghost use Rattle.game_rules.specs.Rays.{serves_moves as serving};
 ghost use Rattle.rule_formula.specs.Placed.{tuple_of};
-ghost use Rattle.chess_game.specs.Way.{IsFree, IsHit};
-ghost use Rattle.mask_sets.specs.Sets.{HaveAtMost, IsIn};
-ghost use Rattle.game_session.specs.Aims.{AreNext, IsAim, IsHitAlong, IsLeastFound, IsMet, IsMover};
-ghost use Rattle.game_session.specs.Choice.{FirstOf, IsAlongRay, IsCapture, IsQuiet, target};
+ghost use Rattle.chess_game.specs.Way.{IsHit};
+ghost use Rattle.mask_sets.specs.Sets.{HaveAtMost};
+ghost use Rattle.game_session.specs.Aims.{AreNext, IsAim, IsFreeBetween, IsHitAlong, IsLeastFound, IsMet, IsMover};
+ghost use Rattle.game_session.specs.Choice.{FirstAsAimed, IsAlongRay, IsCapture, IsQuiet, target};
 
 use crate::aim::{Aim, ManRay};
 use crate::choice::{Choice, choice_along, steps_of};
@@ -44,11 +44,9 @@ fn quiet(search: &mut Search, aim: &Aim, his: ManRay, way: Way) -> Option<Choice
     requires serves { IsSomeAnd (man_at aim.now.position.now his.man) (λ m. IsTrue (serving m.kind his.number)) }
     requires aim { IsAim aim.now }
     requires few { HaveAtMost search.old aim.now.sets.now }
-    requires free { (t : ℕ)
-        → ((way.near ≤ t) × (t ≤ way.far)) ↔ IsFree aim.now.position.now his.man his.ray aim.now.frame t }
+    requires free { IsFreeBetween aim.now.position.now his.man his.ray aim.now.frame way.near way.far }
     requires far { way.far ≤ 2 ^ 64 }
-    ensures first { FirstOf (IsQuiet aim.now.position.now his.man his.number) (IsIn aim.now.sets.now) aim.now.frame
-        aim.now.position.now result }
+    ensures first { FirstAsAimed aim.now (IsQuiet aim.now.position.now his.man his.number) result }
     ensures kept { search.new ≡ search.old }
 {
     let Some(set) = aim.sets.get(aim.position.mask()) else {
@@ -75,11 +73,9 @@ fn quiet_if_served(search: &mut Search, aim: &Aim, his: ManRay, way: Way) -> Opt
     requires mover { IsMover aim.now.position.now his.man his.number his.ray }
     requires aim { IsAim aim.now }
     requires few { HaveAtMost search.old aim.now.sets.now }
-    requires free { (t : ℕ)
-        → ((way.near ≤ t) × (t ≤ way.far)) ↔ IsFree aim.now.position.now his.man his.ray aim.now.frame t }
+    requires free { IsFreeBetween aim.now.position.now his.man his.ray aim.now.frame way.near way.far }
     requires far { way.far ≤ 2 ^ 64 }
-    ensures first { FirstOf (IsQuiet aim.now.position.now his.man his.number) (IsIn aim.now.sets.now) aim.now.frame
-        aim.now.position.now result }
+    ensures first { FirstAsAimed aim.now (IsQuiet aim.now.position.now his.man his.number) result }
     ensures kept { search.new ≡ search.old }
 {
     let kind = aim.position.man(his.man).kind;
@@ -95,8 +91,7 @@ fn take(aim: &Aim, his: ManRay, mv: Move) -> Option<Choice>
     requires aim { IsAim aim.now }
     requires man { mv.man ≡ his.man }
     requires met { IsMet aim.now.position.now his.man his.ray aim.now.frame (target mv) }
-    ensures first { FirstOf (IsCapture aim.now.position.now his.man his.number) (IsIn aim.now.sets.now) aim.now.frame
-        aim.now.position.now result }
+    ensures first { FirstAsAimed aim.now (IsCapture aim.now.position.now his.man his.number) result }
 {
     let Ok(after) = try_move(aim.position, mv) else {
         return None;
@@ -117,8 +112,7 @@ pub(crate) fn capture(aim: &Aim, his: ManRay, hits: Option<u8>) -> Option<Choice
     requires aim { IsAim aim.now }
     requires hit { IfSome hits (IsHit aim.now.position.now his.man his.ray aim.now.frame) }
     requires no_hit { IfNone hits ((i : ℕ) → IsHit aim.now.position.now his.man his.ray aim.now.frame i → ⊥) }
-    ensures first { FirstOf (IsCapture aim.now.position.now his.man his.number) (IsIn aim.now.sets.now) aim.now.frame
-        aim.now.position.now result }
+    ensures first { FirstAsAimed aim.now (IsCapture aim.now.position.now his.man his.number) result }
 {
     let Some(hit) = hits else {
         return None;
@@ -134,8 +128,7 @@ pub(crate) fn along_ray(search: &mut Search, aim: &Aim, his: ManRay) -> Option<C
     requires mover { IsMover aim.now.position.now his.man his.number his.ray }
     requires aim { IsAim aim.now }
     requires few { HaveAtMost search.old aim.now.sets.now }
-    ensures first { FirstOf (IsAlongRay his.man his.number) (IsIn aim.now.sets.now) aim.now.frame aim.now.position.now
-        result }
+    ensures first { FirstAsAimed aim.now (IsAlongRay his.man his.number) result }
     ensures kept { search.new ≡ search.old }
 {
     let way = free_way(aim.position, his.man, his.ray, aim.frame);

@@ -63,7 +63,8 @@ written_length c men sets m s =
     omega (arith, whole, m, s)
 
 -- one man more
-pub men_step : (p : Position) (n : ℕ) (m : Man) (total step whole : ℕ) → man_at p (n + 1) ≡ Some m → step ≡ length (man_bytes m) → total + length (flat_map man_bytes (drop n p.men)) ≡ whole
+pub men_step : (p : Position) (n : ℕ) (m : Man) (total step whole : ℕ) → man_at p (n + 1) ≡ Some m
+    → step ≡ length (man_bytes m) → total + length (flat_map man_bytes (drop n p.men)) ≡ whole
     → (total + step) + length (flat_map man_bytes (drop (n + 1) p.men)) ≡ whole
 men_step p n m total step whole is size so_far =
     let there : slice_get p.men n ≡ Some m = rw add-one at is in

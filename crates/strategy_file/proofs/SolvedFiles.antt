@@ -47,7 +47,8 @@ one_value : {X : Type 0} (x y : X) → Some x ≡ Some y → x ≡ y
 one_value x y e = cc
 
 -- sets of one place and over the same tracks, which accept the same words, have the same bytes
-pub alike_set_bytes : (x y : ClaimedSet) → place_of x ≡ place_of y → x.set.tracks ≡ y.set.tracks → IsInOrder x.set → IsInOrder y.set → AcceptSameWords x.set y.set → set_bytes x ≡ set_bytes y
+pub alike_set_bytes : (x y : ClaimedSet) → place_of x ≡ place_of y → x.set.tracks ≡ y.set.tracks → IsInOrder x.set
+    → IsInOrder y.set → AcceptSameWords x.set y.set → set_bytes x ≡ set_bytes y
 unfolding set_bytes
 alike_set_bytes x y p tracks hx hy words =
     let bytes = same_table_bytes x.set y.set tracks (equal_tables x.set y.set hx hy tracks words) in

@@ -62,14 +62,17 @@ start_again p moves few least most places =
     let count = then_again (one (between w8 2 5 why.Count)) (λ c. men_rest moves t c) (n ∷ []) (bytes ++ []) n made (byte_again 2 5 n why.Count least most) men in
     let turn = then_again (one (between w8 0 1 why.Turn)) (λ c. count_rest moves c) (t ∷ []) (n ∷ (bytes ++ [])) t made (byte_again 0 1 t why.Turn (omega arith) (side_small p.turn)) count in
     let move = then_again (one (between w8 0 20 why.Moves)) turn_rest (moves ∷ []) (t ∷ n ∷ (bytes ++ [])) moves made (byte_again 0 20 moves why.Moves (omega arith) few) turn in
-    let version = then_again (one (between w8 1 1 why.Version)) (λ v. moves_rest) (1 ∷ []) (moves ∷ t ∷ n ∷ (bytes ++ [])) 1 made (byte_again 1 1 1 why.Version (omega arith) (omega arith)) move in
+    let version =
+    then_again (one (between w8 1 1 why.Version)) (λ v. moves_rest) (1 ∷ []) (moves ∷ t ∷ n ∷ (bytes ++ [])) 1 made
+    (byte_again 1 1 1 why.Version (omega arith) (omega arith)) move in
     let magic =
     then_again (one (between w32 (from_be_bytes w32 (codes "ICSF")) (from_be_bytes w32 (codes "ICSF")) why.Magic)) (λ m. version_rest)
     (codes "ICSF") (1 ∷ moves ∷ t ∷ n ∷ (bytes ++ [])) (from_be_bytes w32 (codes "ICSF")) made
     (field_again (between w32 (from_be_bytes w32 (codes "ICSF")) (from_be_bytes w32 (codes "ICSF")) why.Magic) (from_be_bytes w32 (codes "ICSF")) (codes "ICSF") refl refl refl) version in
     let same : made ≡ record { moves = moves; position = p } = ap (λ s. record { moves = moves; position = record { men = p.men; turn = s } }) (side_again p.turn) in
     subst (λ s. Again start_layout (start_bytes p moves) s) same
-    (as_again start_layout (codes "ICSF" ++ (1 ∷ moves ∷ t ∷ n ∷ (bytes ++ []))) (start_bytes p moves) made (ap (λ b. codes "ICSF" ++ (1 ∷ moves ∷ t ∷ n ∷ b)) (append-nil bytes)) magic)
+    (as_again start_layout (codes "ICSF" ++ (1 ∷ moves ∷ t ∷ n ∷ (bytes ++ []))) (start_bytes p moves) made
+    (ap (λ b. codes "ICSF" ++ (1 ∷ moves ∷ t ∷ n ∷ b)) (append-nil bytes)) magic)
   where
     each_man : (men : List Man) → AllByRecursion (λ m. FitsPlace m.place) men → AllByRecursion (λ m. Again man_layout (man_bytes m) m) men
     each_man [] all = tt
@@ -152,7 +155,8 @@ module _ (c : Claim) (h : HasFile c) where
       let first = start_again c.position c.moves h.moves h.least h.most (fitting_men c.position.men (recursion_from_All IsNarrowMan c.position.men h.narrow)) in
       let made : Charts = charts_with start (map chart_of c.sets) in
       let same : made ≡ charts_of c = ap (λ w. record { position = c.position; winner = w; moves = c.moves; sets = map chart_of c.sets }) (sym h.white) in
-      let sets : taken (charts_layout start) at back ≡ Ok (made, record { at = at + length back; bytes = [] }) = ap (taken (charts_layout start) at) (sym (append-nil back)) ∙ sets_again.read at [] in
+      let sets : taken (charts_layout start) at back ≡ Ok (made, record { at = at + length back; bytes = [] }) =
+      ap (taken (charts_layout start) at) (sym (append-nil back)) ∙ sets_again.read at [] in
       let whole = came (charts_layout start) Ends at back made (record { at = at + length back; bytes = [] }) (Ok made) sets (ends_whole made (at + length back) [] refl) in
       subst (λ x. File (start_bytes c.position c.moves ++ back) (Ok x)) same
       (came start_layout GoesOn 0 (start_bytes c.position c.moves ++ back) start (record { at = at; bytes = back }) (Ok made) (first.read 0 back) (inr (h.sound, whole)))

@@ -51,13 +51,22 @@ places_with plies masks = flat_map (λ ply. map (λ mask. (ply, mask)) masks) pl
 abbrev pub places_of : Side → Position → ℕ → List (ℕ × ℕ)
 places_of winner p moves = places_with (losers_plies winner p.turn moves) (masks_of p)
 
+-- the tables of all these places
+abbrev pub sets_layout : Position → ℕ → Layout (List Chart)
+sets_layout p moves = each (places_of White p moves) (chart_layout p)
+
 abbrev pub charts_with : Start → List Chart → Charts
 charts_with start sets = record { position = start.position; winner = White; moves = start.moves; sets = sets }
 
 unfoldable pub charts_layout : Start → Layout Charts
 charts_layout start = do
-  sets ← each (places_of White start.position start.moves) (chart_layout start.position)
+  sets ← sets_layout start.position start.moves
   Give (charts_with start sets)
+
+-- the sets of the claim follow, and nothing behind them, or this is the first reason why they do not
+abbrev pub SetsFollow : Position → ℕ → ℕ → List ℕ → Result Charts Refusal → Type 0
+SetsFollow p moves at bytes outcome =
+    Reads (charts_layout (record { moves = moves; position = p })) Ends at bytes outcome
 
 -- after the men the position has to be sound
 abbrev pub GoesOn : Start → ℕ → List ℕ → Result Charts Refusal → Type 0

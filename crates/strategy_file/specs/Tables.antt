@@ -36,14 +36,18 @@ state_layout tracks states = do
   row ← row_layout tracks states
   Give (flag == 1, row)
 
+-- so many states
+abbrev pub states_layout : ℕ → ℕ → Layout (List (Bool × List ℕ))
+states_layout tracks states = repeated states (state_layout tracks states)
+
 abbrev pub table_with : List ℕ → List (Bool × List ℕ) → Table
 table_with first states = record { first = first; next = flat_map (λ s. s.1) states; accept = map (λ s. s.0) states }
 
--- a first row, and so many states
+-- a first row, and the states
 unfoldable pub rows_layout : ℕ → ℕ → Layout Table
 rows_layout tracks states = do
   first ← row_layout tracks states
-  rows ← repeated states (state_layout tracks states)
+  rows ← states_layout tracks states
   Give (table_with first rows)
 
 unfoldable pub table_layout : ℕ → Layout Table

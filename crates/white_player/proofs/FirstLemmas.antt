@@ -79,12 +79,12 @@ module _ (s : Solution) (valid : IsValid s) (plan : s.origin ≡ Plan) (turn : s
 
       sets_lost : (k : ℕ) → InSets k → IsLost k
       sets_lost k w =
-          led_to (IsIn t) s.position i n T T (Lost s.winner (s.moves - 1)) k w w.is_target
+          led_to T (Lost s.winner (s.moves - 1)) w w.is_target
           (in_lost i w.to w.after w.legal (subst (λ u. IsIn u w.after) is w.is_in))
 
       lost_sets : (k : ℕ) → IsLost k → InSets k
       lost_sets k w =
-          led_to (Lost s.winner (s.moves - 1)) s.position i n T T (IsIn t) k w w.is_target
+          led_to T (IsIn t) w w.is_target
           (subst (λ u. IsIn u w.after) (sym is) (lost_in i w.to w.after w.legal w.is_in))
 
       -- from the position and the numbers that were passed
@@ -171,7 +171,8 @@ line_first frame winner n p man ray line h = by line.few h.some h.few
     by More some has = (has.0, has.3)
 
 -- and a line of a man, a ray and a frame is one
-pub line_once : (frame : Frame) (winner : Side) (n : ℕ) (p : Position) (man ray : ℕ) (a b : FirstLine) → IsFirstLine frame winner n p man ray a → IsFirstLine frame winner n p man ray b → a ≡ b
+pub line_once : (frame : Frame) (winner : Side) (n : ℕ) (p : Position) (man ray : ℕ) (a b : FirstLine)
+    → IsFirstLine frame winner n p man ray a → IsFirstLine frame winner n p man ray b → a ≡ b
 line_once frame winner n p man ray a b h k =
     let him : h.him ≡ k.him = same_Some h.him k.him (sym h.is_man ∙ k.is_man) in
     let step : h.step ≡ k.step = same_Some h.step k.step (subst (λ m. Some h.step ≡ ray_of m.kind m.side ray) him (sym h.is_ray) ∙ k.is_ray) in

@@ -16,6 +16,10 @@ use Rattle.white_player.specs.declared.first_line.FirstLine.{FirstLine}
 abbrev pub Firsts : Side → ℕ → Position → ℕ → ℕ → ℕ → Type 0
 Firsts winner n p man ray distance = LeadsAnywhere (Lost winner (n - 1)) p man ray distance
 
+-- there are none
+abbrev pub NoFirsts : Side → ℕ → Position → ℕ → ℕ → Type 0
+NoFirsts winner n p man ray = (distance : ℕ) → Firsts winner n p man ray distance → ⊥
+
 -- those of them whose square lies in the frame
 abbrev pub FirstsInside : Frame → Side → ℕ → Position → ℕ → ℕ → ℕ → Type 0
 FirstsInside frame winner n p man ray distance = LeadsInside frame (Lost winner (n - 1)) p man ray distance

@@ -1,8 +1,8 @@
 //! All first moves of the winner along a ray.
-ghost use Rattle.std.specs.Prelude.{◌≡◌, ◌≤◌, ℕ, IfNone, IfSome};
+ghost use Rattle.std.specs.Prelude.{◌≡◌, ◌≤◌, IfNone, IfSome};
 ghost use Rattle.game_session.specs.Aims.{HasRay, IsMover};
 ghost use Rattle.winning_sets.specs.declared.origin.Origin.TheVariants.{Plan};
-ghost use Rattle.white_player.specs.Firsts.{Firsts, IsFirstLine};
+ghost use Rattle.white_player.specs.Firsts.{IsFirstLine, NoFirsts};
 ghost use Rattle.white_player.specs.Game.{HasRoom};
 
 use auto_search::{Few, Search};
@@ -50,8 +50,7 @@ pub fn first_moves(
     requires moves { 1 ≤ solved.now.moves }
     requires mover { HasRay solved.now.position man ray }
     requires room { HasRoom search.old solved.now }
-    ensures none { IfNone result
-        ((distance : ℕ) → Firsts solved.now.winner solved.now.moves solved.now.position man ray distance → ⊥) }
+    ensures none { IfNone result (NoFirsts solved.now.winner solved.now.moves solved.now.position man ray) }
     ensures line { IfSome result (IsFirstLine frame solved.now.winner solved.now.moves solved.now.position man ray) }
     ensures kept { search.new ≡ search.old }
 {

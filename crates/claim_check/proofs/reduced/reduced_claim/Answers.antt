@@ -9,7 +9,9 @@ use Rattle.claim_check.proofs.reduced.reduced_claim.Goals as goal
 pub reduced_plies-requires-clause-places : goal.reduced_plies-requires-clause-places
 reduced_plies-requires-clause-places c =
     let plies = c.losers_plies-losers.result in
-    places_here c.args.claim c.requires.file plies.first plies.count c.as_slice.result.now (c.as_slice.ensures.value ∙ c.in_ok-all.ensures.list) (rw c.turn.ensures at c.losers_plies-losers.ensures.plies)
+    let masks = c.as_slice.ensures.value ∙ c.in_ok-all.ensures.list in
+    places_here c.args.claim c.requires.file plies.first plies.count c.as_slice.result.now masks
+    (rw c.turn.ensures at c.losers_plies-losers.ensures.plies)
 
 pub returns-clause-same : goal.returns-clause-same
 returns-clause-same c =

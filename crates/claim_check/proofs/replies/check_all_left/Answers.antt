@@ -1,13 +1,10 @@
-use Rattle.std.proofs.Common.{ℕ, suc, ◌+◌, List, ◌∙◌, subst}
+use Rattle.std.proofs.Common.{ℕ, List, ◌∙◌, subst}
 use Rattle.rule_formula.specs.Fits.{IsGameMask}
-use Rattle.mate_plan.specs.Claim.{claimed_level}
-use Rattle.mate_plan.specs.Levels.{level_in}
-use Rattle.mate_plan.specs.PlanOf.{rules_of}
-use Rattle.claim_plan.specs.CheckPlan.{check_left, for_each}
-use Rattle.claim_check.specs.Finds.{Finds}
-use Rattle.claim_check.specs.Ready.{claim_in}
+use Rattle.claim_plan.specs.CheckPlan.{for_each}
+use Rattle.claim_check.specs.Finds.{FindsBy}
 use Rattle.claim_check.proofs.LosersPlies.{each_mask}
 use Rattle.claim_check.proofs.replies.check_all_left.Goals as goal
+use Rattle.claim_check.specs.Programs.{check_left_in}
 
 pub first_failing-requires-clause-fits : goal.first_failing-requires-clause-fits
 first_failing-requires-clause-fits c = (c.requires.ready, c.requires.of, c.requires.replies)
@@ -21,7 +18,5 @@ pub returns-clause-finds : goal.returns-clause-finds
 returns-clause-finds c =
     let s = c.args.claimed.now in
     let r = c.args.replies.now in
-    let Over : List ℕ → Type 0 = λ l. Finds
-    (for_each l (check_left (rules_of s.position) s.winner (suc r.ply) (level_in s.position c.args.work.now.sets r.reached) (claimed_level (claim_in s) (r.ply + 2))))
-    c.args.work.now.memo.budget c.first_failing.result in
+    let Over : List ℕ → Type 0 = λ l. FindsBy c.args.work.now (for_each l (check_left_in s c.args.work.now.sets r)) c.first_failing.result in
     subst Over (c.as_slice.ensures.value ∙ c.requires.ready.masks) c.first_failing.ensures.finds

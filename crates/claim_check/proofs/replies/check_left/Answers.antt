@@ -38,8 +38,10 @@ returns-clause-finds c =
     let asked : Position → Program Bool = λ q. are_answered (rules_of q) w (r.ply + 1) (level_in q sets r.reached) (level_in q sets r.later) c.args.mask in
     let At : Position → Type 0 = λ q. Finds (holds_by c.rule_at.result (asked q)) budget result in
     let By : RuleAt → Type 0 = λ f. Finds (holds_by f (asked p)) budget result in
-    let Into : Level → Type 0 = λ l. Finds (holds_by (rule_at (r.ply + 1) c.args.mask rule.Left) (are_answered (rules_of p) w (r.ply + 1) (level_in p sets r.reached) l c.args.mask)) budget result in
-    let Next : ℕ → Type 0 = λ k. Finds (check_left (rules_of p) w k (level_in p sets r.reached) (claimed_level (claim_in c.args.claimed.now) (r.ply + 2)) c.args.mask) budget result in
+    let reached = level_in p sets r.reached in
+    let Into : Level → Type 0 = λ l. Finds (check_left (rules_of p) w (r.ply + 1) reached l c.args.mask) budget result in
+    let later = claimed_level (claim_in c.args.claimed.now) (r.ply + 2) in
+    let Next : ℕ → Type 0 = λ k. Finds (check_left (rules_of p) w k reached later c.args.mask) budget result in
     let next : r.ply + 1 ≡ suc r.ply = omega arith in
     subst Next next
     (subst Into c.requires.replies.later_is

@@ -16,7 +16,8 @@ none_stands p zero z low stands = stands
 none_stands p (suc i) z low stands = omega (arith, low)
 
 -- one man more
-more_inside : (p : Position) (f g : Frame) (n : ℕ) (m : Man) → man_at p (n + 1) ≡ Some m → ((z : Square) → IsInside f z → IsInside g z) → ((z : Square) → place_square m.place ≡ Some z → IsInside g z)
+more_inside : (p : Position) (f g : Frame) (n : ℕ) (m : Man) → man_at p (n + 1) ≡ Some m
+    → ((z : Square) → IsInside f z → IsInside g z) → ((z : Square) → place_square m.place ≡ Some z → IsInside g z)
     → ((i : ℕ) (z : Square) → i ≤ n → StandsAt p i z → IsInside f z) → (i : ℕ) (z : Square) → i ≤ n + 1 → StandsAt p i z → IsInside g z
 more_inside p f g n m is kept added below i z low stands = elim (cases_lt n i) [
   | inl past ↦

@@ -1,9 +1,8 @@
-use Rattle.mask_sets.specs.Sets.{IsIn}
 use Rattle.game_session.proofs.Bridges.{none_least, some_least}
 use Rattle.game_session.proofs.ray_moves.least_along.Goals as goal
 
 pub returns-in-Some-clause-least : goal.returns-in-Some-clause-least
-returns-in-Some-clause-least c = some_least (IsIn c.args.aim.now.sets.now) c.args.aim.now.position.now c.args.his.man c.args.his.number c.args.aim.now.frame c.in-Some.choice c.in-Some.ensures.first
+returns-in-Some-clause-least c = some_least c.in-Some.ensures.first
 
 pub returns-in-None-clause-least : goal.returns-in-None-clause-least
-returns-in-None-clause-least c = none_least (IsIn c.args.aim.now.sets.now) c.args.aim.now.position.now c.args.his.man c.args.his.number c.args.aim.now.frame c.in-None.ensures.first
+returns-in-None-clause-least c = none_least c.in-None.ensures.first
