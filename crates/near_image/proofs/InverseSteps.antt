@@ -1,6 +1,6 @@
 -- The steps of an inverse image are within the budget.
-use Rattle.std.proofs.Common.{◌≡◌, ℕ, ◌*◌, ◌≤◌, List, [], map, length, None, arith, sym, ap, ◌∙◌, subst}
-use Rattle.lin_formula.specs.Tree.{Tree, Not, free_vars, steps}
+use Rattle.std.proofs.Common.{◌≡◌, ℕ, ◌*◌, ◌≤◌, [], length, None, arith, sym, subst}
+use Rattle.lin_formula.specs.Tree.{steps}
 use Rattle.lin_formula.specs.SetOf.{SetOf, members}
 use Rattle.formula_auto.specs.Step.{FirstOver}
 use Rattle.near_bound.specs.Equations.{colours}

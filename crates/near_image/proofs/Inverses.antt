@@ -1,11 +1,11 @@
 -- What inverse images say, and what decides them.
-use Rattle.std.proofs.Common.{◌≡◌, ◌⊎◌, ◌↔◌, ℕ, List, [], ◌∷◌, map, refl, sym, ◌∙◌, subst, inl, inr}
+use Rattle.std.proofs.Common.{◌≡◌, ◌⊎◌, ◌↔◌, ℕ, [], map, refl, sym, subst, inl, inr}
 use Rattle.track_word.specs.declared.tracks.Var.{Var}
-use Rattle.track_word.specs.Tracks.{Values, IsAscending}
+use Rattle.track_word.specs.Tracks.{IsAscending}
 use Rattle.auto_core.specs.Automaton.{Automaton}
-use Rattle.lin_formula.specs.Tree.{Tree, Among, Not, And, free_vars}
+use Rattle.lin_formula.specs.Tree.{Tree, Among, Not, free_vars}
 use Rattle.lin_formula.specs.Free.{IsOneOf}
-use Rattle.lin_formula.specs.Holds.{Sets, Holds}
+use Rattle.lin_formula.specs.Holds.{Sets}
 use Rattle.lin_formula.specs.SetOf.{SetOf, Nothing, Table, members}
 use Rattle.lin_formula.proofs.FreeVars.{free_vars-ascend, one_of-with_vars}
 use Rattle.formula_auto.specs.Decides.{Decides}
@@ -13,10 +13,9 @@ use Rattle.formula_auto.proofs.Atoms.{Decides-itself}
 use Rattle.formula_auto.proofs.Stable.{Decides-integers}
 use Rattle.near_bound.specs.Equations.{AreSolved}
 use Rattle.near_bound.specs.Factored.{IsFactored}
-use Rattle.near_image.specs.declared.shift.Shift.{Shift}
 use Rattle.near_image.specs.Image.{IsShiftable, IsMovable, and_all, ex_all, change, gone, step, moved_tree}
 use Rattle.near_image.specs.Laws.{SaysTheSame}
-use Rattle.near_image.specs.Inverse.{Inverse, news, backs, both, path, inverse_tree, met_tree, reached_tree}
+use Rattle.near_image.specs.Inverse.{Inverse, backs, both, path, inverse_tree, met_tree, reached_tree}
 use Rattle.near_image.specs.Inverse.{came_tree, IsTakenBack}
 use Rattle.near_image.proofs.Variables.{one_of-cases, same-ascending}
 use Rattle.near_image.proofs.Bindings.{IsInOne, vars-and_all, vars-ex_all}

@@ -1,11 +1,9 @@
 -- What is made of an image or an inverse image by moving tracks.
-use Rattle.std.proofs.Common.{◌≡◌, ℕ, ◌+◌, ◌*◌, ◌<◌, ◌≤◌, List, [], ◌∷◌, length, map, All, refl, sym, ◌∙◌, subst, inl, inr, arith}
+use Rattle.std.proofs.Common.{◌≡◌, ℕ, ◌+◌, ◌*◌, ◌<◌, ◌≤◌, List, [], ◌∷◌, length, map, All, sym, subst, inl, arith}
 use Rattle.track_word.specs.declared.tracks.Var.{Var}
-use Rattle.track_word.specs.Word.{IsWord}
-use Rattle.track_word.specs.Tracks.{with_vars, place, word_values}
+use Rattle.track_word.specs.Tracks.{with_vars, place}
 use Rattle.auto_core.specs.Automaton.{Automaton}
-use Rattle.lin_formula.specs.Tree.{Tree, Not, And, free_vars}
-use Rattle.lin_formula.specs.Holds.{Holds}
+use Rattle.lin_formula.specs.Tree.{Tree, Not, And}
 use Rattle.lin_formula.specs.SetOf.{SetOf, tables, members}
 use Rattle.lin_formula.proofs.FreeVars.{one_of-with_vars}
 use Rattle.formula_auto.specs.Decides.{Decides}

@@ -1,10 +1,10 @@
 -- Formulas that say the same, each where set symbols stand for sets of its own.
-use Rattle.std.proofs.Common.{◌≡◌, ◌↔◌, ℕ, List, [], ◌∷◌, length, map, refl, sym, ap, ◌∙◌, subst}
+use Rattle.std.proofs.Common.{◌≡◌, ◌↔◌, List, [], ◌∷◌, length, map, sym, ap, ◌∙◌, subst}
 use Rattle.track_word.specs.declared.tracks.Var.{Var}
 use Rattle.track_word.specs.Word.{IsWord}
 use Rattle.track_word.specs.Tracks.{Values, with_vars, without_var, word_values}
 use Rattle.auto_core.specs.Automaton.{Automaton}
-use Rattle.lin_formula.specs.Tree.{Tree, And, Ex, free_vars}
+use Rattle.lin_formula.specs.Tree.{Tree, And, free_vars}
 use Rattle.lin_formula.specs.Free.{IsOneOf}
 use Rattle.lin_formula.specs.Holds.{Sets, Holds, with_value}
 use Rattle.lin_formula.proofs.FreeVars.{free_vars-free}

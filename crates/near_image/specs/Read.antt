@@ -50,7 +50,6 @@ abbrev pub CanMove : Near → Type 0
 CanMove (near.Image i) = IsMovable (image_of i)
 CanMove (near.Inverse i) = IsMovable (image_of i.image)
 
-
 -- one of the variables changes, a little, to one that is none of them
 pub record Leaves (vars : List Var) (s : Shift) : Type 0 where
   pub old : IsOneOf s.gone vars

@@ -23,8 +23,8 @@ use crate::laws::{
 use crate::leaving::{Scope, left_of_all};
 use crate::merging::merged;
 use crate::movable::is_movable;
-use crate::shift::Shift;
 use crate::share::share;
+use crate::shift::Shift;
 use crate::shifting::{back, membership, moved_set};
 use auto_bool::meet_within;
 use auto_core::Auto;
@@ -116,12 +116,7 @@ fn meet(alloc: Global, a: &Auto, b: &Auto, each: Budget) -> Result<Auto, Grown>
 }
 
 /// What is reached, told by its old values. `Over` says nothing.
-fn taken_back(
-    alloc: Global,
-    inverse: &Inverse,
-    reached: &Auto,
-    each: Budget,
-) -> Result<Auto, Grown>
+fn taken_back(alloc: Global, inverse: &Inverse, reached: &Auto, each: Budget) -> Result<Auto, Grown>
     requires movable { IsMovable (image_of inverse.now.image) }
     requires integers { DecidesIntegers reached.now }
     ensures taken { IfOk result (IsTakenBack (inverse_of inverse.now) reached.now) }

@@ -1,4 +1,4 @@
-use Rattle.std.proofs.Common.{◌≡◌, ◌∙◌, ◌<◌, ◌^◌, sym, subst, length}
+use Rattle.std.proofs.Common.{◌∙◌, ◌<◌, ◌^◌, sym, subst, length}
 use Rattle.lin_formula.specs.Tree.{steps}
 use Rattle.lin_formula.specs.SetOf.{tables, members}
 use Rattle.formula_auto.specs.Decides.{Decides}
