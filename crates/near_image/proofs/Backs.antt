@@ -65,12 +65,12 @@ vars-back x (s ∷ shifts) =
     )
 
 -- the shift that is taken back
-record IsTakenBack (t : Shift) (shifts : List Shift) : Type 0 where
+record IsShiftBack (t : Shift) (shifts : List Shift) : Type 0 where
   pub shift : Shift
   pub among : IsAmong shift shifts
   pub is : t ≡ back shift
 
-among-back : (t : Shift) (shifts : List Shift) → IsAmong t (map back shifts) → IsTakenBack t shifts
+among-back : (t : Shift) (shifts : List Shift) → IsAmong t (map back shifts) → IsShiftBack t shifts
 among-back t [] h = absurd h
 among-back t (s ∷ shifts) (inl is) = record { shift = s; among = inl refl; is = is }
 among-back t (s ∷ shifts) (inr h) =

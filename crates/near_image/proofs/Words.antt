@@ -12,7 +12,8 @@ pub record StandsAt (vars : List Var) (v : Values) (x : Var) : Type 0 where
   pub within : place vars x < length vars
   pub value : slice_index_or (values_at vars v) (place vars x) (pos 0) ≡ v x.0
 
-stands_in : (y : Var) (ys : List Var) (v : Values) (x : Var) → Cases x y → IsOneOf x (y ∷ ys) → (IsOneOf x ys → StandsAt ys v x) → StandsAt (y ∷ ys) v x
+stands_in : (y : Var) (ys : List Var) (v : Values) (x : Var) → Cases x y → IsOneOf x (y ∷ ys)
+    → (IsOneOf x ys → StandsAt ys v x) → StandsAt (y ∷ ys) v x
 stands_in y ys v x (Same is) h rest =
     let here : place (y ∷ ys) x ≡ 0 = place-here x y ys is in
     let At : ℕ → Type 0 = λ k. slice_index_or (values_at (y ∷ ys) v) k (pos 0) ≡ v x.0 in
