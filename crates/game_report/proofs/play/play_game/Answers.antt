@@ -1,7 +1,8 @@
 use Rattle.std.proofs.Common.{◌+◌, sym, ◌∙◌, arith, rules}
 use Rattle.desk_text.proofs.TextSteps.{line_read}
 use Rattle.game_report.specs.Laws.{seen}
-use Rattle.game_report.proofs.GameSteps.{cut_came, first_due, long_came, most_read, no_line_came, not_settled, ports, read_failed, reply_failed, reply_on, reply_over, risen_from, opening_failed, opening_on, opening_over}
+use Rattle.game_report.proofs.GameSteps.{cut_came, first_due, long_came, most_read, no_line_came, not_settled, read_failed, reply_failed, reply_on, reply_over, risen_from, opening_failed, opening_on, opening_over}
+use Rattle.game_report.specs.Played.{ports}
 use Rattle.game_report.proofs.Some.{at_lines}
 use Rattle.game_report.proofs.play.play_game.Goals as goal
 

@@ -1,10 +1,10 @@
 use Rattle.std.proofs.Common.{◌≡◌, ◌≤◌, [], None, length}
 use Rattle.white_player.specs.Game.{IsGame}
 use Rattle.game_report.specs.Laws.{seen}
-use Rattle.game_report.specs.Played.{IsDue}
+use Rattle.game_report.specs.Played.{IsDue, ports}
 use Rattle.game_report.specs.Report.{all_squares}
 use Rattle.game_report.specs.Turns.{IsOpen}
-use Rattle.game_report.proofs.GameSteps.{AtDue, SoFar, ports}
+use Rattle.game_report.proofs.GameSteps.{AtDue, SoFar}
 use Rattle.game_report.proofs.play.play_game.Given as goal
 
 abbrev pub invariant-loop-read : goal.invariant-loop-read
