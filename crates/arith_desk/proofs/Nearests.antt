@@ -26,7 +26,8 @@ module _ (P : ℤ → Type 0) where
   Below : ℕ → Type 0
   Below t = P (neg_ℤ (pos t))
 
-  none_far : ((t : ℕ) → 0 ≤ t → t ≤ 2 ^ 64 → P (pos t) → ⊥) → ((t : ℕ) → 1 ≤ t → t ≤ 2 ^ 64 → P (neg_ℤ (pos t)) → ⊥) → (n : ℤ) → P n → 2 ^ 64 < unsigned_abs n
+  none_far : ((t : ℕ) → 0 ≤ t → t ≤ 2 ^ 64 → P (pos t) → ⊥) → ((t : ℕ) → 1 ≤ t → t ≤ 2 ^ 64 → P (neg_ℤ (pos t)) → ⊥) → (n : ℤ)
+      → P n → 2 ^ 64 < unsigned_abs n
   none_far above below (pos t) h = beyond t (λ small. above t (omega arith) small h)
   none_far above below (negsuc t) h = beyond (suc t) (λ small. below (suc t) (omega arith) small h)
 

@@ -79,7 +79,8 @@ first_once (step ∷ fs) budget from one other (inr (within, a)) (inr (also, b))
 
 module _ (f : Tree) (budget : ℕ) where
   -- the steps of what is compiled have one end
-  one_end : (p q : Tree) (one other : Option ℕ) → IsCompiledFor f p → IsCompiledFor f q → FirstOver (steps p) no_sets budget 1 one → FirstOver (steps q) no_sets budget 1 other → one ≡ other
+  one_end : (p q : Tree) (one other : Option ℕ) → IsCompiledFor f p → IsCompiledFor f q
+      → FirstOver (steps p) no_sets budget 1 one → FirstOver (steps q) no_sets budget 1 other → one ≡ other
   one_end p q one other is_p is_q a b =
       let At : Tree → Type 0 = λ t. FirstOver (steps t) no_sets budget 1 other in
       first_once (steps p) budget 1 one other a (subst At (sym (one_compiled f p q is_p is_q)) b)

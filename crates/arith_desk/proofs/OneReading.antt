@@ -105,7 +105,8 @@ pub regroup : (terms : List (ℤ × Var)) (bound : ℤ) (rest : List (List ℕ))
     → signed_decimal (pos (length terms)) ∷ ((term_fields terms ++ signed_decimal bound ∷ []) ++ rest) ≡ compared_fields terms bound rest
 regroup terms bound rest = ap (λ l. signed_decimal (pos (length terms)) ∷ l) (append_assoc (term_fields terms) (signed_decimal bound ∷ []) rest)
 
-same_comparison : (ss ts : List (ℤ × Var)) (b c : ℤ) (xs ys : List (List ℕ)) → IsAtom ss b → IsAtom ts c → compared_fields ss b xs ≡ compared_fields ts c ys → (ss ≡ ts) × (b ≡ c) × (xs ≡ ys)
+same_comparison : (ss ts : List (ℤ × Var)) (b c : ℤ) (xs ys : List (List ℕ)) → IsAtom ss b → IsAtom ts c
+    → compared_fields ss b xs ≡ compared_fields ts c ys → (ss ≡ ts) × (b ≡ c) × (xs ≡ ys)
 same_comparison ss ts b c xs ys hs ht e =
     let fs = term_fields ss ++ signed_decimal b ∷ xs in
     let ft = term_fields ts ++ signed_decimal c ∷ ys in

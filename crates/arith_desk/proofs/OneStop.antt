@@ -88,7 +88,8 @@ unused_before (u ∷ old) ts t d =
     let other : t.1 ≢ u.1 = all_at (λ w. w.1 ≢ u.1) old ts t d.0 in
     All-cons (λ w. w.1 ≢ t.1) u old (λ e. other (sym e)) (unused_before old ts t d.1)
 
-no_stop_terms : (scope : List Var) (old terms : List (ℤ × Var)) (bound : ℤ) (rest fields : List (List ℕ)) (left : ℕ) → AreLetters scope → IsDistinct (old ++ terms) → All IsCoefficient terms
+no_stop_terms : (scope : List Var) (old terms : List (ℤ × Var)) (bound : ℤ) (rest fields : List (List ℕ)) (left : ℕ)
+    → AreLetters scope → IsDistinct (old ++ terms) → All IsCoefficient terms
     → All (λ t. IsOneOf t.1 scope) terms → IsBound bound → fields ≡ term_fields terms ++ signed_decimal bound ∷ rest → StopsTerms scope old (length terms) fields left → ⊥
 no_stop_terms scope old [] bound rest fields left low distinct factors known is_bound e h =
     fails_there (IsNumberBetween (negsuc 999) (pos 1000)) fields (signed_decimal bound) rest left e (bound, is_bound.0, is_bound.1, refl) h
@@ -110,7 +111,8 @@ no_stop_terms scope old (t ∷ terms) bound rest fields left low distinct factor
     (All-tail (λ u. IsOneOf u.1 scope) t terms known) is_bound (tails (letter x) (letter t.1) more after behind_number)
     (subst (λ (u : ℤ × Var). StopsTerms scope (old ++ u ∷ []) (length terms) more left) term h)
 
-no_stop_comparison : (scope : List Var) (terms : List (ℤ × Var)) (bound : ℤ) (rest fields : List (List ℕ)) (left : ℕ) → AreLetters scope → IsAtom terms bound → All (λ t. IsOneOf t.1 scope) terms
+no_stop_comparison : (scope : List Var) (terms : List (ℤ × Var)) (bound : ℤ) (rest fields : List (List ℕ)) (left : ℕ)
+    → AreLetters scope → IsAtom terms bound → All (λ t. IsOneOf t.1 scope) terms
     → fields ≡ compared_fields terms bound rest → StopsComparison scope fields left → ⊥
 no_stop_comparison scope terms bound rest fields left low atom known e (inl h) =
     let some = atom.0.0 in
@@ -147,7 +149,8 @@ no_stop scope (Bound q x f) rest fields left low proper e h = elim (inv_bind q s
       (subst (λ y. Stops (y ∷ scope) k.1 left) var k.5)
 ]
 
-terms_stop : (scope : List Var) (old : List (ℤ × Var)) (due : ℕ) (fields : List (List ℕ)) (l m : ℕ) → AreLetters scope → StopsTerms scope old due fields l → StopsTerms scope old due fields m → l ≡ m
+terms_stop : (scope : List Var) (old : List (ℤ × Var)) (due : ℕ) (fields : List (List ℕ)) (l m : ℕ) → AreLetters scope
+    → StopsTerms scope old due fields l → StopsTerms scope old due fields m → l ≡ m
 terms_stop scope old zero fields l m low h k = fails_same (IsNumberBetween (negsuc 999) (pos 1000)) fields l m h k
 terms_stop scope old (suc due) fields l m low (inl h) (inl k) = fails_same IsFactorField fields l m h k
 terms_stop scope old (suc due) fields l m low (inl h) (inr (inl (a, more, factor, is, k))) = absurd (fails_there IsFactorField fields (signed_decimal a) more l is (a, factor, refl) h)

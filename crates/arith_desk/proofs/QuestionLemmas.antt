@@ -95,7 +95,8 @@ letters_bind : (quantifier : Quantifier) (y : Var) (f : Tree) → y.0 < 16 → A
 letters_bind quantifiers.Ex y f low a = λ x h. letters_more y (vars_of f) low a x ((one_of-with_var x y (vars_of f)).0 h)
 letters_bind quantifiers.All y f low a = λ x h. letters_more y (vars_of f) low a x ((one_of-with_var x y (vars_of f)).0 h)
 
-letters_terms : (scope : List Var) (terms : List (ℤ × Var)) → AreLetters scope → All (λ t. IsOneOf t.1 scope) terms → (x : Var) → (IsOneOf x (term_vars terms) ⊎ IsOneOf x []) → x.0 < 16
+letters_terms : (scope : List Var) (terms : List (ℤ × Var)) → AreLetters scope → All (λ t. IsOneOf t.1 scope) terms → (x : Var)
+    → (IsOneOf x (term_vars terms) ⊎ IsOneOf x []) → x.0 < 16
 letters_terms scope terms low known x (inl h) = low x (known_terms scope terms x known h)
 letters_terms scope terms low known x (inr h) = absurd h
 

@@ -31,7 +31,8 @@ down_tuple way t is =
     let second : pos 0 +ℤ (pos t *ℤ pos 0) ≡ pos 0 = omega (arith, ints) in
     along way (negsuc 0) t is ∙ (ap (λ n. n ∷ (pos 0 +ℤ (pos t *ℤ pos 0)) ∷ []) first ∙ ap (λ n. neg_ℤ (pos t) ∷ n ∷ []) second)
 
-least_of : (a : Automaton) (way : Way) (near : ℕ) (value : ℕ → ℤ) (found : Option ℕ) → ((t : ℕ) → tuple_at way t ≡ value t ∷ pos 0 ∷ []) → IsLeastFound a way near (2 ^ 64) found
+least_of : (a : Automaton) (way : Way) (near : ℕ) (value : ℕ → ℤ) (found : Option ℕ)
+    → ((t : ℕ) → tuple_at way t ≡ value t ∷ pos 0 ∷ []) → IsLeastFound a way near (2 ^ 64) found
     → IsLeastOf (λ t. IsAccepted a (value t ∷ pos 0 ∷ [])) near found
 least_of a way near value None tuple h = λ t from to hit. h t from to (subst (IsAccepted a) (sym (tuple t)) hit)
 least_of a way near value (Some t) tuple h = record {
@@ -44,5 +45,6 @@ least_of a way near value (Some t) tuple h = record {
 pub least_above : (a : Automaton) (way : Way) (found : Option ℕ) → IsLine way (pos 1) → IsLeastFound a way 0 (2 ^ 64) found → IsLeastOf (λ t. IsAccepted a (pos t ∷ pos 0 ∷ [])) 0 found
 least_above a way found is h = least_of a way 0 (λ t. pos t) found (λ t. up_tuple way t is) h
 
-pub least_below : (a : Automaton) (way : Way) (found : Option ℕ) → IsLine way (negsuc 0) → IsLeastFound a way 1 (2 ^ 64) found → IsLeastOf (λ t. IsAccepted a (neg_ℤ (pos t) ∷ pos 0 ∷ [])) 1 found
+pub least_below : (a : Automaton) (way : Way) (found : Option ℕ) → IsLine way (negsuc 0) → IsLeastFound a way 1 (2 ^ 64) found
+    → IsLeastOf (λ t. IsAccepted a (neg_ℤ (pos t) ∷ pos 0 ∷ [])) 1 found
 least_below a way found is h = least_of a way 1 (λ t. neg_ℤ (pos t)) found (λ t. down_tuple way t is) h

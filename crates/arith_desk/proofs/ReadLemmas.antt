@@ -61,7 +61,8 @@ no_factor n zero_is h =
 pub factor_between : (field : List ℕ) → IsFactorField field → IsNumberBetween (negsuc 63) (pos 64) field
 factor_between field h = (h.0, h.1.1, h.1.2, h.2)
 
-pub read_not : (scope : List Var) (fields rest more : List (List ℕ)) (f made : Tree) → fields ≡ word_text Not ∷ rest → IsRead scope rest f more → made ≡ tree.Not f → IsRead scope fields made more
+pub read_not : (scope : List Var) (fields rest more : List (List ℕ)) (f made : Tree) → fields ≡ word_text Not ∷ rest
+    → IsRead scope rest f more → made ≡ tree.Not f → IsRead scope fields made more
 read_not scope fields rest more f made front r is = record {
   typed = Denied r.typed;
   proper = r.proper;
@@ -175,7 +176,8 @@ more_terms scope old a x due fields one two rest new bound some factor known unu
   fields_are = front ∙ (ap (λ l. signed_decimal a ∷ l) second ∙ ap (λ l. signed_decimal a ∷ letter x ∷ l) r.fields_are);
 }
 
-pub stops_factor : (scope : List Var) (terms : List (ℤ × Var)) (due : ℕ) (fields : List (List ℕ)) (left : ℕ) → 0 < due → Fails IsFactorField fields left → StopsTerms scope terms due fields left
+pub stops_factor : (scope : List Var) (terms : List (ℤ × Var)) (due : ℕ) (fields : List (List ℕ)) (left : ℕ) → 0 < due
+    → Fails IsFactorField fields left → StopsTerms scope terms due fields left
 stops_factor scope terms zero fields left some h = absurd (omega arith)
 stops_factor scope terms (suc due) fields left some h = inl h
 

@@ -239,7 +239,9 @@ module _ (x : Var) (g : Tree) (question : IsQuestion (Ex x g)) (free : IsFree x 
         record {
           word = word;
           is_word = is;
-          values = subst (λ (t : List Var). values_at t (word_values t word) ≡ n ∷ pos 0 ∷ []) (sym tracks_are) (ap (λ m. m ∷ word_values both word 16 ∷ []) value ∙ ap (λ m. n ∷ m ∷ []) zero_value);
+          values =
+              subst (λ (t : List Var). values_at t (word_values t word) ≡ n ∷ pos 0 ∷ []) (sym tracks_are)
+              (ap (λ m. m ∷ word_values both word 16 ∷ []) value ∙ ap (λ m. n ∷ m ∷ []) zero_value);
           accepts = (decides.words word (word_on word is)).1 (subst (λ (t : List Var). Holds (with_zero g) no_sets (word_values t word)) (sym free_is) there);
         }
 

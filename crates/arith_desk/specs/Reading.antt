@@ -1,5 +1,6 @@
 -- What fields and lines are read as.
-use Rattle.std.specs.Prelude.{◌≡◌, ℕ, ◌+◌, List, [], ◌∷◌, ◌++◌, length, ℤ, pos}
+use Rattle.std.specs.Prelude.{◌≡◌, ℕ, ◌+◌, List, [], ◌∷◌, ◌++◌, length, ℤ, pos, Result, IfOk}
+use Rattle.std.specs.Borrow.{Bor}
 use Rattle.std.specs.List.{All}
 use Rattle.std.specs.Fmt.{signed_decimal}
 use Rattle.track_word.specs.declared.tracks.Var.{Var}
@@ -7,12 +8,15 @@ use Rattle.track_word.specs.declared.atoms.Rel.{Rel}
 use Rattle.track_word.specs.Atom.{IsAtom, IsBound, IsCoefficient, IsDistinct}
 use Rattle.lin_formula.specs.Tree as tree
 use Rattle.lin_formula.specs.Tree.{Tree}
+use Rattle.lin_formula.specs.TreeOf.{tree_of}
+use Rattle.lin_formula.specs.declared.formula.Formula.{Formula}
 use Rattle.lin_formula.specs.Free.{IsOneOf}
 use Rattle.arith_desk.specs.declared.words.Connective.{Connective}
 use Rattle.arith_desk.specs.declared.words.Quantifier.{Quantifier}
 use Rattle.arith_desk.specs.declared.errors.ArithError.{ArithError}
 use Rattle.arith_desk.specs.declared.errors.ArithError.TheVariants.{Field, Memory}
-use Rattle.arith_desk.specs.Line.{AreFields}
+use Rattle.arith_desk.specs.declared.errors.Stop.{Stop}
+use Rattle.arith_desk.specs.Line.{AreFields, texts}
 use Rattle.arith_desk.specs.Words.{letter}
 use Rattle.arith_desk.specs.Typed.{Typed, IsProper, bind, join, meaning, spelled, term_fields}
 use Rattle.arith_desk.specs.Stops.{StopsWhole}
@@ -36,6 +40,18 @@ pub record IsFirstRefused (line : List ℕ) (number : ℕ) : Type 0 where
 abbrev pub IsRefusal : List ℕ → ArithError → Type 0
 IsRefusal line (Field number) = IsFirstRefused line number
 IsRefusal line Memory = Unit {0}
+
+-- fields that are left, of a line
+abbrev pub Rest : Type 0
+Rest = Bor (List (Bor (List ℕ)))
+
+-- where a formula was read, this holds of its meaning and of the texts of the fields after it
+abbrev pub IfReadFormula : Result (Formula × Rest) Stop → (Tree → List (List ℕ) → Type 0) → Type 0
+IfReadFormula result Of = IfOk result (λ read. Of (tree_of read.0) (texts read.1.now))
+
+-- where a number was read, this holds of it and of the texts of the fields after it
+abbrev pub IfReadNumber : Result (ℤ × Rest) Stop → (ℤ → List (List ℕ) → Type 0) → Type 0
+IfReadNumber result Of = IfOk result (λ read. Of read.0 (texts read.1.now))
 
 -- all of the fields are a formula with this meaning
 pub record IsReadWhole (fields : List (List ℕ)) (f : Tree) : Type 0 where

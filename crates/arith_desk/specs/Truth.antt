@@ -51,6 +51,10 @@ IsTruth f (truths.Witness w) =
     (x : Var) × (g : Tree) × Asks f x g × IsNearest (HoldsWith x g) w × (unsigned_abs w ≤ 2 ^ 64)
 IsTruth f truths.WitnessWide = (x : Var) × (g : Tree) × Asks f x g × IsWide (HoldsWith x g)
 
+-- it is answered whether the formula holds, without a number
+abbrev pub IsPlainTruth : Tree → Truth → Type 0
+IsPlainTruth f truth = ((truth ≡ truths.True) × IsTrueFormula f) ⊎ ((truth ≡ truths.False) × (¬ IsTrueFormula f))
+
 -- the formula holds, and a further variable is 0
 abbrev pub with_zero : Tree → Tree
 with_zero g = And g (Value (record { 0 = 16 }) (pos 0))

@@ -10,7 +10,7 @@ ghost use Rattle.formula_auto.specs.Step.{FirstOver};
 ghost use Rattle.formula_auto.specs.Compiled.{IsCompileError};
 ghost use Rattle.arith_desk.specs.Nearer.{nearer_of};
 ghost use Rattle.arith_desk.specs.Question.{IsQuestion};
-ghost use Rattle.arith_desk.specs.Truth.{IsNearestFound, IsOver, IsTrueFormula, IsTruth, IsWithin, no_sets};
+ghost use Rattle.arith_desk.specs.Truth.{IsNearestFound, IsOver, IsPlainTruth, IsTruth, IsWithin, no_sets};
 ghost use Rattle.arith_desk.specs.Truth.{with_zero as with_zero_tree};
 
 use crate::building::joined;
@@ -70,9 +70,7 @@ fn is_free(alloc: Global, var: Var, f: &Formula) -> Result<bool, AllocError>
 /// Whether the formula holds, by the formula itself.
 fn decide(alloc: Global, f: &Formula, budget: Budget) -> Result<Truth, CompileError>
     requires question { IsQuestion (tree_of f.now) }
-    ensures truth { IfOk result (λ truth.
-        ((truth ≡ Truth.True) × IsTrueFormula (tree_of f.now))
-        ⊎ ((truth ≡ Truth.False) × (¬ IsTrueFormula (tree_of f.now)))) }
+    ensures truth { IfOk result (IsPlainTruth (tree_of f.now)) }
     ensures within { OnOk result (FirstOver (steps (tree_of f.now)) no_sets budget 1 None) }
     ensures over { IfErr result (IsCompileError (tree_of f.now) (tables []) 0 budget) }
 {

@@ -3,7 +3,7 @@ ghost use Rattle.std.specs.Prelude.{◌≡◌, ◌≤◌, ◌∷◌, ◌++◌, [
 ghost use Rattle.lin_formula.specs.TreeOf.{tree_of};
 ghost use Rattle.arith_desk.specs.Line.{texts};
 ghost use Rattle.arith_desk.specs.Stops.{IsStop, Stops, StopsComparison, StopsJoined, StopsBound, StopsTerms, StopsWhole};
-ghost use Rattle.arith_desk.specs.Reading.{IsFormulaLine, IsRead, IsReadBound, IsReadComparison, IsReadJoined, IsReadTerms, IsReadWhole, IsRefusal};
+ghost use Rattle.arith_desk.specs.Reading.{IfReadFormula, IfReadNumber, IsFormulaLine, IsRead, IsReadBound, IsReadComparison, IsReadJoined, IsReadTerms, IsReadWhole, IsRefusal};
 ghost use Rattle.arith_desk.specs.Question.{IsQuestion};
 
 use crate::building::{bound as bound_formula, compared, denied, joined as joined_formula};
@@ -53,7 +53,7 @@ fn formula<'a>(
     fields: Fields<'a>,
     scope: &[Var],
 ) -> Result<(Formula, Fields<'a>), Stop>
-    ensures ok { IfOk result (λ read. IsRead scope.now (texts fields.now) (tree_of read.0) (texts read.1.now)) }
+    ensures ok { IfReadFormula result (IsRead scope.now (texts fields.now)) }
     ensures err { IfErr result (IsStop (Stops scope.now (texts fields.now))) }
 {
     let Some((field, rest)) = front(fields) else {
@@ -79,8 +79,7 @@ fn joined<'a>(
     fields: Fields<'a>,
     scope: &[Var],
 ) -> Result<(Formula, Fields<'a>), Stop>
-    ensures ok { IfOk result
-        (λ read. IsReadJoined connective scope.now (texts fields.now) (tree_of read.0) (texts read.1.now)) }
+    ensures ok { IfReadFormula result (IsReadJoined connective scope.now (texts fields.now)) }
     ensures err { IfErr result (IsStop (StopsJoined scope.now (texts fields.now))) }
 {
     let (f, rest) = formula(alloc, fields, scope)?;
@@ -96,8 +95,7 @@ fn bound<'a>(
     fields: Fields<'a>,
     scope: &[Var],
 ) -> Result<(Formula, Fields<'a>), Stop>
-    ensures ok { IfOk result
-        (λ read. IsReadBound quantifier scope.now (texts fields.now) (tree_of read.0) (texts read.1.now)) }
+    ensures ok { IfReadFormula result (IsReadBound quantifier scope.now (texts fields.now)) }
     ensures err { IfErr result (IsStop (StopsBound scope.now (texts fields.now))) }
 {
     let (var, rest) = fresh_letter(fields, scope)?;
@@ -122,8 +120,7 @@ fn comparison<'a>(
     fields: Fields<'a>,
     scope: &[Var],
 ) -> Result<(Formula, Fields<'a>), Stop>
-    ensures ok { IfOk result
-        (λ read. IsReadComparison rel scope.now (texts fields.now) (tree_of read.0) (texts read.1.now)) }
+    ensures ok { IfReadFormula result (IsReadComparison rel scope.now (texts fields.now)) }
     ensures err { IfErr result (IsStop (StopsComparison scope.now (texts fields.now))) }
 {
     let (due, rest) = count(fields)?;
@@ -139,9 +136,8 @@ fn terms_and_bound<'a>(
     fields: Fields<'a>,
     scope: &[Var],
 ) -> Result<(i32, Fields<'a>), Stop>
-    ensures ok { IfOk result
-        (λ read. IsReadTerms scope.now terms.old.items due (texts fields.now) terms.new.items read.0
-        (texts read.1.now)) }
+    ensures ok { IfReadNumber result
+        (IsReadTerms scope.now terms.old.items due (texts fields.now) terms.new.items) }
     ensures err { IfErr result (IsStop (StopsTerms scope.now terms.old.items due (texts fields.now))) }
 {
     if due == 0 {

@@ -2,7 +2,7 @@
 
 ghost use Rattle.std.specs.Prelude.{◌≡◌, ◌≤◌, ◌<◌, ◌^◌, All, IsTrue};
 ghost use Rattle.track_word.specs.Tracks.{IsAscending};
-ghost use Rattle.auto_core.specs.Rows.{AreTables};
+ghost use Rattle.automaton_trials.specs.Tabled.{AreOfAutomaton};
 
 use auto_core::Auto;
 use limits::{MOST_STATES, MOST_TRACKS};
@@ -52,8 +52,7 @@ pub struct Tables {
 
 /// Whether tables are those of an automaton.
 fn are_tables(tables: &Tables) -> bool
-    ensures { IsTrue result
-        → AreTables tables.now.tracks.items tables.now.first.items tables.now.next.items tables.now.accept.items }
+    ensures { IsTrue result → AreOfAutomaton tables.now }
 {
     let states = tables.accept.len();
     if tables.tracks.len() > MOST_TRACKS as usize || states == 0 || states > MOST_STATES as usize {

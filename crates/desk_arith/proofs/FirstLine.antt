@@ -83,7 +83,8 @@ module _ (budget : ℕ) (files : Files) where
         }
 
     -- no whole line came: all that was taken is held, and the first line is refused
-    refused : (bytes rest : List ℕ) (why : LineWhy) → Consumes left after bytes → IfSome after (λ told. told ≡ rest) → pending ≡ bytes → Says (lines_of (bytes ++ rest)) (refused_as files why)
+    refused : (bytes rest : List ℕ) (why : LineWhy) → Consumes left after bytes → IfSome after (λ told. told ≡ rest)
+        → pending ≡ bytes → Says (lines_of (bytes ++ rest)) (refused_as files why)
         → Writes [] (refusal_line 1 why) written later (HasRisen writes writes_later) → ArithEnds budget files is.Text pending old new
     refused bytes rest why took told is' says wrote = record {
       bytes = bytes;
@@ -104,7 +105,9 @@ module _ (budget : ℕ) (files : Files) where
         let P : Lines → Type 0 = λ l. Says l (refused_as files Cut) in
         refused took.bytes [] Cut took.taken (no_rest after took.reads.0) took.keeps (subst P (sym (ap lines_of (append-nil took.bytes) ∙ took.reads.1)) refl) wrote
 
-    pub long_ends : Takes (Err fails.TooLong) [] line pending left after → Writes [] (refusal_line 1 Long) written later (HasRisen writes writes_later) → ArithEnds budget files is.Text pending old new
+    pub long_ends : Takes (Err fails.TooLong) [] line pending left after
+        → Writes [] (refusal_line 1 Long) written later (HasRisen writes writes_later)
+        → ArithEnds budget files is.Text pending old new
     long_ends took wrote =
         let P : Lines → Type 0 = λ l. Says l (refused_as files Long) in
         let rest = unwrap_or after [] in

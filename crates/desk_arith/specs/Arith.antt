@@ -10,7 +10,10 @@ use Rattle.arith_desk.specs.declared.deciding.Truth.TheVariants as truths
 use Rattle.desk_base.specs.Files.{Files}
 use Rattle.desk_base.specs.Lines.{IsLine, Lines, full, ended, cut, long}
 use Rattle.desk_report.specs.ByLines.{EndsByLines}
+use Rattle.desk_base.specs.declared.sink.Sink.{Ghosts as SinkModel}
+use Rattle.desk_base.specs.declared.source.Source.{Ghosts as SourceModel}
 use Rattle.desk_report.specs.Outcome.{NeverMisses, Report, Seen, done_with, refusal_as}
+use Rattle.desk_report.specs.Ports.{streams_seen}
 use Rattle.desk_text.specs.Text.{is_end, refusal_line}
 use Rattle.desk_report.specs.declared.status.Status.{Status}
 use Rattle.desk_report.specs.declared.status.Status.TheVariants as is
@@ -71,3 +74,9 @@ pub record IsBehindLine (taken : List ℕ) : Type 0 where
 abbrev pub ArithEnds : (budget : ℕ) → Files → Status → (pending : List ℕ) → Seen → Seen → Type 0
 ArithEnds budget files status pending old new =
     EndsByLines (λ lines. ArithReports budget lines files) IsBehindLine (λ bytes. NeverMisses) status [] pending old new
+
+-- how it ends on a source and a sink, whatever files there are
+abbrev pub ArithEndsOn : {S K : Type 0} → SourceModel S → SinkModel K → (budget : ℕ) → Status → (old new : S × K) → Type 0
+ArithEndsOn s k budget status old new =
+    (files : Files)
+    → (pending : List ℕ) × ArithEnds budget files status pending (streams_seen s k files old) (streams_seen s k files new)

@@ -1,14 +1,13 @@
 //! Whether a formula that is typed as a line holds over all integers.
 
-ghost use Rattle.std.specs.Prelude.{◌≡◌, ◌+◌, ◌≤◌, ◌++◌, List, ℕ, [], length};
+ghost use Rattle.std.specs.Prelude.{◌≡◌, ◌+◌, ◌≤◌, ◌++◌, [], length};
 ghost use Rattle.std.specs.Fmt.{signed_decimal};
 ghost use Rattle.lin_formula.specs.TreeOf.{tree_of};
-ghost use Rattle.desk_base.specs.Faults.{HasRisen};
-ghost use Rattle.desk_base.specs.Files.{Files};
 ghost use Rattle.arith_desk.specs.Question.{IsQuestion};
-ghost use Rattle.desk_report.specs.Outcome.{Ends, NeverMisses, Writes, of_sink, of_streams};
+ghost use Rattle.desk_report.specs.Outcome.{Writes};
+ghost use Rattle.desk_report.specs.Ports.{EndsOnSink, OnSink};
 ghost use Rattle.desk_text.specs.Text as texts;
-ghost use Rattle.desk_arith.specs.Arith.{ArithEnds, FormulaReports, LineReports};
+ghost use Rattle.desk_arith.specs.Arith.{ArithEndsOn, FormulaReports, LineReports};
 ghost use Rattle.desk_arith.specs.Arith as specs;
 
 use arith_desk::{ArithError, Truth, decide_closed, read_formula};
@@ -29,10 +28,7 @@ pub fn arith<S: Source, K: Sink>(
     source: &mut S,
     sink: &mut K,
 ) -> Status
-    ensures ends { (files : Files) → (pending : List ℕ) ×
-        ArithEnds budget files result pending
-        (of_streams files (S.left source.old) (K.written sink.old) (S.faults source.old) (K.faults sink.old))
-        (of_streams files (S.left source.new) (K.written sink.new) (S.faults source.new) (K.faults sink.new)) }
+    ensures ends { ArithEndsOn S.Source K.Sink budget result (source.old, sink.old) (source.new, sink.new) }
 {
     let mut reader = LineReader::new();
     match reader.next_line(source) {
@@ -50,8 +46,7 @@ pub fn arith<S: Source, K: Sink>(
 /// Writes that the first line is refused, as far as the sink takes it.
 fn refuse_line<K: Sink>(sink: &mut K, why: LineWhy) -> Status
     ensures status { result ≡ Status.Text }
-    ensures written { Writes [] (texts.refusal_line 1 why) (K.written sink.old) (K.written sink.new)
-        (HasRisen (K.faults sink.old) (K.faults sink.new)) }
+    ensures written { OnSink K.Sink (Writes [] (texts.refusal_line 1 why)) sink.old sink.new }
 {
     let line = refusal_line(1, why);
     refuse(sink, line.as_slice());
@@ -61,10 +56,7 @@ fn refuse_line<K: Sink>(sink: &mut K, why: LineWhy) -> Status
 /// Writes whether the formula that the line is holds.
 fn answer_line<K: Sink>(alloc: Global, line: &[u8], budget: Budget, sink: &mut K) -> Status
     requires short { length line.now ≤ MOST_LINE_BYTES }
-    ensures ends { (files : Files) →
-        Ends result (LineReports budget line.now files) (Unit {0}) NeverMisses
-        (of_sink files (K.written sink.old) (K.faults sink.old))
-        (of_sink files (K.written sink.new) (K.faults sink.new)) }
+    ensures ends { EndsOnSink K.Sink result (LineReports budget line.now) (Unit {0}) sink.old sink.new }
 {
     match read_formula(alloc, line) {
         Ok(f) => answer(alloc, &f, budget, sink),
@@ -83,10 +75,7 @@ fn answer_line<K: Sink>(alloc: Global, line: &[u8], budget: Budget, sink: &mut K
 /// Writes whether the formula holds.
 fn answer<K: Sink>(alloc: Global, f: &Formula, budget: Budget, sink: &mut K) -> Status
     requires question { IsQuestion (tree_of f.now) }
-    ensures ends { (files : Files) →
-        Ends result (FormulaReports budget (tree_of f.now) files) (Unit {0}) NeverMisses
-        (of_sink files (K.written sink.old) (K.faults sink.old))
-        (of_sink files (K.written sink.new) (K.faults sink.new)) }
+    ensures ends { EndsOnSink K.Sink result (FormulaReports budget (tree_of f.now)) (Unit {0}) sink.old sink.new }
 {
     match decide_closed(alloc, f, budget) {
         Ok(truth) => {

@@ -103,8 +103,11 @@ module _ (reports : Claim → Report → Type 0) (budget : ℕ) (name : List ℕ
       (_, of_outcome _ (Err (layout.Byte at why)) r refl, record { reported = refl; written = wrote; files = go_same files (λ before after. after ≡ files) old.files new.files same kept refl })
   refused_ends (Extra at) may_lack old new r lack kept same failed wrote =
       (_, of_outcome _ (Err (layout.Extra at)) r refl, record { reported = refl; written = wrote; files = go_same files (λ before after. after ≡ files) old.files new.files same kept refl })
-  refused_ends (NotKept rule) may_lack old new (charts, r, finds) lack kept same failed wrote =
-      (_, of_outcome _ (Ok charts) r (inl (rule, finds, refl)), record { reported = refl; written = wrote; files = go_same files (λ before after. after ≡ files) old.files new.files same kept refl })
+  refused_ends (NotKept rule) may_lack old new (charts, r, finds) lack kept same failed wrote = (
+    _,
+    of_outcome _ (Ok charts) r (inl (rule, finds, refl)),
+    record { reported = refl; written = wrote; files = go_same files (λ before after. after ≡ files) old.files new.files same kept refl },
+  )
   refused_ends (Over step) may_lack old new (charts, r, over) lack kept same failed wrote = (
     _,
     of_outcome _ (Ok charts) r (inr (inl (step, over, refl))),
@@ -238,7 +241,8 @@ module _ (budget : ℕ) (name : List ℕ) (files : Files) (s : Solution) (h : Ha
       }
 
 -- `check` ends as its line is printed
-pub line_checks : (budget : ℕ) (name : List ℕ) (files : Files) (s : Solution) → HasFileClaim budget name files s → (status : Status) (text : List ℕ) (old new : Seen) → text ≡ mate_line s.moves
+pub line_checks : (budget : ℕ) (name : List ℕ) (files : Files) (s : Solution) → HasFileClaim budget name files s
+    → (status : Status) (text : List ℕ) (old new : Seen) → text ≡ mate_line s.moves
     → IfSome old.files (λ told. told ≡ files) → Go old.files new.files (λ before after. after ≡ before)
     → Ends status (λ report. report ≡ done_with files text) ⊥ NeverMisses (of_sink files old.written old.write_faults) (of_sink files new.written new.write_faults)
     → Ends status (CheckReports budget name files) (Unit {0}) (MissesFetch []) old new

@@ -123,7 +123,9 @@ module _ (problem : Problem) (n : ℕ) (s : Solution) (of : IsOf problem.positio
       let N : ℕ → Type 0 = λ k. F problem.winner problem.position k in
       subst N of.moves_are (subst P of.position (subst W of.winner_is h))
 
-  pub kept_reports : (name : List ℕ) (files : Files) (report : Report) → FileReports s.winner s.position s.moves name files report → FileReports problem.winner problem.position n name files report
+  pub kept_reports : (name : List ℕ) (files : Files) (report : Report)
+      → FileReports s.winner s.position s.moves name files report
+      → FileReports problem.winner problem.position n name files report
   kept_reports name files report = along (λ w p k. FileReports w p k name files report)
 
   pub kept_file : (budget : ℕ) → FitsBudget problem budget n → Value problem.winner n problem.position → (bytes : List ℕ)

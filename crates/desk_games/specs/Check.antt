@@ -1,10 +1,23 @@
--- What is reported of `check`.
-use Rattle.std.specs.Prelude.{◌≡◌, ℕ, List}
+-- What is reported of `check`, and how it ends.
+use Rattle.std.specs.Prelude.{◌≡◌, ℕ, List, []}
 use Rattle.desk_base.specs.Files.{Files}
-use Rattle.desk_games.specs.FileClaim.{OfFile}
-use Rattle.desk_report.specs.Outcome.{Report, done_with}
+use Rattle.desk_base.specs.declared.files.Shelf.{Ghosts as ShelfModel}
+use Rattle.desk_base.specs.declared.sink.Sink.{Ghosts as SinkModel}
+use Rattle.desk_games.specs.FileClaim.{MissesFetch, OfFile, OnFiles}
+use Rattle.desk_report.specs.Outcome.{Ends, Report, done_with}
+use Rattle.desk_report.specs.Ports.{shelf_seen}
+use Rattle.desk_report.specs.declared.status.Status.{Status}
 use Rattle.desk_solve.specs.Verdict.{mate_line}
+use Rattle.desk_text.specs.declared.problem.FileTask.{FileTask}
 
 -- within how many moves the claim of the file of the name mates, or the first reason why there is none
 abbrev pub CheckReports : (budget : ℕ) → (name : List ℕ) → Files → Report → Type 0
 CheckReports budget name files = OfFile (λ c report. report ≡ done_with files (mate_line c.moves)) budget name files
+
+-- how it ends on a sink and a shelf
+abbrev pub CheckEndsOn : {K H : Type 0} → SinkModel K → ShelfModel H → FileTask → Status → (old new : K × H) → Type 0
+CheckEndsOn k h file status old new =
+    OnFiles (h.files old.1)
+    (λ files.
+    Ends status (CheckReports file.budget file.name.now files) (Unit {0}) (MissesFetch []) (shelf_seen k h old)
+    (shelf_seen k h new))

@@ -1,16 +1,22 @@
 -- What is reported of `keep`.
-use Rattle.std.specs.Prelude.{◌≡◌, ◌⊎◌, ℕ, ◌≤◌, List, length, Option, Some, false}
+use Rattle.std.specs.Prelude.{◌≡◌, ◌⊎◌, ℕ, ◌≤◌, List, length, Option, Some, IfSome, false}
 use Rattle.std.specs.FinMap as map
 use Rattle.desk_base.specs.Files.{Files}
+use Rattle.desk_base.specs.declared.files.Shelf.{Ghosts as ShelfModel}
+use Rattle.desk_base.specs.declared.sink.Sink.{Ghosts as SinkModel}
 use Rattle.game_rules.specs.Game.{Position, Value}
 use Rattle.game_rules.specs.declared.men.Side.{Side}
 use Rattle.strategy_file.specs.KeptFile.{IsKeptFile, IsKeptTooLarge}
 use Rattle.strategy_file.specs.Written.{most_bytes}
+use Rattle.winning_sets.specs.Solve.{Solution}
 use Rattle.winning_sets.specs.declared.names.StepName.{StepName}
 use Rattle.desk_report.specs.FaultLines.{too_large_line}
-use Rattle.desk_report.specs.Outcome.{Report, done_with, over_budget, refusal_as}
-use Rattle.desk_solve.specs.Verdict.{ExceedsAt, FitsBudget, mate_line, no_mate_line}
+use Rattle.desk_report.specs.Outcome.{Ends, Report, done_with, over_budget, refusal_as}
+use Rattle.desk_report.specs.Ports.{shelf_seen}
+use Rattle.desk_solve.specs.Verdict.{ExceedsAt, FitsBudget, HasSomeToPlay, mate_line, no_mate_line}
 use Rattle.desk_text.specs.declared.problem.Problem.{Problem}
+use Rattle.desk_text.specs.declared.problem.Task.{Task}
+use Rattle.desk_report.specs.declared.status.Status.{Status}
 use Rattle.desk_report.specs.declared.status.Status.TheVariants as is
 
 -- the bytes are the file of what is kept, and no more than a file may have
@@ -48,3 +54,26 @@ pub record HasFileToKeep (n budget : ℕ) (problem : Problem) : Type 0 where
 -- where the shelf may fail while it keeps a file of this name
 abbrev pub MissesKeep : (name : List ℕ) → (has_file : Type 0) → (keeping : Option (List ℕ)) → Type 0
 MissesKeep name has_file keeping = has_file × (keeping ≡ Some name)
+
+-- How a command ends that keeps a file of this name, where there is one, on a sink and a shelf, whatever files the
+-- shelf has, which are those that it tells, where it tells them: what is reported with them, and where memory may be
+-- wanting, is told.
+abbrev pub EndsByKeeping : {K H : Type 0} → SinkModel K → ShelfModel H → (name : List ℕ) → (has_file : Type 0) → Status
+    → (Files → Report → Type 0) → (may_lack : Type 0) → (old new : K × H) → Type 0
+EndsByKeeping k h name has_file status reports may_lack old new =
+    (files : Files) → IfSome (h.files old.1) (λ told. told ≡ files)
+    → Ends status (reports files) may_lack (MissesKeep name has_file) (shelf_seen k h old) (shelf_seen k h new)
+
+-- how `keep` ends on a sink and a shelf
+abbrev pub KeepEndsOn : {K H : Type 0} → SinkModel K → ShelfModel H → Task → (name : List ℕ) → Status
+    → (old new : K × H) → Type 0
+KeepEndsOn k h task name status =
+    EndsByKeeping k h name (HasFileToKeep task.moves task.budget task.problem) status
+    (KeepReports task.moves task.budget task.problem name) (HasSomeToPlay task)
+
+-- how it ends once the problem is solved
+abbrev pub FileEndsOn : {K H : Type 0} → SinkModel K → ShelfModel H → Solution → (name : List ℕ) → Status
+    → (old new : K × H) → Type 0
+FileEndsOn k h s name status =
+    EndsByKeeping k h name ((bytes : List ℕ) × IsFileToKeep s.winner s.position s.moves bytes) status
+    (FileReports s.winner s.position s.moves name) (Unit {0})

@@ -2,6 +2,9 @@
 use Rattle.std.specs.Prelude.{◌≡◌, ◌⊎◌, ℕ, List, [], Option, Result, Ok, Err, codes}
 use Rattle.desk_base.specs.Files.{Files}
 use Rattle.desk_base.specs.Lines.{Lines}
+use Rattle.desk_base.specs.Reading.{Reading}
+use Rattle.desk_base.specs.declared.sink.Sink.{Ghosts as SinkModel}
+use Rattle.desk_base.specs.declared.source.Source.{Ghosts as SourceModel}
 use Rattle.game_rules.specs.Game.{Value}
 use Rattle.game_report.specs.Played.{is_short}
 use Rattle.game_report.specs.Report.{ByKept, IsReport, Match, ending_line}
@@ -13,8 +16,10 @@ use Rattle.game_report.specs.declared.play.GameError.TheVariants.{Read, Write}
 use Rattle.winning_sets.specs.declared.names.StepName.{StepName}
 use Rattle.desk_report.specs.ByLines.{EndsByLines}
 use Rattle.desk_report.specs.Outcome.{NeverMisses, Report, Seen, Writes, done_with, over_budget}
+use Rattle.desk_report.specs.Ports.{streams_seen}
 use Rattle.desk_solve.specs.Verdict.{ExceedsAt, FitsBudget, HasNothingToPlay, no_mate_line}
 use Rattle.desk_text.specs.declared.problem.Problem.{Problem}
+use Rattle.desk_text.specs.declared.problem.Task.{Task}
 use Rattle.desk_report.specs.declared.status.Status.{Status}
 use Rattle.desk_report.specs.declared.status.Status.TheVariants as is
 
@@ -76,6 +81,14 @@ abbrev pub PlayEnds : (n budget : ℕ) → Problem → Files → Status → (hel
 PlayEnds n budget problem files status held pending old new =
     EndsByLines (λ lines. PlayReports n budget problem lines files) (LacksAtFirst n problem) (λ bytes. NeverMisses)
     status held pending old new
+
+-- how it ends on a reader, a source and a sink, whatever files there are
+abbrev pub PlayEndsOn : {S K : Type 0} → SourceModel S → SinkModel K → Task → Status → (old new : Reading × S × K)
+    → Type 0
+PlayEndsOn s k task status old new =
+    (files : Files)
+    → PlayEnds task.moves task.budget task.problem files status old.0.pending new.0.pending
+    (streams_seen s k files (old.1, old.2)) (streams_seen s k files (new.1, new.2))
 
 -- what is written after a game was played, and the status then
 abbrev pub Finishes : Result Ending GameError → Status → (old new : Option (List ℕ)) → (failed : Type 0) → Type 0

@@ -2,12 +2,19 @@
 use Rattle.std.specs.Prelude.{◌≡◌, ℕ, List, []}
 use Rattle.desk_base.specs.Files.{Files}
 use Rattle.desk_base.specs.Lines.{Lines}
+use Rattle.desk_base.specs.declared.files.Shelf.{Ghosts as ShelfModel}
+use Rattle.desk_base.specs.declared.sink.Sink.{Ghosts as SinkModel}
+use Rattle.desk_base.specs.declared.source.Source.{Ghosts as SourceModel}
 use Rattle.game_report.specs.Report.{ByClaim, IsReport, Match}
 use Rattle.game_report.specs.Report as game
 use Rattle.mate_plan.specs.Claim.{Claim}
-use Rattle.desk_games.specs.FileClaim.{MissesFetch, OfFile}
-use Rattle.desk_report.specs.Outcome.{Report, Seen}
+use Rattle.winning_sets.specs.Claimed.{claim_of}
+use Rattle.winning_sets.specs.Solve.{Solution}
+use Rattle.desk_games.specs.FileClaim.{MissesFetch, OfFile, OnFiles}
+use Rattle.desk_report.specs.Outcome.{NeverMisses, Report, Seen}
 use Rattle.desk_report.specs.ByLines.{EndsByLines}
+use Rattle.desk_report.specs.Ports.{ports_seen, streams_seen}
+use Rattle.desk_text.specs.declared.problem.FileTask.{FileTask}
 use Rattle.desk_games.specs.Play.{as_played}
 use Rattle.desk_report.specs.declared.status.Status.{Status}
 
@@ -40,3 +47,19 @@ LacksBefore bytes = bytes ≡ []
 abbrev pub ResumeEnds : (budget : ℕ) → (name : List ℕ) → Files → Status → (pending : List ℕ) → Seen → Seen → Type 0
 ResumeEnds budget name files status pending old new =
     EndsByLines (λ lines. ResumeReports budget lines name files) LacksBefore MissesFetch status [] pending old new
+
+-- how it ends on a source, a sink and a shelf
+abbrev pub ResumeEndsOn : {S K H : Type 0} → SourceModel S → SinkModel K → ShelfModel H → FileTask → Status
+    → (old new : S × K × H) → Type 0
+ResumeEndsOn s k h file status old new =
+    OnFiles (h.files old.2)
+    (λ files. (pending : List ℕ)
+    × ResumeEnds file.budget file.name.now files status pending (ports_seen s k h old) (ports_seen s k h new))
+
+-- how the game of a claim ends on a source and a sink, whatever files there are
+abbrev pub GameEndsOn : {S K : Type 0} → SourceModel S → SinkModel K → Solution → Status → (old new : S × K) → Type 0
+GameEndsOn s k solved status old new =
+    (files : Files)
+    → (pending : List ℕ)
+    × EndsByLines (λ lines. GameReports lines files (claim_of solved)) LacksBefore (λ bytes. NeverMisses) status []
+    pending (streams_seen s k files old) (streams_seen s k files new)

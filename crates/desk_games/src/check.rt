@@ -1,9 +1,6 @@
 //! Whether the claim of a file keeps all rules.
 
-ghost use Rattle.std.specs.Prelude.{[]};
-ghost use Rattle.desk_games.specs.Check.{CheckReports};
-ghost use Rattle.desk_games.specs.FileClaim.{MissesFetch, OnFiles};
-ghost use Rattle.desk_report.specs.Outcome.{Ends, of_shelf};
+ghost use Rattle.desk_games.specs.Check.{CheckEndsOn};
 
 use crate::file_claim::{fetch_claim, refuse_file};
 use desk_base::{Shelf, Sink};
@@ -19,10 +16,7 @@ pub fn check<K: Sink, H: Shelf>(
     sink: &mut K,
     shelf: &mut H,
 ) -> Status
-    ensures ends { OnFiles (H.files shelf.old) (λ files.
-        Ends result (CheckReports file.now.budget file.now.name.now files) (Unit {0}) (MissesFetch [])
-        (of_shelf (K.written sink.old) (H.files shelf.old) (K.faults sink.old) (H.faults shelf.old))
-        (of_shelf (K.written sink.new) (H.files shelf.new) (K.faults sink.new) (H.faults shelf.new))) }
+    ensures ends { CheckEndsOn K.Sink H.Shelf file.now result (sink.old, shelf.old) (sink.new, shelf.new) }
 {
     match fetch_claim(alloc, file.name, file.budget, shelf) {
         Ok(solved) => {

@@ -2,11 +2,12 @@
 
 ghost use Rattle.std.specs.Prelude.{◌≡◌, ◌≤◌, [], IsErrOf, length};
 ghost use Rattle.desk_base.specs.Faults.{HasRisen};
-ghost use Rattle.desk_base.specs.Files.{Go};
+ghost use Rattle.desk_base.specs.Files.{FilesStay};
 ghost use Rattle.strategy_file.specs.Claims.{claim_of};
 ghost use Rattle.strategy_file.specs.Fitting.{HasFile};
 ghost use Rattle.desk_games.specs.FileClaim.{Fetches, IsFetched, OnFiles, TellsChecked, TellsRead, no_claim_line, no_claim_status};
 ghost use Rattle.desk_report.specs.Outcome.{Writes};
+ghost use Rattle.desk_report.specs.Ports.{OnSink};
 
 use chess_text::line_buffer::LineBuffer;
 use claim_check::{CheckError, check};
@@ -90,8 +91,7 @@ fn text_line(text: &[u8]) -> LineBuffer
 /// Writes why there is no claim, as far as the sink takes it.
 pub fn refuse_file<K: Sink>(sink: &mut K, why: NoClaim) -> Status
     ensures status { result ≡ no_claim_status why }
-    ensures written { Writes [] (no_claim_line why) (K.written sink.old) (K.written sink.new)
-        (HasRisen (K.faults sink.old) (K.faults sink.new)) }
+    ensures written { OnSink K.Sink (Writes [] (no_claim_line why)) sink.old sink.new }
     ensures never_falls { K.faults sink.old ≤ K.faults sink.new }
 {
     let line = why.line();
@@ -107,7 +107,7 @@ pub fn fetch_claim<H: Shelf>(
     shelf: &mut H,
 ) -> Result<Solved, NoClaim>
     ensures fetches { OnFiles (H.files shelf.old) (λ files. Fetches budget name.now files result) }
-    ensures same { Go (H.files shelf.old) (H.files shelf.new) (λ before after. after ≡ before) }
+    ensures same { FilesStay (H.files shelf.old) (H.files shelf.new) }
     ensures failed { IsErrOf result NoClaim.Fault → HasRisen (H.faults shelf.old) (H.faults shelf.new) }
 {
     let bytes = fetch(alloc, name, shelf)?;
@@ -118,7 +118,7 @@ pub fn fetch_claim<H: Shelf>(
 /// The bytes of the file of this name.
 fn fetch<H: Shelf>(alloc: Global, name: &str, shelf: &mut H) -> Result<Vec<u8>, NoClaim>
     ensures fetched { OnFiles (H.files shelf.old) (λ files. IsFetched name.now files result) }
-    ensures same { Go (H.files shelf.old) (H.files shelf.new) (λ before after. after ≡ before) }
+    ensures same { FilesStay (H.files shelf.old) (H.files shelf.new) }
     ensures failed { IsErrOf result NoClaim.Fault → HasRisen (H.faults shelf.old) (H.faults shelf.new) }
 {
     match shelf.fetch(alloc, name, MOST_FILE_BYTES) {

@@ -1,13 +1,10 @@
 //! The file of the sets by which the winner mates.
 
-ghost use Rattle.std.specs.Prelude.{◌≡◌, ◌≤◌, ℕ, List, IfSome, length};
-ghost use Rattle.desk_base.specs.Files.{Files};
-ghost use Rattle.game_rules.specs.Game.{Value};
+ghost use Rattle.std.specs.Prelude.{◌≡◌, ◌≤◌, length};
 ghost use Rattle.game_rules.specs.declared.men.Side.TheVariants.{White};
 ghost use Rattle.winning_sets.specs.declared.origin.Origin.TheVariants.{Plan};
-ghost use Rattle.desk_games.specs.Keep.{FileReports, HasFileToKeep, IsFileToKeep, KeepReports, MissesKeep};
-ghost use Rattle.desk_report.specs.Outcome.{Ends, of_shelf};
-ghost use Rattle.desk_solve.specs.Verdict.{HasNothingToPlay, IsTask};
+ghost use Rattle.desk_games.specs.Keep.{FileEndsOn, KeepEndsOn};
+ghost use Rattle.desk_solve.specs.Verdict.{IsTask};
 
 use desk_base::{KeepError, Shelf, Sink};
 use desk_report::{Status, print, print_error, refuse, too_large_line};
@@ -29,12 +26,7 @@ pub fn keep<K: Sink, H: Shelf>(
 ) -> Status
     requires task { IsTask task.now }
     requires white { task.now.problem.winner ≡ White }
-    ensures ends { (files : Files) → IfSome (H.files shelf.old) (λ told. told ≡ files) →
-        Ends result (KeepReports task.now.moves task.now.budget task.now.problem name.now files)
-        (¬ HasNothingToPlay task.now.moves task.now.problem)
-        (MissesKeep name.now (HasFileToKeep task.now.moves task.now.budget task.now.problem))
-        (of_shelf (K.written sink.old) (H.files shelf.old) (K.faults sink.old) (H.faults shelf.old))
-        (of_shelf (K.written sink.new) (H.files shelf.new) (K.faults sink.new) (H.faults shelf.new)) }
+    ensures ends { KeepEndsOn K.Sink H.Shelf task.now name.now result (sink.old, shelf.old) (sink.new, shelf.new) }
 {
     let Task {
         problem,
@@ -64,12 +56,7 @@ fn keep_file<K: Sink, H: Shelf>(
     requires plan { solved.now.origin ≡ Plan }
     requires white { solved.now.winner ≡ White }
     requires few { length solved.now.position.men ≤ 5 }
-    ensures ends { (files : Files) → IfSome (H.files shelf.old) (λ told. told ≡ files) →
-        Ends result (FileReports solved.now.winner solved.now.position solved.now.moves name.now files) (Unit {0})
-        (MissesKeep name.now
-        ((bytes : List ℕ) × IsFileToKeep solved.now.winner solved.now.position solved.now.moves bytes))
-        (of_shelf (K.written sink.old) (H.files shelf.old) (K.faults sink.old) (H.faults shelf.old))
-        (of_shelf (K.written sink.new) (H.files shelf.new) (K.faults sink.new) (H.faults shelf.new)) }
+    ensures ends { FileEndsOn K.Sink H.Shelf solved.now name.now result (sink.old, shelf.old) (sink.new, shelf.new) }
 {
     let _masks = solved.masks();
     let bytes = match write_file(alloc, solved) {

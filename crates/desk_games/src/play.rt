@@ -1,11 +1,11 @@
 //! A game that the winner plays against replies that come behind the text.
 
-ghost use Rattle.std.specs.Prelude.{◌≡◌, ◌≤◌, [], None, length};
-ghost use Rattle.desk_base.specs.Faults.{HasRisen};
-ghost use Rattle.desk_base.specs.Files.{Files};
+ghost use Rattle.std.specs.Prelude.{◌≡◌, ◌≤◌, [], length};
+ghost use Rattle.desk_base.specs.Reading.{GoesOn};
 ghost use Rattle.game_report.specs.Report.{ending_line};
-ghost use Rattle.desk_report.specs.Outcome.{Writes, of_streams};
-ghost use Rattle.desk_games.specs.Play.{Finishes, PlayEnds, status_of};
+ghost use Rattle.desk_report.specs.Outcome.{Writes};
+ghost use Rattle.desk_report.specs.Ports.{OnSink};
+ghost use Rattle.desk_games.specs.Play.{Finishes, PlayEndsOn, status_of};
 ghost use Rattle.desk_solve.specs.Verdict.{IsTask};
 
 use chess_game::Frame;
@@ -29,13 +29,12 @@ pub fn play<S: Source, K: Sink>(
     sink: &mut K,
 ) -> Status
     requires task { IsTask task.now }
-    requires goes_on { reader.old.stopped ≡ None }
+    requires goes_on { GoesOn reader.old }
     requires held { length reader.old.pending ≤ 256 }
     requires lines { task.now.problem.lines ≤ 8 }
-    ensures ends { (files : Files) →
-        PlayEnds task.now.moves task.now.budget task.now.problem files result reader.old.pending reader.new.pending
-        (of_streams files (S.left source.old) (K.written sink.old) (S.faults source.old) (K.faults sink.old))
-        (of_streams files (S.left source.new) (K.written sink.new) (S.faults source.new) (K.faults sink.new)) }
+    ensures ends { PlayEndsOn S.Source K.Sink task.now result
+        (reader.old, source.old, sink.old)
+        (reader.new, source.new, sink.new) }
 {
     let Task {
         problem,
@@ -64,8 +63,7 @@ pub fn play<S: Source, K: Sink>(
 
 /// Writes what is still to be written of a game that was played.
 pub fn finish<K: Sink>(played: Result<Ending, GameError>, sink: &mut K) -> Status
-    ensures ends { Finishes played result (K.written sink.old) (K.written sink.new)
-        (HasRisen (K.faults sink.old) (K.faults sink.new)) }
+    ensures ends { OnSink K.Sink (Finishes played result) sink.old sink.new }
     ensures never_falls { K.faults sink.old ≤ K.faults sink.new }
 {
     match played {
@@ -81,8 +79,7 @@ pub fn finish<K: Sink>(played: Result<Ending, GameError>, sink: &mut K) -> Statu
 /// Writes the line that tells of an ending other than mate, as far as the sink takes it.
 fn close<K: Sink>(ending: Ending, sink: &mut K) -> Status
     ensures status { result ≡ status_of ending }
-    ensures written { Writes [] (ending_line ending) (K.written sink.old) (K.written sink.new)
-        (HasRisen (K.faults sink.old) (K.faults sink.new)) }
+    ensures written { OnSink K.Sink (Writes [] (ending_line ending)) sink.old sink.new }
     ensures never_falls { K.faults sink.old ≤ K.faults sink.new }
 {
     match ending {

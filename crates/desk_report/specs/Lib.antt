@@ -2,3 +2,4 @@ pub mod ByLines
 pub mod Codes
 pub mod FaultLines
 pub mod Outcome
+pub mod Ports

@@ -1,10 +1,11 @@
 -- What a run does, and how it may end.
-use Rattle.std.specs.Prelude.{◌≡◌, ◌≢◌, ◌⊎◌, ℕ, ◌≤◌, List, [], ◌++◌, length, take, Bool, false, Option, Some, None, IsTrue, codes}
-use Rattle.std.specs.FinMap as map
+use Rattle.std.specs.Prelude.{◌≡◌, ◌⊎◌, ℕ, ◌≤◌, List, [], ◌++◌, length, take, Bool, false, Option, Some, None, IsTrue, codes}
 use Rattle.std.specs.Io.KnownBytes.{Appends}
 use Rattle.desk_base.specs.Faults.{HasRisen}
-use Rattle.desk_base.specs.Files.{Files, Go}
+use Rattle.desk_base.specs.Files.{Files, FilesStay, Go, OtherFilesStay}
 use Rattle.desk_base.specs.Moves.{AppendsFront}
+use Rattle.winning_sets.specs.declared.names.SolveError.{SolveError}
+use Rattle.winning_sets.specs.declared.names.SolveError.TheVariants.{Over}
 use Rattle.winning_sets.specs.declared.names.StepName.{StepName}
 use Rattle.desk_report.specs.FaultLines.{budget_line}
 use Rattle.desk_report.specs.declared.status.Status.{Status}
@@ -33,6 +34,14 @@ done_with files text = record { status = is.Done; text = text; fault = []; short
 -- a run that names this step, which exceeds the budget, and leaves these files
 abbrev pub over_budget : Files → StepName → Report
 over_budget files step = refusal_as files is.Budget (budget_line step) false
+
+-- the run is done with this text
+abbrev pub IsDoneWith : List ℕ → Files → Report → Type 0
+IsDoneWith text files report = report ≡ done_with files text
+
+-- the run names the step that exceeds the budget, where that is the error
+abbrev pub NamesStep : SolveError → Files → Report → Type 0
+NamesStep error files report = (step : StepName) × (error ≡ Over step) × (report ≡ over_budget files step)
 
 -- This text was written to a sink that goes from `old` to `new`, and then this fault line, of which a suffix may be
 -- missing where the sink has failed.
@@ -85,7 +94,7 @@ Leaves files old new = Go old.files new.files (λ before after. after ≡ files)
 
 -- the files are after the run what they were before it
 abbrev pub KeepsFiles : Seen → Seen → Type 0
-KeepsFiles old new = Go old.files new.files (λ before after. after ≡ before)
+KeepsFiles old new = FilesStay old.files new.files
 
 -- the run did what is reported
 pub record DoesReport (status : Status) (report : Report) (old new : Seen) : Type 0 where
@@ -114,9 +123,7 @@ pub record LacksMemory (old new : Seen) : Type 0 where
 -- The files are after the run what they were before it, but that the one that was being kept, if one was, is unknown.
 abbrev pub KeepsOthers : (keeping : Option (List ℕ)) → Seen → Seen → Type 0
 KeepsOthers None old new = KeepsFiles old new
-KeepsOthers (Some name) old new =
-    Go old.files new.files
-    (λ before after. (other : List ℕ) → other ≢ name → map.get after other ≡ map.get before other)
+KeepsOthers (Some name) old new = OtherFilesStay old.files new.files name
 
 -- the shelf failed, and nothing else was written
 pub record MissesShelf (keeping : Option (List ℕ)) (old new : Seen) : Type 0 where

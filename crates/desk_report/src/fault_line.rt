@@ -2,11 +2,11 @@
 
 ghost use Rattle.std.specs.Prelude.{◌≡◌, ◌≤◌, ◌++◌, ◌+◌, ◌∷◌, [], codes, length};
 ghost use Rattle.std.specs.Fmt.{decimal};
-ghost use Rattle.desk_base.specs.Faults.{HasRisen};
 ghost use Rattle.chess_text.specs.ManLine.{side_letter};
 ghost use Rattle.strategy_file.specs.Layout as layout;
 ghost use Rattle.desk_report.specs.FaultLines as specs;
 ghost use Rattle.desk_report.specs.Outcome.{Writes};
+ghost use Rattle.desk_report.specs.Ports.{OnSink};
 ghost use Rattle.desk_text.specs.Text as texts;
 
 use chess_game::{Side, Unsound};
@@ -230,8 +230,7 @@ fn rule_word(rule: Rule) -> &'static [u8]
 
 /// Writes a fault line, as far as the sink takes it.
 pub fn refuse<K: Sink>(sink: &mut K, line: &[u8])
-    ensures written { Writes [] line.now (K.written sink.old) (K.written sink.new)
-        (HasRisen (K.faults sink.old) (K.faults sink.new)) }
+    ensures written { OnSink K.Sink (Writes [] line.now) sink.old sink.new }
     ensures never_falls { K.faults sink.old ≤ K.faults sink.new }
 {
     let _ = put_all(sink, line);

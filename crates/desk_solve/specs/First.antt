@@ -16,10 +16,15 @@ use Rattle.winning_sets.specs.declared.origin.Origin.TheVariants.{Plan}
 use Rattle.desk_report.specs.Outcome.{Report, done_with, over_budget}
 use Rattle.desk_solve.specs.Verdict.{ExceedsAt, FitsBudget}
 use Rattle.desk_text.specs.declared.problem.Problem.{Problem}
+use Rattle.desk_text.specs.declared.problem.Task.{Task}
 
 -- the winner has no first move: no move of his own is left, or the loser is to move
 abbrev pub HasNoFirstMove : ℕ → Problem → Type 0
 HasNoFirstMove n problem = (n ≡ 0) ⊎ (problem.position.turn ≡ other problem.winner)
+
+-- the winner of a task is to move, and has a move of his own left
+abbrev pub MayMoveFirst : Task → Type 0
+MayMoveFirst task = ¬ HasNoFirstMove task.moves task.problem
 
 -- the least distance to a square of 64 bits, or that there is none
 abbrev pub distance_word : Option ℕ → List ℕ
@@ -72,6 +77,10 @@ abbrev pub FirstReports : ℕ → ℕ → Problem → Files → Report → Type 
 FirstReports n budget problem files report =
     (HasNoFirstMove n problem × (report ≡ done_with files (codes "end\n")))
     ⊎ ((¬ HasNoFirstMove n problem) × LinesReport n budget problem files report)
+
+-- this, of the winner, the number of moves and the position of a solved position
+abbrev pub OfSolved : {A : Type 1} → (Side → ℕ → Position → A) → Solution → A
+OfSolved this s = this s.winner s.moves s.position
 
 -- a text of this kind was added at the end
 abbrev pub Adds : (List ℕ → Type 0) → (old new : List ℕ) → Type 0

@@ -1,11 +1,12 @@
 -- Whether the winner of a problem mates within a number of moves, and whether the plan that decides it is within the
 -- budget.
-use Rattle.std.specs.Prelude.{◌≡◌, ◌⊎◌, ℕ, ◌≤◌, List, ◌++◌, length, codes}
+use Rattle.std.specs.Prelude.{◌≡◌, ◌⊎◌, ℕ, ◌≤◌, List, ◌++◌, length, Result, IfErr, codes}
 use Rattle.std.specs.Fmt.{decimal}
 use Rattle.limits.specs.declared.numbers.TheConstants.{MOST_MEN, MOST_MOVES}
 use Rattle.game_rules.specs.Game.{Sound, Value}
 use Rattle.mate_plan.specs.PlanOf.{plan_of}
 use Rattle.winning_sets.specs.Solve.{IsWithin, IsSolveError}
+use Rattle.winning_sets.specs.declared.names.SolveError.{SolveError}
 use Rattle.winning_sets.specs.declared.names.SolveError.TheVariants as solve_error
 use Rattle.winning_sets.specs.declared.names.StepName.{StepName}
 use Rattle.desk_text.specs.declared.problem.Problem.{Problem}
@@ -33,10 +34,22 @@ abbrev pub ExceedsAt : Problem → ℕ → ℕ → StepName → Type 0
 ExceedsAt problem budget n step =
     IsSolveError (plan_of problem.winner problem.position n) n budget (solve_error.Over step)
 
+-- where a step exceeds the budget, this holds of it
+abbrev pub IfOver : {A : Type 0} → Result A SolveError → (StepName → Type 0) → Type 0
+IfOver result Holds = IfErr result (λ error. (step : StepName) → error ≡ solve_error.Over step → Holds step)
+
 -- the winner is to move, and has no move of his own left to make
 pub record HasNothingToPlay (moves : ℕ) (problem : Problem) : Type 0 where
   pub none : moves ≡ 0
   pub turn : problem.position.turn ≡ problem.winner
+
+-- there is something to play in a task, for which memory may be wanting
+abbrev pub HasSomeToPlay : Task → Type 0
+HasSomeToPlay task = ¬ HasNothingToPlay task.moves task.problem
+
+-- this, of the number of moves, the budget and the problem of a task
+abbrev pub OfTask : {A : Type 1} → (ℕ → ℕ → Problem → A) → Task → A
+OfTask this task = this task.moves task.budget task.problem
 
 -- the position is sound and has no more men than a text, and the numbers are within their limits
 pub record IsTask (task : Task) : Type 0 where

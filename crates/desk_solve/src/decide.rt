@@ -2,10 +2,9 @@
 
 ghost use Rattle.std.specs.Prelude.{◌≡◌, ◌++◌, IsTrue, codes};
 ghost use Rattle.std.specs.Fmt.{decimal};
-ghost use Rattle.desk_base.specs.Files.{Files};
 ghost use Rattle.desk_solve.specs.Decide.{DecideReports};
-ghost use Rattle.desk_report.specs.Outcome.{Ends, NeverMisses, of_sink};
-ghost use Rattle.desk_solve.specs.Verdict.{HasNothingToPlay, IsTask, mate_line, no_mate_line};
+ghost use Rattle.desk_report.specs.Ports.{EndsOnSink};
+ghost use Rattle.desk_solve.specs.Verdict.{HasSomeToPlay, IsTask, OfTask, mate_line, no_mate_line};
 
 use crate::mates::{number_line, won};
 use chess_text::line_buffer::LineBuffer;
@@ -18,11 +17,7 @@ use winning_sets::Solver;
 /// Writes whether the winner mates within so many moves of his own.
 pub fn decide<K: Sink>(alloc: Global, task: &Task, sink: &mut K) -> Status
     requires { IsTask task.now }
-    ensures ends { (files : Files) →
-        Ends result (DecideReports task.now.moves task.now.budget task.now.problem files)
-        (¬ HasNothingToPlay task.now.moves task.now.problem) NeverMisses
-        (of_sink files (K.written sink.old) (K.faults sink.old))
-        (of_sink files (K.written sink.new) (K.faults sink.new)) }
+    ensures ends { EndsOnSink K.Sink result (OfTask DecideReports task.now) (HasSomeToPlay task.now) sink.old sink.new }
 {
     let Task {
         problem,

@@ -1,13 +1,11 @@
 //! From how many positions of a seed White mates in one move.
 
-ghost use Rattle.std.specs.Prelude.{◌≡◌, ◌↔◌, ◌<◌, ◌≤◌, Err, IfOk, IfErr, IsTrue, OnOk, length};
-ghost use Rattle.desk_base.specs.Files.{Files};
+ghost use Rattle.std.specs.Prelude.{◌≡◌, ◌↔◌, ◌<◌, ◌≤◌, Err, IfOk, IsTrue, OnOk, length};
 ghost use Rattle.game_rules.specs.Game.{Sound, Value};
-ghost use Rattle.winning_sets.specs.declared.names.StepName.{StepName};
 ghost use Rattle.desk_solve.specs.Drill.{DrillFinds, DrillReports, DrillStops};
 ghost use Rattle.desk_solve.specs.Drill as specs;
-ghost use Rattle.desk_report.specs.Outcome.{Ends, NeverMisses, of_sink};
-ghost use Rattle.desk_solve.specs.Verdict.{ExceedsAt, FitsBudget};
+ghost use Rattle.desk_report.specs.Ports.{EndsOnSink};
+ghost use Rattle.desk_solve.specs.Verdict.{ExceedsAt, FitsBudget, IfOver};
 
 use crate::drill_positions::{Generator, problem_of};
 use crate::mates::won;
@@ -22,10 +20,7 @@ use winning_sets::{SolveError, Solver};
 
 /// Writes from how many of so many positions, which follow from the seed, White mates in one move.
 pub fn drill<K: Sink>(alloc: Global, seed: u64, count: u8, sink: &mut K) -> Status
-    ensures ends { (files : Files) →
-        Ends result (DrillReports seed count files) (0 < count) NeverMisses
-        (of_sink files (K.written sink.old) (K.faults sink.old))
-        (of_sink files (K.written sink.new) (K.faults sink.new)) }
+    ensures ends { EndsOnSink K.Sink result (DrillReports seed count) (0 < count) sink.old sink.new }
 {
     match count_mates(alloc, seed, count) {
         Ok(mates) => {
@@ -39,8 +34,7 @@ pub fn drill<K: Sink>(alloc: Global, seed: u64, count: u8, sink: &mut K) -> Stat
 /// From how many of so many positions White mates in one move.
 fn count_mates(alloc: Global, seed: u64, count: u8) -> Result<u8, SolveError>
     ensures found { IfOk result (DrillFinds seed count) }
-    ensures step { IfErr result
-        (λ error. (step : StepName) → error ≡ SolveError.Over step → DrillStops seed count step) }
+    ensures step { IfOver result (DrillStops seed count) }
     ensures memory { result ≡ Err SolveError.Memory → 0 < count }
 {
     let mut generator = Generator { state: seed };
@@ -59,8 +53,7 @@ fn is_mate_in_one(alloc: Global, problem: &Problem) -> Result<bool, SolveError>
     requires few { length problem.now.position.men ≤ 8 }
     ensures won { IfOk result (λ won. IsTrue won ↔ Value problem.now.winner 1 problem.now.position) }
     ensures fits { OnOk result (FitsBudget problem.now DEFAULT_STATES 1) }
-    ensures step { IfErr result
-        (λ error. (step : StepName) → error ≡ SolveError.Over step → ExceedsAt problem.now DEFAULT_STATES 1 step) }
+    ensures step { IfOver result (ExceedsAt problem.now DEFAULT_STATES 1) }
 {
     let mut solver = Solver::new(
         alloc,

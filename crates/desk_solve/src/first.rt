@@ -1,12 +1,11 @@
 //! The winner's first moves, ray by ray.
 
 ghost use Rattle.std.specs.Prelude.{◌≡◌, ◌↔◌, ◌≤◌, ◌+◌, ◌++◌, IfOk, IsTrue, OnOk, length};
-ghost use Rattle.desk_base.specs.Files.{Files};
 ghost use Rattle.winning_sets.specs.declared.origin.Origin.TheVariants.{Plan};
-ghost use Rattle.desk_solve.specs.First.{Adds, AreLines, FirstReports, HasNoFirstMove, IsServed, ManText, MenText, RayText, line_of};
+ghost use Rattle.desk_solve.specs.First.{Adds, AreLines, FirstReports, HasNoFirstMove, IsServed, ManText, MayMoveFirst, MenText, OfSolved, RayText, line_of};
 ghost use Rattle.desk_solve.specs.First as specs;
-ghost use Rattle.desk_report.specs.Outcome.{Ends, NeverMisses, of_sink};
-ghost use Rattle.desk_solve.specs.Verdict.{IsTask};
+ghost use Rattle.desk_report.specs.Ports.{EndsOnSink};
+ghost use Rattle.desk_solve.specs.Verdict.{IsTask, OfTask};
 
 use crate::mates::won;
 use auto_search::{Few, Search};
@@ -27,11 +26,7 @@ const RAYS: u8 = 8;
 /// known before the first byte is written.
 pub fn first<K: Sink>(alloc: Global, task: &Task, sink: &mut K) -> Status
     requires { IsTask task.now }
-    ensures ends { (files : Files) →
-        Ends result (FirstReports task.now.moves task.now.budget task.now.problem files)
-        (¬ HasNoFirstMove task.now.moves task.now.problem) NeverMisses
-        (of_sink files (K.written sink.old) (K.faults sink.old))
-        (of_sink files (K.written sink.new) (K.faults sink.new)) }
+    ensures ends { EndsOnSink K.Sink result (OfTask FirstReports task.now) (MayMoveFirst task.now) sink.old sink.new }
 {
     if has_no_first_move(task) {
         return print(sink, b"end\n");
@@ -67,7 +62,7 @@ fn first_lines(alloc: Global, solved: &Solved) -> Result<Vec<u8>, AllocError>
     requires plan { solved.now.origin ≡ Plan }
     requires turn { solved.now.position.turn ≡ solved.now.winner }
     requires moves { 1 ≤ solved.now.moves }
-    ensures { IfOk result (λ text. AreLines solved.now.winner solved.now.moves solved.now.position text.items) }
+    ensures { IfOk result (λ text. OfSolved AreLines solved.now text.items) }
 {
     let mut text = Vec::new(alloc);
     let mut search = Search::reserve(alloc, solved.most_states())?;
@@ -79,8 +74,7 @@ fn first_lines(alloc: Global, solved: &Solved) -> Result<Vec<u8>, AllocError>
 /// Adds the lines of all men.
 fn push_men(text: &mut Vec<u8>, solved: &Solved, search: &mut Search) -> Result<(), AllocError>
     requires { IsServed search.old solved.now }
-    ensures { OnOk result
-        (Adds (MenText solved.now.winner solved.now.moves solved.now.position) text.old.items text.new.items) }
+    ensures { OnOk result (Adds (OfSolved MenText solved.now) text.old.items text.new.items) }
 {
     let position = solved.position();
     for index in 0..position.count() {
@@ -99,8 +93,7 @@ fn push_man(
     requires served { IsServed search.old solved.now }
     requires first { 1 ≤ man }
     requires last { man ≤ length solved.now.position.men }
-    ensures adds { OnOk result
-        (Adds (ManText solved.now.winner solved.now.moves solved.now.position man) text.old.items text.new.items) }
+    ensures adds { OnOk result (Adds (OfSolved ManText solved.now man) text.old.items text.new.items) }
     ensures kept { search.new ≡ search.old }
 {
     for ray in 0..RAYS {
@@ -120,8 +113,7 @@ fn push_ray(
     requires served { IsServed search.old solved.now }
     requires first { 1 ≤ man }
     requires last { man ≤ length solved.now.position.men }
-    ensures adds { OnOk result
-        (Adds (RayText solved.now.winner solved.now.moves solved.now.position man ray) text.old.items text.new.items) }
+    ensures adds { OnOk result (Adds (OfSolved RayText solved.now man ray) text.old.items text.new.items) }
     ensures kept { search.new ≡ search.old }
 {
     let position = solved.position();

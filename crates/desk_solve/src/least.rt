@@ -1,12 +1,10 @@
 //! Within how few moves the winner mates.
 
-ghost use Rattle.std.specs.Prelude.{◌≡◌, Err, IfOk, IfErr};
-ghost use Rattle.desk_base.specs.Files.{Files};
-ghost use Rattle.winning_sets.specs.declared.names.StepName.{StepName};
+ghost use Rattle.std.specs.Prelude.{◌≡◌, Err, IfOk};
 ghost use Rattle.desk_solve.specs.Least.{LeastFinds, LeastReports, LeastStops};
 ghost use Rattle.desk_solve.specs.Least as specs;
-ghost use Rattle.desk_report.specs.Outcome.{Ends, NeverMisses, of_sink};
-ghost use Rattle.desk_solve.specs.Verdict.{HasNothingToPlay, IsTask};
+ghost use Rattle.desk_report.specs.Ports.{EndsOnSink};
+ghost use Rattle.desk_solve.specs.Verdict.{HasSomeToPlay, IfOver, IsTask, OfTask};
 
 use crate::mates::{number_line, won};
 use chess_text::line_buffer::LineBuffer;
@@ -19,11 +17,7 @@ use winning_sets::{SolveError, Solver};
 /// Writes within how few moves of his own the winner mates, if he does within so many.
 pub fn least<K: Sink>(alloc: Global, task: &Task, sink: &mut K) -> Status
     requires { IsTask task.now }
-    ensures ends { (files : Files) →
-        Ends result (LeastReports task.now.moves task.now.budget task.now.problem files)
-        (¬ HasNothingToPlay task.now.moves task.now.problem) NeverMisses
-        (of_sink files (K.written sink.old) (K.faults sink.old))
-        (of_sink files (K.written sink.new) (K.faults sink.new)) }
+    ensures ends { EndsOnSink K.Sink result (OfTask LeastReports task.now) (HasSomeToPlay task.now) sink.old sink.new }
 {
     match least_moves(alloc, task) {
         Ok(found) => {
@@ -37,11 +31,9 @@ pub fn least<K: Sink>(alloc: Global, task: &Task, sink: &mut K) -> Status
 /// The least number of moves up to the limit within which the winner mates. What is reached is computed once for all of them.
 fn least_moves(alloc: Global, task: &Task) -> Result<Option<u8>, SolveError>
     requires { IsTask task.now }
-    ensures found { IfOk result (LeastFinds task.now.moves task.now.budget task.now.problem) }
-    ensures step { IfErr result
-        (λ error. (step : StepName) → error ≡ SolveError.Over step
-        → LeastStops task.now.moves task.now.budget task.now.problem step) }
-    ensures memory { result ≡ Err SolveError.Memory → ¬ HasNothingToPlay task.now.moves task.now.problem }
+    ensures found { IfOk result (OfTask LeastFinds task.now) }
+    ensures step { IfOver result (OfTask LeastStops task.now) }
+    ensures memory { result ≡ Err SolveError.Memory → HasSomeToPlay task.now }
 {
     let Task {
         problem,

@@ -1,11 +1,10 @@
 //! What decides a verdict.
 
-ghost use Rattle.std.specs.Prelude.{◌≡◌, ◌↔◌, ◌≤◌, ◌++◌, Err, IsTrue, IfOk, IfErr, IfSome, OnOk, is_some, length, codes};
+ghost use Rattle.std.specs.Prelude.{◌≡◌, ◌↔◌, ◌≤◌, ◌++◌, Err, IsTrue, IfOk, IfSome, OnOk, is_some, length, codes};
 ghost use Rattle.std.specs.Fmt.{decimal};
 ghost use Rattle.game_rules.specs.Game.{Value};
 ghost use Rattle.winning_sets.specs.Solve.{IsOf};
-ghost use Rattle.winning_sets.specs.declared.names.StepName.{StepName};
-ghost use Rattle.desk_solve.specs.Verdict.{ExceedsAt, FitsBudget, HasNothingToPlay};
+ghost use Rattle.desk_solve.specs.Verdict.{ExceedsAt, FitsBudget, HasNothingToPlay, IfOver};
 
 use chess_text::line_buffer::LineBuffer;
 use desk_text::Problem;
@@ -20,9 +19,7 @@ pub fn won(solver: &mut Solver, problem: &Problem, moves: u8) -> Result<Option<S
     ensures won { IfOk result (λ found. IsTrue (is_some found) ↔ Value problem.now.winner moves problem.now.position) }
     ensures found { IfOk result (λ found. IfSome found (IsOf problem.now.position problem.now.winner moves)) }
     ensures fits { OnOk result (FitsBudget problem.now solver.old.budget moves) }
-    ensures step { IfErr result
-        (λ error. (step : StepName) → error ≡ SolveError.Over step
-        → ExceedsAt problem.now solver.old.budget moves step) }
+    ensures step { IfOver result (ExceedsAt problem.now solver.old.budget moves) }
     ensures memory { result ≡ Err SolveError.Memory → ¬ HasNothingToPlay moves problem.now }
     ensures position { solver.new.position ≡ problem.now.position }
     ensures winner { solver.new.winner ≡ problem.now.winner }

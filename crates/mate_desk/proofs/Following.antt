@@ -76,7 +76,8 @@ module _ (w : Side) (start : Position) (n : ℕ) (by : Strategy) where
           let held : IsHeldAfter Held start first j (at q (suc ply)) = record { ply = omega (arith, count); held = subst H same pick.leads.is_in; reached = now } in
           one_more j r later (at q (suc ply)) (ap (λ x. x.games) is) held (loser_follow left q (suc ply) (j + 1) later now (omega (arith, count)) goes)
 
-      typed_follow : (left : Lines) (p : Position) (ply j : ℕ) (r : Report) (reply : Option Typed) → Reach start ply p → ply + 2 ≡ first + 2 * j → AtTyped On left (at p ply) r reply → Follow j r
+      typed_follow : (left : Lines) (p : Position) (ply j : ℕ) (r : Report) (reply : Option Typed) → Reach start ply p
+          → ply + 2 ≡ first + 2 * j → AtTyped On left (at p ply) r reply → Follow j r
       typed_follow left p ply j r None reached count (later, on, is) = same_follow j r later (ap (λ x. x.games) is) (go p ply j later reached count on)
       typed_follow left p ply j r (Some typed.Quit) reached count is = none_follow j r (ap (λ x. x.games) is)
       typed_follow left p ply j r (Some (typed.Move mv)) reached count (inl (later, none, on, is)) = same_follow j r later (ap (λ x. x.games) is) (go p ply j later reached count on)
@@ -90,7 +91,8 @@ module _ (w : Side) (start : Position) (n : ℕ) (by : Strategy) where
     unless_follow j true left r Else go is = none_follow j r (ap (λ x. x.games) is)
     unless_follow j false left r Else go h = go h
 
-    lines_follow : (before read : ℕ) (lines : Lines) (p : Position) (ply j : ℕ) (r : Report) → Reach start ply p → ply + 2 ≡ first + 2 * j → AtLines before read lines (at p ply) r → Follow j r
+    lines_follow : (before read : ℕ) (lines : Lines) (p : Position) (ply j : ℕ) (r : Report) → Reach start ply p
+        → ply + 2 ≡ first + 2 * j → AtLines before read lines (at p ply) r → Follow j r
     lines_follow before read (full line rest) p ply j r reached count h =
         unless_follow j (read == most_lines) (full line rest) r _
         (line_follow (AtLines before (read + 1) rest) (λ q m i x y c z. lines_follow before (read + 1) rest q m i x y c z) line rest p ply j r reached count) h
@@ -150,7 +152,8 @@ claim_keeps c is_claim won before lines r report k after is =
     let P : ℕ → Type 0 = λ moves. Lost c.winner moves after.position in
     record { reached = a.reached; lost = subst P a.left (claimed_is_lost c after.ply after.position is_claim won a.held) }
 
-says_game : (n budget : ℕ) (problem : Problem) (lines : Lines) (files : Files) (report : desk.Report) → PlayReports n budget problem lines files report → PlaysGame n budget problem lines files report
+says_game : (n budget : ℕ) (problem : Problem) (lines : Lines) (files : Files) (report : desk.Report)
+    → PlayReports n budget problem lines files report → PlaysGame n budget problem lines files report
 says_game n budget problem lines files report (inl over) = inl over
 says_game n budget problem lines files report (inr (fits, inl none)) = inr (inl none)
 says_game n budget problem lines files report (inr (fits, inr (value, (played, right, is)))) =

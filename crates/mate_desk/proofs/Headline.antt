@@ -20,7 +20,8 @@ use Rattle.mate_desk.proofs.Exact.{decides_exactly, of_text, of_words}
 use Rattle.desk_text.proofs.RoundTrip.{text_is_read}
 
 -- what was given is what the source told
-given_bytes : (before after : Option (List ℕ)) (bytes taken rest : List ℕ) → before ≡ Some bytes → Consumes before after taken → IfSome after (λ told. told ≡ rest) → bytes ≡ taken ++ rest
+given_bytes : (before after : Option (List ℕ)) (bytes taken rest : List ℕ) → before ≡ Some bytes → Consumes before after taken
+    → IfSome after (λ told. told ≡ rest) → bytes ≡ taken ++ rest
 given_bytes None after bytes taken rest told consumed left = absurd (cc)
 given_bytes (Some xs) None bytes taken rest told consumed left = absurd consumed
 given_bytes (Some xs) (Some ys) bytes taken rest told consumed left = let same : bytes ≡ xs = cc in same ∙ consumed ∙ ap (λ r. taken ++ r) left
@@ -96,7 +97,8 @@ record SaysLeast (limit budget : ℕ) (problem : Problem) (report : Report) : Ty
   wrote : report.text ≡ least_line limit found
   fault : report.fault ≡ []
 
-says_least : (limit budget : ℕ) (problem : Problem) (files : Files) (report : Report) → report.status ≡ is.Done → LeastReports limit budget problem files report → SaysLeast limit budget problem report
+says_least : (limit budget : ℕ) (problem : Problem) (files : Files) (report : Report) → report.status ≡ is.Done
+    → LeastReports limit budget problem files report → SaysLeast limit budget problem report
 says_least limit budget problem files report done (inl (step, stops, is')) = let e : is.Done ≡ is.Budget = sym done ∙ ap (λ r. r.status) is' in absurd (cc)
 says_least limit budget problem files report done (inr (found, finds, is')) = record { found = found; finds = finds; wrote = ap (λ r. r.text) is'; fault = ap (λ r. r.fault) is' }
 

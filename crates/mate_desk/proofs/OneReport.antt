@@ -135,7 +135,8 @@ once_check p one other (inl (a, v)) (inr (b, w)) = absurd (w v)
 once_check p one other (inr (a, v)) (inl (b, w)) = absurd (v w)
 once_check p one other (inr (a, v)) (inr (b, w)) = a ∙ sym b
 
-once_found : (problem : Problem) (limit : ℕ) (one other : Option ℕ) → game.Least problem.winner problem.position limit one → game.Least problem.winner problem.position limit other → one ≡ other
+once_found : (problem : Problem) (limit : ℕ) (one other : Option ℕ) → game.Least problem.winner problem.position limit one
+    → game.Least problem.winner problem.position limit other → one ≡ other
 once_found problem limit (Some m) (Some n) a b = elim (number_cases m n) [
   | inl less ↦ absurd (b.2 m less a.1)
   | inr (inl same) ↦ ap (λ k. Some k) same
@@ -295,7 +296,8 @@ module _ (files : Files) (one other : Report) where
   once_order (Drill seed count) words bytes a b = once_drill files one other seed count a b
   once_order (Arith budget) words bytes a b = once_arith files one other budget (lines_of bytes) a b
 
-  once_answer : (answer : Result Order UsageWhy) (words : List (List ℕ)) (bytes : List ℕ) → ReportsWords answer words bytes files one → ReportsWords answer words bytes files other → one ≡ other
+  once_answer : (answer : Result Order UsageWhy) (words : List (List ℕ)) (bytes : List ℕ)
+      → ReportsWords answer words bytes files one → ReportsWords answer words bytes files other → one ≡ other
   once_answer (Err why) words bytes a b = a ∙ sym b
   once_answer (Ok order) words bytes a b = once_order order words bytes a b
 

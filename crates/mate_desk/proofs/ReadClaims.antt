@@ -149,7 +149,9 @@ module _ (charts : Charts) (h : IsRead charts) where
     sound = h.sound;
     few = let most = h.few in omega (arith, most);
     found = λ ply mask losers game.
-        is_some_in c.sets ply mask (subst (λ (ps : List (ℕ × ℕ)). Contains {X = ℕ × ℕ} ps (ply, mask)) (sym h.places_are) ((places_of-are c.winner c.position c.moves ply mask).1 (losers, game)));
+        is_some_in c.sets ply mask
+        (subst (λ (ps : List (ℕ × ℕ)). Contains {X = ℕ × ℕ} ps (ply, mask)) (sym h.places_are)
+        ((places_of-are c.winner c.position c.moves ply mask).1 (losers, game)));
     only = λ ply mask a is. at_place c h.places_are ply mask a (found_in c.sets ply mask a is);
     tracks = λ ply mask a is.
         let f = found_in c.sets ply mask a is in

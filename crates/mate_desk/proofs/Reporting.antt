@@ -102,7 +102,9 @@ takes_lines words files is.TooMany taken pending not t = (pending, t)
 -- so a run of an order ends whose source has not failed
 pub run_ends : (words : List (List ℕ)) (status : Status) (old new : Seen) (given : Given old new) (pending : List ℕ)
     → TakesLines (IsLineDue words given.files) given.taken pending → status ≢ is.Usage → status ≢ is.ReadFault
-    → Ends status (λ report. Reports words (given.taken ++ given.rest) given.files report) (MayLackMemory words given.taken) (MayMissShelf words given.taken) old new → RunEnds words status old new
+    → Ends status (λ report. Reports words (given.taken ++ given.rest) given.files report) (MayLackMemory words given.taken)
+    (MayMissShelf words given.taken) old new
+    → RunEnds words status old new
 run_ends words status old new given pending takes no_usage no_fault ends =
     let P : List ℕ → Type 0 = λ b. Ends status (λ report. Reports words b given.files report) (MayLackMemory words given.taken) (MayMissShelf words given.taken) old new in
     record {
@@ -133,7 +135,8 @@ module _ (words : List (List ℕ)) (old new : Seen) (same : new.files ≡ old.fi
       }
 
   -- the words are no order
-  pub usage_ends : (why : UsageWhy) → Ordered words (Err why) → new.left ≡ old.left → Writes [] (usage_line why) old.written new.written (WriteFailed old new) → RunEnds words is.Usage old new
+  pub usage_ends : (why : UsageWhy) → Ordered words (Err why) → new.left ≡ old.left
+      → Writes [] (usage_line why) old.written new.written (WriteFailed old new) → RunEnds words is.Usage old new
   usage_ends why ordered left wrote = record {
     given = given_nothing left;
     takes = refl;
@@ -285,7 +288,8 @@ module _ (words : List (List ℕ)) (old new : Seen) (same : new.files ≡ old.fi
       (of_problem words old new same order ordered tt pending problem t (λ r rest. DecideReports n budget r files) sound)
       (behind_text words old new same order ordered tt pending problem t (TakesMemory order) sound) (ends files)
 
-  pub least_ends : (limit budget : ℕ) → Ordered words (Ok (Least limit budget)) → EndsWithSink (LeastReports limit budget problem) (¬ HasNothingToPlay limit problem) → RunEnds words status old new
+  pub least_ends : (limit budget : ℕ) → Ordered words (Ok (Least limit budget))
+      → EndsWithSink (LeastReports limit budget problem) (¬ HasNothingToPlay limit problem) → RunEnds words status old new
   least_ends limit budget ordered ends =
       let order = Least limit budget in
       let files = files_of old.files in
@@ -309,7 +313,8 @@ module _ (words : List (List ℕ)) (old new : Seen) (same : new.files ≡ old.fi
       (behind_text words old new same Show ordered tt pending problem t (TakesMemory Show) sound) (ends files)
 
 -- `keep` has the shelf too
-module _ (words : List (List ℕ)) (old new : Seen) (pending : List ℕ) (problem : Problem) (t : TextRead (Ok problem) pending old.left new.left) (sound : Sound problem.position) (status : Status) where
+module _ (words : List (List ℕ)) (old new : Seen) (pending : List ℕ) (problem : Problem)
+    (t : TextRead (Ok problem) pending old.left new.left) (sound : Sound problem.position) (status : Status) where
   -- what was read, with the files as they were
   abbrev read : Seen
   read = record { left = new.left; written = old.written; files = old.files; read_faults = old.read_faults; write_faults = old.write_faults; shelf_faults = old.shelf_faults }

@@ -135,7 +135,8 @@ arith_status budget (cut front) files report is' = other_status report _ is' (λ
 arith_status budget long files report is' = other_status report _ is' (λ e. absurd (cc))
 
 -- so its run has
-pub not_usage : (status : Status) (reports : Report → Type 0) (may_lack : Type 0) (may_miss : Option (List ℕ) → Type 0) (old new : Seen) → ((report : Report) → reports report → IsNotUsage report)
+pub not_usage : (status : Status) (reports : Report → Type 0) (may_lack : Type 0) (may_miss : Option (List ℕ) → Type 0) (old new : Seen)
+    → ((report : Report) → reports report → IsNotUsage report)
     → Ends status reports may_lack may_miss old new → status ≢ is.Usage
 not_usage status reports may_lack may_miss old new not ends same =
     let P : Status → Type 0 = λ s. Ends s reports may_lack may_miss old new in
@@ -208,7 +209,8 @@ no_textless words order ordered reads other also none =
     reads (subst ReadsNoText (sym same) none)
 
 -- and words that are an order that uses the shelf are no order that does not
-pub no_shelfless : (words : List (List ℕ)) (order : Order) → Ordered words (Ok order) → (UsesNoShelf order → ⊥) → (answer : Result Order UsageWhy) → Ordered words answer → IfOk answer UsesNoShelf → ⊥
+pub no_shelfless : (words : List (List ℕ)) (order : Order) → Ordered words (Ok order) → (UsesNoShelf order → ⊥)
+    → (answer : Result Order UsageWhy) → Ordered words answer → IfOk answer UsesNoShelf → ⊥
 no_shelfless words order ordered uses answer also none =
     let P : Result Order UsageWhy → Type 0 = λ r. IfOk r UsesNoShelf in
     uses (subst P (once_words answer (Ok order) words also ordered) none)

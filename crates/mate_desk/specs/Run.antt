@@ -1,10 +1,18 @@
 -- How a run ends.
-use Rattle.std.specs.Prelude.{◌≡◌, ℕ, List, [], IfSome, IsTrue}
+use Rattle.std.specs.Prelude.{◌≡◌, ℕ, List, [], IfOk, IfSome, IsTrue, Ok, Result}
 use Rattle.std.specs.Io.KnownBytes.{Consumes}
 use Rattle.chess_text.specs.PositionText.{text_of_lines}
 use Rattle.desk_base.specs.Files.{Files}
+use Rattle.desk_base.specs.declared.files.Shelf.{Ghosts as ShelfModel}
+use Rattle.desk_base.specs.declared.sink.Sink.{Ghosts as SinkModel}
+use Rattle.desk_base.specs.declared.source.Source.{Ghosts as SourceModel}
 use Rattle.desk_text.specs.Taken.{TakesLines}
 use Rattle.desk_report.specs.Outcome.{Report, Seen, Ends, reported_on}
+use Rattle.desk_report.specs.Ports.{ports_seen}
+use Rattle.desk_words.specs.Order.{IsOrderOf, Ordered}
+use Rattle.desk_words.specs.declared.order.Order.{Order}
+use Rattle.desk_words.specs.declared.order.TextOrder.{TextOrder}
+use Rattle.desk_words.specs.declared.order.UsageWhy.{UsageWhy}
 use Rattle.mate_desk.specs.Report.{Reports, MayLackMemory, MayMissShelf}
 use Rattle.desk_report.specs.declared.status.Status.{Status}
 use Rattle.desk_report.specs.declared.status.Status.TheVariants as is
@@ -36,3 +44,22 @@ pub record RunEnds (words : List (List ℕ)) (status : Status) (old new : Seen) 
   pub ends :
       Ends status (λ report. Reports words (reported_on status given.taken given.rest) given.files report)
       (MayLackMemory words given.taken) (MayMissShelf words given.taken) old new
+
+-- How it ends on a source, a sink and a shelf.
+abbrev pub RunEndsOn : {S K H : Type 0} → SourceModel S → SinkModel K → ShelfModel H → (words : List (List ℕ)) → Status
+    → (old new : S × K × H) → Type 0
+RunEndsOn s k h words status old new = RunEnds words status (ports_seen s k h old) (ports_seen s k h new)
+
+-- how a run ends of any words that are this order of a text
+abbrev pub OrderEndsOn : {S K H : Type 0} → SourceModel S → SinkModel K → ShelfModel H → TextOrder → Status
+    → (old new : S × K × H) → Type 0
+OrderEndsOn s k h order status old new =
+    (words : List (List ℕ)) → IsOrderOf order words → RunEndsOn s k h words status old new
+
+-- where the words are an order of which this holds, so does that
+abbrev pub WhereOrder : (words : List (List ℕ)) → (this : Order → Type 0) → (that : Type 0) → Type 0
+WhereOrder words this that = (order : Order) → Ordered words (Ok order) → this order → that
+
+-- where the words are no order, or one of which this holds, so does that
+abbrev pub WhereNoOrderOr : (words : List (List ℕ)) → (this : Order → Type 0) → (that : Type 0) → Type 0
+WhereNoOrderOr words this that = (answer : Result Order UsageWhy) → Ordered words answer → IfOk answer this → that

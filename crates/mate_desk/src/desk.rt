@@ -1,10 +1,9 @@
 //! The top call.
 
-ghost use Rattle.std.specs.Prelude.{◌≡◌, ◌≢◌, ℕ, List, IfOk, Ok, Result, map, string_bytes};
-ghost use Rattle.desk_words.specs.Order.{IsOrderOf, IsWithinLimits, Ordered, as_order};
-ghost use Rattle.desk_report.specs.Outcome.{seen_of};
+ghost use Rattle.std.specs.Prelude.{◌≡◌, ◌≢◌};
+ghost use Rattle.desk_words.specs.Order.{IsWithinLimits, as_order, texts};
 ghost use Rattle.mate_desk.specs.Report.{ReadsNoText, UsesNoShelf};
-ghost use Rattle.mate_desk.specs.Run.{RunEnds};
+ghost use Rattle.mate_desk.specs.Run.{OrderEndsOn, RunEndsOn, WhereNoOrderOr, WhereOrder};
 
 use crate::show::show;
 use chess_game::soundness;
@@ -35,19 +34,15 @@ pub fn run<S: Source, K: Sink, H: Shelf>(
     sink: &mut K,
     shelf: &mut H,
 ) -> Status
-    ensures ends { RunEnds (map string_bytes words.now.items) result
-        (seen_of (S.left source.old) (K.written sink.old) (H.files shelf.old) (S.faults source.old) (K.faults sink.old)
-        (H.faults shelf.old))
-        (seen_of (S.left source.new) (K.written sink.new) (H.files shelf.new) (S.faults source.new) (K.faults sink.new)
-        (H.faults shelf.new)) }
+    ensures ends { RunEndsOn S.Source K.Sink H.Shelf (texts words.now.items) result
+        (source.old, sink.old, shelf.old)
+        (source.new, sink.new, shelf.new) }
     // Where the words are no order, nothing is read.
     ensures nothing_read { result ≡ Status.Usage → source.new ≡ source.old }
     // Nor where they are an order of no text and of no lines.
-    ensures no_text_read { (order : Order) → Ordered (map string_bytes words.now.items) (Ok order) → ReadsNoText order
-        → source.new ≡ source.old }
+    ensures no_text_read { WhereOrder (texts words.now.items) ReadsNoText (source.new ≡ source.old) }
     // Where they are none, or one that uses no file, the shelf is not called.
-    ensures shelf_untouched { (answer : Result Order UsageWhy) → Ordered (map string_bytes words.now.items) answer
-        → IfOk answer UsesNoShelf → shelf.new ≡ shelf.old }
+    ensures shelf_untouched { WhereNoOrderOr (texts words.now.items) UsesNoShelf (shelf.new ≡ shelf.old) }
 {
     let order = match order_of(words) {
         Ok(order) => order,
@@ -105,11 +100,9 @@ fn answer<S: Source, K: Sink, H: Shelf>(
     shelf: &mut H,
 ) -> Status
     requires { IsWithinLimits (as_order order) }
-    ensures ends { (words : List (List ℕ)) → IsOrderOf order.entry words → RunEnds words result
-        (seen_of (S.left source.old) (K.written sink.old) (H.files shelf.old) (S.faults source.old) (K.faults sink.old)
-        (H.faults shelf.old))
-        (seen_of (S.left source.new) (K.written sink.new) (H.files shelf.new) (S.faults source.new) (K.faults sink.new)
-        (H.faults shelf.new)) }
+    ensures ends { OrderEndsOn S.Source K.Sink H.Shelf order.entry result
+        (source.old, sink.old, shelf.old)
+        (source.new, sink.new, shelf.new) }
     ensures no_usage { result ≢ Status.Usage }
     ensures shelf_untouched { UsesNoShelf (as_order order.entry) → shelf.new ≡ shelf.old }
 {

@@ -1,9 +1,8 @@
 //! A position, whether its side to move is in check, and how many men are live.
 
 ghost use Rattle.std.specs.Prelude.{IfOk, ◌≡◌, ◌≤◌, is_some, length};
-ghost use Rattle.desk_base.specs.Files.{Files};
 ghost use Rattle.game_rules.specs.Game.{Sound, square_of};
-ghost use Rattle.desk_report.specs.Outcome.{Ends, NeverMisses, of_sink};
+ghost use Rattle.desk_report.specs.Ports.{EndsOnSink};
 ghost use Rattle.mate_desk.specs.Show.{IsCheckLine, IsShown, ShowReports, live_line};
 ghost use Rattle.mate_desk.specs.Show as specs;
 
@@ -18,10 +17,7 @@ use std::alloc::{AllocError, Global};
 pub fn show<K: Sink>(alloc: Global, p: &Position, sink: &mut K) -> Status
     requires sound { Sound p.now }
     requires few { length p.now.men ≤ 5 }
-    ensures ends { (files : Files) →
-        Ends result (ShowReports p.now files) (Unit {0}) NeverMisses
-        (of_sink files (K.written sink.old) (K.faults sink.old))
-        (of_sink files (K.written sink.new) (K.faults sink.new)) }
+    ensures ends { EndsOnSink K.Sink result (ShowReports p.now) (Unit {0}) sink.old sink.new }
 {
     match shown(alloc, p) {
         Ok(text) => print(sink, text.as_slice()),

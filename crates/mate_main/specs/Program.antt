@@ -1,10 +1,18 @@
 -- How the program ends where there are no words.
-use Rattle.std.specs.Prelude.{◌≡◌, ℕ, List, [], Option}
-use Rattle.desk_words.specs.Order.{usage_line}
-use Rattle.desk_report.specs.Outcome.{Seen, Writes, WriteFailed}
+use Rattle.std.specs.Prelude.{◌≡◌, ℕ, List, [], MatchResult, Option, Result, Some, String, Vec}
+use Rattle.std.specs.declared.alloc.Global.{Global}
+use Rattle.desk_base.specs.declared.files.Shelf.{Ghosts as ShelfModel}
+use Rattle.desk_base.specs.declared.sink.Sink.{Ghosts as SinkModel}
+use Rattle.desk_base.specs.declared.source.Source.{Ghosts as SourceModel}
+use Rattle.desk_words.specs.Order.{texts, usage_line}
+use Rattle.desk_base.specs.Memory.{Store}
+use Rattle.desk_report.specs.Outcome.{Seen, Writes, WriteFailed, seen_of}
+use Rattle.desk_report.specs.Ports.{ports_seen}
 use Rattle.desk_words.specs.declared.order.UsageWhy.TheVariants as usage
 use Rattle.desk_report.specs.declared.status.Status.{Status}
 use Rattle.desk_report.specs.declared.status.Status.TheVariants as is
+use Rattle.mate_desk.specs.Run.{RunEnds}
+use Rattle.mate_main.specs.declared.program.Ran.{Ran}
 use Rattle.mate_main.specs.declared.program.WordsError.{WordsError}
 use Rattle.mate_main.specs.declared.program.WordsError.TheVariants.{Memory, Untold}
 
@@ -21,3 +29,22 @@ pub record EndsWithoutWords (why : WordsError) (status : Status) (old new : Seen
   pub read_faults : new.read_faults ≡ old.read_faults
   pub files : new.files ≡ old.files
   pub shelf_faults : new.shelf_faults ≡ old.shelf_faults
+
+-- How the program ends, by its words or by why there are none.
+abbrev pub ProgramEnds : Result (Vec (String Global) Global) WordsError → Status → (old new : Seen) → Type 0
+ProgramEnds words status old new =
+    MatchResult words (λ given. RunEnds (texts given.items) status old new) (λ why. EndsWithoutWords why status old new)
+
+-- How it ends on a source, a sink and a shelf.
+abbrev pub ProgramEndsOn : {S K H : Type 0} → SourceModel S → SinkModel K → ShelfModel H
+    → Result (Vec (String Global) Global) WordsError → Status → (old new : S × K × H) → Type 0
+ProgramEndsOn s k h words status old new = ProgramEnds words status (ports_seen s k h old) (ports_seen s k h new)
+
+-- what is seen of bytes and a store in memory, of which all is told
+abbrev pub memory_seen : (left written : List ℕ) → Store → (reads writes : ℕ) → Seen
+memory_seen left written store reads writes =
+    seen_of (Some left) (Some written) (Some store.files) reads writes store.calls.faults
+
+-- what is seen of them after a run
+abbrev pub ran_seen : Ran → Seen
+ran_seen ran = memory_seen ran.rest.now ran.output.items ran.shelf ran.read_faults ran.write_faults

@@ -1,12 +1,10 @@
 //! What the program does with its words and its ports.
 
-ghost use Rattle.std.specs.Prelude.{◌≡◌, MatchResult, Some, map, string_bytes};
+ghost use Rattle.std.specs.Prelude.{◌≡◌};
 ghost use Rattle.std.specs.Process.{exit_status};
-ghost use Rattle.desk_base.specs.Faults.{HasRisen};
 ghost use Rattle.desk_report.specs.Codes.{code_of};
-ghost use Rattle.desk_report.specs.Outcome.{seen_of};
-ghost use Rattle.mate_desk.specs.Run.{RunEnds};
-ghost use Rattle.mate_main.specs.Program.{EndsWithoutWords, RefusesWords};
+ghost use Rattle.desk_report.specs.Ports.{OnSink};
+ghost use Rattle.mate_main.specs.Program.{ProgramEnds, ProgramEndsOn, RefusesWords, memory_seen, ran_seen};
 
 use crate::standard::{StdSink, StdSource};
 use desk_base::{MemShelf, Shelf, Sink, Source, put_all};
@@ -31,14 +29,9 @@ pub fn perform<S: Source, K: Sink, H: Shelf>(
     shelf: &mut H,
     alloc: Global,
 ) -> Status
-    ensures { let old =
-        seen_of (S.left source.old) (K.written sink.old) (H.files shelf.old) (S.faults source.old) (K.faults sink.old)
-        (H.faults shelf.old) in
-        let new =
-        seen_of (S.left source.new) (K.written sink.new) (H.files shelf.new) (S.faults source.new)
-        (K.faults sink.new) (H.faults shelf.new) in
-        MatchResult words (λ given. RunEnds (map string_bytes given.items) result old new)
-        (λ why. EndsWithoutWords why result old new) }
+    ensures { ProgramEndsOn S.Source K.Sink H.Shelf words result
+        (source.old, sink.old, shelf.old)
+        (source.new, sink.new, shelf.new) }
 {
     match words {
         Ok(words) => run(alloc, &words, source, sink, shelf),
@@ -48,8 +41,7 @@ pub fn perform<S: Source, K: Sink, H: Shelf>(
 
 /// Writes that there are no words, where memory is not what is wanting.
 fn refuse_words<K: Sink>(why: WordsError, sink: &mut K) -> Status
-    ensures { RefusesWords why result (K.written sink.old) (K.written sink.new)
-        (HasRisen (K.faults sink.old) (K.faults sink.new)) }
+    ensures { OnSink K.Sink (RefusesWords why result) sink.old sink.new }
 {
     match why {
         WordsError::Memory => Status::Memory,
@@ -82,12 +74,7 @@ pub fn perform_in_memory<'a>(
     mut shelf: MemShelf,
     alloc: Global,
 ) -> Ran<'a>
-    ensures { let old = seen_of (Some input.now) (Some output.items) (Some shelf.files) 0 0 shelf.calls.faults in
-        let new =
-        seen_of (Some result.rest.now) (Some result.output.items) (Some result.shelf.files) result.read_faults
-        result.write_faults result.shelf.calls.faults in
-        MatchResult words (λ given. RunEnds (map string_bytes given.items) result.status old new)
-        (λ why. EndsWithoutWords why result.status old new) }
+    ensures { ProgramEnds words result.status (memory_seen input.now output.items shelf 0 0) (ran_seen result) }
 {
     let mut source = StdSource::new(input);
     let mut sink = StdSink::new(output);
