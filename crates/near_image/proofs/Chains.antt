@@ -55,6 +55,12 @@ module _ (e : ℕ → SetOf) (budget each : ℕ) where
       (within-append (steps w ++ []) (And w (change s) ∷ []) (members e) budget
       (within-append (steps w) [] (members e) budget within tt) (none, tt))
 
+  pub factored-clear : (gs : List Tree) (w p : Tree) (qs : List Equation) → IsFactored w p qs (members e)
+      → IsFactored (and_all w (map Not gs)) (and_all p (map Not gs)) qs (members e)
+  factored-clear [] w p qs is = is
+  factored-clear (g ∷ gs) w p qs is =
+      factored-clear gs (And w (Not g)) (And p (Not g)) qs (factored-beside w p qs (members e) is (Not g))
+
   -- what is asked after a factored formula
   pub within-clear : AndBound → (gs : List Tree) (w p : Tree) (qs : List Equation) → IsFactored w p qs (members e)
       → colours qs * each ≤ budget → AreClearWithin p gs e budget each → AreWithin (steps w) (members e) budget
@@ -64,7 +70,7 @@ module _ (e : ℕ → SetOf) (budget each : ℕ) where
       let none : ¬ Exceeds (And w (Not g)) (members e) budget =
       λ more. clear.1 (bound w p (Not g) qs e budget each is enough more) in
       let asked = over-none (steps g) (members e) budget 1 clear.0 in
-      let more = factored-beside w p [] qs (members e) is (Not g) in
+      let more = factored-beside w p qs (members e) is (Not g) in
       within-clear bound gs (And w (Not g)) (And p (Not g)) qs more enough clear.2
       (within-append (steps w ++ steps g) (And w (Not g) ∷ []) (members e) budget
       (within-append (steps w) (steps g) (members e) budget within asked) (none, tt))

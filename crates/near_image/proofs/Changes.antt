@@ -14,8 +14,7 @@ use Rattle.near_image.specs.Image.{Image, IsShiftable, change, step, gone, moved
 use Rattle.near_image.specs.Image.{equation_by, equation_of}
 use Rattle.near_image.specs.Laws.{negated}
 use Rattle.near_image.proofs.Bindings.{IsInOne, AllHold, vars-and_all, vars-ex_all}
-use Rattle.near_image.specs.Inverse.{news}
-use Rattle.near_image.proofs.Shifts.{IsAmong, moved-vars, moved-not_gone}
+use Rattle.near_image.proofs.Shifts.{news, IsAmong, moved-vars, moved-not_gone}
 
 difference : (a b by : ℤ) → ((pos 1 *ℤ a) +ℤ ((negsuc 0 *ℤ b) +ℤ pos 0) ≡ by) ↔ (b ≡ a +ℤ negated by)
 difference a b (pos zero) = (λ e. omega (arith, ints, e), λ e. omega (arith, ints, e))

@@ -3,7 +3,7 @@ use Rattle.std.proofs.Common.{◌≡◌, ◌≢◌, ◌⊎◌, ◌↔◌, ℤ, p
 use Rattle.std.proofs.Common.{refl, sym, ap, ◌∙◌, subst, inl, inr}
 use Rattle.track_word.specs.declared.tracks.Var.{Var}
 use Rattle.track_word.specs.Tracks.{Values, without_var}
-use Rattle.lin_formula.specs.Tree.{Tree, Among, Not, And, Ex, free_vars}
+use Rattle.lin_formula.specs.Tree.{Tree, Among, And, Ex, free_vars}
 use Rattle.lin_formula.specs.Free.{IsOneOf, IsFree}
 use Rattle.lin_formula.specs.Holds.{Sets, Holds, with_value}
 use Rattle.lin_formula.proofs.FreeVars.{free_vars-free, one_of-with_vars, one_of-without_var}
@@ -11,14 +11,14 @@ use Rattle.lin_formula.proofs.Coincide.{coincide}
 use Rattle.near_bound.specs.Equations.{Equation, IsSolved, AreSolved}
 use Rattle.near_bound.specs.Factored.{AreOver, IsFactored}
 use Rattle.near_image.specs.declared.shift.Shift.{Shift}
-use Rattle.near_image.specs.Image.{Image, IsShiftable, and_all, ex_all, change, step, gone, moved_tree}
+use Rattle.near_image.specs.Image.{Image, IsShiftable, and_all, change, step, gone, moved_tree}
 use Rattle.near_image.specs.Image.{equation_by, equation_of}
 use Rattle.near_image.specs.Laws.{negated}
 use Rattle.near_image.proofs.Variables.{one_of-cases}
-use Rattle.near_image.proofs.Bindings.{AgreeBut, AllHold, IsInOne, with_value-same, with_value-other}
-use Rattle.near_image.proofs.Bindings.{vars-and_all, vars-ex_all, holds-and_all, holds-ex_all}
-use Rattle.near_image.proofs.Shifts.{IsAmong, new-not_gone, gone-by, new-by}
-use Rattle.near_image.proofs.Changes.{change-solved, change-vars, changes-vars, solved-is, each-change}
+use Rattle.near_image.proofs.Bindings.{AgreeBut, AllHold, with_value-same, with_value-other}
+use Rattle.near_image.proofs.Bindings.{vars-ex_all, holds-and_all, holds-ex_all}
+use Rattle.near_image.proofs.Shifts.{IsAmong, new-not_gone, gone-by}
+use Rattle.near_image.proofs.Changes.{change-solved, change-vars, solved-is, each-change}
 use Rattle.near_image.proofs.Colours.{turned}
 
 -- the equation's variables are those of the change
@@ -54,60 +54,42 @@ factored-self f e = record {
   holds = λ v. (λ h. (h, tt), λ h. h.0);
 }
 
-left : (f g : Tree) (x : Var) → IsOneOf x (free_vars f) → IsOneOf x (free_vars (And f g))
-left f g x h = (one_of-with_vars x (free_vars f) (free_vars g)).1 (inl h)
+module _ (w p : Tree) (qs : List Equation) (e : Sets) (is : IsFactored w p qs e) where
+  left : (g : Tree) (x : Var) → IsOneOf x (free_vars w) → IsOneOf x (free_vars (And w g))
+  left g x h = (one_of-with_vars x (free_vars w) (free_vars g)).1 (inl h)
 
-right : (f g : Tree) (x : Var) → IsOneOf x (free_vars g) → IsOneOf x (free_vars (And f g))
-right f g x h = (one_of-with_vars x (free_vars f) (free_vars g)).1 (inr h)
+  right : (g : Tree) (x : Var) → IsOneOf x (free_vars g) → IsOneOf x (free_vars (And w g))
+  right g x h = (one_of-with_vars x (free_vars w) (free_vars g)).1 (inr h)
 
--- with a change more
-pub factored-change : (w p : Tree) (qs : List Equation) (e : Sets) → IsFactored w p qs e → (s : Shift)
-    → IsFactored (And w (change s)) p (equation_of s ∷ qs) e
-factored-change w p qs e is s =
-    let new = right w (change s) s.new ((change-vars s.new s).1 (inl refl)) in
-    let old = right w (change s) s.gone ((change-vars s.gone s).1 (inr refl)) in
-    let over = over-more qs (free_vars w) (free_vars (And w (change s))) (left w (change s)) is.equation_vars in
-    let (greater, less) = over-one s (equation_of s) (free_vars (And w (change s))) (sides s) new old in
-    record {
-      part_vars = λ x h. left w (change s) x (is.part_vars x h);
-      equation_vars = (greater, less, over);
-      holds = λ v. (
-        λ h. let k = (is.holds v).0 h.0 in (k.0, ((change-solved s e v).0 h.1, k.1)),
-        λ h. ((is.holds v).1 (h.0, h.1.1), (change-solved s e v).1 h.1.0),
-      );
-    }
+  -- with a change more
+  pub factored-change : (s : Shift) → IsFactored (And w (change s)) p (equation_of s ∷ qs) e
+  factored-change s =
+      let new = right (change s) s.new ((change-vars s.new s).1 (inl refl)) in
+      let old = right (change s) s.gone ((change-vars s.gone s).1 (inr refl)) in
+      let over = over-more qs (free_vars w) (free_vars (And w (change s))) (left (change s)) is.equation_vars in
+      let (greater, less) = over-one s (equation_of s) (free_vars (And w (change s))) (sides s) new old in
+      record {
+        part_vars = λ x h. left (change s) x (is.part_vars x h);
+        equation_vars = (greater, less, over);
+        holds = λ v. (
+          λ h. let k = (is.holds v).0 h.0 in (k.0, ((change-solved s e v).0 h.1, k.1)),
+          λ h. ((is.holds v).1 (h.0, h.1.1), (change-solved s e v).1 h.1.0),
+        );
+      }
 
--- with a formula more in both, beside what is asked after it
-module _ (f p : Tree) (hs : List Tree) (qs : List Equation) (e : Sets) (is : IsFactored (and_all f hs) p qs e) (g : Tree) where
-  wider : (x : Var) → IsOneOf x (free_vars (and_all f hs)) → IsOneOf x (free_vars (and_all (And f g) hs))
-  wider x h = (vars-and_all x (And f g) hs).1 (elim ((vars-and_all x f hs).0 h) [
-    | inl k ↦ inl (left f g x k)
-    | inr k ↦ inr k
-  ])
-
-  pub factored-beside : IsFactored (and_all (And f g) hs) (And p g) qs e
-  factored-beside = record {
+  -- with a formula more in both
+  pub factored-beside : (g : Tree) → IsFactored (And w g) (And p g) qs e
+  factored-beside g = record {
     part_vars = λ x h. elim ((one_of-with_vars x (free_vars p) (free_vars g)).0 h) [
-      | inl k ↦ wider x (is.part_vars x k)
-      | inr k ↦ (vars-and_all x (And f g) hs).1 (inl (right f g x k))
+      | inl k ↦ left g x (is.part_vars x k)
+      | inr k ↦ right g x k
     ];
-    equation_vars = over-more qs (free_vars (and_all f hs)) (free_vars (and_all (And f g) hs)) wider is.equation_vars;
+    equation_vars = over-more qs (free_vars w) (free_vars (And w g)) (left g) is.equation_vars;
     holds = λ v. (
-      λ h.
-          let all = (holds-and_all (And f g) hs e v).0 h in
-          let k = (is.holds v).0 ((holds-and_all f hs e v).1 (all.0.0, all.1)) in
-          ((k.0, all.0.1), k.1),
-      λ h.
-          let all = (holds-and_all f hs e v).0 ((is.holds v).1 (h.0.0, h.1)) in
-          (holds-and_all (And f g) hs e v).1 ((all.0, h.0.1), all.1),
+      λ h. let k = (is.holds v).0 h.0 in ((k.0, h.1), k.1),
+      λ h. ((is.holds v).1 (h.0.0, h.1), h.0.1),
     );
   }
-
-pub factored-clear : (gs : List Tree) (w p : Tree) (qs : List Equation) (e : Sets) → IsFactored w p qs e
-    → IsFactored (and_all w (map Not gs)) (and_all p (map Not gs)) qs e
-factored-clear [] w p qs e is = is
-factored-clear (g ∷ gs) w p qs e is =
-    factored-clear gs (And w (Not g)) (And p (Not g)) qs e (factored-beside w p [] qs e is (Not g))
 
 pub factored-changes : (shifts : List Shift) (w p : Tree) (qs : List Equation) (e : Sets) → IsFactored w p qs e
     → IsFactored (and_all w (map change shifts)) p (turned shifts qs) e
@@ -115,113 +97,53 @@ factored-changes [] w p qs e is = is
 factored-changes (s ∷ shifts) w p qs e is =
     factored-changes shifts (And w (change s)) p (equation_of s ∷ qs) e (factored-change w p qs e is s)
 
--- a formula and changes are factored into the formula and the changes
-pub factored-own : (shifts : List Shift) (p : Tree) (e : Sets)
-    → IsFactored (and_all p (map change shifts)) p (turned shifts []) e
-factored-own shifts p e = factored-changes shifts p p [] e (factored-self p e)
+-- the equations of the changes are solved, and the others too
+later-solved : (shifts : List Shift) (qs : List Equation) (v : Values) → AreSolved (turned shifts qs) v → AreSolved qs v
+later-solved [] qs v h = h
+later-solved (s ∷ shifts) qs v h = (later-solved shifts (equation_of s ∷ qs) v h).1
 
-abbrev IsEquationOf : Equation → List Equation → Type 0
-IsEquationOf q [] = ⊥
-IsEquationOf q (r ∷ qs) = (q ≡ r) ⊎ IsEquationOf q qs
+each-solved : (shifts : List Shift) (qs : List Equation) (v : Values) → AreSolved (turned shifts qs) v → (s : Shift)
+    → IsAmong s shifts → IsSolved v (equation_of s)
+each-solved [] qs v h s k = absurd k
+each-solved (t ∷ shifts) qs v h s (inl is) =
+    subst (λ r. IsSolved v (equation_of r)) (sym is) (later-solved shifts (equation_of t ∷ qs) v h).0
+each-solved (t ∷ shifts) qs v h s (inr k) = each-solved shifts (equation_of t ∷ qs) v h s k
 
-later-turned : (q : Equation) (shifts : List Shift) (qs : List Equation) → IsEquationOf q qs
-    → IsEquationOf q (turned shifts qs)
-later-turned q [] qs h = h
-later-turned q (s ∷ shifts) qs h = later-turned q shifts (equation_of s ∷ qs) (inr h)
+-- a member and how it changes are a moved member and the changes
+module _ (i : Image) (is : IsShiftable i) (e : Sets) where
+  from-set : IsFactored (step i) (Among i.set i.vars) (turned i.shifts []) e
+  from-set =
+      factored-changes i.shifts (Among i.set i.vars) (Among i.set i.vars) [] e (factored-self (Among i.set i.vars) e)
 
-each-turned : (s : Shift) (shifts : List Shift) (qs : List Equation) → IsAmong s shifts
-    → IsEquationOf (equation_of s) (turned shifts qs)
-each-turned s [] qs h = absurd h
-each-turned s (t ∷ shifts) qs (inl is) =
-    later-turned (equation_of s) shifts (equation_of t ∷ qs) (inl (ap (λ (r : Shift). equation_of r) is))
-each-turned s (t ∷ shifts) qs (inr h) = each-turned s shifts (equation_of t ∷ qs) h
-
-one-solved : (q : Equation) (qs : List Equation) (v : Values) → AreSolved qs v → IsEquationOf q qs → IsSolved v q
-one-solved q [] v solved h = absurd h
-one-solved q (r ∷ qs) v solved (inl is) = subst (IsSolved v) (sym is) solved.0
-one-solved q (r ∷ qs) v solved (inr h) = one-solved q qs v solved.1 h
-
--- both variables of the equation are of the list
-abbrev IsOver : List Var → Equation → Type 0
-IsOver vars q = IsOneOf q.greater vars × IsOneOf q.less vars
-
-over-each : (q : Equation) (qs : List Equation) (vars : List Var) → AreOver qs vars → IsEquationOf q qs → IsOver vars q
-over-each q [] vars over h = absurd h
-over-each q (r ∷ qs) vars over (inl is) = subst (IsOver vars) (sym is) (over.0, over.1)
-over-each q (r ∷ qs) vars over (inr h) = over-each q qs vars over.2 h
-
-one-over : (s : Shift) (q : Equation) (vars : List Var) → Sides s q → IsOver vars q
-    → IsOneOf s.new vars × IsOneOf s.gone vars
-one-over s q vars (Up greater less) (here, there) =
-    (subst (λ x. IsOneOf x vars) greater here, subst (λ x. IsOneOf x vars) less there)
-one-over s q vars (Down greater less) (here, there) =
-    (subst (λ x. IsOneOf x vars) less there, subst (λ x. IsOneOf x vars) greater here)
-
--- what is factored by changes into a part is factored by them into the part after the changes, where no new variable
--- is an old one
-module _ (shifts : List Shift) (new : (s : Shift) → IsAmong s shifts → ¬ IsOneOf s.new (gone shifts)) (e : Sets) where
   -- values of which the changes hold are settled by those that stay
-  settled : (v w : Values) → AgreeBut (gone shifts) v w → AreSolved (turned shifts []) v → AllHold (map change shifts) e w
-      → w ≡ v
-  settled v w agree solved changes = λ k n. at (record { 0 = n }) (one_of-cases (record { 0 = n }) (gone shifts)) k
+  settled : (v w : Values) → AgreeBut (gone i.shifts) v w → AreSolved (turned i.shifts []) v
+      → AllHold (map change i.shifts) e w → w ≡ v
+  settled v w agree solved changes = λ k n. at (record { 0 = n }) (one_of-cases (record { 0 = n }) (gone i.shifts)) k
     where
-      at-gone : (s : Shift) → IsAmong s shifts → w s.gone.0 ≡ v s.gone.0
+      at-gone : (s : Shift) → IsAmong s i.shifts → w s.gone.0 ≡ v s.gone.0
       at-gone s h =
-          let first = (solved-is s w).0 ((change-solved s e w).0 (each-change shifts e w changes s h)) in
-          let here = one-solved (equation_of s) (turned shifts []) v solved (each-turned s shifts [] h) in
-          first ∙ ap (λ n. n +ℤ negated s.by) (agree s.new (new s h)) ∙ sym ((solved-is s v).0 here)
+          let first = (solved-is s w).0 ((change-solved s e w).0 (each-change i.shifts e w changes s h)) in
+          let last = (solved-is s v).0 (each-solved i.shifts [] v solved s h) in
+          first ∙ ap (λ n. n +ℤ negated s.by) (agree s.new (new-not_gone i is s h)) ∙ sym last
 
-      at : (x : Var) → IsOneOf x (gone shifts) ⊎ (¬ IsOneOf x (gone shifts)) → w x.0 ≡ v x.0
+      at : (x : Var) → IsOneOf x (gone i.shifts) ⊎ (¬ IsOneOf x (gone i.shifts)) → w x.0 ≡ v x.0
       at x (inl h) =
-          let by = gone-by x shifts h in
+          let by = gone-by x i.shifts h in
           ap (λ (y : Var). w y.0) by.is ∙ at-gone by.shift by.among ∙ ap (λ (y : Var). v y.0) (sym by.is)
       at x (inr none) = agree x none
 
-  -- the variables of the changes stand in the whole
-  change-within : (x : Var) (vars : List Var) → AreOver (turned shifts []) vars → IsInOne x (map change shifts)
-      → IsOneOf x vars
-  change-within x vars over h = elim (changes-vars x shifts h) [
-    | inl k ↦
-        let by = new-by x shifts k in
-        subst (λ y. IsOneOf y vars) (sym by.is) (shift-within by.shift by.among).0
-    | inr k ↦
-        let by = gone-by x shifts k in
-        subst (λ y. IsOneOf y vars) (sym by.is) (shift-within by.shift by.among).1
-  ]
-    where
-      shift-within : (s : Shift) → IsAmong s shifts → IsOneOf s.new vars × IsOneOf s.gone vars
-      shift-within s k =
-          let here = over-each (equation_of s) (turned shifts []) vars over (each-turned s shifts [] k) in
-          one-over s (equation_of s) vars (sides s) here
-
-  pub factored-changed : (w p : Tree) → IsFactored w p (turned shifts []) e
-      → IsFactored w (ex_all (gone shifts) (and_all p (map change shifts))) (turned shifts []) e
-  factored-changed w p is =
-      let changed = and_all p (map change shifts) in
-      record {
-        part_vars = λ x h.
-            elim ((vars-and_all x p (map change shifts)).0 ((vars-ex_all x (gone shifts) changed).0 h).1) [
-              | inl k ↦ is.part_vars x k
-              | inr k ↦ change-within x (free_vars w) is.equation_vars k
-            ];
-        equation_vars = is.equation_vars;
-        holds = λ v. (
-          λ h.
-              let k = (is.holds v).0 h in
-              let here = ((factored-own shifts p e).holds v).1 k in
-              ((holds-ex_all (gone shifts) changed e v).1 (v, λ x none. refl, here), k.1),
-          λ h.
-              let (u, agree, k) = (holds-ex_all (gone shifts) changed e v).0 h.0 in
-              let both = (holds-and_all p (map change shifts) e u).0 k in
-              (is.holds v).1 (subst (Holds p e) (settled v u agree h.1 both.1) both.0, h.1),
-        );
-      }
-
--- a member and how it changes are a moved member and the changes
-pub factored-step : (i : Image) → IsShiftable i → (e : Sets) → IsFactored (step i) (moved_tree i) (turned i.shifts []) e
-factored-step i is e =
-    let member = Among i.set i.vars in
-    factored-changed i.shifts (new-not_gone i is) e (step i) member (factored-own i.shifts member e)
+  pub factored-step : IsFactored (step i) (moved_tree i) (turned i.shifts []) e
+  factored-step = record {
+    part_vars = λ x h. ((vars-ex_all x (gone i.shifts) (step i)).0 h).1;
+    equation_vars = from-set.equation_vars;
+    holds = λ v. (
+      λ h. ((holds-ex_all (gone i.shifts) (step i) e v).1 (v, λ x none. refl, h), ((from-set.holds v).0 h).1),
+      λ h.
+          let (w, agree, k) = (holds-ex_all (gone i.shifts) (step i) e v).0 h.0 in
+          let changes = ((holds-and_all (Among i.set i.vars) (map change i.shifts) e w).0 k).1 in
+          subst (Holds (step i) e) (settled v w agree h.1 changes) k,
+    );
+  }
 
 -- neither variable of any of the equations
 abbrev pub IsBeside : Var → List Equation → Type 0

@@ -1,5 +1,5 @@
 -- Automata that are made one after the other.
-use Rattle.std.proofs.Common.{◌≡◌, ◌↔◌, ℕ, ◌+◌, ◌<◌, ℤ, pos, List, Bor, ◌∷◌, length, get_or, drop, sym, ap, ◌∙◌, subst, add-one, drop-cons, inl, inr}
+use Rattle.std.proofs.Common.{◌≡◌, ◌↔◌, ℕ, ◌+◌, ◌<◌, ℤ, pos, List, Bor, ◌∷◌, length, get_or, drop, sym, ap, ◌∙◌, subst, add-one, drop-cons, inl, inr, None}
 use Rattle.std.proofs.lemmas.List.{get_or-map, length-map}
 use Rattle.track_word.specs.declared.tracks.Var.{Var}
 use Rattle.track_word.specs.Word.{IsWord, repeat_first}
@@ -10,20 +10,21 @@ use Rattle.auto_core.specs.Spread.{BothSpreadExceeds}
 use Rattle.auto_core.specs.Integers.{DecidesIntegers}
 use Rattle.auto_bool.proofs.TrackLemmas.{ascending-with_vars}
 use Rattle.auto_shift.specs.Moved.{DecidesMoved}
-use Rattle.lin_formula.specs.Tree.{Tree, free_vars}
+use Rattle.lin_formula.specs.Tree.{Tree, steps, free_vars}
 use Rattle.lin_formula.specs.TreeOf.{tree_of}
 use Rattle.lin_formula.specs.declared.formula.Formula.{Formula}
-use Rattle.lin_formula.specs.SetOf.{tables, members}
+use Rattle.lin_formula.specs.Free.{IsOneOf}
+use Rattle.lin_formula.specs.SetOf.{SetOf, members}
 use Rattle.lin_formula.proofs.FreeVars.{free_vars-ascend, one_of-with_vars}
 use Rattle.formula_auto.specs.Decides.{Decides}
 use Rattle.formula_auto.specs.Nodes.{AcceptSame}
+use Rattle.formula_auto.specs.Step.{FirstOver}
 use Rattle.formula_auto.specs.Compiled.{IsAccessible}
 use Rattle.formula_auto.specs.declared.connective.Connective.TheVariants.{AndNot}
 use Rattle.formula_auto.proofs.Exceedings.{Exceeds-connect}
 use Rattle.formula_auto.proofs.Parts.{Decides-AndNot}
 use Rattle.formula_auto.proofs.SameAutomata.{still_decides}
-use Rattle.near_image.specs.Image.{IsAbout}
-use Rattle.near_image.specs.Laws.{NoStepExceeds, IsMovedBy, negated}
+use Rattle.near_image.specs.Laws.{IsMovedBy, negated}
 use Rattle.near_image.specs.Read.{trees}
 use Rattle.near_image.specs.LeftOut.{IsDifference, IsLeftOf, AreLeftOf}
 use Rattle.near_image.specs.declared.shift.Shift.{Shift}
@@ -56,14 +57,14 @@ moved-more shifts i d a m next within rest moved b h =
     rest b (subst (λ l. IsMovedBy l m b) (drop-here shifts i d within) from)
 
 -- one formula more
-pub left-more : (sets : List Automaton) (budget each : ℕ) (gs : List Tree) (i : ℕ) (g : Tree) (a m next : Automaton) → i < length gs
-    → get_or gs i g ≡ g → ((b : Automaton) → AreLeftOf sets budget each (drop i gs) m b → AreLeftOf sets budget each gs a b)
-    → IsLeftOf sets budget each g m next
-    → (b : Automaton) → AreLeftOf sets budget each (drop (i + 1) gs) next b → AreLeftOf sets budget each gs a b
-left-more sets budget each gs i g a m next within is rest left b h =
-    let from : AreLeftOf sets budget each (g ∷ drop (i + 1) gs) m b = (next, left, h) in
+pub left-more : (e : ℕ → SetOf) (budget each : ℕ) (gs : List Tree) (i : ℕ) (g : Tree) (a m next : Automaton) → i < length gs
+    → get_or gs i g ≡ g → ((b : Automaton) → AreLeftOf e budget each (drop i gs) m b → AreLeftOf e budget each gs a b)
+    → IsLeftOf e budget each g m next
+    → (b : Automaton) → AreLeftOf e budget each (drop (i + 1) gs) next b → AreLeftOf e budget each gs a b
+left-more e budget each gs i g a m next within is rest left b h =
+    let from : AreLeftOf e budget each (g ∷ drop (i + 1) gs) m b = (next, left, h) in
     let here = ap (λ h. h ∷ drop (i + 1) gs) (sym is) ∙ drop-here gs i g within in
-    rest b (subst (λ l. AreLeftOf sets budget each l m b) here from)
+    rest b (subst (λ l. AreLeftOf e budget each l m b) here from)
 
 -- the tree of the formula at a place
 pub tree-at : (formulas : List (Bor Formula)) (i : ℕ) (f : Bor Formula) → i < length formulas → f ≡ get_or formulas i f
@@ -72,7 +73,7 @@ tree-at formulas i f within is =
     get_or-map (λ (f : Bor Formula). tree_of f.now) formulas i f (tree_of f.now) within ∙ ap (λ (f : Bor Formula). tree_of f.now) (sym is)
 
 -- a formula over some of the tracks adds none
-pub same_tracks : (tracks : List Var) (g : Tree) → IsAscending tracks → IsAbout tracks g
+pub same_tracks : (tracks : List Var) (g : Tree) → IsAscending tracks → ((x : Var) → IsOneOf x (free_vars g) → IsOneOf x tracks)
     → with_vars tracks (free_vars g) ≡ tracks
 same_tracks tracks g up about =
     same-ascending (with_vars tracks (free_vars g)) tracks (ascending-with_vars tracks (free_vars g) (free_vars-ascend g)) up
@@ -102,14 +103,14 @@ differs {budget = budget} {a = a} {b = b} {c = c} tracks words within same acces
 }
 
 -- where the second automaton decides a formula over the tracks of the first
-pub left-of : {sets : List Automaton} {budget each : ℕ} {g : Tree} {a b c : Automaton} → IsAscending a.tracks
-    → IsAbout a.tracks g → Decides b g (members (tables sets))
-    → NoStepExceeds g (tables sets) budget → IsDifference each a b c → IsLeftOf sets budget each g a c
-left-of {sets = sets} {g = g} {a = a} up about decides asked h = record {
+pub left-of : {e : ℕ → SetOf} {budget each : ℕ} {g : Tree} {a b c : Automaton} → IsAscending a.tracks
+    → ((x : Var) → IsOneOf x (free_vars g) → IsOneOf x a.tracks) → Decides b g (members e)
+    → FirstOver (steps g) (members e) budget 1 None → IsDifference each a b c → IsLeftOf e budget each g a c
+left-of {e = e} {g = g} {a = a} up about decides asked h = record {
   tracks = h.tracks ∙ ap (with_vars a.tracks) decides.tracks ∙ same_tracks a.tracks g up about;
   asked = asked;
-  decides = λ f left. h.decides f g (tables sets) left decides;
-  within = λ f left. h.within f g (tables sets) left decides;
+  decides = λ f left. h.decides f g e left decides;
+  within = λ f left. h.within f g e left decides;
   accessible = h.accessible;
 }
 

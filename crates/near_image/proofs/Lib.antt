@@ -16,9 +16,4 @@ pub mod Movables
 pub mod Readings
 pub mod Lefts
 pub mod Askings
-pub mod Words
-pub mod Sayings
-pub mod Backs
-pub mod Inverses
-pub mod InverseSteps
 pub mod Results

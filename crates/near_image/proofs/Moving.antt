@@ -13,8 +13,7 @@ use Rattle.auto_shift.specs.Moved.{IsMoved, DecidesMoved, WordsCanBeMoved}
 use Rattle.near_image.specs.declared.shift.Shift.{Shift}
 use Rattle.near_image.specs.Image.{AreOtherVars}
 use Rattle.near_image.specs.Laws.{negated, IsMovedBy}
-use Rattle.near_image.specs.Inverse.{news}
-use Rattle.near_image.proofs.Shifts.{new-by, IsAmong, beside, later}
+use Rattle.near_image.proofs.Shifts.{news, new-by, IsAmong, beside, later}
 
 pub place-within : (x : Var) (xs : List Var) → IsOneOf x xs → place xs x < length xs
 place-within x [] h = absurd h

@@ -19,9 +19,9 @@ use Rattle.near_image.proofs.Shifts.{IsAmong, gone-among, beside, later, new-gon
 use Rattle.near_image.proofs.Withins.{AreWithin, within-append, none-over}
 use Rattle.near_image.proofs.Colours.{turned, colours-later, colours-turned}
 use Rattle.near_image.proofs.Factors.{Sides, Up, Down, sides, IsBeside, beside-one}
-use Rattle.near_image.proofs.Factors.{factored-self, factored-step, factored-clear, factored-ex}
+use Rattle.near_image.proofs.Factors.{factored-self, factored-step, factored-ex}
 use Rattle.near_image.proofs.Members.{members-bound}
-use Rattle.near_image.proofs.Chains.{within-changes, within-clear}
+use Rattle.near_image.proofs.Chains.{within-changes, factored-clear, within-clear}
 
 settles-old : (s : Shift) (q : Equation) → Sides s q → s.new ≢ s.gone → Settles s.gone q
 settles-old s q (Up greater less) differ = inl (less, λ e. differ (sym greater ∙ e))
@@ -80,26 +80,21 @@ module _ (bound : ExBound) (e : ℕ → SetOf) (budget each : ℕ) (p : Tree)
       → AreWithin (steps w) (members e) budget → AreWithin (steps (ex_all (gone shifts) w)) (members e) budget
   bound-within shifts w are is enough within = (bind shifts w [] are is enough within).within
 
--- the part speaks of none of the old variables
-pub settled-first : (shifts : List Shift) (p : Tree)
-    → ((s t : Shift) → IsAmong s shifts → IsAmong t shifts → s.new ≢ t.gone) → AllPairs AreOtherVars shifts
-    → ((y : Var) → IsOneOf y (free_vars p) → ¬ IsOneOf y (gone shifts)) → AreSettled shifts p []
-settled-first shifts p new apart none = record {
-  new = new;
-  apart = apart;
-  part = λ s h y free same.
-      none y free (subst (λ x. IsOneOf x (gone shifts)) (sym same) (gone-among s shifts h));
-  others = λ s h. tt;
-}
-
 -- the old variables do not stand in the part of an image
 part-settled : (i : Image) → IsShiftable i → AreSettled i.shifts (part_tree i) []
-part-settled i is =
-    settled-first i.shifts (part_tree i) (new-gone i is) is.apart (λ y free.
-    elim ((vars-and_all y (moved_tree i) (map Not i.clear)).0 free) [
-      | inl k ↦ ((vars-ex_all y (gone i.shifts) (step i)).0 k).0
-      | inr k ↦ clear-not_gone i is y k
-    ])
+part-settled i is = record {
+  new = new-gone i is;
+  apart = is.apart;
+  part = λ s h y free same.
+      elim ((vars-and_all y (moved_tree i) (map Not i.clear)).0 free) [
+        | inl k ↦ ((vars-ex_all y (gone i.shifts) (step i)).0 k).0 (among y s h same)
+        | inr k ↦ clear-not_gone i is y k (among y s h same)
+      ];
+  others = λ s h. tt;
+}
+  where
+    among : (y : Var) (s : Shift) → IsAmong s i.shifts → y ≡ s.gone → IsOneOf y (gone i.shifts)
+    among y s h same = subst (λ x. IsOneOf x (gone i.shifts)) (sym same) (gone-among s i.shifts h)
 
 -- what is proved of the words that formulas tell apart
 pub record Bounds : Type 0 where
@@ -122,7 +117,7 @@ steps-within bounds i e budget each is few =
     subst (λ n. n * each ≤ budget) (sym (colours-turned i.shifts)) few.changes in
     let asked = within-clear e budget each bounds.conjunctions i.clear (step i) (moved_tree i) (turned i.shifts [])
     factored enough few.clear start in
-    let whole = factored-clear i.clear (step i) (moved_tree i) (turned i.shifts []) (members e) factored in
+    let whole = factored-clear e budget each i.clear (step i) (moved_tree i) (turned i.shifts []) factored in
     let part_few = bounds.states few.part (part_tree i) e each few.is_part few.decides few.few in
     none-over (steps (image_tree i)) (members e) budget 1
     (bound-within bounds.projections e budget each (part_tree i) part_few i.shifts (and_all (step i) (map Not i.clear))

@@ -2,14 +2,16 @@
 use Rattle.std.proofs.Common.{◌≡◌, ◌≢◌, ◌⊎◌, ◌↔◌, suc, List, [], ◌∷◌, map, All, AllPairs, ◌==◌, if◌then◌else◌}
 use Rattle.std.proofs.Common.{Bool, true, false, arith, refl, sym, ap, ◌∙◌, subst, inl, inr, eq-eqb}
 use Rattle.std.proofs.lemmas.Bool.{eqb-true}
-use Rattle.std.proofs.lemmas.List.Elements.{All-nil, All-cons, All-head, All-tail}
+use Rattle.std.proofs.lemmas.List.Elements.{All-head, All-tail}
 use Rattle.track_word.specs.declared.tracks.Var.{Var}
-use Rattle.lin_formula.specs.Tree.{Tree, Not}
+use Rattle.lin_formula.specs.Tree.{Tree, Not, free_vars}
 use Rattle.lin_formula.specs.Free.{IsOneOf}
 use Rattle.near_image.specs.declared.shift.Shift.{Shift}
-use Rattle.near_image.specs.Image.{Image, IsShiftable, IsAbout, AreOtherVars, gone, moved_var, moved_vars}
-use Rattle.near_image.specs.Inverse.{news}
+use Rattle.near_image.specs.Image.{Image, IsShiftable, AreOtherVars, gone, moved_var, moved_vars}
 use Rattle.near_image.proofs.Bindings.{IsInOne}
+
+abbrev pub news : List Shift → List Var
+news shifts = map (λ s. s.new) shifts
 
 abbrev pub IsAmong : Shift → List Shift → Type 0
 IsAmong s [] = ⊥
@@ -55,10 +57,6 @@ pub of-each : (P : Shift → Type 0) (shifts : List Shift) → All P shifts → 
 of-each P [] all s h = absurd h
 of-each P (t ∷ shifts) all s (inl is) = subst P (sym is) (All-head P t shifts all)
 of-each P (t ∷ shifts) all s (inr h) = of-each P shifts (All-tail P t shifts all) s h
-
-pub all-among : (P : Shift → Type 0) (shifts : List Shift) → ((s : Shift) → IsAmong s shifts → P s) → All P shifts
-all-among P [] h = All-nil P
-all-among P (s ∷ shifts) h = All-cons P s shifts (h s (inl refl)) (all-among P shifts (λ t among. h t (inr among)))
 
 -- the first shift and each later one
 pub beside : (s : Shift) (shifts : List Shift) → AllPairs AreOtherVars (s ∷ shifts) → (t : Shift) → IsAmong t shifts
@@ -131,11 +129,15 @@ map-one_of f [] x h = absurd h
 map-one_of f (y ∷ ys) x (inl is) = inl (ap f is)
 map-one_of f (y ∷ ys) x (inr h) = inr (map-one_of f ys x h)
 
-clear-vars : (vars : List Var) (gs : List Tree) → All (IsAbout vars) gs → (x : Var) → IsInOne x (map Not gs)
+-- the formula speaks of some variables alone
+abbrev SpeaksOf : List Var → Tree → Type 0
+SpeaksOf vars g = (x : Var) → IsOneOf x (free_vars g) → IsOneOf x vars
+
+clear-vars : (vars : List Var) (gs : List Tree) → All (SpeaksOf vars) gs → (x : Var) → IsInOne x (map Not gs)
     → IsOneOf x vars
 clear-vars vars [] all x h = absurd h
-clear-vars vars (g ∷ gs) all x (inl h) = All-head (IsAbout vars) g gs all x h
-clear-vars vars (g ∷ gs) all x (inr h) = clear-vars vars gs (All-tail (IsAbout vars) g gs all) x h
+clear-vars vars (g ∷ gs) all x (inl h) = All-head (SpeaksOf vars) g gs all x h
+clear-vars vars (g ∷ gs) all x (inr h) = clear-vars vars gs (All-tail (SpeaksOf vars) g gs all) x h
 
 module _ (i : Image) (is : IsShiftable i) where
   pub old : (s : Shift) → IsAmong s i.shifts → IsOneOf s.gone i.vars

@@ -1,5 +1,5 @@
 -- Formulas of where a step leads from the members of a set.
-use Rattle.std.specs.Prelude.{◌≡◌, ◌≢◌, ◌⊎◌, ◌<◌, length, ℕ, suc, ℤ, pos, negsuc, ◌==◌, if◌then◌else◌, List, [], ◌∷◌, map, All, AllPairs}
+use Rattle.std.specs.Prelude.{◌≢◌, ℕ, suc, ℤ, pos, negsuc, ◌==◌, if◌then◌else◌, List, [], ◌∷◌, map, All, AllPairs}
 use Rattle.track_word.specs.declared.tracks.Var.{Var}
 use Rattle.track_word.specs.declared.atoms.Rel.TheVariants.{Eq}
 use Rattle.lin_formula.specs.Tree.{Tree, Lin, Among, Not, And, Ex, free_vars}
@@ -68,16 +68,6 @@ pub record IsShiftable (i : Image) : Type 0 where
   pub new : All (λ s. ¬ IsOneOf s.new i.vars) i.shifts
   pub apart : AllPairs AreOtherVars i.shifts
   pub clear : All (IsAbout (moved_vars i)) i.clear
-
--- one or two more, or less
-abbrev pub IsNear : ℤ → Type 0
-IsNear by = ((by ≡ pos 1) ⊎ (by ≡ pos 2)) ⊎ ((by ≡ negsuc 0) ⊎ (by ≡ negsuc 1))
-
--- some values change, each a little, and tracks of the set can be moved for that
-pub record IsMovable (i : Image) : Type 0 where
-  pub some : 0 < length i.shifts
-  pub near : All (λ s. IsNear s.by) i.shifts
-  pub shiftable : IsShiftable i
 
 -- the new value is the old one and so much more, as an equation by a natural number
 abbrev pub equation_by : Var → Var → ℤ → Equation

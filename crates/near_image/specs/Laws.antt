@@ -15,11 +15,7 @@ use Rattle.near_bound.specs.Equations.{colours}
 use Rattle.near_image.specs.declared.shift.Shift.{Shift}
 use Rattle.near_image.specs.Image.{Image, IsShiftable, image_tree, moved_tree, part_tree, moved_vars, equation_of}
 
--- no step of the formula exceeds the budget
-abbrev pub NoStepExceeds : Tree → (ℕ → SetOf) → ℕ → Type 0
-NoStepExceeds f e budget = FirstOver (steps f) (members e) budget 1 None
-
--- the automaton was compiled over these sets, with this budget
+-- the automaton was compiled over these sets, within this budget
 abbrev pub IsCompiledOver : Tree → List Automaton → ℕ → Automaton → Type 0
 IsCompiledOver f sets budget a = IsCompiledOn f (tables sets) 0 budget a
 
@@ -62,7 +58,7 @@ change_colours shifts = colours (map equation_of shifts)
 abbrev pub AreClearWithin : Tree → List Tree → (ℕ → SetOf) → ℕ → ℕ → Type 0
 AreClearWithin f [] e budget each = Unit {0}
 AreClearWithin f (g ∷ gs) e budget each =
-    NoStepExceeds g e budget × (¬ Exceeds (And f (Not g)) (members e) each)
+    FirstOver (steps g) (members e) budget 1 None × (¬ Exceeds (And f (Not g)) (members e) each)
     × AreClearWithin (And f (Not g)) gs e budget each
 
 pub record HasFewStates (i : Image) (e : ℕ → SetOf) (budget each : ℕ) : Type 0 where
@@ -82,4 +78,4 @@ pub record HasFewStates (i : Image) (e : ℕ → SetOf) (budget each : ℕ) : Ty
 abbrev pub StepsAreWithin : Type 0
 StepsAreWithin =
     (i : Image) (e : ℕ → SetOf) (budget each : ℕ) → IsShiftable i → HasFewStates i e budget each
-    → NoStepExceeds (image_tree i) e budget
+    → FirstOver (steps (image_tree i)) (members e) budget 1 None

@@ -7,9 +7,8 @@ use Rattle.lin_formula.specs.Tree.{Tree, Not, And, steps}
 use Rattle.lin_formula.specs.SetOf.{SetOf, tables, members}
 use Rattle.formula_auto.specs.Decides.{Decides}
 use Rattle.formula_auto.specs.Compiled.{IsAccessible, IsCompilable}
-use Rattle.formula_auto.specs.Step.{Exceeds}
+use Rattle.formula_auto.specs.Step.{Exceeds, StaysWithin}
 use Rattle.near_image.specs.Image.{IsAbout}
-use Rattle.near_image.specs.Laws.{NoStepExceeds}
 
 -- the third automaton decides And of any formula that the first one decides and Not of one that the second one does, and
 -- that step does not exceed the budget
@@ -27,17 +26,25 @@ pub record MayBeAsked (sets : List Automaton) (tracks : List Var) (g : Tree) : T
   pub few_steps : length (steps g) < 2 ^ 31
   pub about : IsAbout tracks g
 
--- over these sets, the second automaton decides And of any formula that the first one decides and Not of this one, and no
--- step exceeds its budget
-pub record IsLeftOf (sets : List Automaton) (budget each : ℕ) (g : Tree) (a b : Automaton) : Type 0 where
+-- the second automaton decides And of any formula that the first one decides and Not of this one, and no step exceeds
+-- its budget
+pub record IsLeftOf (e : ℕ → SetOf) (budget each : ℕ) (g : Tree) (a b : Automaton) : Type 0 where
   pub tracks : b.tracks ≡ a.tracks
-  pub asked : NoStepExceeds g (tables sets) budget
-  pub decides : (f : Tree) → Decides a f (members (tables sets)) → Decides b (And f (Not g)) (members (tables sets))
-  pub within : (f : Tree) → Decides a f (members (tables sets)) → ¬ Exceeds (And f (Not g)) (members (tables sets)) each
+  pub asked : StaysWithin g (members e) budget
+  pub decides : (f : Tree) → Decides a f (members e) → Decides b (And f (Not g)) (members e)
+  pub within : (f : Tree) → Decides a f (members e) → ¬ Exceeds (And f (Not g)) (members e) each
   pub accessible : IsAccessible each b
 
 -- one formula after the other
-abbrev pub AreLeftOf : List Automaton → ℕ → ℕ → List Tree → Automaton → Automaton → Type 0
-AreLeftOf sets budget each [] a b = b ≡ a
-AreLeftOf sets budget each (g ∷ gs) a b =
-    (m : Automaton) × IsLeftOf sets budget each g a m × AreLeftOf sets budget each gs m b
+abbrev pub AreLeftOf : (ℕ → SetOf) → ℕ → ℕ → List Tree → Automaton → Automaton → Type 0
+AreLeftOf e budget each [] a b = b ≡ a
+AreLeftOf e budget each (g ∷ gs) a b =
+    (m : Automaton) × IsLeftOf e budget each g a m × AreLeftOf e budget each gs m b
+
+-- over these sets, one formula after the other is left out
+abbrev pub AreLeftOver : List Automaton → ℕ → ℕ → List Tree → Automaton → Automaton → Type 0
+AreLeftOver sets budget each gs a b = AreLeftOf (tables sets) budget each gs a b
+
+-- one formula is
+abbrev pub IsLeftOver : List Automaton → ℕ → ℕ → Tree → Automaton → Automaton → Type 0
+IsLeftOver sets budget each g a b = IsLeftOf (tables sets) budget each g a b

@@ -10,4 +10,3 @@ pub mod Image
 pub mod Laws
 pub mod Read
 pub mod LeftOut
-pub mod Inverse

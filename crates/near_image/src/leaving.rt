@@ -4,7 +4,7 @@ ghost use Rattle.track_word.specs.Tracks.{with_vars};
 ghost use Rattle.lin_formula.specs.TreeOf.{tree_of};
 ghost use Rattle.formula_auto.specs.Compiled.{IsAccessible};
 ghost use Rattle.near_image.specs.Read.{trees};
-ghost use Rattle.near_image.specs.LeftOut.{IsDifference, IsLeftOf, AreLeftOf, MayBeAsked};
+ghost use Rattle.near_image.specs.LeftOut.{IsDifference, IsLeftOver, AreLeftOver, MayBeAsked};
 
 use crate::merging::merged;
 use auto_bool::difference_within;
@@ -32,7 +32,7 @@ pub fn left_of_all(
 ) -> Result<Auto, Grown>
     requires { All (MayBeAsked scope.now.sets.now set.tracks) (trees formulas.now) }
     ensures left { IfOk result
-        (AreLeftOf scope.now.sets.now memo.old.budget scope.now.each (trees formulas.now) set) }
+        (AreLeftOver scope.now.sets.now memo.old.budget scope.now.each (trees formulas.now) set) }
     ensures accessible { IfOk result
         (λ b. IsAccessible scope.now.each set → IsAccessible scope.now.each b) }
     ensures budget { memo.new.budget ≡ memo.old.budget }
@@ -54,7 +54,7 @@ fn left_of(
 ) -> Result<Auto, Grown>
     requires { MayBeAsked scope.now.sets.now a.now.tracks (tree_of f.now) }
     ensures left { IfOk result
-        (IsLeftOf scope.now.sets.now memo.old.budget scope.now.each (tree_of f.now) a.now) }
+        (IsLeftOver scope.now.sets.now memo.old.budget scope.now.each (tree_of f.now) a.now) }
     ensures budget { memo.new.budget ≡ memo.old.budget }
 {
     let _ = a.tracks(); // for its invariant

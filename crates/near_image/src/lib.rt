@@ -1,18 +1,14 @@
 //! Where a step leads from the members of a set: some of a tuple's values change by numbers, and what comes out is told by a formula that
-//! binds the old values. And from which members it leads to those of another set, told by a formula that binds the new values. The
-//! automaton is the set's, with tracks moved forth or forth and back, in place of products and projections, wherever that shows that no
+//! binds the old values. Its automaton is the set's, with tracks moved, in place of products and projections, wherever that shows that no
 //! step of the formula exceeds the budget; elsewhere the formula is compiled as it stands.
 #![tactic(auto)]
 
 mod compiling;
 mod image;
-mod inverse;
-mod inverse_image;
 pub mod laws;
 mod leaving;
 mod merging;
 mod movable;
-mod near;
 mod reading;
 mod share;
 mod shift;

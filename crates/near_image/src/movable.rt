@@ -3,8 +3,8 @@ ghost use Rattle.std.specs.Prelude.{◌≡◌, All, AllPairs, map, IfOk, IsTrue}
 ghost use Rattle.lin_formula.specs.TreeOf.{tree_of};
 ghost use Rattle.lin_formula.specs.Free.{IsOneOf};
 ghost use Rattle.near_image.specs.Image as image;
-ghost use Rattle.near_image.specs.Image.{AreOtherVars, IsAbout, IsNear, IsMovable};
-ghost use Rattle.near_image.specs.Read.{image_of, trees, Leaves};
+ghost use Rattle.near_image.specs.Image.{AreOtherVars, IsAbout};
+ghost use Rattle.near_image.specs.Read.{image_of, trees, IsNear, Leaves, IsMovable};
 
 use crate::image::Image;
 use crate::shift::Shift;
@@ -101,8 +101,7 @@ fn is_apart(shift: Shift, others: &[Shift]) -> bool
 
 /// Whether the formulas speak of no other variables.
 fn are_about(alloc: Global, formulas: &[&Formula], vars: &[Var]) -> Result<bool, AllocError>
-    ensures { IfOk result
-        (λ are. IsTrue are → All (IsAbout vars.now) (trees formulas.now)) }
+    ensures { IfOk result (λ are. IsTrue are → All (IsAbout vars.now) (trees formulas.now)) }
 {
     for f in formulas {
         if !is_about(alloc, f, vars)? {

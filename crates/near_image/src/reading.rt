@@ -1,99 +1,43 @@
-//! Reading a formula as an image, or as an inverse image.
+//! Reading a formula as an image.
 ghost use Rattle.std.specs.Prelude.{◌≡◌, [], ◌∷◌, pos, negsuc, IfOk, IfSome, IsTrue};
-ghost use Rattle.lin_formula.specs.Tree.{Among, Not};
+ghost use Rattle.lin_formula.specs.Tree.{Not};
 ghost use Rattle.lin_formula.specs.TreeOf.{tree_of};
-ghost use Rattle.near_image.specs.Image.{change, ex_all, gone};
-ghost use Rattle.near_image.specs.Inverse.{news};
-ghost use Rattle.near_image.specs.Read.{with_clear, with_changes, chain_tree, IsReadAs};
+ghost use Rattle.near_image.specs.Image.{image_tree, change, ex_all, gone};
+ghost use Rattle.near_image.specs.Read.{image_of, with_clear, step_tree};
 
 use crate::image::Image;
-use crate::inverse::Inverse;
-use crate::near::Near;
 use crate::shift::Shift;
 use lin_formula::{Formula, SetId};
 use std::alloc::{AllocError, Global};
 use track_word::{Rel, Var};
 
-/// A formula with variables bound at its head: what stands inside, which values change, and of which formulas none holds then.
+/// The members of a set, and how some of their values change.
 #[derive(Drop)]
-struct Chain<'a> {
-    bound: Vec<Var>,
-    inside: &'a Formula,
+struct Step<'a> {
+    set: SetId,
+    vars: &'a [Var],
     shifts: Vec<Shift>,
-    clear: Vec<&'a Formula>,
 }
 
-/// What a formula says as an image or as an inverse image, if it has the form of one.
-pub fn read_near<'a>(alloc: Global, f: &'a Formula) -> Result<Option<Near<'a>>, AllocError>
-    ensures { IfOk result (λ some. IfSome some (IsReadAs (tree_of f.now))) }
-{
-    let chain = read_chain(alloc, f)?;
-    Ok(near_of(chain))
-}
-
-/// By what stands inside, and which variables are bound.
-fn near_of<'a>(chain: Chain<'a>) -> Option<Near<'a>>
-    ensures { IfSome result (IsReadAs (chain_tree chain.entry)) }
-{
-    match chain.inside {
-        Formula::Among { set, vars } => {
-            if !are_gone(chain.bound.as_slice(), chain.shifts.as_slice()) {
-                return None;
-            }
-            Some(Near::Image(Image {
-                set: *set,
-                vars: vars.as_slice(),
-                shifts: chain.shifts,
-                clear: chain.clear,
-            }))
-        }
-        Formula::And(left, right) => {
-            let (set, vars) = membership(left)?;
-            let (target, target_vars) = membership(right)?;
-            if !are_new(chain.bound.as_slice(), chain.shifts.as_slice()) {
-                return None;
-            }
-            let image = Image {
-                set,
-                vars,
-                shifts: chain.shifts,
-                clear: chain.clear,
-            };
-            Some(Near::Inverse(Inverse {
-                both: chain.inside,
-                image,
-                target,
-                target_vars,
-            }))
-        }
-        _ => None,
-    }
-}
-
-/// The set and the variables of a formula that says no more than that these are a member.
-fn membership<'a>(f: &'a Formula) -> Option<(SetId, &'a [Var])>
-    ensures { IfSome result (λ parts. Among parts.0.0 parts.1.now ≡ tree_of f.now) }
-{
-    match f {
-        Formula::Among { set, vars } => Some((*set, vars.as_slice())),
-        _ => None,
-    }
-}
-
-/// A formula taken apart.
-fn read_chain<'a>(alloc: Global, f: &'a Formula) -> Result<Chain<'a>, AllocError>
-    ensures { IfOk result (λ chain. chain_tree chain ≡ tree_of f.now) }
+/// What a formula says as an image, if it has the form of one.
+pub fn read_image<'a>(alloc: Global, f: &'a Formula) -> Result<Option<Image<'a>>, AllocError>
+    ensures { IfOk result (λ some. IfSome some (λ i. image_tree (image_of i) ≡ tree_of f.now)) }
 {
     let mut bound = Vec::new(alloc);
     let body = open(f, &mut bound)?;
-    let (path, clear) = without_clear(alloc, body)?;
-    let (inside, shifts) = without_changes(alloc, path)?;
-    Ok(Chain {
-        bound,
-        inside,
-        shifts,
+    let (inside, clear) = without_clear(alloc, body)?;
+    let Some(step) = step_of(alloc, inside)? else {
+        return Ok(None);
+    };
+    if !are_gone(bound.as_slice(), step.shifts.as_slice()) {
+        return Ok(None);
+    }
+    Ok(Some(Image {
+        set: step.set,
+        vars: step.vars,
+        shifts: step.shifts,
         clear,
-    })
+    }))
 }
 
 /// What stands behind each Ex at the head of a formula. Adds their variables, the outermost first.
@@ -139,23 +83,27 @@ fn denied<'a>(f: &'a Formula) -> Option<&'a Formula>
     }
 }
 
-/// What stands before each And with a change at the end of a formula, and which changes these are.
-fn without_changes<'a>(
-    alloc: Global,
-    f: &'a Formula,
-) -> Result<(&'a Formula, Vec<Shift>), AllocError>
-    ensures { IfOk result (λ parts. with_changes (tree_of parts.0.now) parts.1.items ≡ tree_of f.now) }
+/// The members of a set, and how some of their values change, if a formula says no more.
+fn step_of<'a>(alloc: Global, f: &'a Formula) -> Result<Option<Step<'a>>, AllocError>
+    ensures { IfOk result (λ some. IfSome some (λ step. step_tree step ≡ tree_of f.now)) }
 {
     match f {
-        Formula::And(left, right) => match shift_of(right) {
-            Some(shift) => {
-                let (inside, mut shifts) = without_changes(alloc, left)?;
-                shifts.push(shift)?;
-                Ok((inside, shifts))
-            }
-            None => Ok((f, Vec::new(alloc))),
-        },
-        _ => Ok((f, Vec::new(alloc))),
+        Formula::Among { set, vars } => Ok(Some(Step {
+            set: *set,
+            vars: vars.as_slice(),
+            shifts: Vec::new(alloc),
+        })),
+        Formula::And(left, right) => {
+            let Some(shift) = shift_of(right) else {
+                return Ok(None);
+            };
+            let Some(mut step) = step_of(alloc, left)? else {
+                return Ok(None);
+            };
+            step.shifts.push(shift)?;
+            Ok(Some(step))
+        }
+        _ => Ok(None),
     }
 }
 
@@ -199,21 +147,6 @@ fn are_gone(vars: &[Var], shifts: &[Shift]) -> bool
     }
     for (index, shift) in shifts.iter().enumerate() {
         if shift.gone != vars[index] {
-            return false;
-        }
-    }
-    true
-}
-
-/// Whether these are the variables of the new values, in order.
-fn are_new(vars: &[Var], shifts: &[Shift]) -> bool
-    ensures { IsTrue result → news shifts.now ≡ vars.now }
-{
-    if vars.len() != shifts.len() {
-        return false;
-    }
-    for (index, shift) in shifts.iter().enumerate() {
-        if shift.new != vars[index] {
             return false;
         }
     }

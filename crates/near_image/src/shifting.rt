@@ -1,56 +1,23 @@
 //! Tracks of a set, moved.
-ghost use Rattle.std.specs.Prelude.{◌≡◌, ◌≢◌, ◌<◌, pos, [], length, All, IfOk};
-ghost use Rattle.track_word.specs.Tracks.{place, with_vars};
+ghost use Rattle.std.specs.Prelude.{◌≡◌, ◌≢◌, ◌<◌, pos, length, All, IfOk};
+ghost use Rattle.track_word.specs.Tracks.{place};
 ghost use Rattle.auto_core.specs.Integers.{DecidesIntegers};
 ghost use Rattle.formula_auto.specs.Compiled.{IsAccessible};
-ghost use Rattle.formula_auto.specs.Nodes.{DecidesAmong};
 ghost use Rattle.auto_shift.specs.Moved.{DecidesMoved};
-ghost use Rattle.near_image.specs.Laws.{IsMovedBy, IsMovedSet, negated};
-ghost use Rattle.near_image.specs.Image.{IsNear, IsMovable};
-ghost use Rattle.near_image.specs.Read.{image_of};
+ghost use Rattle.near_image.specs.Laws.{IsMovedBy, negated};
+ghost use Rattle.near_image.specs.Read.{IsNear};
 
-use crate::image::Image;
-use crate::laws::moved_sets_are_decided;
 use crate::merging::merged;
-use crate::movable::moved_vars;
 use crate::shift::Shift;
 use auto_core::Auto;
 use auto_shift::move_by;
 use auto_walk::Grown;
 use limits::Budget;
-use std::alloc::{AllocError, Global};
-use track_word::{Var, place_of};
-
-/// The set with the new values of the image in place of the old ones. `Over` says nothing.
-pub fn moved_set(alloc: Global, set: &Auto, image: &Image, each: Budget) -> Result<Auto, Grown>
-    requires movable { IsMovable (image_of image.now) }
-    requires arity { length image.now.vars.now ≡ length set.now.tracks }
-    requires integers { DecidesIntegers set.now }
-    ensures decides { IfOk result (IsMovedSet (image_of image.now) set.now) }
-    ensures accessible { IfOk result (IsAccessible each) }
-{
-    moved_sets_are_decided();
-    let shifts = image.shifts.as_slice();
-    let vars = moved_vars(alloc, shifts, image.vars)?;
-    let renamed = membership(alloc, set, vars.as_slice())?;
-    moved(alloc, renamed, shifts, each)
-}
-
-/// The set, renamed: membership of what stands in these variables.
-pub fn membership(alloc: Global, set: &Auto, vars: &[Var]) -> Result<Auto, AllocError>
-    requires arity { length vars.now ≡ length set.now.tracks }
-    requires integers { DecidesIntegers set.now }
-    ensures decides { IfOk result (DecidesAmong set.now vars.now) }
-    ensures tracks { IfOk result (λ a. a.tracks ≡ with_vars vars.now []) }
-    ensures integers { IfOk result DecidesIntegers }
-{
-    let _ = set.tracks(); // for its invariant
-    let renamed = set.rename(alloc, vars)?;
-    Ok(renamed)
-}
+use std::alloc::Global;
+use track_word::place_of;
 
 /// The set with the new values in place of the old ones. `Over` says nothing.
-fn moved(alloc: Global, set: Auto, shifts: &[Shift], each: Budget) -> Result<Auto, Grown>
+pub fn moved(alloc: Global, set: Auto, shifts: &[Shift], each: Budget) -> Result<Auto, Grown>
     requires integers { DecidesIntegers set }
     requires near { All (λ s. IsNear s.by) shifts.now }
     requires there { All (λ s. place set.tracks s.new < length set.tracks) shifts.now }
@@ -79,7 +46,7 @@ fn shifted(alloc: Global, a: &Auto, shift: Shift, each: Budget) -> Result<Auto, 
 }
 
 /// How much more the old value is than the new one.
-pub fn back(shift: Shift) -> i32
+fn back(shift: Shift) -> i32
     requires { IsNear shift.by }
     ensures is { result ≡ negated shift.by }
     ensures some { result ≢ pos 0 }

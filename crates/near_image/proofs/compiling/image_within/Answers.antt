@@ -4,7 +4,7 @@ use Rattle.near_image.specs.Image.{moved_tree}
 use Rattle.near_image.specs.Laws.{HasFewStates}
 use Rattle.near_image.specs.Read.{image_of}
 use Rattle.near_image.proofs.Askings.{set_is_there, set_is_fit, may_ask}
-use Rattle.near_image.proofs.Results.{decides-all, clear-within, compiled-over}
+use Rattle.near_image.proofs.Results.{decides-all, clear-within, compiled-on}
 use Rattle.near_image.proofs.compiling.image_within.Goals as goal
 
 pub unreachable-requires : goal.unreachable-requires
@@ -33,18 +33,17 @@ left_of_all-requires c =
 pub returns-clause-made : goal.returns-clause-made
 returns-clause-made c =
     let i = image_of c.args.image.now in
-    let sets = c.args.sets.now in
-    let e = tables sets in
+    let e = tables c.args.sets.now in
     let budget = c.args.memo.now.budget in
     let each = c.in-Some-share.each in
     let set = c.in-Some.set.now in
     let moved = c.in_ok-moved.moved in
     let part = c.in_ok-part.part in
-    let fits = set_is_fit sets i c.requires.compilable c.requires.few_steps set c.in-Some.ensures in
+    let fits = set_is_fit c.args.sets.now i c.requires.compilable c.requires.few_steps set c.in-Some.ensures in
     let is : e i.set ≡ Table set = ap as_set c.in-Some.ensures in
     let moved_decides = c.in_ok-moved.ensures.decides e is in
     let left = rw c.as_slice-2.ensures.value at c.in_ok-part.ensures.left in
-    let decides = decides-all sets budget each (moved_tree i) i.clear moved part moved_decides left in
+    let decides = decides-all e budget each (moved_tree i) i.clear moved part moved_decides left in
     let accessible = c.in_ok-part.ensures.accessible c.in_ok-moved.ensures.accessible in
     let few : HasFewStates i e budget each = record {
       set = set;
@@ -54,12 +53,11 @@ returns-clause-made c =
       integers = fits.1;
       start = rw (c.as_slice.ensures.value, c.states.ensures.states, c.budget.ensures.is) at c.in-Some-share.ensures.start;
       changes = rw (c.as_slice.ensures.value, c.budget.ensures.is) at c.in-Some-share.ensures.changes;
-      clear = clear-within sets budget each (moved_tree i) i.clear moved part moved_decides left;
+      clear = clear-within e budget each (moved_tree i) i.clear moved part moved_decides left;
       part = part;
       is_part = c.states-2.ensures.valid;
       decides = decides;
       few = accessible.few;
     } in
-    let shiftable = c.requires.movable.shiftable in
-    let within = c.steps_of_an_image_are_within.ensures i e budget each shiftable few in
-    compiled-over sets i.shifts (c.image_says_what_its_part_says.ensures i shiftable) decides within accessible few.changes
+    compiled-on i e budget each part c.image_says_what_its_part_says.ensures c.steps_of_an_image_are_within.ensures
+    c.requires.movable.shiftable few decides accessible

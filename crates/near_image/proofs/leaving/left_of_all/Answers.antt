@@ -1,6 +1,7 @@
 use Rattle.std.proofs.Common.{◌<◌, ◌≤◌, refl, ◌∙◌, arith, length}
 use Rattle.std.proofs.lemmas.List.{drop_all}
 use Rattle.lin_formula.specs.TreeOf.{tree_of}
+use Rattle.lin_formula.specs.SetOf.{tables}
 use Rattle.near_image.specs.Read.{trees}
 use Rattle.near_image.proofs.Lefts.{tree-at, left-more, length-trees}
 use Rattle.near_image.proofs.leaving.left_of_all.Goals as goal
@@ -20,7 +21,7 @@ loop-f-preserved c =
     record {
       budget = c.in_ok-auto.ensures.budget ∙ c.loop-f.invariant.budget;
       tracks = left.tracks ∙ c.loop-f.invariant.tracks;
-      rest = left-more c.args.scope.now.sets.now c.args.memo.now.budget c.args.scope.now.each (trees c.args.formulas.now) c.loop-f.f-index
+      rest = left-more (tables c.args.scope.now.sets.now) c.args.memo.now.budget c.args.scope.now.each (trees c.args.formulas.now) c.loop-f.f-index
           (tree_of c.f-item.result.now) c.args.set c.loop-f.auto' c.in_ok-auto.auto within is c.loop-f.invariant.rest left;
       accessible = λ was. left.accessible;
     }

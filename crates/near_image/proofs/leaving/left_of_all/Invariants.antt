@@ -1,5 +1,6 @@
 use Rattle.std.proofs.Common.{◌≡◌, drop}
 use Rattle.auto_core.specs.Automaton.{Automaton}
+use Rattle.lin_formula.specs.SetOf.{tables}
 use Rattle.formula_auto.specs.Compiled.{IsAccessible}
 use Rattle.near_image.specs.Read.{trees}
 use Rattle.near_image.specs.LeftOut.{AreLeftOf}
@@ -10,7 +11,7 @@ invariant-loop-f l =
     record {
       budget : l.memo.budget ≡ l.fn.memo.budget;
       tracks : l.auto'.tracks ≡ l.fn.set.tracks;
-      rest : (b : Automaton) → AreLeftOf l.scope.sets.now l.fn.memo.budget l.scope.each (drop l.f-index (trees l.formulas)) l.auto' b
-          → AreLeftOf l.scope.sets.now l.fn.memo.budget l.scope.each (trees l.formulas) l.fn.set b;
+      rest : (b : Automaton) → AreLeftOf (tables l.scope.sets.now) l.fn.memo.budget l.scope.each (drop l.f-index (trees l.formulas)) l.auto' b
+          → AreLeftOf (tables l.scope.sets.now) l.fn.memo.budget l.scope.each (trees l.formulas) l.fn.set b;
       accessible : IsAccessible l.scope.each l.fn.set → IsAccessible l.scope.each l.auto';
     }

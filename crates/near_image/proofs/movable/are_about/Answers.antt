@@ -1,10 +1,16 @@
-use Rattle.std.proofs.Common.{Bor, subst}
+use Rattle.std.proofs.Common.{List, Bor, subst}
 use Rattle.std.proofs.lemmas.List.Elements.{All-more, All-map}
+use Rattle.track_word.specs.declared.tracks.Var.{Var}
+use Rattle.lin_formula.specs.Tree.{Tree, free_vars}
 use Rattle.lin_formula.specs.TreeOf.{tree_of}
+use Rattle.lin_formula.specs.Free.{IsOneOf}
 use Rattle.lin_formula.specs.declared.formula.Formula.{Formula}
-use Rattle.near_image.specs.Image.{IsAbout}
 use Rattle.near_image.proofs.Loops.{all-whole}
 use Rattle.near_image.proofs.movable.are_about.Goals as goal
+
+-- it speaks of no other variables
+abbrev IsAbout : List Var → Tree → Type 0
+IsAbout vars g = (x : Var) → IsOneOf x (free_vars g) → IsOneOf x vars
 
 pub loop-f-preserved : goal.loop-f-preserved
 loop-f-preserved c =

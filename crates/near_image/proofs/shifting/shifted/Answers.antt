@@ -2,7 +2,7 @@ use Rattle.std.proofs.Common.{w32, ℤ, SFits, sym, subst, inl, inr}
 use Rattle.std.proofs.Math.Facts.{sfits_lit}
 use Rattle.std.proofs.lemmas.Int.{to_z-of_z}
 use Rattle.near_image.specs.Laws.{negated}
-use Rattle.near_image.specs.Image.{IsNear}
+use Rattle.near_image.specs.Read.{IsNear}
 use Rattle.near_image.proofs.Lefts.{moved-same, integers-same}
 use Rattle.near_image.proofs.shifting.shifted.Goals as goal
 
