@@ -69,7 +69,7 @@ images_few p side to level few =
     let count = masks_few p few in
     omega (arith, all, count)
 
-pre_to_few : (p : Position) (mask : ℕ) (source : SetId) (o : Opt) (target : Option SetId) → length (pre_to p mask source o target) ≤ 1
+pre_to_few : (p : Position) (mask : ℕ) (source : SetId) (o : Opt) (target : Option SetId) → length (pre_to p (record { mask = mask; set = source }) o target) ≤ 1
 pre_to_few p mask source o None = omega arith
 pre_to_few p mask source o (Some target) = omega arith
 
@@ -77,7 +77,7 @@ pub pres_few : (p : Position) (side : Side) (mask : ℕ) (source : Option SetId)
 pres_few p side mask None targets few = omega arith
 pres_few p side mask (Some source) targets few =
     let all =
-    flat_few (λ o. pre_to p mask source o (name_of (masks_of p) targets (target_of mask o))) 1 (options_of p.men mask side)
+    flat_few (λ o. pre_to p (record { mask = mask; set = source }) o (name_of (masks_of p) targets (target_of mask o))) 1 (options_of p.men mask side)
     (λ o. pre_to_few p mask source o (name_of (masks_of p) targets (target_of mask o))) in
     let count = options_few p.men mask side few in
     omega (arith, all, count)

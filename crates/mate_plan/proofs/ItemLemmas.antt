@@ -81,7 +81,9 @@ module _ {X : Type 0} (sets : List Automaton) where
   thinned-none h [] lacks = refl
   thinned-none h (x ∷ xs) lacks = inl (lacks x, thinned-none h xs lacks)
 
-  pub thinned-flat_map : (g : X → List Tree) (h : X → List Item) (xs : List X) → ((x : X) → Thinned (map (item_of sets) (g x)) (h x)) → Thinned (map (item_of sets) (flat_map g xs)) (flat_map h xs)
+  pub thinned-flat_map : (g : X → List Tree) (h : X → List Item) (xs : List X)
+      → ((x : X) → Thinned (map (item_of sets) (g x)) (h x))
+      → Thinned (map (item_of sets) (flat_map g xs)) (flat_map h xs)
   thinned-flat_map g h [] thin = refl
   thinned-flat_map g h (x ∷ xs) thin =
       let Is : List Item → Type 0 = λ l. Thinned l (h x ++ flat_map h xs) in

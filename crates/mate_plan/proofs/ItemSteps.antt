@@ -82,7 +82,9 @@ some_atoms false r a b suits moves =
     some_of_two (b.x.0 == a.x.0) (b.y.0 == a.y.0) (difference b.x a.x Eq r.dx) (difference b.y a.y Eq r.dy)
     (λ e k. moves (suits.across (eqb-true b.x.0 a.x.0 e)) (suits.along (eqb-true b.y.0 a.y.0 k)))
 
-ray_at_moves : (stock : List Man) (k n : ℕ) (m : Man) (r : Ray) → stock_man stock k ≡ Some m → ray_of m.kind m.side n ≡ Some r → (ray_at stock k n).dx ≡ pos 0 → (ray_at stock k n).dy ≢ pos 0
+ray_at_moves : (stock : List Man) (k n : ℕ) (m : Man) (r : Ray)
+    → stock_man stock k ≡ Some m → ray_of m.kind m.side n ≡ Some r → (ray_at stock k n).dx ≡ pos 0
+    → (ray_at stock k n).dy ≢ pos 0
 ray_at_moves stock k n m r is ray =
     let Moves : Ray → Type 0 = λ q. q.dx ≡ pos 0 → q.dy ≢ pos 0 in
     subst Moves (ray_at_is stock k n m r is ray) (ray_moves m.side m.kind n (Some r) (sym ray))

@@ -90,7 +90,8 @@ pub have_level-grows : (stock : List Man) (old new : List Automaton) (masks : Li
     → HaveNames stock old masks names → level_of new masks names ≡ level_of old masks names
 have_level-grows stock old new masks names grows have = from-grows stock old new masks names no_sets grows have
 
-pub level-grows : (stock : List Man) (old new : List Automaton) (masks : List ℕ) (names : Names) → Grows old new → AreNames stock old masks names → level_of new masks names ≡ level_of old masks names
+pub level-grows : (stock : List Man) (old new : List Automaton) (masks : List ℕ) (names : Names)
+    → Grows old new → AreNames stock old masks names → level_of new masks names ≡ level_of old masks names
 level-grows stock old new masks names grows are = have_level-grows stock old new masks names grows (have_from_are stock old masks names are)
 
 pub names-grow : (stock : List Man) (old new : List Automaton) (masks : List ℕ) (names : Names) → Grows old new → AreNames stock old masks names → AreNames stock new masks names
@@ -151,7 +152,8 @@ there (a ∷ sets) zero within = (a, refl)
 there (a ∷ sets) (suc k) within = there sets k (omega (arith, within))
 
 -- the name of such a set
-pub on_from_table : (tracks : List Var) (sets : List Automaton) (id : Option SetId) (s : SetOf) → IsTableOn tracks s → set_at sets id ≡ s → IfSome id (λ k. k.0 < length sets) → IsNameOn tracks sets id
+pub on_from_table : (tracks : List Var) (sets : List Automaton) (id : Option SetId) (s : SetOf)
+    → IsTableOn tracks s → set_at sets id ≡ s → IfSome id (λ k. k.0 < length sets) → IsNameOn tracks sets id
 on_from_table tracks sets None s table e within = tt
 on_from_table tracks sets (Some id) s (set, is, on) e within =
     let (a, found) = there sets id.0 within in

@@ -73,7 +73,9 @@ module _ (p : Position) where
         ∙ ap (λ (l : Level). level_with l mask (set_at new id)) (have_level-grows p.men old new (masks_of p) names grows so_far.have)
 
     -- one more set
-    pub with_mask_ends : (f : ℕ → Program SetOf) (budget : ℕ) → Ends (f mask) budget (set_at new id) → Ends (with_mask f mask (level_in p old names)) budget (level_in p new (names ++ id ∷ []))
+    pub with_mask_ends : (f : ℕ → Program SetOf) (budget : ℕ)
+        → Ends (f mask) budget (set_at new id)
+        → Ends (with_mask f mask (level_in p old names)) budget (level_in p new (names ++ id ∷ []))
     with_mask_ends f budget ends =
         let level = level_with (level_in p old names) mask (set_at new id) in
         subst (λ (l : Level). Ends (with_mask f mask (level_in p old names)) budget l) (sym more)

@@ -174,7 +174,7 @@ module _ (p : Position) (game : IsGame p) (sets : List Automaton) where
 
   pre_on_to : (side : Side) (mask : ℕ) (o : Opt) (source : SetId) (target : Option SetId) → Contains (options_of p.men mask side) o
       → IsNameOn (mask_tracks p mask) sets (Some source) → IsNameOn (mask_tracks p (target_of mask o)) sets target
-      → All (IsItemOn (mask_tracks p mask) sets) (pre_to p mask source o target)
+      → All (IsItemOn (mask_tracks p mask) sets) (pre_to p (record { mask = mask; set = source }) o target)
   pre_on_to side mask o source None i on on_target = All-nil (IsItemOn (mask_tracks p mask) sets)
   pre_on_to side mask o source (Some target) i on on_target =
       let Is = IsItemOn (mask_tracks p mask) sets in
@@ -185,7 +185,7 @@ module _ (p : Position) (game : IsGame p) (sets : List Automaton) where
   pres_on side mask None targets on are = All-nil (IsItemOn (mask_tracks p mask) sets)
   pres_on side mask (Some source) targets on are =
       let all = options_of p.men mask side in
-      all-flat_map (IsItemOn (mask_tracks p mask) sets) (λ o. pre_to p mask source o (name_of (masks_of p) targets (target_of mask o))) all
+      all-flat_map (IsItemOn (mask_tracks p mask) sets) (λ o. pre_to p (record { mask = mask; set = source }) o (name_of (masks_of p) targets (target_of mask o))) all
       (λ k d within. pre_on_to side mask _ source _ (All-contains_itself all k d within) on (name_is_on p.men sets (masks_of p) targets _ are))
 
   pre_same : (mask : ℕ) (s : SetOf) (targets : Level) (o : Opt) (source target : SetId) → s ≡ tables sets source.0
@@ -209,7 +209,7 @@ module _ (p : Position) (game : IsGame p) (sets : List Automaton) where
 
   pre_thin_to : (mask : ℕ) (s : SetOf) (targets : Level) (o : Opt) (source : SetId) (target : Option SetId) → s ≡ tables sets source.0
       → targets (target_of mask o) ≡ set_at sets target
-      → Thinned (map (item_of sets) (pre_to p mask source o target)) (pre_item rules mask s targets o ∷ [])
+      → Thinned (map (item_of sets) (pre_to p (record { mask = mask; set = source }) o target)) (pre_item rules mask s targets o ∷ [])
   pre_thin_to mask s targets o source None e f = inl (second_lacks mask s targets o f, refl)
   pre_thin_to mask s targets o source (Some target) e f = inr (item_of sets (pre_of p.men mask o source.0 target.0), [], refl, pre_same mask s targets o source target e f, refl)
 
@@ -219,7 +219,7 @@ module _ (p : Position) (game : IsGame p) (sets : List Automaton) where
       thinned-none sets (pre_item rules mask s (level_of sets (masks_of p) targets)) (options_of p.men mask side) (λ o. first_lacks mask s (level_of sets (masks_of p) targets) o e)
   pres_thin side mask (Some source) s targets e =
       let level = level_of sets (masks_of p) targets in
-      thinned-each sets (λ o. pre_to p mask source o (name_of (masks_of p) targets (target_of mask o))) (pre_item rules mask s level) (options_of p.men mask side)
+      thinned-each sets (λ o. pre_to p (record { mask = mask; set = source }) o (name_of (masks_of p) targets (target_of mask o))) (pre_item rules mask s level) (options_of p.men mask side)
       (λ o. pre_thin_to mask s level o source (name_of (masks_of p) targets (target_of mask o)) e (set_of_name sets (masks_of p) targets (target_of mask o)))
 
   -- bearings
@@ -255,18 +255,24 @@ module _ (p : Position) (game : IsGame p) (sets : List Automaton) where
       let Is : SetOf → Type 0 = λ t. IsLacking (bear_item rules mask t b) in
       subst Is (sym e) (lacks_one (bear_of p.men mask b.man b.ray b.king 0) Nothing 0 (bear-positives (length p.men) mask b.man b.king 0 (ray_at p.men b.man b.ray)) nothing_empty)
 
-  bear_same : (mask : ℕ) (s : SetOf) (b : Bearing) (source : SetId) → s ≡ tables sets source.0 → SameItem (item_of sets (bear_of p.men mask b.man b.ray b.king source.0)) (bear_item rules mask s b)
+  bear_same : (mask : ℕ) (s : SetOf) (b : Bearing) (source : SetId)
+      → s ≡ tables sets source.0
+      → SameItem (item_of sets (bear_of p.men mask b.man b.ray b.king source.0)) (bear_item rules mask s b)
   bear_same mask s b source e =
       let Is : SetOf → Type 0 = λ t. SameItem (item_of sets (bear_of p.men mask b.man b.ray b.king source.0)) (bear_item rules mask t b) in
       subst Is (sym e) (same_one sets (bear_of p.men mask b.man b.ray b.king) (λ name k. bear-relabel name (length p.men) mask b.man b.king k (ray_at p.men b.man b.ray)) source.0)
 
-  pub bears_thin : (side : Side) (mask : ℕ) (source : Option SetId) (s : SetOf) → s ≡ set_at sets source → Thinned (map (item_of sets) (bear_trees p side mask source)) (bear_items rules side mask s)
+  pub bears_thin : (side : Side) (mask : ℕ) (source : Option SetId) (s : SetOf)
+      → s ≡ set_at sets source
+      → Thinned (map (item_of sets) (bear_trees p side mask source)) (bear_items rules side mask s)
   bears_thin side mask None s e = thinned-none sets (bear_item rules mask s) (bearings_of p.men mask side) (λ b. bear_lacks mask s b e)
   bears_thin side mask (Some source) s e =
       thinned-map sets (λ b. bear_of p.men mask b.man b.ray b.king source.0) (bear_item rules mask s) (bearings_of p.men mask side) (λ b. bear_same mask s b source e)
 
   -- safety
-  pub safe_same : (mask : ℕ) (s : SetOf) (b : Bearing) (source : SetId) → s ≡ tables sets source.0 → SameItem (item_of sets (safe_of p.men mask b.man b.ray b.king source.0)) (safe_item rules mask s b)
+  pub safe_same : (mask : ℕ) (s : SetOf) (b : Bearing) (source : SetId)
+      → s ≡ tables sets source.0
+      → SameItem (item_of sets (safe_of p.men mask b.man b.ray b.king source.0)) (safe_item rules mask s b)
   safe_same mask s b source e =
       let Is : SetOf → Type 0 = λ t. SameItem (item_of sets (safe_of p.men mask b.man b.ray b.king source.0)) (safe_item rules mask t b) in
       subst Is (sym e) (same_one sets (safe_of p.men mask b.man b.ray b.king) (λ name k. safe-relabel name (length p.men) mask b.man b.king k (ray_at p.men b.man b.ray)) source.0)

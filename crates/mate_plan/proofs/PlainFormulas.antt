@@ -104,7 +104,8 @@ module _ (name : ℕ → ℕ) where
   if-relabel true f g h = ap (λ t. tree.And (relabel name f) (tree.Not t)) (plain-relabel name g h)
   if-relabel false f g h = refl
 
-  clear-relabel : (f : Tree) (hit : ℕ → Tree) (live : ℕ → Bool) (i j n : ℕ) → ((k : ℕ) → IsPlain (hit k)) → relabel name (clear f hit live i j n) ≡ clear (relabel name f) hit live i j n
+  clear-relabel : (f : Tree) (hit : ℕ → Tree) (live : ℕ → Bool) (i j n : ℕ)
+      → ((k : ℕ) → IsPlain (hit k)) → relabel name (clear f hit live i j n) ≡ clear (relabel name f) hit live i j n
   clear-relabel f hit live i j zero h = refl
   clear-relabel f hit live i j (suc n) h =
       if-relabel (is_other live i j (suc n)) (clear f hit live i j n) (hit (suc n)) (h (suc n))
@@ -177,7 +178,8 @@ swept-positives (pos zero) x f = refl
 swept-positives (pos (suc d)) x f = refl
 swept-positives (negsuc d) x f = refl
 
-path-positives : (f : Tree) (r : Ray) (a b : _) (extent : _) (live : ℕ → Bool) (i j n : ℕ) → positives (clear (and_all f (ray_atoms r a b)) (λ k. on r a b extent (own k)) live i j n) ≡ positives f
+path-positives : (f : Tree) (r : Ray) (a b : _) (extent : _) (live : ℕ → Bool) (i j n : ℕ)
+    → positives (clear (and_all f (ray_atoms r a b)) (λ k. on r a b extent (own k)) live i j n) ≡ positives f
 path-positives f r a b extent live i j n =
     clear-positives (and_all f (ray_atoms r a b)) (λ k. on r a b extent (own k)) live i j n ∙ all-positives f (ray_atoms r a b) (atoms_plain r.far r.dx r.dy a b)
 

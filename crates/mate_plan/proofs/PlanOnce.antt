@@ -175,7 +175,8 @@ module _ (rules : Rules) where
 
   forward-alike : (first : Side) (mask ply : ℕ) → Alike SameLists (forward rules first mask ply) (forward rules first mask ply)
   forward-alike first mask zero =
-      bind-alike SameLevels SameLists (point_level rules mask) (point_level rules mask) (λ level. Give (level ∷ [])) (λ level. Give (level ∷ [])) (point_level-alike mask) (λ l m same. (same, tt))
+      bind-alike SameLevels SameLists (point_level rules mask) (point_level rules mask) (λ level. Give (level ∷ []))
+      (λ level. Give (level ∷ [])) (point_level-alike mask) (λ l m same. (same, tt))
   forward-alike first mask (suc ply) =
       bind-alike SameLists SameLists (forward rules first mask ply) (forward rules first mask ply) (λ levels. reach_more rules first ply levels)
       (λ levels. reach_more rules first ply levels) (forward-alike first mask ply)

@@ -28,7 +28,9 @@ module _ (sets : List Automaton) (live : ℕ) (name : Option SetId) where
   abbrev made : Level → List ℕ → Level
   made level masks = level_from sets level masks (map (name_if live name) masks)
 
-  there_if : (b : Bool) (m : ℕ) (level : Level) → live == m ≡ b → (level live ≡ set_at sets name) ⊎ (m ≡ live) → (if b then set_at sets (name_if live name m) else level live) ≡ set_at sets name
+  there_if : (b : Bool) (m : ℕ) (level : Level)
+      → live == m ≡ b → (level live ≡ set_at sets name) ⊎ (m ≡ live)
+      → (if b then set_at sets (name_if live name m) else level live) ≡ set_at sets name
   there_if true m level e h =
       let same : live ≡ m = eqb-true live m e in
       let t : m == live ≡ true = eq-eqb m live (sym same) in

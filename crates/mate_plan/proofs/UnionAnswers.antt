@@ -23,13 +23,17 @@ pub game_of : (p : Position) → Sound p → length p.men ≤ 8 → IsGame p
 game_of p sound few = record { few = few; kings = sound.kings }
 
 module _ (p : Position) (sets : List Automaton) (part name : PartName) (same : part ≡ name) where
-  pub items_on : (fs : List Formula) (trees : List Tree) → map tree_of fs ≡ trees → All (IsItemOn (mask_tracks p name.mask) sets) trees → All (IsItemOn (mask_tracks p part.mask) sets) (map tree_of fs)
+  pub items_on : (fs : List Formula) (trees : List Tree)
+      → map tree_of fs ≡ trees → All (IsItemOn (mask_tracks p name.mask) sets) trees
+      → All (IsItemOn (mask_tracks p part.mask) sets) (map tree_of fs)
   items_on fs trees are on =
       let Over : PartName → Type 0 = λ n. All (IsItemOn (mask_tracks p n.mask) sets) (map tree_of fs) in
       let Of : List Tree → Type 0 = λ ts. All (IsItemOn (mask_tracks p name.mask) sets) ts in
       subst Over (sym same) (subst Of (sym are) on)
 
-  pub set_on : (r : Result (Option Automaton) (PlanError PartName)) → IfOk r (λ set. IfSome set (IsSetOn (mask_tracks p part.mask))) → IfOk r (λ set. IfSome set (IsSetOn (mask_tracks p name.mask)))
+  pub set_on : (r : Result (Option Automaton) (PlanError PartName))
+      → IfOk r (λ set. IfSome set (IsSetOn (mask_tracks p part.mask)))
+      → IfOk r (λ set. IfSome set (IsSetOn (mask_tracks p name.mask)))
   set_on r h =
       let Over : PartName → Type 0 = λ n. IfOk r (λ set. IfSome set (IsSetOn (mask_tracks p n.mask))) in
       subst Over same h

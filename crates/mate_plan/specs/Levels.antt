@@ -1,5 +1,5 @@
 -- Levels as the sets that are kept make them.
-use Rattle.std.specs.Prelude.{◌≡◌, ℕ, List, [], ◌∷◌, length, drop, Option}
+use Rattle.std.specs.Prelude.{◌≡◌, ◌==◌, if◌then◌else◌, ℕ, List, [], ◌∷◌, length, map, drop, Option, None}
 use Rattle.auto_core.specs.Automaton.{Automaton}
 use Rattle.game_rules.specs.Game.{Position}
 use Rattle.game_rules.specs.declared.men.Man.{Man}
@@ -9,6 +9,14 @@ use Rattle.rule_formula.specs.Placed.{is_live}
 use Rattle.rule_formula.specs.Trees.{tracks_of}
 use Rattle.set_plan.specs.Sets.{IsNameOn, set_at}
 use Rattle.mate_plan.specs.Plan.{Level, level_with, no_sets}
+
+-- names of the sets of a level, one for each of the masks; where there is no name, there is no set
+abbrev pub Names : Type 0
+Names = List (Option SetId)
+
+-- this name for one mask of the position, and none for the others
+abbrev pub one_name : Position → ℕ → Option SetId → Names
+one_name p mask name = map (λ m. if m == mask then name else None) (masks_of p)
 
 -- a level, and the sets of these names for the masks
 abbrev pub level_from : List Automaton → Level → List ℕ → List (Option SetId) → Level

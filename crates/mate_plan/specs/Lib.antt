@@ -18,6 +18,8 @@ pub mod PlanOf
 pub mod Levels
 pub mod Formulas
 pub mod Twins
+pub mod Bench
+pub mod Named
 pub mod Questions
 pub mod Once
 pub mod Claim

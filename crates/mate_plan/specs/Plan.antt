@@ -98,6 +98,18 @@ module _ (rules : Rules) where
   abbrev pub bear_items : Side → ℕ → SetOf → List Item
   bear_items side mask source = map (bear_item mask source) (rules.bearings side mask)
 
+  -- where the side's moves lead from a level into a mask
+  abbrev pub image_set : Side → ℕ → ℕ → Level → Program SetOf
+  image_set side ply mask level = union ply mask kind.Image (image_items side mask level)
+
+  -- where some move of the side leads from a set into a level, as a part of its own
+  abbrev pub pre_set : Side → ℕ → ℕ → Part → SetOf → Level → Program SetOf
+  pre_set side ply mask p source into = union ply mask p (pre_items side mask source into)
+
+  -- where the side is in check in a set
+  abbrev pub check_set : Side → ℕ → ℕ → SetOf → Program SetOf
+  check_set side ply mask source = union ply mask kind.Check (bear_items (other side) mask source)
+
   abbrev pub safe_item : ℕ → SetOf → Bearing → Item
   safe_item mask source b = record { formula = rules.safe mask b; sets = λ _. source }
 
@@ -114,7 +126,7 @@ module _ (rules : Rules) where
   -- what is reached at a ply with one mask, from what is reached at the ply before, where the side moves
   abbrev pub reach_set : Side → ℕ → Level → ℕ → Program SetOf
   reach_set side ply level mask = do
-    moved ← union ply mask kind.Image (image_items side mask level)
+    moved ← image_set side ply mask level
     narrow ply mask (rules.bearings (other side) mask) moved
 
   abbrev pub reach_level : Side → ℕ → Level → Program Level
@@ -122,7 +134,7 @@ module _ (rules : Rules) where
 
   -- what is kept at a ply of the winner with one mask, from what is kept at the next ply
   abbrev pub win_set : Side → ℕ → Level → Level → ℕ → Program SetOf
-  win_set side ply reach kept1 mask = union ply mask kind.Win (pre_items side mask (reach mask) kept1)
+  win_set side ply reach kept1 mask = pre_set side ply mask kind.Win (reach mask) kept1
 
   abbrev pub win_level : Side → ℕ → Level → Level → Program Level
   win_level side ply reach kept1 = for_masks rules.masks (win_set side ply reach kept1) no_sets
@@ -130,12 +142,24 @@ module _ (rules : Rules) where
   -- what is kept at a ply of the loser with one mask, where some position is reached
   abbrev pub lost_set : Side → ℕ → ℕ → SetOf → Level → Level → Program SetOf
   lost_set side ply mask reach reach1 rests = do
-    escape ← union ply mask kind.Escape (pre_items side mask reach rests)
+    escape ← pre_set side ply mask kind.Escape reach rests
     calm ← difference ply mask kind.Calm reach escape
-    check ← union ply mask kind.Check (bear_items (other side) mask calm)
+    check ← check_set side ply mask calm
     quiet ← difference ply mask kind.Quiet calm check
-    reply ← union ply mask kind.Reply (pre_items side mask quiet reach1)
+    reply ← pre_set side ply mask kind.Reply quiet reach1
     together (rules.tracks mask) (name ply mask kind.Lost) check reply
+
+  -- the first two parts of it: what is reached without a move into the rests
+  abbrev pub calm_set : Side → ℕ → ℕ → SetOf → Level → Program SetOf
+  calm_set side ply mask reach rests = do
+    escape ← pre_set side ply mask kind.Escape reach rests
+    difference ply mask kind.Calm reach escape
+
+  -- two further parts of it: what is calm and not in check, and has a move
+  abbrev pub reply_set : Side → ℕ → ℕ → SetOf → SetOf → Level → Program SetOf
+  reply_set side ply mask calm check reach1 = do
+    quiet ← difference ply mask kind.Quiet calm check
+    pre_set side ply mask kind.Reply quiet reach1
 
   abbrev pub lost_set_if : Side → ℕ → Level → Level → Level → ℕ → Program SetOf
   lost_set_if side ply reach reach1 rests mask =
@@ -151,10 +175,14 @@ module _ (rules : Rules) where
     rests ← for_masks rules.masks (rest_set (suc ply) reach1 kept1) no_sets
     for_masks rules.masks (lost_set_if side ply reach reach1 rests) no_sets
 
+  -- the set of the starting position alone
+  abbrev pub point_set : ℕ → Program Made
+  point_set mask = make (name 0 mask kind.Point) 1 (record { formula = rules.point; sets = λ _. Nothing })
+
   -- the starting position alone
   abbrev pub point_level : ℕ → Program Level
   point_level mask = do
-    made ← make (name 0 mask kind.Point) 1 (record { formula = rules.point; sets = λ _. Nothing })
+    made ← point_set mask
     Give (level_with no_sets mask made.0)
 
   -- what is reached so far, the last ply first, with one more ply

@@ -1,11 +1,11 @@
 -- Questions on the sets of a plan, each a part or some parts of its own.
 use Rattle.std.specs.Prelude.{ℕ, List, [], ◌∷◌, ℤ, Bool, true, false}
-use Rattle.game_rules.specs.Game.{Position, other}
+use Rattle.game_rules.specs.Game.{Position}
 use Rattle.game_rules.specs.declared.men.Side.{Side}
 use Rattle.lin_formula.specs.SetOf.{SetOf}
 use Rattle.set_plan.specs.Program.{Give, Ask, Empty, Has, ◌>>=◌}
 use Rattle.set_plan.specs.Unite.{are_empty, is_within}
-use Rattle.mate_plan.specs.Plan.{Level, Program, Rules, bear_items, difference, name, point_level, pre_items, union}
+use Rattle.mate_plan.specs.Plan.{Level, Program, Rules, bear_items, check_set, difference, name, point_level, pre_set}
 use Rattle.mate_plan.specs.Twins.{twin_items}
 use Rattle.mate_plan.specs.declared.names.Part.{Part}
 use Rattle.mate_plan.specs.declared.names.Part.TheVariants as kind
@@ -23,7 +23,7 @@ module _ (rules : Rules) where
   -- what has none
   abbrev pub have_moves : Side → ℕ → ℕ → Part → Part → SetOf → Level → Program Bool
   have_moves side ply mask found missing s level = do
-    moves ← union rules ply mask found (pre_items rules side mask s level)
+    moves ← pre_set rules side ply mask found s level
     is_within (rules.tracks mask) (name ply mask missing) s moves
 
   -- whether each position of one level with the mask has an answer into the other level
@@ -33,7 +33,7 @@ module _ (rules : Rules) where
   -- where the side is not in check in the set
   abbrev pub quiet_set : Side → ℕ → ℕ → SetOf → Program SetOf
   quiet_set side ply mask s = do
-    check ← union rules ply mask kind.Check (bear_items rules (other side) mask s)
+    check ← check_set rules side ply mask s
     difference rules ply mask kind.Quiet s check
 
   -- whether the side is in check, or has a reply into the level, in each position of the set
@@ -52,5 +52,5 @@ module _ (rules : Rules) where
   abbrev pub has_first_move : Side → ℕ → List ℤ → Level → Program Bool
   has_first_move side mask tuple into = do
     start ← point_level rules mask
-    first ← union rules 0 mask kind.First (pre_items rules side mask (start mask) into)
+    first ← pre_set rules side 0 mask kind.First (start mask) into
     Ask (Has first tuple) (Give true) (Give false)

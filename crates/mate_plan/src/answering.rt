@@ -1,13 +1,13 @@
 //! Whether each position of a set has a move into a level: replies have answers, and quiet positions have replies.
-ghost use Rattle.std.specs.Prelude.{◌≡◌, Bool, IfOk};
+ghost use Rattle.std.specs.Prelude.{◌≡◌, IfOk};
 ghost use Rattle.game_rules.specs.Game.{Sound};
 ghost use Rattle.rule_formula.specs.Fits.{IsGameMask};
-ghost use Rattle.rule_formula.specs.Mean.{mask_tracks as tracks_at};
-ghost use Rattle.set_plan.specs.Outcome.{Answers};
-ghost use Rattle.set_plan.specs.Sets.{Grows, IsNameOn, set_at};
-ghost use Rattle.mate_plan.specs.Levels.{AreNamesIn, level_in};
-ghost use Rattle.mate_plan.specs.PlanOf.{rules_of};
-ghost use Rattle.mate_plan.specs.Questions as questions;
+ghost use Rattle.set_plan.specs.Outcome.{Answers, as_is};
+ghost use Rattle.set_plan.specs.Sets.{Grows};
+ghost use Rattle.mate_plan.specs.Levels.{AreNamesIn};
+ghost use Rattle.mate_plan.specs.Bench.{IsNameFor};
+ghost use Rattle.mate_plan.specs.Named.{AnswersName, AnswersWhether};
+ghost use Rattle.mate_plan.specs.Named as named;
 
 use crate::bench::{Bench, Work};
 use crate::lending::{is_lacking, keep_without, lent};
@@ -29,13 +29,9 @@ fn have_moves(
     missing: Part,
 ) -> Result<bool, PlanError<PartName>>
     requires sound { Sound bench.now.position.now }
-    requires source { IsNameOn (tracks_at bench.now.position.now moves.now.set.stage.mask) sets.now moves.now.set.name }
+    requires source { IsNameFor bench.now moves.now.set.stage.mask sets.now moves.now.set.name }
     requires into { AreNamesIn bench.now.position.now sets.now moves.now.into.now }
-    ensures answers { Answers
-        (questions.have_moves (rules_of bench.now.position.now) moves.now.set.stage.side moves.now.set.stage.ply
-        moves.now.set.stage.mask moves.now.part missing (set_at sets.now moves.now.set.name)
-        (level_in bench.now.position.now sets.now moves.now.into.now))
-        memo.old.budget (λ (b : Bool). b) result }
+    ensures answers { Answers (named.have_moves moves.now missing bench.now sets.now) memo.old.budget as_is result }
     ensures budget { memo.new.budget ≡ memo.old.budget }
 {
     let StageSet { stage, name } = moves.set;
@@ -59,12 +55,9 @@ fn quiet_name(
 ) -> Result<Option<SetId>, PlanError<PartName>>
     requires sound { Sound bench.now.position.now }
     requires mask { IsGameMask bench.now.position.now set.stage.mask }
-    requires source { IsNameOn (tracks_at bench.now.position.now set.stage.mask) work.old.sets set.name }
-    ensures answers { Answers
-        (questions.quiet_set (rules_of bench.now.position.now) set.stage.side set.stage.ply set.stage.mask
-        (set_at work.old.sets set.name))
-        work.old.memo.budget (λ name. set_at work.new.sets name) result }
-    ensures name { IfOk result (IsNameOn (tracks_at bench.now.position.now set.stage.mask) work.new.sets) }
+    requires source { IsNameFor bench.now set.stage.mask work.old.sets set.name }
+    ensures answers { AnswersName bench.now work.old work.new (named.quiet_set set) result }
+    ensures name { IfOk result (IsNameFor bench.now set.stage.mask work.new.sets) }
     ensures grows { Grows work.old.sets work.new.sets }
     ensures budget { work.new.memo.budget ≡ work.old.memo.budget }
 {
@@ -85,11 +78,7 @@ pub fn are_answered(
     requires sound { Sound bench.now.position.now }
     requires from { AreNamesIn bench.now.position.now work.old.sets moves.now.from.now }
     requires into { AreNamesIn bench.now.position.now work.old.sets moves.now.into.now }
-    ensures answers { Answers
-        (questions.are_answered (rules_of bench.now.position.now) moves.now.stage.side moves.now.stage.ply
-        (level_in bench.now.position.now work.old.sets moves.now.from.now)
-        (level_in bench.now.position.now work.old.sets moves.now.into.now) moves.now.stage.mask)
-        work.old.memo.budget (λ (b : Bool). b) result }
+    ensures answers { AnswersWhether bench.now work.old (named.are_answered moves.now) result }
     ensures sets { work.new.sets ≡ work.old.sets }
     ensures budget { work.new.memo.budget ≡ work.old.memo.budget }
 {
@@ -114,11 +103,7 @@ pub fn have_replies(
     requires mask { IsGameMask bench.now.position.now moves.now.stage.mask }
     requires from { AreNamesIn bench.now.position.now work.old.sets moves.now.from.now }
     requires into { AreNamesIn bench.now.position.now work.old.sets moves.now.into.now }
-    ensures answers { Answers
-        (questions.have_replies (rules_of bench.now.position.now) moves.now.stage.side moves.now.stage.ply
-        (level_in bench.now.position.now work.old.sets moves.now.from.now)
-        (level_in bench.now.position.now work.old.sets moves.now.into.now) moves.now.stage.mask)
-        work.old.memo.budget (λ (b : Bool). b) result }
+    ensures answers { AnswersWhether bench.now work.old (named.have_replies moves.now) result }
     ensures grows { Grows work.old.sets work.new.sets }
     ensures budget { work.new.memo.budget ≡ work.old.memo.budget }
 {

@@ -1,15 +1,13 @@
 //! Whether a set has only positions whose men stand on distinct squares, and only positions in which a king is safe.
-ghost use Rattle.std.specs.Prelude.{◌≡◌, All, Bool, IfOk, map};
+ghost use Rattle.std.specs.Prelude.{◌≡◌, All, IfOk};
 ghost use Rattle.game_rules.specs.Game.{Sound};
-ghost use Rattle.lin_formula.specs.TreeOf.{tree_of};
 ghost use Rattle.rule_formula.specs.Fits.{IsGameMask};
 ghost use Rattle.rule_formula.specs.Pairs.{IsPairOf};
-ghost use Rattle.rule_formula.specs.Trees.{twins_tree};
-ghost use Rattle.set_plan.specs.Outcome.{Answers};
-ghost use Rattle.mate_plan.specs.Levels.{AreNamesIn, level_in};
-ghost use Rattle.mate_plan.specs.PlanOf.{rules_of};
-ghost use Rattle.mate_plan.specs.Questions as questions;
-ghost use Rattle.mate_plan.specs.Twins.{twin_trees};
+ghost use Rattle.mate_plan.specs.Levels.{AreNamesIn};
+ghost use Rattle.mate_plan.specs.Twins.{twin_trees, twins_by};
+ghost use Rattle.mate_plan.specs.Named.{AnswersWhether};
+ghost use Rattle.mate_plan.specs.Formulas.{HaveTrees};
+ghost use Rattle.mate_plan.specs.Named as named;
 
 use crate::bench::{Bench, Work};
 use crate::formulas::bear_formulas;
@@ -24,8 +22,7 @@ use std::alloc::AllocError;
 /// Where the two men of one of the pairs stand on one square, in the set of a mask.
 fn twins(bench: &Bench, source: MaskSet, pairs: &[Pair]) -> Result<Vec<Formula>, AllocError>
     requires pairs { All (IsPairOf bench.now.position.now.men source.mask) pairs.now }
-    ensures { IfOk result (λ formulas. map tree_of formulas.items
-        ≡ map (λ w. twins_tree 8 source.mask w.first w.second source.set.0) pairs.now) }
+    ensures { IfOk result (HaveTrees (twins_by source.mask source.set.0 pairs.now)) }
 {
     let mut formulas = Vec::new(bench.alloc);
     for pair in pairs {
@@ -37,7 +34,7 @@ fn twins(bench: &Bench, source: MaskSet, pairs: &[Pair]) -> Result<Vec<Formula>,
 
 /// Where two live men stand on one square in the set of a mask, pair by pair.
 fn twin_formulas(bench: &Bench, mask: u8, source: Option<SetId>) -> Result<Vec<Formula>, AllocError>
-    ensures { IfOk result (λ formulas. map tree_of formulas.items ≡ twin_trees bench.now.position.now mask source) }
+    ensures { IfOk result (HaveTrees (twin_trees bench.now.position.now mask source)) }
 {
     let Some(set) = source else {
         return Ok(Vec::new(bench.alloc));
@@ -55,10 +52,7 @@ pub fn are_apart(
     requires sound { Sound bench.now.position.now }
     requires mask { IsGameMask bench.now.position.now at.now.stage.mask }
     requires level { AreNamesIn bench.now.position.now work.old.sets at.now.level.now }
-    ensures answers { Answers
-        (questions.are_apart bench.now.position.now at.now.stage.ply at.now.stage.mask
-        (level_in bench.now.position.now work.old.sets at.now.level.now at.now.stage.mask))
-        work.old.memo.budget (λ (b : Bool). b) result }
+    ensures answers { AnswersWhether bench.now work.old (named.are_apart at.now) result }
     ensures sets { work.new.sets ≡ work.old.sets }
     ensures budget { work.new.memo.budget ≡ work.old.memo.budget }
 {
@@ -83,10 +77,7 @@ pub fn are_safe(
     requires sound { Sound bench.now.position.now }
     requires mask { IsGameMask bench.now.position.now at.now.stage.mask }
     requires level { AreNamesIn bench.now.position.now work.old.sets at.now.level.now }
-    ensures answers { Answers
-        (questions.are_safe (rules_of bench.now.position.now) at.now.stage.side at.now.stage.ply at.now.stage.mask
-        (level_in bench.now.position.now work.old.sets at.now.level.now at.now.stage.mask))
-        work.old.memo.budget (λ (b : Bool). b) result }
+    ensures answers { AnswersWhether bench.now work.old (named.are_safe at.now) result }
     ensures sets { work.new.sets ≡ work.old.sets }
     ensures budget { work.new.memo.budget ≡ work.old.memo.budget }
 {

@@ -3,12 +3,13 @@ ghost use Rattle.std.specs.Prelude.{ℕ, ◌≡◌, List, IfOk};
 ghost use Rattle.auto_core.specs.Automaton.{Automaton};
 ghost use Rattle.game_rules.specs.Game.{Sound, Position};
 ghost use Rattle.lin_formula.specs.SetOf.{SetOf};
-ghost use Rattle.rule_formula.specs.Fits.{IsGameMask, masks_of};
-ghost use Rattle.rule_formula.specs.Mean.{mask_tracks as tracks_at};
-ghost use Rattle.set_plan.specs.Outcome.{Answers};
-ghost use Rattle.set_plan.specs.Sets.{Grows, IsNameOn, set_at};
-ghost use Rattle.mate_plan.specs.Levels.{AreNamesIn, level_in};
+ghost use Rattle.rule_formula.specs.Fits.{IsGameMask};
+ghost use Rattle.set_plan.specs.Sets.{Grows};
+ghost use Rattle.mate_plan.specs.Levels.{AreNamesIn};
 ghost use Rattle.mate_plan.specs.Plan as plan;
+ghost use Rattle.mate_plan.specs.Bench.{IsNameFor};
+ghost use Rattle.mate_plan.specs.Named.{AnswersLevel, AnswersName, StaysSame};
+ghost use Rattle.mate_plan.specs.Named as named;
 
 use crate::bench::{Bench, Work};
 use crate::level::LevelNames;
@@ -34,14 +35,12 @@ pub trait MaskSets {
         requires sound { Sound bench.now.position.now }
         requires mask { IsGameMask bench.now.position.now mask }
         requires fits { fits self.now bench.now.position.now work.old.sets }
-        ensures answers { Answers (program self.now bench.now.position.now work.old.sets mask)
-            work.old.memo.budget (λ name. set_at work.new.sets name) result }
-        ensures name { IfOk result (IsNameOn (tracks_at bench.now.position.now mask) work.new.sets) }
+        ensures answers { AnswersName bench.now work.old work.new (named.at_mask (program self.now) mask) result }
+        ensures name { IfOk result (IsNameFor bench.now mask work.new.sets) }
         ensures grows { Grows work.old.sets work.new.sets }
         ensures budget { work.new.memo.budget ≡ work.old.memo.budget }
         ensures fits { fits self.now bench.now.position.now work.new.sets }
-        ensures same { program self.now bench.now.position.now work.new.sets
-            ≡ program self.now bench.now.position.now work.old.sets };
+        ensures same { StaysSame (program self.now bench.now.position.now) work.old.sets work.new.sets };
 }
 
 /// A level, mask by mask.
@@ -105,10 +104,7 @@ pub fn level_by<M: MaskSets>(
 ) -> Result<LevelNames, PlanError<PartName>>
     requires sound { Sound bench.now.position.now }
     requires fits { M.fits making.now bench.now.position.now work.old.sets }
-    ensures answers { Answers
-        (plan.for_masks (masks_of bench.now.position.now)
-        (M.program making.now bench.now.position.now work.old.sets) plan.no_sets)
-        work.old.memo.budget (level_in bench.now.position.now work.new.sets) result }
+    ensures answers { AnswersLevel bench.now work.old work.new (named.by_mask (M.program making.now)) result }
     ensures names { IfOk result (AreNamesIn bench.now.position.now work.new.sets) }
     ensures grows { Grows work.old.sets work.new.sets }
     ensures budget { work.new.memo.budget ≡ work.old.memo.budget }

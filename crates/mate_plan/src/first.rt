@@ -1,5 +1,5 @@
 //! Whether the side that is to move in the starting position has a move into a level.
-ghost use Rattle.std.specs.Prelude.{◌≡◌, ◌↔◌, Bool, IfOk, IfSome, IsTrue};
+ghost use Rattle.std.specs.Prelude.{◌≡◌, ◌↔◌, IfOk, IfSome, IsTrue};
 ghost use Rattle.game_rules.specs.Game.{Sound};
 ghost use Rattle.lin_formula.specs.SetOf.{Member, as_set};
 ghost use Rattle.rule_formula.specs.Fits.{mask_of};
@@ -7,10 +7,10 @@ ghost use Rattle.rule_formula.specs.Mean.{mask_tracks as tracks_at};
 ghost use Rattle.rule_formula.specs.Placed.{tuple_of};
 ghost use Rattle.set_plan.specs.Outcome.{Answers};
 ghost use Rattle.set_plan.specs.Sets.{Grows, IsSetOn};
-ghost use Rattle.mate_plan.specs.Levels.{AreNamesIn, level_in};
-ghost use Rattle.mate_plan.specs.Plan.{pre_items, union};
-ghost use Rattle.mate_plan.specs.PlanOf.{rules_of};
-ghost use Rattle.mate_plan.specs.Questions as questions;
+ghost use Rattle.mate_plan.specs.Levels.{AreNamesIn};
+ghost use Rattle.mate_plan.specs.Bench.{IsSetFor};
+ghost use Rattle.mate_plan.specs.Named.{AnswersWhether};
+ghost use Rattle.mate_plan.specs.Named as named;
 
 use crate::bench::{Bench, Work};
 use crate::level::{LevelNames, name_in};
@@ -48,14 +48,8 @@ fn first_set(
     requires sound { Sound bench.now.position.now }
     requires start { AreNamesIn bench.now.position.now sets.now start.now }
     requires into { AreNamesIn bench.now.position.now sets.now into.now }
-    ensures answers { Answers
-        (union (rules_of bench.now.position.now) 0 (mask_of bench.now.position.now) Part.First
-        (pre_items (rules_of bench.now.position.now) bench.now.position.now.turn (mask_of bench.now.position.now)
-        (level_in bench.now.position.now sets.now start.now (mask_of bench.now.position.now))
-        (level_in bench.now.position.now sets.now into.now)))
-        memo.old.budget as_set result }
-    ensures set { IfOk result (λ set.
-        IfSome set (IsSetOn (tracks_at bench.now.position.now (mask_of bench.now.position.now)))) }
+    ensures answers { Answers (named.first_set start.now into.now bench.now sets.now) memo.old.budget as_set result }
+    ensures set { IfOk result (IsSetFor bench.now (mask_of bench.now.position.now)) }
     ensures budget { memo.new.budget ≡ memo.old.budget }
 {
     let stage = Stage {
@@ -80,11 +74,7 @@ pub fn has_first_move(
 ) -> Result<bool, PlanError<PartName>>
     requires sound { Sound bench.now.position.now }
     requires into { AreNamesIn bench.now.position.now work.old.sets into.now }
-    ensures answers { Answers
-        (questions.has_first_move (rules_of bench.now.position.now) bench.now.position.now.turn
-        (mask_of bench.now.position.now) (tuple_of bench.now.position.now)
-        (level_in bench.now.position.now work.old.sets into.now))
-        work.old.memo.budget (λ (b : Bool). b) result }
+    ensures answers { AnswersWhether bench.now work.old (named.has_first_move into.now) result }
     ensures grows { Grows work.old.sets work.new.sets }
     ensures budget { work.new.memo.budget ≡ work.old.memo.budget }
 {

@@ -1,13 +1,9 @@
 //! The formulas of the unions of a plan.
-ghost use Rattle.std.specs.Prelude.{◌≡◌, ◌∷◌, ◌++◌, ◌==◌, [], if◌then◌else◌, ℕ, All, IfOk, OnOk, map, Contains, Some, filter, length, ◌≤◌};
+ghost use Rattle.std.specs.Prelude.{All, IfOk, OnOk};
 ghost use Rattle.game_rules.specs.Game.{Sound};
-ghost use Rattle.std.specs.List.{flat_map};
-ghost use Rattle.lin_formula.specs.TreeOf.{tree_of};
-ghost use Rattle.rule_formula.specs.Fits.{IsGameMask, masks_of, target_of};
+ghost use Rattle.rule_formula.specs.Fits.{IsGameMask};
 ghost use Rattle.rule_formula.specs.Meaning.{IsBearer, IsOptionOf};
-ghost use Rattle.rule_formula.specs.Trees.{bear_of, image_of, pre_of};
-ghost use Rattle.mate_plan.specs.Formulas as trees;
-ghost use Rattle.mate_plan.specs.Formulas.{name_of, pre_to};
+ghost use Rattle.mate_plan.specs.Formulas.{AreAdded, HaveTrees, bear_trees, bears_by, image_to, image_trees, images_to, pre_to, pres_to, stage_images, stage_pres};
 
 use crate::bench::Bench;
 use crate::level::{LevelNames, name_in};
@@ -27,9 +23,7 @@ fn push_image(
 ) -> Result<(), AllocError>
     requires sound { Sound bench.now.position.now }
     requires option { IsOptionOf bench.now.position.now.men from.mask option }
-    ensures { OnOk result (map tree_of formulas.new.items ≡ map tree_of formulas.old.items
-        ++ (if target_of from.mask option == to
-        then image_of bench.now.position.now.men from.mask option from.set.0 ∷ [] else [])) }
+    ensures { OnOk result (AreAdded (image_to bench.now.position.now from to option) formulas.old formulas.new) }
 {
     if option.target(from.mask) == to {
         let image = image_formula(bench.alloc, bench.position, from.mask, option, from.set)?;
@@ -48,9 +42,7 @@ fn push_images(
 ) -> Result<(), AllocError>
     requires sound { Sound bench.now.position.now }
     requires options { All (IsOptionOf bench.now.position.now.men from.mask) options.now }
-    ensures { OnOk result (map tree_of formulas.new.items ≡ map tree_of formulas.old.items
-        ++ map (λ o. image_of bench.now.position.now.men from.mask o from.set.0)
-        (filter (λ o. target_of from.mask o == to) options.now)) }
+    ensures { OnOk result (AreAdded (images_to bench.now.position.now from to options.now) formulas.old formulas.new) }
 {
     for option in options {
         push_image(bench, formulas, from, to, *option)?;
@@ -67,8 +59,8 @@ fn push_mask(
     source: Option<SetId>,
 ) -> Result<(), AllocError>
     requires sound { Sound bench.now.position.now }
-    ensures { OnOk result (map tree_of formulas.new.items ≡ map tree_of formulas.old.items
-        ++ trees.images_from bench.now.position.now stage.side stage.mask mask source) }
+    ensures { OnOk result
+        (AreAdded (stage_images bench.now.position.now stage mask source) formulas.old formulas.new) }
 {
     let Some(set) = source else {
         return Ok(());
@@ -85,8 +77,7 @@ pub(crate) fn image_formulas(
     level: &LevelNames,
 ) -> Result<Vec<Formula>, AllocError>
     requires sound { Sound bench.now.position.now }
-    ensures { IfOk result (λ formulas. map tree_of formulas.items
-        ≡ trees.image_trees bench.now.position.now stage.side stage.mask level.now) }
+    ensures { IfOk result (HaveTrees (image_trees bench.now.position.now stage.side stage.mask level.now)) }
 {
     let mut formulas = Vec::new(bench.alloc);
     for mask in bench.masks {
@@ -105,8 +96,7 @@ fn push_pre(
     target: Option<SetId>,
 ) -> Result<(), AllocError>
     requires { IsOptionOf bench.now.position.now.men from.mask option }
-    ensures { OnOk result (map tree_of formulas.new.items ≡ map tree_of formulas.old.items
-        ++ pre_to bench.now.position.now from.mask from.set option target) }
+    ensures { OnOk result (AreAdded (pre_to bench.now.position.now from option target) formulas.old formulas.new) }
 {
     if let Some(target) = target {
         let pre = pre_formula(
@@ -131,9 +121,7 @@ fn pre_options(
 ) -> Result<Vec<Formula>, AllocError>
     requires sound { Sound bench.now.position.now }
     requires options { All (IsOptionOf bench.now.position.now.men from.mask) options.now }
-    ensures { IfOk result (λ formulas. map tree_of formulas.items
-        ≡ flat_map (λ o. pre_to bench.now.position.now from.mask from.set o
-        (name_of (masks_of bench.now.position.now) targets.now (target_of from.mask o))) options.now) }
+    ensures { IfOk result (HaveTrees (pres_to bench.now.position.now from targets.now options.now)) }
 {
     let mut formulas = Vec::new(bench.alloc);
     for option in options {
@@ -150,8 +138,7 @@ pub(crate) fn pre_formulas(
     targets: &LevelNames,
 ) -> Result<Vec<Formula>, AllocError>
     requires sound { Sound bench.now.position.now }
-    ensures { IfOk result (λ formulas. map tree_of formulas.items
-        ≡ trees.pre_trees bench.now.position.now source.stage.side source.stage.mask source.name targets.now) }
+    ensures { IfOk result (HaveTrees (stage_pres bench.now.position.now source targets.now)) }
 {
     let Some(set) = source.name else {
         return Ok(Vec::new(bench.alloc));
@@ -164,8 +151,7 @@ pub(crate) fn pre_formulas(
 /// Where one of the men bears as it is said, in the set of a mask.
 fn bears(bench: &Bench, source: MaskSet, bearings: &[Bearing]) -> Result<Vec<Formula>, AllocError>
     requires { All (λ b. IsBearer bench.now.position.now.men source.mask b.man b.ray b.king) bearings.now }
-    ensures { IfOk result (λ formulas. map tree_of formulas.items
-        ≡ map (λ b. bear_of bench.now.position.now.men source.mask b.man b.ray b.king source.set.0) bearings.now) }
+    ensures { IfOk result (HaveTrees (bears_by bench.now.position.now source bearings.now)) }
 {
     let mut formulas = Vec::new(bench.alloc);
     for b in bearings {
@@ -185,8 +171,7 @@ pub(crate) fn bear_formulas(
 ) -> Result<Vec<Formula>, AllocError>
     requires sound { Sound bench.now.position.now }
     requires mask { IsGameMask bench.now.position.now mask }
-    ensures { IfOk result (λ formulas. map tree_of formulas.items
-        ≡ trees.bear_trees bench.now.position.now side mask source) }
+    ensures { IfOk result (HaveTrees (bear_trees bench.now.position.now side mask source)) }
 {
     let Some(set) = source else {
         return Ok(Vec::new(bench.alloc));

@@ -1,12 +1,13 @@
 //! Sets that are lent by name.
-ghost use Rattle.std.specs.Prelude.{◌≡◌, ◌≤◌, IfOk, IfSome, List};
+ghost use Rattle.std.specs.Prelude.{◌≡◌, IfOk, IfSome, List};
 ghost use Rattle.std.specs.Bool.{OnTrue, OnFalse};
 ghost use Rattle.track_word.specs.declared.tracks.Var.{Var};
 ghost use Rattle.lin_formula.specs.SetOf.{IsEmpty, as_set};
 ghost use Rattle.set_plan.specs.Outcome.{Answers};
-ghost use Rattle.rule_formula.specs.Mean.{mask_tracks as tracks_at};
 ghost use Rattle.set_plan.specs.Sets.{Grows, IsLeftOn, IsNameOn, IsSetOn, left_of, lent as lent_set, set_at};
-ghost use Rattle.set_plan.specs.Unite.{remainder as remainder_of, together as together_of};
+ghost use Rattle.mate_plan.specs.Bench.{IsNameFor, IsNameOfLeft, IsSetFor, tracks_on};
+ghost use Rattle.mate_plan.specs.Named.{AnswersLeft, AnswersName, together_on};
+ghost use Rattle.mate_plan.specs.Named as named;
 
 use crate::bench::{Bench, Work};
 use crate::names::PartName;
@@ -50,13 +51,10 @@ pub(crate) fn left_without(
     other: Option<&Auto>,
     budget: Budget,
 ) -> Result<Left, PlanError<PartName>>
-    requires one { IsNameOn (tracks_at bench.now.position.now whole.part.mask) sets.now whole.name }
-    requires other { IfSome other (λ a. IsSetOn (tracks_at bench.now.position.now whole.part.mask) a.now) }
-    ensures answers { Answers
-        (remainder_of (tracks_at bench.now.position.now whole.part.mask) whole.part (set_at sets.now whole.name)
-        (lent_set other.entry))
-        budget (left_of (set_at sets.now whole.name)) result }
-    ensures set { IfOk result (IsLeftOn (tracks_at bench.now.position.now whole.part.mask)) }
+    requires one { IsNameFor bench.now whole.part.mask sets.now whole.name }
+    requires other { IfSome other (λ a. IsSetOn (tracks_on bench.now whole.part.mask) a.now) }
+    ensures answers { AnswersLeft bench.now sets.now whole other.entry budget result }
+    ensures set { IfOk result (IsLeftOn (tracks_on bench.now whole.part.mask)) }
 {
     let PartSet { part, name } = whole;
     let tracks = mask_tracks(bench.alloc, bench.position, part.mask)?;
@@ -70,8 +68,7 @@ pub(crate) fn keep_left(
     left: Left,
 ) -> Result<Option<SetId>, AllocError>
     ensures set { IfOk result (λ name. set_at sets.new name ≡ left_of (set_at sets.old whole) left) }
-    ensures name { IfOk result (λ name. (tracks : List Var)
-        → IsNameOn tracks sets.old whole → IsLeftOn tracks left → IsNameOn tracks sets.new name) }
+    ensures name { IfOk result (IsNameOfLeft sets.old sets.new whole left) }
     ensures grows { Grows sets.old sets.new }
 {
     match left {
@@ -87,13 +84,10 @@ pub(crate) fn keep_without(
     whole: PartSet,
     other: Option<Auto>,
 ) -> Result<Option<SetId>, PlanError<PartName>>
-    requires one { IsNameOn (tracks_at bench.now.position.now whole.part.mask) work.old.sets whole.name }
-    requires other { IfSome other (IsSetOn (tracks_at bench.now.position.now whole.part.mask)) }
-    ensures answers { Answers
-        (remainder_of (tracks_at bench.now.position.now whole.part.mask) whole.part
-        (set_at work.old.sets whole.name) (as_set other))
-        work.old.memo.budget (λ name. set_at work.new.sets name) result }
-    ensures name { IfOk result (IsNameOn (tracks_at bench.now.position.now whole.part.mask) work.new.sets) }
+    requires one { IsNameFor bench.now whole.part.mask work.old.sets whole.name }
+    requires other { IsSetFor bench.now whole.part.mask other }
+    ensures answers { AnswersName bench.now work.old work.new (named.without whole other) result }
+    ensures name { IfOk result (IsNameFor bench.now whole.part.mask work.new.sets) }
     ensures grows { Grows work.old.sets work.new.sets }
     ensures budget { work.new.memo.budget ≡ work.old.memo.budget }
 {
@@ -110,12 +104,10 @@ pub(crate) fn joined(
     second: Option<Auto>,
     budget: Budget,
 ) -> Result<Option<Auto>, PlanError<PartName>>
-    requires first { IfSome first (IsSetOn (tracks_at bench.now.position.now part.mask)) }
-    requires second { IfSome second (IsSetOn (tracks_at bench.now.position.now part.mask)) }
-    ensures answers { Answers
-        (together_of (tracks_at bench.now.position.now part.mask) part (as_set first) (as_set second))
-        budget as_set result }
-    ensures set { IfOk result (λ set. IfSome set (IsSetOn (tracks_at bench.now.position.now part.mask))) }
+    requires first { IsSetFor bench.now part.mask first }
+    requires second { IsSetFor bench.now part.mask second }
+    ensures answers { Answers (together_on bench.now part first second) budget as_set result }
+    ensures set { IfOk result (IsSetFor bench.now part.mask) }
 {
     let tracks = mask_tracks(bench.alloc, bench.position, part.mask)?;
     together(bench.alloc, &tracks, part, first, second, budget)

@@ -1,5 +1,5 @@
 //! The sets of a level, by name.
-ghost use Rattle.std.specs.Prelude.{◌≡◌, [], ◌∷◌, ◌++◌, IfOk, OnOk, OnErr};
+ghost use Rattle.std.specs.Prelude.{◌≡◌, [], ◌∷◌, ◌++◌, OnOk, OnErr};
 ghost use Rattle.rule_formula.specs.Fits.{masks_of};
 ghost use Rattle.mate_plan.specs.Formulas.{name_of};
 

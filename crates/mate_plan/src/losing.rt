@@ -1,15 +1,12 @@
 //! What is kept at a ply of the loser.
 ghost use Rattle.std.specs.Prelude.{◌≡◌, ◌<◌, IfOk, IfSome};
 ghost use Rattle.game_rules.specs.Game.{Sound};
-ghost use Rattle.lin_formula.specs.SetOf.{as_set};
 ghost use Rattle.rule_formula.specs.Fits.{IsGameMask};
-ghost use Rattle.rule_formula.specs.Mean.{mask_tracks as tracks_at};
-ghost use Rattle.set_plan.specs.Outcome.{Answers};
-ghost use Rattle.set_plan.specs.Program.{bind};
-ghost use Rattle.set_plan.specs.Sets.{Grows, IsNameOn, IsSetOn, lent as lent_set, set_at};
-ghost use Rattle.mate_plan.specs.Levels.{AreNamesIn, level_in};
-ghost use Rattle.mate_plan.specs.Plan as plan;
-ghost use Rattle.mate_plan.specs.PlanOf.{rules_of};
+ghost use Rattle.set_plan.specs.Sets.{Grows, IsSetOn};
+ghost use Rattle.mate_plan.specs.Levels.{AreNamesIn};
+ghost use Rattle.mate_plan.specs.Bench.{IsNameFor, IsSetFor, tracks_on};
+ghost use Rattle.mate_plan.specs.Named.{AnswersLevel, AnswersName, AnswersSet};
+ghost use Rattle.mate_plan.specs.Named as named;
 
 use crate::bench::{Bench, Work};
 use crate::by_mask::{MaskSets, level_by};
@@ -40,12 +37,8 @@ fn rest_name(
 ) -> Result<Option<SetId>, PlanError<PartName>>
     requires reach { AreNamesIn bench.now.position.now work.old.sets from.now.reach.now }
     requires kept { AreNamesIn bench.now.position.now work.old.sets from.now.kept.now }
-    ensures answers { Answers
-        (plan.rest_set (rules_of bench.now.position.now) from.now.ply
-        (level_in bench.now.position.now work.old.sets from.now.reach.now)
-        (level_in bench.now.position.now work.old.sets from.now.kept.now) mask)
-        work.old.memo.budget (λ name. set_at work.new.sets name) result }
-    ensures name { IfOk result (IsNameOn (tracks_at bench.now.position.now mask) work.new.sets) }
+    ensures answers { AnswersName bench.now work.old work.new (named.rest_set from.now mask) result }
+    ensures name { IfOk result (IsNameFor bench.now mask work.new.sets) }
     ensures grows { Grows work.old.sets work.new.sets }
     ensures budget { work.new.memo.budget ≡ work.old.memo.budget }
 {
@@ -90,17 +83,10 @@ fn calm_name(
 ) -> Result<Option<SetId>, PlanError<PartName>>
     requires sound { Sound bench.now.position.now }
     requires mask { IsGameMask bench.now.position.now reach.stage.mask }
-    requires reach { IsNameOn (tracks_at bench.now.position.now reach.stage.mask) work.old.sets reach.name }
+    requires reach { IsNameFor bench.now reach.stage.mask work.old.sets reach.name }
     requires rests { AreNamesIn bench.now.position.now work.old.sets rests.now }
-    ensures answers { Answers
-        (bind
-        (plan.union (rules_of bench.now.position.now) reach.stage.ply reach.stage.mask Part.Escape
-        (plan.pre_items (rules_of bench.now.position.now) reach.stage.side reach.stage.mask
-        (set_at work.old.sets reach.name) (level_in bench.now.position.now work.old.sets rests.now)))
-        (plan.difference (rules_of bench.now.position.now) reach.stage.ply reach.stage.mask Part.Calm
-        (set_at work.old.sets reach.name)))
-        work.old.memo.budget (λ name. set_at work.new.sets name) result }
-    ensures name { IfOk result (IsNameOn (tracks_at bench.now.position.now reach.stage.mask) work.new.sets) }
+    ensures answers { AnswersName bench.now work.old work.new (named.calm_set reach rests.now) result }
+    ensures name { IfOk result (IsNameFor bench.now reach.stage.mask work.new.sets) }
     ensures grows { Grows work.old.sets work.new.sets }
     ensures budget { work.new.memo.budget ≡ work.old.memo.budget }
 {
@@ -127,18 +113,11 @@ fn reply_set(
 ) -> Result<Option<Auto>, PlanError<PartName>>
     requires sound { Sound bench.now.position.now }
     requires mask { IsGameMask bench.now.position.now calm.stage.mask }
-    requires calm { IsNameOn (tracks_at bench.now.position.now calm.stage.mask) work.old.sets calm.name }
-    requires check { IfSome check (λ a. IsSetOn (tracks_at bench.now.position.now calm.stage.mask) a.now) }
+    requires calm { IsNameFor bench.now calm.stage.mask work.old.sets calm.name }
+    requires check { IfSome check (λ a. IsSetOn (tracks_on bench.now calm.stage.mask) a.now) }
     requires next_reach { AreNamesIn bench.now.position.now work.old.sets next_reach.now }
-    ensures answers { Answers
-        (bind
-        (plan.difference (rules_of bench.now.position.now) calm.stage.ply calm.stage.mask Part.Quiet
-        (set_at work.old.sets calm.name) (lent_set check.entry))
-        (λ quiet. plan.union (rules_of bench.now.position.now) calm.stage.ply calm.stage.mask Part.Reply
-        (plan.pre_items (rules_of bench.now.position.now) calm.stage.side calm.stage.mask quiet
-        (level_in bench.now.position.now work.old.sets next_reach.now))))
-        work.old.memo.budget as_set result }
-    ensures set { IfOk result (λ set. IfSome set (IsSetOn (tracks_at bench.now.position.now calm.stage.mask))) }
+    ensures answers { AnswersSet bench.now work.old (named.reply_set calm check.entry next_reach.now) result }
+    ensures set { IfOk result (IsSetFor bench.now calm.stage.mask) }
     ensures grows { Grows work.old.sets work.new.sets }
     ensures budget { work.new.memo.budget ≡ work.old.memo.budget }
 {
@@ -168,15 +147,11 @@ fn lost_set(
 ) -> Result<Option<Auto>, PlanError<PartName>>
     requires sound { Sound bench.now.position.now }
     requires mask { IsGameMask bench.now.position.now reach.stage.mask }
-    requires reach { IsNameOn (tracks_at bench.now.position.now reach.stage.mask) work.old.sets reach.name }
+    requires reach { IsNameFor bench.now reach.stage.mask work.old.sets reach.name }
     requires next_reach { AreNamesIn bench.now.position.now work.old.sets next_reach.now }
     requires rests { AreNamesIn bench.now.position.now work.old.sets rests.now }
-    ensures answers { Answers
-        (plan.lost_set (rules_of bench.now.position.now) reach.stage.side reach.stage.ply reach.stage.mask
-        (set_at work.old.sets reach.name) (level_in bench.now.position.now work.old.sets next_reach.now)
-        (level_in bench.now.position.now work.old.sets rests.now))
-        work.old.memo.budget as_set result }
-    ensures set { IfOk result (λ set. IfSome set (IsSetOn (tracks_at bench.now.position.now reach.stage.mask))) }
+    ensures answers { AnswersSet bench.now work.old (named.lost_set reach next_reach.now rests.now) result }
+    ensures set { IfOk result (IsSetFor bench.now reach.stage.mask) }
     ensures grows { Grows work.old.sets work.new.sets }
     ensures budget { work.new.memo.budget ≡ work.old.memo.budget }
 {
@@ -212,13 +187,8 @@ fn lost_name(
     requires reach { AreNamesIn bench.now.position.now work.old.sets from.now.reach.now }
     requires next_reach { AreNamesIn bench.now.position.now work.old.sets from.now.next_reach.now }
     requires rests { AreNamesIn bench.now.position.now work.old.sets from.now.rests.now }
-    ensures answers { Answers
-        (plan.lost_set_if (rules_of bench.now.position.now) from.now.side from.now.ply
-        (level_in bench.now.position.now work.old.sets from.now.reach.now)
-        (level_in bench.now.position.now work.old.sets from.now.next_reach.now)
-        (level_in bench.now.position.now work.old.sets from.now.rests.now) mask)
-        work.old.memo.budget (λ name. set_at work.new.sets name) result }
-    ensures name { IfOk result (IsNameOn (tracks_at bench.now.position.now mask) work.new.sets) }
+    ensures answers { AnswersName bench.now work.old work.new (named.lost_set_if from.now mask) result }
+    ensures name { IfOk result (IsNameFor bench.now mask work.new.sets) }
     ensures grows { Grows work.old.sets work.new.sets }
     ensures budget { work.new.memo.budget ≡ work.old.memo.budget }
 {
@@ -281,12 +251,7 @@ pub fn lost_level(
     requires reach { AreNamesIn bench.now.position.now work.old.sets from.now.reach.now }
     requires next_reach { AreNamesIn bench.now.position.now work.old.sets from.now.next_reach.now }
     requires next_kept { AreNamesIn bench.now.position.now work.old.sets from.now.next_kept.now }
-    ensures answers { Answers
-        (plan.lost_level (rules_of bench.now.position.now) from.now.side from.now.ply
-        (level_in bench.now.position.now work.old.sets from.now.reach.now)
-        (level_in bench.now.position.now work.old.sets from.now.next_reach.now)
-        (level_in bench.now.position.now work.old.sets from.now.next_kept.now))
-        work.old.memo.budget (level_in bench.now.position.now work.new.sets) result }
+    ensures answers { AnswersLevel bench.now work.old work.new (named.lost_level from.now) result }
     ensures names { IfOk result (AreNamesIn bench.now.position.now work.new.sets) }
     ensures grows { Grows work.old.sets work.new.sets }
     ensures budget { work.new.memo.budget ≡ work.old.memo.budget }

@@ -1,13 +1,11 @@
 //! A set made narrower to the positions in which a king is not attacked.
-ghost use Rattle.std.specs.Prelude.{◌≡◌, ◌<◌, ◌≤◌, ◌+◌, ◌^◌, All, IfOk, IfSome, length};
+ghost use Rattle.std.specs.Prelude.{◌≡◌, ◌≤◌, All, IfOk, length};
 ghost use Rattle.game_rules.specs.Game.{Sound};
-ghost use Rattle.lin_formula.specs.SetOf.{as_set};
-ghost use Rattle.rule_formula.specs.Mean.{mask_tracks as tracks_at};
 ghost use Rattle.rule_formula.specs.Meaning.{IsBearer};
-ghost use Rattle.set_plan.specs.Outcome.{Answers};
-ghost use Rattle.set_plan.specs.Sets.{Grows, IsSetOn};
-ghost use Rattle.mate_plan.specs.Plan as plan;
-ghost use Rattle.mate_plan.specs.PlanOf.{rules_of};
+ghost use Rattle.set_plan.specs.Sets.{Grows};
+ghost use Rattle.mate_plan.specs.Bench.{IsSetFor};
+ghost use Rattle.mate_plan.specs.Named.{AnswersSet};
+ghost use Rattle.mate_plan.specs.Named as named;
 
 use crate::bench::{Bench, Work};
 use crate::names::{Part, PartName};
@@ -101,11 +99,9 @@ pub(crate) fn narrow(
     requires sound { Sound bench.now.position.now }
     requires bearings { All (λ b. IsBearer bench.now.position.now.men stage.mask b.man b.ray b.king) bearings.now }
     requires few { length bearings.now ≤ 1000 }
-    requires set { IfSome moved (IsSetOn (tracks_at bench.now.position.now stage.mask)) }
-    ensures answers { Answers
-        (plan.narrow (rules_of bench.now.position.now) stage.ply stage.mask bearings.now (as_set moved))
-        work.old.memo.budget as_set result }
-    ensures set { IfOk result (λ set. IfSome set (IsSetOn (tracks_at bench.now.position.now stage.mask))) }
+    requires set { IsSetFor bench.now stage.mask moved }
+    ensures answers { AnswersSet bench.now work.old (named.narrow stage bearings.now moved) result }
+    ensures set { IfOk result (IsSetFor bench.now stage.mask) }
     ensures grows { Grows work.old.sets work.new.sets }
     ensures budget { work.new.memo.budget ≡ work.old.memo.budget }
 {

@@ -1,8 +1,8 @@
 //! The variables of the live men.
-ghost use Rattle.std.specs.Prelude.{◌≡◌, ◌≤◌, ◌∷◌, ◌++◌, [], if◌then◌else◌, IfOk, OnOk, length};
+ghost use Rattle.std.specs.Prelude.{◌≡◌, ◌≤◌, IfOk, OnOk};
 ghost use Rattle.rule_formula.specs.Placed.{is_live as live_in};
-ghost use Rattle.rule_formula.specs.Seats.{own};
 ghost use Rattle.rule_formula.specs.Trees.{tracks_of};
+ghost use Rattle.mate_plan.specs.Bench.{with_man};
 
 use chess_game::Position;
 use std::alloc::{AllocError, Global};
@@ -21,9 +21,7 @@ pub(crate) fn is_live(mask: u8, k: u8) -> bool
 fn push_man(tracks: &mut Vec<Var>, mask: u8, k: u8) -> Result<(), AllocError>
     requires low { 1 ≤ k }
     requires high { k ≤ 8 }
-    ensures { OnOk result
-        (tracks.new.items
-        ≡ (if live_in mask k then tracks.old.items ++ (own k).x ∷ (own k).y ∷ [] else tracks.old.items)) }
+    ensures { OnOk result (tracks.new.items ≡ with_man mask k tracks.old.items) }
 {
     if is_live(mask, k) {
         tracks.push(Var(2 * k - 2))?;

@@ -1,16 +1,14 @@
 //! Unions of a plan, each as a part of its own.
-ghost use Rattle.std.specs.Prelude.{◌≡◌, ◌<◌, ◌^◌, All, IfOk, IfSome, length, map};
-ghost use Rattle.game_rules.specs.Game.{Sound, other as other_side};
+ghost use Rattle.std.specs.Prelude.{◌≡◌, ◌<◌, ◌^◌, All, IfOk, length, map};
+ghost use Rattle.game_rules.specs.Game.{Sound};
 ghost use Rattle.lin_formula.specs.SetOf.{as_set};
 ghost use Rattle.lin_formula.specs.TreeOf.{tree_of};
 ghost use Rattle.rule_formula.specs.Fits.{IsGameMask};
-ghost use Rattle.rule_formula.specs.Mean.{mask_tracks as tracks_at};
 ghost use Rattle.set_plan.specs.Outcome.{Answers};
-ghost use Rattle.set_plan.specs.Sets.{IsItemOn, IsNameOn, IsSetOn, item_of, set_at};
-ghost use Rattle.set_plan.specs.Unite.{union};
-ghost use Rattle.mate_plan.specs.Levels.{AreNamesIn, level_in};
-ghost use Rattle.mate_plan.specs.Plan as plan;
-ghost use Rattle.mate_plan.specs.PlanOf.{rules_of};
+ghost use Rattle.set_plan.specs.Sets.{IsItemOn};
+ghost use Rattle.mate_plan.specs.Levels.{AreNamesIn};
+ghost use Rattle.mate_plan.specs.Bench.{IsNameFor, IsSetFor, tracks_on};
+ghost use Rattle.mate_plan.specs.Named as named;
 
 use crate::bench::Bench;
 use crate::formulas::{bear_formulas, image_formulas, pre_formulas};
@@ -31,12 +29,10 @@ fn united(
     part: PartName,
     formulas: &[Formula],
 ) -> Result<Option<Auto>, PlanError<PartName>>
-    requires items { All (IsItemOn (tracks_at bench.now.position.now part.mask) sets.now) (map tree_of formulas.now) }
+    requires items { All (IsItemOn (tracks_on bench.now part.mask) sets.now) (map tree_of formulas.now) }
     requires few { length formulas.now < 2 ^ 20 }
-    ensures answers { Answers
-        (union (tracks_at bench.now.position.now part.mask) part (map (item_of sets.now) (map tree_of formulas.now)))
-        memo.old.budget as_set result }
-    ensures set { IfOk result (λ set. IfSome set (IsSetOn (tracks_at bench.now.position.now part.mask))) }
+    ensures answers { Answers (named.union part formulas.now bench.now sets.now) memo.old.budget as_set result }
+    ensures set { IfOk result (IsSetFor bench.now part.mask) }
     ensures budget { memo.new.budget ≡ memo.old.budget }
 {
     let tracks = mask_tracks(bench.alloc, bench.position, part.mask)?;
@@ -55,12 +51,8 @@ pub(crate) fn image_set(
 ) -> Result<Option<Auto>, PlanError<PartName>>
     requires sound { Sound bench.now.position.now }
     requires level { AreNamesIn bench.now.position.now sets.now level.now }
-    ensures answers { Answers
-        (plan.union (rules_of bench.now.position.now) stage.ply stage.mask Part.Image
-        (plan.image_items (rules_of bench.now.position.now) stage.side stage.mask
-        (level_in bench.now.position.now sets.now level.now)))
-        memo.old.budget as_set result }
-    ensures set { IfOk result (λ set. IfSome set (IsSetOn (tracks_at bench.now.position.now stage.mask))) }
+    ensures answers { Answers (named.image_set stage level.now bench.now sets.now) memo.old.budget as_set result }
+    ensures set { IfOk result (IsSetFor bench.now stage.mask) }
     ensures budget { memo.new.budget ≡ memo.old.budget }
 {
     let formulas = image_formulas(bench, stage, level)?;
@@ -75,15 +67,10 @@ pub(crate) fn pre_set(
     moves: &PartMoves,
 ) -> Result<Option<Auto>, PlanError<PartName>>
     requires sound { Sound bench.now.position.now }
-    requires source { IsNameOn (tracks_at bench.now.position.now moves.now.set.stage.mask) sets.now moves.now.set.name }
+    requires source { IsNameFor bench.now moves.now.set.stage.mask sets.now moves.now.set.name }
     requires targets { AreNamesIn bench.now.position.now sets.now moves.now.into.now }
-    ensures answers { Answers
-        (plan.union (rules_of bench.now.position.now) moves.now.set.stage.ply moves.now.set.stage.mask moves.now.part
-        (plan.pre_items (rules_of bench.now.position.now) moves.now.set.stage.side moves.now.set.stage.mask
-        (set_at sets.now moves.now.set.name) (level_in bench.now.position.now sets.now moves.now.into.now)))
-        memo.old.budget as_set result }
-    ensures set { IfOk result (λ set.
-        IfSome set (IsSetOn (tracks_at bench.now.position.now moves.now.set.stage.mask))) }
+    ensures answers { Answers (named.pre_set moves.now bench.now sets.now) memo.old.budget as_set result }
+    ensures set { IfOk result (IsSetFor bench.now moves.now.set.stage.mask) }
     ensures budget { memo.new.budget ≡ memo.old.budget }
 {
     let formulas = pre_formulas(bench, moves.set, moves.into)?;
@@ -105,13 +92,9 @@ pub(crate) fn check_set(
 ) -> Result<Option<Auto>, PlanError<PartName>>
     requires sound { Sound bench.now.position.now }
     requires mask { IsGameMask bench.now.position.now source.stage.mask }
-    requires source { IsNameOn (tracks_at bench.now.position.now source.stage.mask) sets.now source.name }
-    ensures answers { Answers
-        (plan.union (rules_of bench.now.position.now) source.stage.ply source.stage.mask Part.Check
-        (plan.bear_items (rules_of bench.now.position.now) (other_side source.stage.side) source.stage.mask
-        (set_at sets.now source.name)))
-        memo.old.budget as_set result }
-    ensures set { IfOk result (λ set. IfSome set (IsSetOn (tracks_at bench.now.position.now source.stage.mask))) }
+    requires source { IsNameFor bench.now source.stage.mask sets.now source.name }
+    ensures answers { Answers (named.check_set source bench.now sets.now) memo.old.budget as_set result }
+    ensures set { IfOk result (IsSetFor bench.now source.stage.mask) }
     ensures budget { memo.new.budget ≡ memo.old.budget }
 {
     let StageSet { stage, name } = source;

@@ -1,13 +1,12 @@
 //! What is kept at a ply of the winner.
 ghost use Rattle.std.specs.Prelude.{◌≡◌, IfOk};
 ghost use Rattle.game_rules.specs.Game.{Sound};
-ghost use Rattle.set_plan.specs.Outcome.{Answers};
 ghost use Rattle.rule_formula.specs.Fits.{IsGameMask};
-ghost use Rattle.rule_formula.specs.Mean.{mask_tracks as tracks_at};
-ghost use Rattle.set_plan.specs.Sets.{Grows, IsNameOn, set_at};
-ghost use Rattle.mate_plan.specs.Levels.{AreNamesIn, level_in};
-ghost use Rattle.mate_plan.specs.Plan as plan;
-ghost use Rattle.mate_plan.specs.PlanOf.{rules_of};
+ghost use Rattle.set_plan.specs.Sets.{Grows};
+ghost use Rattle.mate_plan.specs.Levels.{AreNamesIn};
+ghost use Rattle.mate_plan.specs.Bench.{IsNameFor};
+ghost use Rattle.mate_plan.specs.Named.{AnswersLevel, AnswersName};
+ghost use Rattle.mate_plan.specs.Named as named;
 
 use crate::bench::{Bench, Work};
 use crate::by_mask::{MaskSets, level_by};
@@ -39,12 +38,8 @@ fn win_name(
     requires mask { IsGameMask bench.now.position.now mask }
     requires reach { AreNamesIn bench.now.position.now work.old.sets from.now.reach.now }
     requires next_kept { AreNamesIn bench.now.position.now work.old.sets from.now.next_kept.now }
-    ensures answers { Answers
-        (plan.win_set (rules_of bench.now.position.now) from.now.side from.now.ply
-        (level_in bench.now.position.now work.old.sets from.now.reach.now)
-        (level_in bench.now.position.now work.old.sets from.now.next_kept.now) mask)
-        work.old.memo.budget (λ name. set_at work.new.sets name) result }
-    ensures name { IfOk result (IsNameOn (tracks_at bench.now.position.now mask) work.new.sets) }
+    ensures answers { AnswersName bench.now work.old work.new (named.win_set from.now mask) result }
+    ensures name { IfOk result (IsNameFor bench.now mask work.new.sets) }
     ensures grows { Grows work.old.sets work.new.sets }
     ensures budget { work.new.memo.budget ≡ work.old.memo.budget }
 {
@@ -94,11 +89,7 @@ pub fn win_level(
     requires sound { Sound bench.now.position.now }
     requires reach { AreNamesIn bench.now.position.now work.old.sets from.now.reach.now }
     requires next_kept { AreNamesIn bench.now.position.now work.old.sets from.now.next_kept.now }
-    ensures answers { Answers
-        (plan.win_level (rules_of bench.now.position.now) from.now.side from.now.ply
-        (level_in bench.now.position.now work.old.sets from.now.reach.now)
-        (level_in bench.now.position.now work.old.sets from.now.next_kept.now))
-        work.old.memo.budget (level_in bench.now.position.now work.new.sets) result }
+    ensures answers { AnswersLevel bench.now work.old work.new (named.win_level from.now) result }
     ensures names { IfOk result (AreNamesIn bench.now.position.now work.new.sets) }
     ensures grows { Grows work.old.sets work.new.sets }
     ensures budget { work.new.memo.budget ≡ work.old.memo.budget }

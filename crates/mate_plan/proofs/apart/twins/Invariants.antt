@@ -1,7 +1,7 @@
-use Rattle.std.proofs.Common.{◌≡◌, map, take}
-use Rattle.lin_formula.specs.TreeOf.{tree_of}
-use Rattle.rule_formula.specs.Trees.{twins_tree}
+use Rattle.std.proofs.Common.{take}
+use Rattle.mate_plan.specs.Formulas.{HaveTrees}
+use Rattle.mate_plan.specs.Twins.{twins_by}
 use Rattle.mate_plan.proofs.apart.twins.Given as goal
 
 abbrev pub invariant-loop-pair : goal.invariant-loop-pair
-invariant-loop-pair l = map tree_of l.formulas.items ≡ map (λ w. twins_tree 8 l.source.mask w.first w.second l.source.set.0) (take l.pair-index l.pairs)
+invariant-loop-pair l = HaveTrees (twins_by l.source.mask l.source.set.0 (take l.pair-index l.pairs)) l.formulas

@@ -15,6 +15,6 @@ pub loop-option-preserved : goal.loop-option-preserved
 loop-option-preserved c =
     let p = c.args.bench.now.position.now in
     let from = c.args.from in
-    flat-more (λ o t. pre_to p from.mask from.set o t) (λ o. name_of (masks_of p) c.args.targets.now (target_of from.mask o)) c.args.options.now
+    flat-more (λ o t. pre_to p from o t) (λ o. name_of (masks_of p) c.args.targets.now (target_of from.mask o)) c.args.options.now
     c.loop-option.option-index _ c.name_in-target.result _ _ c.loop-option-test.true c.in_ok-push_pre.ensures c.loop-option.invariant
     (c.name_in-target.ensures ∙ ap (λ m. name_of (masks_of p) c.args.targets.now m) c.target.ensures)

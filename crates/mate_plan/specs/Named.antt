@@ -1,0 +1,204 @@
+-- The programs of the plan on a bench, over sets that names stand for. Each takes what the function takes that answers
+-- it, which has its name.
+use Rattle.std.specs.Prelude.{◌≡◌, ℕ, List, Bool, Option, Result}
+use Rattle.std.specs.Borrow.{Bor}
+use Rattle.auto_core.specs.Automaton.{Automaton}
+use Rattle.game_rules.specs.Game.{Position}
+use Rattle.lin_formula.specs.SetOf.{SetOf, as_set}
+use Rattle.lin_formula.specs.declared.formula.Formula.{Formula}
+use Rattle.lin_formula.specs.declared.formula.SetId.{SetId}
+use Rattle.rule_formula.specs.Fits.{mask_of, masks_of}
+use Rattle.rule_formula.specs.Placed.{tuple_of}
+use Rattle.rule_formula.specs.declared.opt.Bearing.{Bearing}
+use Rattle.set_plan.specs.Making.{AnswersRemainder, items_over}
+use Rattle.set_plan.specs.Outcome.{Answers, as_is}
+use Rattle.set_plan.specs.Sets.{lent, set_at}
+use Rattle.set_plan.specs.Unite as unite
+use Rattle.set_plan.specs.declared.left.Left.{Left}
+use Rattle.set_plan.specs.declared.stop.PlanError.{PlanError}
+use Rattle.mate_plan.specs.Bench.{level_on, rules_on, tracks_on}
+use Rattle.mate_plan.specs.Levels.{Names}
+use Rattle.mate_plan.specs.Plan as plan
+use Rattle.mate_plan.specs.Plan.{Level, Program}
+use Rattle.mate_plan.specs.Questions as questions
+use Rattle.mate_plan.specs.declared.bench.Bench.{Bench}
+use Rattle.mate_plan.specs.declared.bench.Work.{Work}
+use Rattle.mate_plan.specs.declared.losing.Losing.{Losing}
+use Rattle.mate_plan.specs.declared.losing.Lost.{Lost}
+use Rattle.mate_plan.specs.declared.losing.Resting.{Resting}
+use Rattle.mate_plan.specs.declared.names.Part.{Part}
+use Rattle.mate_plan.specs.declared.names.Part.TheVariants as kind
+use Rattle.mate_plan.specs.declared.names.PartName.{PartName}
+use Rattle.mate_plan.specs.declared.reaching.Reaching.{Reaching}
+use Rattle.mate_plan.specs.declared.stage.MovesInto.{MovesInto}
+use Rattle.mate_plan.specs.declared.stage.PartMoves.{PartMoves}
+use Rattle.mate_plan.specs.declared.stage.PartSet.{PartSet}
+use Rattle.mate_plan.specs.declared.stage.Stage.{Stage}
+use Rattle.mate_plan.specs.declared.stage.StageLevel.{StageLevel}
+use Rattle.mate_plan.specs.declared.stage.StageSet.{StageSet}
+use Rattle.mate_plan.specs.declared.winning.Winning.{Winning}
+
+-- a program that is known where there are a bench and the sets that names stand for
+abbrev pub Named : Type 0 → Type 0
+Named A = Bench → List Automaton → Program A
+
+-- over the sets of the work and within its budget, the program is answered by what the result is seen as
+abbrev pub AnswersBy : {A R : Type 0} → Bench → Work → Named A → (R → A) → Result R (PlanError PartName) → Type 0
+AnswersBy bench work program view result = Answers (program bench work.sets) work.memo.budget view result
+
+-- it is answered by a set
+abbrev pub AnswersSet : Bench → Work → Named SetOf → Result (Option Automaton) (PlanError PartName) → Type 0
+AnswersSet bench work program result = AnswersBy bench work program as_set result
+
+-- over the old sets it is answered by the name of a set among the new ones
+abbrev pub AnswersName : Bench → Work → Work → Named SetOf → Result (Option SetId) (PlanError PartName) → Type 0
+AnswersName bench old new program result = AnswersBy bench old program (λ name. set_at new.sets name) result
+
+-- over the old sets it is answered by the names of a level among the new ones
+abbrev pub AnswersLevel : Bench → Work → Work → Named Level → Result Names (PlanError PartName) → Type 0
+AnswersLevel bench old new program result = AnswersBy bench old program (level_on bench new.sets) result
+
+-- it is answered by yes or no
+abbrev pub AnswersWhether : Bench → Work → Named Bool → Result Bool (PlanError PartName) → Type 0
+AnswersWhether bench work program result = AnswersBy bench work program as_is result
+
+-- what is left of a set without another, in a part of its own, is answered within a budget
+abbrev pub AnswersLeft : Bench → List Automaton → PartSet → Option (Bor Automaton) → ℕ
+    → Result Left (PlanError PartName) → Type 0
+AnswersLeft bench sets whole other budget result =
+    AnswersRemainder (tracks_on bench whole.part.mask) whole.part (set_at sets whole.name) (lent other) budget result
+
+-- over the new sets it is the same as over the old ones
+abbrev pub StaysSame : {A : Type 0} → (List Automaton → A) → List Automaton → List Automaton → Type 0
+StaysSame program old new = program new ≡ program old
+
+-- one set without the other
+abbrev pub without : PartSet → Option Automaton → Named SetOf
+without whole other bench sets =
+    unite.remainder (tracks_on bench whole.part.mask) whole.part (set_at sets whole.name) (as_set other)
+
+-- one set and the other together
+abbrev pub together_on : Bench → PartName → Option Automaton → Option Automaton → Program SetOf
+together_on bench part first second = unite.together (tracks_on bench part.mask) part (as_set first) (as_set second)
+
+-- the union of the sets of the formulas
+abbrev pub union : PartName → List Formula → Named SetOf
+union part formulas bench sets = unite.union (tracks_on bench part.mask) part (items_over sets formulas)
+
+-- the set of a mask, by a program for each
+abbrev pub at_mask : (Position → List Automaton → ℕ → Program SetOf) → ℕ → Named SetOf
+at_mask program mask bench sets = program bench.position.now sets mask
+
+-- the sets of all masks, by a program for each
+abbrev pub by_mask : (Position → List Automaton → ℕ → Program SetOf) → Named Level
+by_mask program bench sets =
+    plan.for_masks (masks_of bench.position.now) (program bench.position.now sets) plan.no_sets
+
+abbrev pub image_set : Stage → Names → Named SetOf
+image_set stage level bench sets =
+    plan.image_set (rules_on bench) stage.side stage.ply stage.mask (level_on bench sets level)
+
+abbrev pub pre_set : PartMoves → Named SetOf
+pre_set moves bench sets =
+    plan.pre_set (rules_on bench) moves.set.stage.side moves.set.stage.ply moves.set.stage.mask moves.part
+    (set_at sets moves.set.name) (level_on bench sets moves.into.now)
+
+abbrev pub check_set : StageSet → Named SetOf
+check_set source bench sets =
+    plan.check_set (rules_on bench) source.stage.side source.stage.ply source.stage.mask (set_at sets source.name)
+
+abbrev pub narrow : Stage → List Bearing → Option Automaton → Named SetOf
+narrow stage bearings moved bench sets =
+    plan.narrow (rules_on bench) stage.ply stage.mask bearings (as_set moved)
+
+abbrev pub point_level : Named Level
+point_level bench sets = plan.point_level (rules_on bench) (mask_of bench.position.now)
+
+abbrev pub reach_set : Reaching → ℕ → Named SetOf
+reach_set from mask bench sets =
+    plan.reach_set (rules_on bench) from.side from.ply (level_on bench sets from.level.now) mask
+
+abbrev pub reach_level : Reaching → Named Level
+reach_level from bench sets =
+    plan.reach_level (rules_on bench) from.side from.ply (level_on bench sets from.level.now)
+
+abbrev pub win_set : Winning → ℕ → Named SetOf
+win_set from mask bench sets =
+    plan.win_set (rules_on bench) from.side from.ply (level_on bench sets from.reach.now)
+    (level_on bench sets from.next_kept.now) mask
+
+abbrev pub win_level : Winning → Named Level
+win_level from bench sets =
+    plan.win_level (rules_on bench) from.side from.ply (level_on bench sets from.reach.now)
+    (level_on bench sets from.next_kept.now)
+
+abbrev pub rest_set : Resting → ℕ → Named SetOf
+rest_set from mask bench sets =
+    plan.rest_set (rules_on bench) from.ply (level_on bench sets from.reach.now)
+    (level_on bench sets from.kept.now) mask
+
+abbrev pub calm_set : StageSet → Names → Named SetOf
+calm_set reach rests bench sets =
+    plan.calm_set (rules_on bench) reach.stage.side reach.stage.ply reach.stage.mask (set_at sets reach.name)
+    (level_on bench sets rests)
+
+abbrev pub reply_set : StageSet → Option (Bor Automaton) → Names → Named SetOf
+reply_set calm check next_reach bench sets =
+    plan.reply_set (rules_on bench) calm.stage.side calm.stage.ply calm.stage.mask (set_at sets calm.name)
+    (lent check) (level_on bench sets next_reach)
+
+abbrev pub lost_set : StageSet → Names → Names → Named SetOf
+lost_set reach next_reach rests bench sets =
+    plan.lost_set (rules_on bench) reach.stage.side reach.stage.ply reach.stage.mask (set_at sets reach.name)
+    (level_on bench sets next_reach) (level_on bench sets rests)
+
+abbrev pub lost_set_if : Lost → ℕ → Named SetOf
+lost_set_if from mask bench sets =
+    plan.lost_set_if (rules_on bench) from.side from.ply (level_on bench sets from.reach.now)
+    (level_on bench sets from.next_reach.now) (level_on bench sets from.rests.now) mask
+
+abbrev pub lost_level : Losing → Named Level
+lost_level from bench sets =
+    plan.lost_level (rules_on bench) from.side from.ply (level_on bench sets from.reach.now)
+    (level_on bench sets from.next_reach.now) (level_on bench sets from.next_kept.now)
+
+-- where a move leads from the one level into the other, among the positions with the live men of the starting position
+abbrev pub first_set : Names → Names → Named SetOf
+first_set start into bench sets =
+    plan.pre_set (rules_on bench) bench.position.now.turn 0 (mask_of bench.position.now) kind.First
+    (level_on bench sets start (mask_of bench.position.now)) (level_on bench sets into)
+
+abbrev pub has_first_move : Names → Named Bool
+has_first_move into bench sets =
+    questions.has_first_move (rules_on bench) bench.position.now.turn (mask_of bench.position.now)
+    (tuple_of bench.position.now) (level_on bench sets into)
+
+abbrev pub have_moves : PartMoves → Part → Named Bool
+have_moves moves missing bench sets =
+    questions.have_moves (rules_on bench) moves.set.stage.side moves.set.stage.ply moves.set.stage.mask moves.part
+    missing (set_at sets moves.set.name) (level_on bench sets moves.into.now)
+
+abbrev pub quiet_set : StageSet → Named SetOf
+quiet_set source bench sets =
+    questions.quiet_set (rules_on bench) source.stage.side source.stage.ply source.stage.mask
+    (set_at sets source.name)
+
+abbrev pub are_answered : MovesInto → Named Bool
+are_answered moves bench sets =
+    questions.are_answered (rules_on bench) moves.stage.side moves.stage.ply (level_on bench sets moves.from.now)
+    (level_on bench sets moves.into.now) moves.stage.mask
+
+abbrev pub have_replies : MovesInto → Named Bool
+have_replies moves bench sets =
+    questions.have_replies (rules_on bench) moves.stage.side moves.stage.ply (level_on bench sets moves.from.now)
+    (level_on bench sets moves.into.now) moves.stage.mask
+
+abbrev pub are_apart : StageLevel → Named Bool
+are_apart at bench sets =
+    questions.are_apart bench.position.now at.stage.ply at.stage.mask
+    (level_on bench sets at.level.now at.stage.mask)
+
+abbrev pub are_safe : StageLevel → Named Bool
+are_safe at bench sets =
+    questions.are_safe (rules_on bench) at.stage.side at.stage.ply at.stage.mask
+    (level_on bench sets at.level.now at.stage.mask)
