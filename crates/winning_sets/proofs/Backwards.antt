@@ -117,7 +117,8 @@ module _ (rules : Rules) (first : Side) (budget : ℕ) (whole : Program (List Le
         let n : length later ≡ left - 1 = count_turned level kept (left - 1) (omega (arith, count)) in
         omega (arith, n, some)
 
-    way_opens : way_back rules first (turned masks table (take (suc (suc ply)) reach)) (turned masks table kept) ≡ bind one_level (λ l. way_back rules first (level r0 ∷ before) (l ∷ level k1 ∷ later))
+    way_opens : way_back rules first (turned masks table (take (suc (suc ply)) reach)) (turned masks table kept)
+        ≡ bind one_level (λ l. way_back rules first (level r0 ∷ before) (l ∷ level k1 ∷ later))
     way_opens =
         ap (λ rs. way_back rules first rs (turned masks table kept)) reach_opens
         ∙ ap (λ ks. way_back rules first (level r1 ∷ level r0 ∷ before) ks) kept_opens

@@ -76,7 +76,9 @@ module _ (p : Position) (budget last : ℕ) (some : 0 < last) where
       by (suc n) is k = k
 
   -- the way forward and the way back make the plan
-  pub plan_ends : (levels kept : List Level) → Ends (forward rules p.turn (mask_of p) last) budget levels → Ends (backward_from rules p.turn levels) budget kept → Ends (plan_to p last) budget kept
+  pub plan_ends : (levels kept : List Level)
+      → Ends (forward rules p.turn (mask_of p) last) budget levels
+      → Ends (backward_from rules p.turn levels) budget kept → Ends (plan_to p last) budget kept
   plan_ends levels kept h k =
       to_plan (λ m. Ends m budget kept) (Ends-bind (forward rules p.turn (mask_of p) last) (backward_from rules p.turn) budget levels kept h k)
 
@@ -143,7 +145,8 @@ module _ (p : Position) (budget : ℕ) where
       }
 
 -- what comes after the last ply that is finished, over a table that has more sets
-module _ (p : Position) (budget : ℕ) (masks : List ℕ) (empties old table : List Automaton) (levels : List Names) (is : AreFinished p budget masks empties old levels) (grows : Grows old table) where
+module _ (p : Position) (budget : ℕ) (masks : List ℕ) (empties old table : List Automaton) (levels : List Names)
+    (is : AreFinished p budget masks empties old levels) (grows : Grows old table) where
   module _ (n : ℕ) (count : length levels ≡ suc n) (ids : Names) (at : ids ≡ get_or levels n ids) (side : Side) (turn : side ≡ turn_at p.turn n) where
     abbrev before : List Level
     before = LevelsIn p budget old (take n levels)

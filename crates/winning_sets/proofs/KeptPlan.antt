@@ -83,7 +83,10 @@ module _ (p : Position) (sound : Sound p) (few : length p.men ≤ 8) (mean : Rul
     same : (tuple : List ℤ) → Member s tuple ↔ (tuple ≡ tuple_of p)
     over : IsOver (mask_tracks p (mask_of p)) s
 
-  point_is : (o : Option Tree) → point_of p.men ≡ o → (s : SetOf) → ((tuple : List ℤ) → Member s tuple ↔ Member (Where (formula_or (tree.Value (var 0) (pos 0)) o) (λ _. Nothing)) tuple) → IsPoint s
+  point_is : (o : Option Tree)
+      → point_of p.men ≡ o → (s : SetOf)
+      → ((tuple : List ℤ) → Member s tuple ↔ Member (Where (formula_or (tree.Value (var 0) (pos 0)) o) (λ _. Nothing)) tuple)
+      → IsPoint s
   point_is None e s is = absurd (some_point e)
   point_is (Some t) e s is = record {
     same = λ tuple.
@@ -301,7 +304,9 @@ module _ (p : Position) (sound : Sound p) (few : length p.men ≤ 8) (mean : Rul
         let (us, vs, level, order, one, rest) =
         Takes-split (kept_level rules p.turn j (suc (length later)) reach reach1 kept1)
         (λ level. backward rules p.turn reach before level (kept1 ∷ later)) xs levels t in
-        let here = All-head (λ l. (m : ℕ) → IsDecided (l m)) kept1 later (backward-all rules p.turn (λ l. (m : ℕ) → IsDecided (l m)) (reach ∷ before) reach1 kept1 later levels xs t decided) in
+        let here =
+        All-head (λ l. (m : ℕ) → IsDecided (l m)) kept1 later
+        (backward-all rules p.turn (λ l. (m : ℕ) → IsDecided (l m)) (reach ∷ before) reach1 kept1 later levels xs t decided) in
         let e : j + suc (length later) ≡ end = omega (arith, sum) in
         let now = kept-next j (length later) reach reach1 kept1 level us e all.0 reached1 kept.0 here one in
         backward-kept before reach level (kept1 ∷ later) levels vs all.0 all.1 (now, kept) e decided rest
@@ -337,7 +342,9 @@ module _ (p : Position) (sound : Sound p) (few : length p.men ≤ 8) (mean : Rul
         subst (λ (n : ℕ). IsKept n level) sum there
 
   -- a level that stands for a set whose positions fit has exactly their tuples
-  level-of : (side : Side) (S : Position → Type 0) (level : Level) → ((q : Position) → S q → Fits p side q) → Stands p side level S → ((m : ℕ) → HoldsFitting p side m (level m)) → IsLevelOf S level
+  level-of : (side : Side) (S : Position → Type 0) (level : Level)
+      → ((q : Position) → S q → Fits p side q) → Stands p side level S → ((m : ℕ) → HoldsFitting p side m (level m))
+      → IsLevelOf S level
   level-of side S level fits stands fitting = record {
     same = λ m tuple. (
       λ h.
@@ -361,7 +368,9 @@ module _ (p : Position) (sound : Sound p) (few : length p.men ≤ 8) (mean : Rul
       subst (λ (j : ℕ). IsReached j level) n (reached-at k before level all.1 is)
 
   -- what a plan goes through forward
-  pub forward_is_reach : (ply : ℕ) (xs : Entries) (levels : List Level) → Takes (forward rules p.turn (mask_of p) ply) xs (Some levels) → AreLevelsOf (λ number. Reach p (ply - number)) ply levels
+  pub forward_is_reach : (ply : ℕ) (xs : Entries) (levels : List Level)
+      → Takes (forward rules p.turn (mask_of p) ply) xs (Some levels)
+      → AreLevelsOf (λ number. Reach p (ply - number)) ply levels
   forward_is_reach ply xs levels t =
       let (all, count) = forward-reached ply levels xs t in
       record {

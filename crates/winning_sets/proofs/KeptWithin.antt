@@ -57,7 +57,8 @@ swept (pos zero) x f e v spare h = record { values = v; holds = h; agree = λ y 
 swept (pos (suc d)) x f e v spare (n, h) = record { values = with_value v x n; holds = h; agree = with_value-agree v x n spare }
 swept (negsuc d) x f e v spare (n, h) = record { values = with_value v x n; holds = h; agree = with_value-agree v x n spare }
 
-pre_body_source : (n mask i : ℕ) (r : Ray) (t s q : ℕ) (e : ℕ → SetOf) (v : Values) → Holds (pre_body n mask i r t s q) (members e) v → Member (e s) (values_at (vars_to own (is_live mask) n) v)
+pre_body_source : (n mask i : ℕ) (r : Ray) (t s q : ℕ) (e : ℕ → SetOf) (v : Values)
+    → Holds (pre_body n mask i r t s q) (members e) v → Member (e s) (values_at (vars_to own (is_live mask) n) v)
 pre_body_source n mask i r t s q e v h =
     let both = tree.And (tree.Among s (vars_to own (is_live mask) n)) (tree.Among q (vars_to (new_seats r i t) (without (is_live mask) t) n)) in
     let chain = and_all both (ray_atoms r (own i) (new_seat r i t)) in
@@ -81,11 +82,13 @@ pre_within men mask o s q e tuple few tracks h =
     let source = pre_tree_source (length men) mask o.man (ray_at men o.man o.ray) o.taken s q e h.values few h.holds in
     subst (Member (e s)) (ap (λ vars. values_at vars h.values) (sym tracks) ∙ h.is_tuple) source
 
-bear_first : (far : Bool) (f : Tree) (hit : ℕ → Tree) (live : ℕ → Bool) (k g n : ℕ) (e : ℕ → SetOf) (v : Values) → Holds (clear_as far f hit live k g n) (members e) v → Holds f (members e) v
+bear_first : (far : Bool) (f : Tree) (hit : ℕ → Tree) (live : ℕ → Bool) (k g n : ℕ) (e : ℕ → SetOf) (v : Values)
+    → Holds (clear_as far f hit live k g n) (members e) v → Holds f (members e) v
 bear_first true f hit live k g n e v h = ((clear_holds f hit live k g n (members e) v).0 h).0
 bear_first false f hit live k g n e v h = h
 
-bear_tree_source : (n mask k : ℕ) (r : Ray) (g s : ℕ) (e : ℕ → SetOf) (v : Values) → Holds (bear_tree n mask k r g s) (members e) v → Member (e s) (values_at (vars_to own (is_live mask) n) v)
+bear_tree_source : (n mask k : ℕ) (r : Ray) (g s : ℕ) (e : ℕ → SetOf) (v : Values)
+    → Holds (bear_tree n mask k r g s) (members e) v → Member (e s) (values_at (vars_to own (is_live mask) n) v)
 bear_tree_source n mask k r g s e v h =
     let among = tree.Among s (vars_to own (is_live mask) n) in
     let chain = and_all among (ray_atoms r (own k) (own g)) in

@@ -172,7 +172,8 @@ none-names : (stock : List Man) (table : List Automaton) (masks : List ℕ) → 
 none-names stock table [] = tt
 none-names stock table (mask ∷ masks) = (tt, none-names stock table masks)
 
-none-sets : (stock : List Man) (table : List Automaton) (masks : List ℕ) (others : List Automaton) → AreEmpties stock masks others → sets_or table others (replicate (length masks) None) ≡ others
+none-sets : (stock : List Man) (table : List Automaton) (masks : List ℕ) (others : List Automaton)
+    → AreEmpties stock masks others → sets_or table others (replicate (length masks) None) ≡ others
 none-sets stock table [] [] empties = refl
 none-sets stock table [] (other ∷ others) empties = absurd empties
 none-sets stock table (mask ∷ masks) [] empties = absurd empties

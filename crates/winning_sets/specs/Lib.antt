@@ -24,3 +24,4 @@ pub mod Finished
 pub mod PlanMeans
 pub mod Claimed
 pub mod OfGame
+pub mod Keeping

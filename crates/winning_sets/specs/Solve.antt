@@ -15,8 +15,8 @@ use Rattle.set_plan.specs.Outcome.{Ends, Stops}
 use Rattle.set_plan.specs.declared.stop.PlanError.{PlanError}
 use Rattle.set_plan.specs.declared.stop.PlanError.TheVariants as plan_error
 use Rattle.winning_sets.specs.Kept.{Kept}
-use Rattle.mate_plan.specs.PlanOf.{last_ply}
-use Rattle.mate_plan.specs.Plan.{Program, turn_at}
+use Rattle.mate_plan.specs.PlanOf.{last_ply, plan_of, rules_of}
+use Rattle.mate_plan.specs.Plan.{Level, Program, forward, turn_at}
 use Rattle.mate_plan.specs.declared.names.PartName.{PartName}
 use Rattle.winning_sets.specs.Reach.{Reach}
 use Rattle.winning_sets.specs.declared.names.SolveError.{SolveError}
@@ -60,6 +60,18 @@ pub record Solution : Type 0 where
   pub moves : ℕ
   pub kept : List (List Automaton)
   pub reach : List (List Automaton)
+
+-- what a position with the sets of its plan is as a solution
+abbrev pub planned : Position → Side → ℕ → List (List Automaton) → List (List Automaton) → Solution
+planned position winner moves kept reach =
+    record {
+      origin = Plan;
+      position = position;
+      winner = winner;
+      moves = moves;
+      kept = kept;
+      reach = reach;
+    }
 
 abbrev pub kept_at : Solution → Sets
 kept_at s = sets_at (masks_of s.position) s.kept
@@ -119,11 +131,15 @@ solve_error_of moves (plan_error.Over name) =
     (record { moves = moves; ply = name.part.ply; mask = name.part.mask; part = name.part.part; at = name.at })
 solve_error_of moves plan_error.Memory = solve_error.Memory
 
+-- the kept set of its own mask has the coordinates of the position
+abbrev pub HasCoordinates : Solution → ℕ → Position → Type 0
+HasCoordinates s ply q = IsSomeAnd (kept_at s ply (mask_of q)) (λ a. IsAccepted a (tuple_of q))
+
 -- the position has the stock and the turn of the ply, and its coordinates are in the set of its own mask
 pub record IsKeptIn (s : Solution) (ply : ℕ) (q : Position) : Type 0 where
   pub stock : HasStock s.position.men q
   pub turn : q.turn ≡ turn_at s.position.turn ply
-  pub is_in : IsSomeAnd (kept_at s ply (mask_of q)) (λ a. IsAccepted a (tuple_of q))
+  pub is_in : HasCoordinates s ply q
 
 -- how many states a set has, and none where there is no set
 abbrev pub states_of : Option Automaton → ℕ
@@ -154,6 +170,22 @@ pub record SolverState : Type 0 where
   pub winner : Side
   pub budget : ℕ
   pub reach : List (List Automaton)
+
+-- the plan of the solver's position for so many moves
+abbrev pub plan_for : SolverState → ℕ → Program (List Level)
+plan_for s moves = plan_of s.winner s.position moves
+
+-- its last ply
+abbrev pub last_for : SolverState → ℕ → ℕ
+last_for s moves = last_ply s.winner s.position.turn moves
+
+-- the plan's way forward up to a ply
+abbrev pub forward_to : SolverState → ℕ → Program (List Level)
+forward_to s ply = forward (rules_of s.position) s.position.turn (mask_of s.position) ply
+
+-- the sets, ply by ply, are exactly those that are kept for so many moves
+abbrev pub AreKeptFor : SolverState → ℕ → List (List Automaton) → Type 0
+AreKeptFor s moves plies = AreKept s.winner s.position moves (sets_at (masks_of s.position) plies)
 
 -- the last ply that is finished
 abbrev pub plies_of : SolverState → ℕ

@@ -1,11 +1,11 @@
 //! What is kept at each ply, from the last ply back to the first.
-ghost use Rattle.std.specs.Prelude.{◌≡◌, ◌≤◌, ◌++◌, ◌∷◌, [], All, IfOk, OnErr, OnOk, length, map, reverse};
+ghost use Rattle.std.specs.Prelude.{◌≡◌, ◌≤◌, ◌++◌, ◌∷◌, [], All, IfOk, OnErr, OnOk, length};
 ghost use Rattle.game_rules.specs.Game.{Sound};
-ghost use Rattle.set_plan.specs.Outcome.{Answers};
 ghost use Rattle.set_plan.specs.Sets.{Grows};
-ghost use Rattle.mate_plan.specs.Plan.{backward_from, kept_level};
-ghost use Rattle.mate_plan.specs.PlanOf.{rules_of};
-ghost use Rattle.mate_plan.specs.Levels.{AreNamesIn, level_in};
+ghost use Rattle.mate_plan.specs.Levels.{AreNamesIn};
+ghost use Rattle.mate_plan.specs.Named.{AnswersLevel};
+ghost use Rattle.winning_sets.specs.Keeping as keeping;
+ghost use Rattle.winning_sets.specs.Keeping.{AnswersLevels};
 
 use crate::turns::side_at;
 use mate_plan::{
@@ -45,12 +45,7 @@ fn kept_at(
     requires reach { AreNamesIn bench.now.position.now work.old.sets from.now.reach.now }
     requires next_reach { AreNamesIn bench.now.position.now work.old.sets from.now.next_reach.now }
     requires next_kept { AreNamesIn bench.now.position.now work.old.sets from.now.next_kept.now }
-    ensures answers { Answers
-        (kept_level (rules_of bench.now.position.now) bench.now.position.now.turn from.now.ply from.now.left
-        (level_in bench.now.position.now work.old.sets from.now.reach.now)
-        (level_in bench.now.position.now work.old.sets from.now.next_reach.now)
-        (level_in bench.now.position.now work.old.sets from.now.next_kept.now))
-        work.old.memo.budget (level_in bench.now.position.now work.new.sets) result }
+    ensures answers { AnswersLevel bench.now work.old work.new (keeping.kept_level from.now) result }
     ensures names { IfOk result (AreNamesIn bench.now.position.now work.new.sets) }
     ensures grows { Grows work.old.sets work.new.sets }
     ensures budget { work.new.memo.budget ≡ work.old.memo.budget }
@@ -86,10 +81,7 @@ pub(crate) fn kept_levels(
     requires some { 1 ≤ length reach.now }
     requires few { length reach.now ≤ 42 }
     requires names { All (AreNamesIn bench.now.position.now work.old.sets) reach.now }
-    ensures answers { Answers
-        (backward_from (rules_of bench.now.position.now) bench.now.position.now.turn
-        (reverse (map (level_in bench.now.position.now work.old.sets) reach.now)))
-        work.old.memo.budget (λ kept. map (level_in bench.now.position.now work.new.sets) kept.items) result }
+    ensures answers { AnswersLevels bench.now work.old work.new (keeping.backward_from reach.now) result }
     ensures names { IfOk result (λ kept. All (AreNamesIn bench.now.position.now work.new.sets) kept.items) }
     ensures grows { Grows work.old.sets work.new.sets }
     ensures budget { work.new.memo.budget ≡ work.old.memo.budget }

@@ -1,11 +1,9 @@
 //! Solved positions.
-ghost use Rattle.std.specs.Prelude.{◌≡◌, ◌↔◌, ◌+◌, ◌≤◌, ℕ, [], slice_index_or, IfSome, IsSomeAnd, IsTrue, length, option_copied};
-ghost use Rattle.auto_core.specs.Integers.{IsAccepted};
+ghost use Rattle.std.specs.Prelude.{◌≡◌, ◌↔◌, ◌+◌, ◌≤◌, ℕ, [], slice_index_or, IfSome, IsTrue, length, option_copied};
 ghost use Rattle.game_rules.specs.Game.{Value};
-ghost use Rattle.rule_formula.specs.Fits.{HasStock, mask_of, masks_of};
-ghost use Rattle.rule_formula.specs.Placed.{tuple_of};
+ghost use Rattle.rule_formula.specs.Fits.{HasStock, masks_of};
 ghost use Rattle.winning_sets.specs.Claimed.{IsValid, IsWonClaim, solution_of};
-ghost use Rattle.winning_sets.specs.Solve.{IsKeptIn, IsMostStates, IsSolution, end_of, kept_at, reach_at, states_of};
+ghost use Rattle.winning_sets.specs.Solve.{HasCoordinates, IsKeptIn, IsMostStates, IsSolution, end_of, kept_at, planned, reach_at, states_of};
 
 use crate::claimed::ClaimedSets;
 use crate::origin::Origin;
@@ -74,24 +72,8 @@ impl Solved {
         reach: Vec<PlySets>,
     ) -> Solved
         requires masks { masks.items ≡ masks_of position }
-        requires valid { IsSolution
-            (record {
-              origin = Origin.Plan;
-              position = position;
-              winner = winner;
-              moves = moves;
-              kept = kept.items;
-              reach = reach.items;
-            }) }
-        ensures { result
-            ≡ record {
-              origin = Origin.Plan;
-              position = position;
-              winner = winner;
-              moves = moves;
-              kept = kept.items;
-              reach = reach.items;
-            } }
+        requires valid { IsSolution (planned position winner moves kept.items reach.items) }
+        ensures { result ≡ planned position winner moves kept.items reach.items }
     {
         Solved {
             origin: Origin::Plan,
@@ -247,8 +229,7 @@ impl Solved {
     /// Whether the coordinates of the position are in the set of its own live men.
     fn has_tuple(&self, ply: u8, p: &Position) -> bool
         requires { HasStock self.now.position.men p.now }
-        ensures { IsTrue result
-            ↔ IsSomeAnd (kept_at self.now ply (mask_of p.now)) (λ a. IsAccepted a (tuple_of p.now)) }
+        ensures { IsTrue result ↔ HasCoordinates self.now ply p.now }
     {
         MaskSets::new(self.masks(), self.kept_sets(ply)).contains(p)
     }

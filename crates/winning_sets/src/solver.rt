@@ -1,11 +1,9 @@
 //! Solving a position for one number of moves after another.
 ghost use Rattle.std.specs.Prelude.{◌≡◌, ◌+◌, ◌<◌, ◌≤◌, [], IfErr, IfOk, IfNone, IfSome, OnErr, OnOk, length};
 ghost use Rattle.game_rules.specs.Game.{Sound};
-ghost use Rattle.rule_formula.specs.Fits.{mask_of, masks_of};
 ghost use Rattle.set_plan.specs.Outcome.{IsPlanError};
-ghost use Rattle.mate_plan.specs.Plan.{forward};
-ghost use Rattle.mate_plan.specs.PlanOf.{last_ply as last_of, plan_of, rules_of};
-ghost use Rattle.winning_sets.specs.Solve.{AreKept, AreReachedTo, IsAnswer, IsOf, IsReachedSet, IsSolveError, IsSolverAfter, IsUnreached, IsWithin, kept_at, plies_of, reach_at, sets_at};
+ghost use Rattle.mate_plan.specs.PlanOf.{last_ply as last_of, plan_of};
+ghost use Rattle.winning_sets.specs.Solve.{AreKept, AreKeptFor, AreReachedTo, IsAnswer, IsOf, IsReachedSet, IsSolveError, IsSolverAfter, IsUnreached, IsWithin, forward_to, kept_at, last_for, plan_for, plies_of, reach_at};
 
 use crate::kept::{kept_levels, push_level};
 use crate::lent::{copied, empty_sets, lent};
@@ -115,13 +113,11 @@ impl Solver {
         requires moves { moves ≤ MOST_MOVES }
         ensures game { IfOk result (IsOf self.old.position self.old.winner moves) }
         ensures kept { IfOk result (λ s. AreKept self.old.winner self.old.position moves (kept_at s)) }
-        ensures reached { IfOk result
-            (λ s. AreReachedTo self.old.position (last_of self.old.winner self.old.position.turn moves) (reach_at s)) }
-        ensures within { OnOk result (IsWithin (plan_of self.old.winner self.old.position moves) self.old.budget) }
-        ensures error { IfErr result
-            (IsSolveError (plan_of self.old.winner self.old.position moves) moves self.old.budget) }
+        ensures reached { IfOk result (λ s. AreReachedTo self.old.position (last_for self.old moves) (reach_at s)) }
+        ensures within { OnOk result (IsWithin (plan_for self.old moves) self.old.budget) }
+        ensures error { IfErr result (IsSolveError (plan_for self.old moves) moves self.old.budget) }
         ensures after { IsSolverAfter self.old self.new }
-        ensures plies { OnOk result (last_of self.old.winner self.old.position.turn moves ≤ plies_of self.new) }
+        ensures plies { OnOk result (last_for self.old moves ≤ plies_of self.new) }
     {
         let answer = self.answer(moves);
         self.let_go();
@@ -135,10 +131,10 @@ impl Solver {
     fn answer(&mut self, moves: u8) -> Result<Solved, PlanError<PartName>>
         requires moves { moves ≤ MOST_MOVES }
         ensures answer { IfOk result (IsAnswer self.old.position self.old.winner moves) }
-        ensures within { OnOk result (IsWithin (plan_of self.old.winner self.old.position moves) self.old.budget) }
-        ensures error { IfErr result (IsPlanError (plan_of self.old.winner self.old.position moves) self.old.budget) }
+        ensures within { OnOk result (IsWithin (plan_for self.old moves) self.old.budget) }
+        ensures error { IfErr result (IsPlanError (plan_for self.old moves) self.old.budget) }
         ensures after { IsSolverAfter self.old self.new }
-        ensures plies { OnOk result (last_of self.old.winner self.old.position.turn moves ≤ plies_of self.new) }
+        ensures plies { OnOk result (last_for self.old moves ≤ plies_of self.new) }
     {
         let last = last_ply(self.winner, self.position.turn(), moves);
         if last == 0 {
@@ -152,7 +148,7 @@ impl Solver {
     /// The answer where the winner is to move and has no move.
     fn without_steps(&self, moves: u8) -> Result<Solved, AllocError>
         requires moves { moves ≤ MOST_MOVES }
-        requires none { last_of self.now.winner self.now.position.turn moves ≡ 0 }
+        requires none { last_for self.now moves ≡ 0 }
         ensures { IfOk result (IsAnswer self.now.position self.now.winner moves) }
     {
         let all = masks(self.alloc, &self.position)?;
@@ -172,11 +168,10 @@ impl Solver {
     /// The answer with what is kept at each ply.
     fn with_steps(&self, moves: u8, last: u8, kept: Vec<PlySets>) -> Result<Solved, AllocError>
         requires moves { moves ≤ MOST_MOVES }
-        requires last { last ≡ last_of self.now.winner self.now.position.turn moves }
+        requires last { last ≡ last_for self.now moves }
         requires some { 0 < last }
         requires finished { last < length self.now.reach }
-        requires kept { AreKept self.now.winner self.now.position moves
-            (sets_at (masks_of self.now.position) kept.items) }
+        requires kept { AreKeptFor self.now moves kept.items }
         ensures { IfOk result (IsAnswer self.now.position self.now.winner moves) }
     {
         let all = masks(self.alloc, &self.position)?;
@@ -188,9 +183,7 @@ impl Solver {
     /// Makes what is reached at the plies up to the last that are not finished.
     fn reach_to(&mut self, last: u8) -> Result<(), PlanError<PartName>>
         requires { last ≤ 41 }
-        ensures error { IfErr result
-            (IsPlanError (forward (rules_of self.old.position) self.old.position.turn (mask_of self.old.position) last)
-            self.old.budget) }
+        ensures error { IfErr result (IsPlanError (forward_to self.old last) self.old.budget) }
         ensures after { IsSolverAfter self.old self.new }
         ensures plies { OnOk result (last < length self.new.reach) }
     {
@@ -206,9 +199,7 @@ impl Solver {
     /// Makes what is reached at the first ply.
     fn start(&mut self) -> Result<(), PlanError<PartName>>
         requires { self.old.reach ≡ [] }
-        ensures error { IfErr result
-            (IsPlanError (forward (rules_of self.old.position) self.old.position.turn (mask_of self.old.position) 0)
-            self.old.budget) }
+        ensures error { IfErr result (IsPlanError (forward_to self.old 0) self.old.budget) }
         ensures after { IsSolverAfter self.old self.new }
         ensures count { OnOk result (length self.new.reach ≡ 1) }
     {
@@ -231,11 +222,7 @@ impl Solver {
     fn reach_next(&mut self) -> Result<(), PlanError<PartName>>
         requires some { 0 < length self.old.reach }
         requires room { length self.old.reach ≤ 41 }
-        ensures error { IfErr result
-            (IsPlanError
-            (forward (rules_of self.old.position) self.old.position.turn (mask_of self.old.position)
-            (length self.old.reach))
-            self.old.budget) }
+        ensures error { IfErr result (IsPlanError (forward_to self.old (length self.old.reach)) self.old.budget) }
         ensures after { IsSolverAfter self.old self.new }
         ensures count { OnOk result (length self.new.reach ≡ length self.old.reach + 1) }
     {
@@ -259,14 +246,12 @@ impl Solver {
 
     /// What is kept at each ply. Sets that are not of the levels are left.
     fn kept_sets(&mut self, moves: u8, last: u8) -> Result<Vec<PlySets>, PlanError<PartName>>
-        requires last { last ≡ last_of self.old.winner self.old.position.turn moves }
+        requires last { last ≡ last_for self.old moves }
         requires some { 0 < last }
         requires finished { last < length self.old.reach }
-        ensures kept { IfOk result
-            (λ sets. AreKept self.old.winner self.old.position moves
-            (sets_at (masks_of self.old.position) sets.items)) }
-        ensures within { OnOk result (IsWithin (plan_of self.old.winner self.old.position moves) self.old.budget) }
-        ensures error { IfErr result (IsPlanError (plan_of self.old.winner self.old.position moves) self.old.budget) }
+        ensures kept { IfOk result (λ sets. AreKeptFor self.old moves sets.items) }
+        ensures within { OnOk result (IsWithin (plan_for self.old moves) self.old.budget) }
+        ensures error { IfErr result (IsPlanError (plan_for self.old moves) self.old.budget) }
         ensures same { self.new ≡ self.old }
     {
         let levels = &self.levels.as_slice()[..last as usize + 1];

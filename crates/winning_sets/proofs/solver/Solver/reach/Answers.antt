@@ -34,7 +34,10 @@ in_place c =
 pub returns-in_err-k-clause-none : goal.returns-in_err-k-clause-none
 returns-in_err-k-clause-none c =
     let i = c.self.inside in
-    let is = subst (λ (masks : List ℕ). AreFinished i.position i.work.memo.budget masks i.empties.items (take i.count i.work.sets) i.levels.items) (sym c.as_slice.ensures.value) c.self.invariant.1 in
+    let is =
+    subst
+    (λ (masks : List ℕ). AreFinished i.position i.work.memo.budget masks i.empties.items (take i.count i.work.sets) i.levels.items)
+    (sym c.as_slice.ensures.value) c.self.invariant.1 in
     let none = none_of i.position i.winner i.work.memo.budget c.as_slice.result.now i.empties.items (take i.count i.work.sets) i.work.sets i.levels.items is (grows-take i.count i.work.sets)
     c.args.ply c.args.mask (omega (arith, c.if-ply-len.false, c.len.ensures)) c.in_err-k.ensures.none in
     rw c.from_residual.ensures (subst (λ (s : SolverState). IsUnreached s c.args.ply c.args.mask) c.self.view_is none)
