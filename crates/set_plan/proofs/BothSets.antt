@@ -115,7 +115,7 @@ module _ (tracks : List Var) (a b : Automaton) (left : DecidesOn tracks a) (righ
   module _ (connective : Connective) (c r : Automaton) (tracks_c : c.tracks ≡ with_vars a.tracks b.tracks) (words_c : Words connective a b c)
       (tracks_r : r.tracks ≡ c.tracks) (words_r : (word : List ℕ) → IsWord (length c.tracks) word → Accepts r word ↔ Accepts c word) where
     decided : Decides r (names connective tracks) (members (two (Table a) (Table b)))
-    decided = Decides-same (members (two (Table a) (Table b))) (names connective tracks) c r (both-decides connective c tracks_c words_c) tracks_r words_r
+    decided = Decides-same (both-decides connective c tracks_c words_c) tracks_r words_r
 
     pub both-is : IsSetOf (both connective tracks (Table a) (Table b)) (Table r)
     both-is = IsSetOf-decides (names connective tracks) (two (Table a) (Table b)) r decided
