@@ -1,5 +1,6 @@
 -- What merging knows at each moment, and what it leaves.
-use Rattle.std.specs.Prelude.{◌≡◌, ◌≢◌, ℕ, ◌<◌, List, length, slice_index}
+use Rattle.std.specs.Prelude.{◌≡◌, ◌≢◌, ℕ, ◌<◌, List, length, slice_index, vec_len}
+use Rattle.std.specs.HashMap.{hash_map_len}
 use Rattle.letter_diagram.specs.declared.diagrams.Shape.{Shape}
 use Rattle.letter_diagram.specs.Listed.{EachAnswers}
 use Rattle.auto_core.specs.Automaton.{Automaton, IsAutomaton, width, first_state, next_state, is_final}
@@ -18,6 +19,10 @@ pub record IsMerging (a : Automaton) (m : Merging) : Type 0 where
   pub classes : AreClasses a m.table.items m.owners.items
   pub keys : AreKeyed a m.table.items m.owners.items m.to m.keyed
   pub remembered : RemembersGiven a.shapes m.to m.table.items m.memos.whole
+
+-- there are more classes than keys that have one: some state got a class of its own
+abbrev pub HasOwnClasses : Merging → Type 0
+HasOwnClasses m = hash_map_len m.keyed < vec_len m.owners
 
 -- a key of the row of a state
 abbrev pub IsRowKey : Automaton → List ℕ → List Shape → ℕ → Key → Type 0

@@ -1,8 +1,8 @@
 //! Classes that are given to states one by one.
-ghost use Rattle.std.specs.Prelude.{◌≡◌, ◌<◌, ◌^◌, ◌++◌, ◌∷◌, [], length, slice_index, IfErr, IfOk, IfSome, OnOk, IsTrue, vec_len};
+ghost use Rattle.std.specs.Prelude.{◌≡◌, ◌↔◌, ◌<◌, ◌^◌, ◌++◌, ◌∷◌, [], length, slice_index, IfErr, IfOk, IfSome, OnOk, IsTrue, vec_len};
 ghost use Rattle.letter_diagram.specs.Diagram.{Grows};
 ghost use Rattle.auto_merge.specs.Merging.{IsKeyOf, IsClassGiven, KeepsClasses};
-ghost use Rattle.auto_merge.specs.Merged.{IsMerging, IsRowKey, HasNoRowKey, IsRowGiven, MayShare};
+ghost use Rattle.auto_merge.specs.Merged.{HasOwnClasses, IsMerging, IsRowKey, HasNoRowKey, IsRowGiven, MayShare};
 
 use crate::joining::{agrees, first_class};
 use crate::keys::{Guide, Key, Memos, NO_CLASS, NoKey, key_of};
@@ -48,7 +48,9 @@ pub fn no_classes(alloc: Global, a: &Auto) -> Result<Merging, AllocError>
 
 /// Whether some state got a class of its own without a key. What is said of the classes holds whatever this answers: where it answers no
 /// for yes, states that are alike may stay apart, and where it answers yes for no, a reduction is made for nothing.
-pub fn has_own_classes(merging: &Merging) -> bool {
+pub fn has_own_classes(merging: &Merging) -> bool
+    ensures { IsTrue result ↔ HasOwnClasses merging.now }
+{
     merging.keyed.len() < merging.owners.len()
 }
 

@@ -1,9 +1,9 @@
 -- A repeated first letter never matters just where each sign letter, read once more, leads a reduced automaton to the same state.
-use Rattle.std.proofs.Common.{arith, ◌≡◌, ◌↔◌, ℕ, ◌<◌, ◌%◌, ◌^◌, List, [], ◌∷◌, length, get_or, slice_get, Some, refl, sym, ap, ◌∙◌, subst, inl, inr}
+use Rattle.std.proofs.Common.{arith, ◌≡◌, ◌↔◌, ℕ, ◌<◌, ◌%◌, ◌^◌, List, [], ◌∷◌, length, get_or, slice_get, Some, All, refl, sym, ap, ◌∙◌, subst, inl, inr}
 use Rattle.std.proofs.lemmas.Bool.{cases_eq}
 use Rattle.std.proofs.lemmas.Nat.{mod_below, pow_pos}
 use Rattle.std.proofs.lemmas.List.Elements.{All-head, All-cons}
-use Rattle.std.proofs.lemmas.Option.{slice_get_within, same_Some}
+use Rattle.std.proofs.lemmas.Option.{slice_get_within, get_or_from_slice_get}
 use Rattle.track_word.specs.Word.{IsWord, repeat_first}
 use Rattle.track_word.proofs.Repeats.{IsWord-again}
 use Rattle.letter_diagram.specs.declared.diagrams.Shape.{Shape}
@@ -75,18 +75,23 @@ DecidesIntegers-words m a tracks same = (
 
 module _ (shapes : List Shape) (first row state : ℕ) (pairs : List (ℕ × ℕ)) where
   abbrev PairsKeep : Type 0
-  PairsKeep = (number before after : ℕ) → slice_get pairs number ≡ Some (before, after) → before ≡ state → after ≡ state
+  PairsKeep = All (λ pair. pair.0 ≡ state → pair.1 ≡ state) pairs
 
   -- the pairs of the values of both are kept just where the maps are
   pub Keeps-pairs : (after : List Shape) (node : ℕ)
       → ((letter : ℕ) → slice_get pairs (map_at after node letter) ≡ Some (map_at shapes first letter, map_at shapes row letter))
       → PairsKeep → Keeps shapes first row state
-  Keeps-pairs after node map kept letter leads = kept (map_at after node letter) _ _ (map letter) leads
+  Keeps-pairs after node map kept letter leads =
+      let number = map_at after node letter in
+      let both = (map_at shapes first letter, map_at shapes row letter) in
+      let within = slice_get_within pairs number both (map letter) in
+      let P : ℕ × ℕ → Type 0 = λ pair. pair.0 ≡ state → pair.1 ≡ state in
+      subst P (get_or_from_slice_get pairs number both both (map letter)) (kept number both within) leads
 
   pub pairs-Keep : AreAnswers shapes 0 pairs first row → Keeps shapes first row state → PairsKeep
-  pairs-Keep are kept number before after at is =
-      let answer = are.answer number (omega arith) (slice_get_within pairs number _ at) in
-      let both = same_Some _ _ (sym at ∙ answer.1) in
+  pairs-Keep are kept number none within is =
+      let answer = are.answer number (omega arith) within in
+      let both = get_or_from_slice_get pairs number _ none answer.1 in
       let b = ap (λ p. p.0) both in
       let t = ap (λ p. p.1) both in
       t ∙ kept answer.0 (sym b ∙ is)

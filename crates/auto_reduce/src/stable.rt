@@ -1,5 +1,5 @@
 //! Whether a repeated first letter ever matters.
-ghost use Rattle.std.specs.Prelude.{◌≡◌, ◌↔◌, ◌<◌, ℕ, length, slice_get, Some, IfOk, IsTrue};
+ghost use Rattle.std.specs.Prelude.{◌≡◌, ◌↔◌, ◌<◌, length, All, IfOk, IsTrue};
 ghost use Rattle.letter_diagram.specs.Diagram.{Grows};
 ghost use Rattle.auto_core.specs.Automaton.{IsAutomaton};
 ghost use Rattle.auto_core.specs.Integers.{DecidesIntegers};
@@ -54,8 +54,7 @@ fn keeps(diagrams: &mut Diagrams, first: Node, row: Node, state: u32) -> Result<
 
 /// Whether no pair leaves a state.
 fn each_keeps(pairs: &[(u32, u32)], state: u32) -> bool
-    ensures { IsTrue result ↔ ((number before after : ℕ) → slice_get pairs.now number ≡ Some (before, after)
-        → before ≡ state → after ≡ state) }
+    ensures { IsTrue result ↔ All (λ pair. pair.0 ≡ state → pair.1 ≡ state) pairs.now }
 {
     for pair in pairs {
         if pair.0 == state && pair.1 != state {

@@ -8,6 +8,7 @@ use Rattle.arith_desk.specs.Truth.{IsOver, IsTruth, IsWithin}
 use Rattle.arith_desk.specs.declared.deciding.Truth.{Truth}
 use Rattle.arith_desk.specs.declared.deciding.Truth.TheVariants as truths
 use Rattle.desk_base.specs.Files.{Files}
+use Rattle.desk_base.specs.Lent.{Lent, both_new, both_old}
 use Rattle.desk_base.specs.Lines.{IsLine, Lines, full, ended, cut, long}
 use Rattle.desk_report.specs.ByLines.{EndsByLines}
 use Rattle.desk_base.specs.declared.sink.Sink.{Ghosts as SinkModel}
@@ -75,8 +76,11 @@ abbrev pub ArithEnds : (budget : ℕ) → Files → Status → (pending : List �
 ArithEnds budget files status pending old new =
     EndsByLines (λ lines. ArithReports budget lines files) IsBehindLine (λ bytes. NeverMisses) status [] pending old new
 
--- how it ends on a source and a sink, whatever files there are
-abbrev pub ArithEndsOn : {S K : Type 0} → SourceModel S → SinkModel K → (budget : ℕ) → Status → (old new : S × K) → Type 0
-ArithEndsOn s k budget status old new =
+-- how it ends on a source and a sink that it is lent, whatever files there are
+abbrev pub ArithEndsOn : {S K : Type 0} → SourceModel S → SinkModel K → (budget : ℕ) → Status
+    → (ports : Lent S × Lent K) → Type 0
+ArithEndsOn s k budget status ports =
     (files : Files)
-    → (pending : List ℕ) × ArithEnds budget files status pending (streams_seen s k files old) (streams_seen s k files new)
+    → (pending : List ℕ)
+    × ArithEnds budget files status pending (streams_seen s k files (both_old ports))
+    (streams_seen s k files (both_new ports))

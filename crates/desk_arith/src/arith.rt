@@ -28,7 +28,7 @@ pub fn arith<S: Source, K: Sink>(
     source: &mut S,
     sink: &mut K,
 ) -> Status
-    ensures ends { ArithEndsOn S.Source K.Sink budget result (source.old, sink.old) (source.new, sink.new) }
+    ensures ends { ArithEndsOn S.Source K.Sink budget result (source, sink) }
 {
     let mut reader = LineReader::new();
     match reader.next_line(source) {

@@ -3,6 +3,7 @@ pub mod Failing
 pub mod Faults
 pub mod Files
 pub mod Found
+pub mod Lent
 pub mod Lines
 pub mod Memory
 pub mod Moves

@@ -2,8 +2,8 @@
 use Rattle.std.specs.Prelude.{◌≡◌, ℕ, ◌-◌, ◌<◌, List, [], ◌++◌, length, drop, min, refl}
 use Rattle.std.specs.Coded.{Coded, code_by, coded×, coded_ℕ, coded_list}
 use Rattle.std.specs.FinMap as finite
-use Rattle.desk_base.specs.Calls.{Calls, no_calls, one_more, one_more_failed}
-use Rattle.desk_base.specs.Files.{Files}
+use Rattle.desk_base.specs.Calls.{Calls, IsListed, no_calls, one_more, one_more_failed}
+use Rattle.desk_base.specs.Files.{Files, HasFileOver}
 
 -- a source: the bytes still to come, how many a call moves at most, and its calls
 pub record Input : Type 0 where
@@ -60,6 +60,10 @@ after_failed_put sink = record sink { calls = one_more_failed sink.calls }
 -- the store where the file of this name has these bytes
 abbrev pub with_file : Store → (name bytes : List ℕ) → Store
 with_file store name bytes = record store { files = finite.insert store.files name bytes }
+
+-- the next call of the store does not fail, and there is a file of this name, of more than so many bytes
+abbrev pub FindsFileOver : Store → (name : List ℕ) → (limit : ℕ) → Type 0
+FindsFileOver store name limit = ¬ IsListed store.calls × HasFileOver store.files name limit
 
 -- the store after a call that changed no file
 abbrev pub after_call : Store → Store

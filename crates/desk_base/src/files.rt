@@ -1,6 +1,6 @@
-ghost use Rattle.std.specs.Prelude.{◌≡◌, ◌≢◌, ℕ, ◌<◌, ◌≤◌, List, Option, length, IfOk, OnOk, IsErrOf, IfSome, IsSomeAnd};
+ghost use Rattle.std.specs.Prelude.{◌≡◌, ℕ, ◌≤◌, Option, length, IfOk, OnOk, IsErrOf, IfSome};
 ghost use Rattle.std.specs.FinMap as map;
-ghost use Rattle.desk_base.specs.Files.{Files, FilesGain, FilesStay, HasFileOver, OtherFilesStay, contents};
+ghost use Rattle.desk_base.specs.Files.{Files, FilesGain, FilesStay, MayHaveFileOver, OtherFilesStay, contents};
 ghost use Rattle.desk_base.specs.Faults.{HasRisen};
 
 use std::alloc::{AllocError, Global};
@@ -70,7 +70,7 @@ pub trait Shelf {
     ) -> Result<Option<Vec<u8>>, FetchError>
         ensures found { IfOk result (λ file. IfSome (files self.old) (λ kept. contents file ≡ map.get kept name.now)) }
         ensures short { IfOk result (λ file. IfSome file (λ bytes. length bytes.items ≤ limit)) }
-        ensures too_long { IsErrOf result FetchError.TooLong → IfSome (files self.old) (λ kept. HasFileOver kept name.now limit) }
+        ensures too_long { IsErrOf result FetchError.TooLong → MayHaveFileOver (files self.old) name.now limit }
         ensures same { FilesStay (files self.old) (files self.new) }
         ensures failed { IsErrOf result FetchError.Failed → HasRisen (faults self.old) (faults self.new) }
         ensures never_falls { faults self.old ≤ faults self.new };

@@ -1,6 +1,6 @@
 //! Laws of the lines of an input. The three say together what the lines of any bytes are.
 
-ghost use Rattle.std.specs.Prelude.{◌≡◌, ◌+◌, ◌≤◌, ℕ, List, ◌∷◌, ◌++◌, length};
+ghost use Rattle.std.specs.Prelude.{◌≡◌, ◌+◌, ℕ, List, ◌∷◌, ◌++◌};
 ghost use Rattle.desk_base.specs.Lines.{IsLine, IsTooLong, full, long, part_of, lines_of};
 
 /// A line of at most 200 bytes and its LF are the next line, and the lines of what comes behind it follow.

@@ -1,9 +1,9 @@
-ghost use Rattle.std.specs.Prelude.{◌≡◌, ◌≢◌, ◌↔◌, ℕ, ◌+◌, ◌<◌, ◌≤◌, List, Option, Some, None, length, string_bytes, option_copied, IfOk, OnOk, OnErr, IsErrOf, IfSome, IsSomeAnd};
+ghost use Rattle.std.specs.Prelude.{◌≡◌, ◌↔◌, ◌≤◌, Some, length, string_bytes, option_copied, IfOk, OnOk, OnErr, IsErrOf, IfSome};
 ghost use Rattle.std.specs.FinMap as map;
-ghost use Rattle.desk_base.specs.Calls.{IsListed, no_calls, one_more, one_more_failed};
+ghost use Rattle.desk_base.specs.Calls.{IsListed, no_calls, one_more};
 ghost use Rattle.desk_base.specs.Faults.{HasRisen};
-ghost use Rattle.desk_base.specs.Files.{HasFileOver, HasFileWithin, contents, no_files};
-ghost use Rattle.desk_base.specs.Memory.{after_call, after_failed_call, with_file};
+ghost use Rattle.desk_base.specs.Files.{HasFileWithin, contents, no_files};
+ghost use Rattle.desk_base.specs.Memory.{FindsFileOver, after_call, after_failed_call, with_file};
 
 use crate::calls::CallCount;
 use crate::files::{FetchError, KeepError, Shelf};
@@ -85,8 +85,7 @@ impl Shelf for MemShelf {
         ensures passing { ¬ IsListed self.old.calls → self.new ≡ after_call self.old }
 
         // At each other call a file is too long exactly where it exceeds the limit, and memory is wanting only where one is short enough.
-        ensures too_long { IsErrOf result FetchError.TooLong
-            ↔ ¬ IsListed self.old.calls × HasFileOver self.old.files name.now limit }
+        ensures too_long { IsErrOf result FetchError.TooLong ↔ FindsFileOver self.old name.now limit }
         ensures memory { IsErrOf result FetchError.Memory → HasFileWithin self.old.files name.now limit }
     {
         if self.calls.fails() {

@@ -1,6 +1,6 @@
-ghost use Rattle.std.specs.Prelude.{◌≡◌, ◌↔◌, ◌⊎◌, ℕ, ◌-◌, ◌<◌, ◌≤◌, [], length, Some, ◌++◌, take, min, IfOk, OnErr, IsErr};
+ghost use Rattle.std.specs.Prelude.{◌≡◌, ◌↔◌, ◌⊎◌, ◌<◌, ◌≤◌, length, Some, take, IfOk, OnErr, IsErr};
 ghost use Rattle.std.specs.Io.KnownBytes.{WriteAppends};
-ghost use Rattle.desk_base.specs.Calls.{IsListed, no_calls, one_more, one_more_failed};
+ghost use Rattle.desk_base.specs.Calls.{IsListed};
 ghost use Rattle.desk_base.specs.Faults.{HasRisen};
 ghost use Rattle.desk_base.specs.Memory.{LacksRoom, after_failed_put, after_put, empty_output, put_count};
 

@@ -1,4 +1,4 @@
-ghost use Rattle.std.specs.Prelude.{◌≡◌, ◌≢◌, ℕ, ◌+◌, ◌-◌, ◌^◌, ◌<◌, ◌≤◌, ◌↔◌, List, [], ◌∷◌, ◌++◌, length, IsTrue, IsNone, IfSome, None, IsErrOf};
+ghost use Rattle.std.specs.Prelude.{◌≡◌, ◌≤◌, [], length, None, IsErrOf};
 ghost use Rattle.desk_base.specs.Failing.{SourceFailed};
 ghost use Rattle.desk_base.specs.Reading.{GoesOn, KeepsLine, Reading, StaysStopped, Takes, TakesAs, stop_after};
 

@@ -2,6 +2,7 @@
 use Rattle.std.specs.Prelude.{◌≡◌, ◌⊎◌, ℕ, ◌≤◌, List, length, Option, Some, IfSome, false}
 use Rattle.std.specs.FinMap as map
 use Rattle.desk_base.specs.Files.{Files}
+use Rattle.desk_base.specs.Lent.{Lent, both_new, both_old, old_of}
 use Rattle.desk_base.specs.declared.files.Shelf.{Ghosts as ShelfModel}
 use Rattle.desk_base.specs.declared.sink.Sink.{Ghosts as SinkModel}
 use Rattle.game_rules.specs.Game.{Position, Value}
@@ -59,21 +60,22 @@ MissesKeep name has_file keeping = has_file × (keeping ≡ Some name)
 -- shelf has, which are those that it tells, where it tells them: what is reported with them, and where memory may be
 -- wanting, is told.
 abbrev pub EndsByKeeping : {K H : Type 0} → SinkModel K → ShelfModel H → (name : List ℕ) → (has_file : Type 0) → Status
-    → (Files → Report → Type 0) → (may_lack : Type 0) → (old new : K × H) → Type 0
-EndsByKeeping k h name has_file status reports may_lack old new =
-    (files : Files) → IfSome (h.files old.1) (λ told. told ≡ files)
-    → Ends status (reports files) may_lack (MissesKeep name has_file) (shelf_seen k h old) (shelf_seen k h new)
+    → (Files → Report → Type 0) → (may_lack : Type 0) → (ports : Lent K × Lent H) → Type 0
+EndsByKeeping k h name has_file status reports may_lack ports =
+    (files : Files) → IfSome (h.files (old_of ports.1)) (λ told. told ≡ files)
+    → Ends status (reports files) may_lack (MissesKeep name has_file) (shelf_seen k h (both_old ports))
+    (shelf_seen k h (both_new ports))
 
--- how `keep` ends on a sink and a shelf
+-- how `keep` ends on a sink and a shelf that it is lent
 abbrev pub KeepEndsOn : {K H : Type 0} → SinkModel K → ShelfModel H → Task → (name : List ℕ) → Status
-    → (old new : K × H) → Type 0
+    → (ports : Lent K × Lent H) → Type 0
 KeepEndsOn k h task name status =
     EndsByKeeping k h name (HasFileToKeep task.moves task.budget task.problem) status
     (KeepReports task.moves task.budget task.problem name) (HasSomeToPlay task)
 
 -- how it ends once the problem is solved
 abbrev pub FileEndsOn : {K H : Type 0} → SinkModel K → ShelfModel H → Solution → (name : List ℕ) → Status
-    → (old new : K × H) → Type 0
+    → (ports : Lent K × Lent H) → Type 0
 FileEndsOn k h s name status =
     EndsByKeeping k h name ((bytes : List ℕ) × IsFileToKeep s.winner s.position s.moves bytes) status
     (FileReports s.winner s.position s.moves name) (Unit {0})

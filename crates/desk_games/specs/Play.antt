@@ -1,6 +1,7 @@
 -- What is reported of `play`, and how it ends.
 use Rattle.std.specs.Prelude.{◌≡◌, ◌⊎◌, ℕ, List, [], Option, Result, Ok, Err, codes}
 use Rattle.desk_base.specs.Files.{Files}
+use Rattle.desk_base.specs.Lent.{Lent, new_of, old_of}
 use Rattle.desk_base.specs.Lines.{Lines}
 use Rattle.desk_base.specs.Reading.{Reading}
 use Rattle.desk_base.specs.declared.sink.Sink.{Ghosts as SinkModel}
@@ -82,13 +83,13 @@ PlayEnds n budget problem files status held pending old new =
     EndsByLines (λ lines. PlayReports n budget problem lines files) (LacksAtFirst n problem) (λ bytes. NeverMisses)
     status held pending old new
 
--- how it ends on a reader, a source and a sink, whatever files there are
-abbrev pub PlayEndsOn : {S K : Type 0} → SourceModel S → SinkModel K → Task → Status → (old new : Reading × S × K)
-    → Type 0
-PlayEndsOn s k task status old new =
+-- how it ends on a reader, a source and a sink that it is lent, whatever files there are
+abbrev pub PlayEndsOn : {S K : Type 0} → SourceModel S → SinkModel K → Task → Status
+    → (ports : Lent Reading × Lent S × Lent K) → Type 0
+PlayEndsOn s k task status ports =
     (files : Files)
-    → PlayEnds task.moves task.budget task.problem files status old.0.pending new.0.pending
-    (streams_seen s k files (old.1, old.2)) (streams_seen s k files (new.1, new.2))
+    → PlayEnds task.moves task.budget task.problem files status (old_of ports.0).pending (new_of ports.0).pending
+    (streams_seen s k files (old_of ports.1, old_of ports.2)) (streams_seen s k files (new_of ports.1, new_of ports.2))
 
 -- what is written after a game was played, and the status then
 abbrev pub Finishes : Result Ending GameError → Status → (old new : Option (List ℕ)) → (failed : Type 0) → Type 0

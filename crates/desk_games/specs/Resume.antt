@@ -1,6 +1,7 @@
 -- What is reported of `resume`.
 use Rattle.std.specs.Prelude.{◌≡◌, ℕ, List, []}
 use Rattle.desk_base.specs.Files.{Files}
+use Rattle.desk_base.specs.Lent.{Lent, all_new, all_old, both_new, both_old, old_of}
 use Rattle.desk_base.specs.Lines.{Lines}
 use Rattle.desk_base.specs.declared.files.Shelf.{Ghosts as ShelfModel}
 use Rattle.desk_base.specs.declared.sink.Sink.{Ghosts as SinkModel}
@@ -48,18 +49,20 @@ abbrev pub ResumeEnds : (budget : ℕ) → (name : List ℕ) → Files → Statu
 ResumeEnds budget name files status pending old new =
     EndsByLines (λ lines. ResumeReports budget lines name files) LacksBefore MissesFetch status [] pending old new
 
--- how it ends on a source, a sink and a shelf
+-- how it ends on a source, a sink and a shelf that it is lent
 abbrev pub ResumeEndsOn : {S K H : Type 0} → SourceModel S → SinkModel K → ShelfModel H → FileTask → Status
-    → (old new : S × K × H) → Type 0
-ResumeEndsOn s k h file status old new =
-    OnFiles (h.files old.2)
+    → (ports : Lent S × Lent K × Lent H) → Type 0
+ResumeEndsOn s k h file status ports =
+    OnFiles (h.files (old_of ports.2))
     (λ files. (pending : List ℕ)
-    × ResumeEnds file.budget file.name.now files status pending (ports_seen s k h old) (ports_seen s k h new))
+    × ResumeEnds file.budget file.name.now files status pending (ports_seen s k h (all_old ports))
+    (ports_seen s k h (all_new ports)))
 
--- how the game of a claim ends on a source and a sink, whatever files there are
-abbrev pub GameEndsOn : {S K : Type 0} → SourceModel S → SinkModel K → Solution → Status → (old new : S × K) → Type 0
-GameEndsOn s k solved status old new =
+-- how the game of a claim ends on a source and a sink that it is lent, whatever files there are
+abbrev pub GameEndsOn : {S K : Type 0} → SourceModel S → SinkModel K → Solution → Status → (ports : Lent S × Lent K)
+    → Type 0
+GameEndsOn s k solved status ports =
     (files : Files)
     → (pending : List ℕ)
     × EndsByLines (λ lines. GameReports lines files (claim_of solved)) LacksBefore (λ bytes. NeverMisses) status []
-    pending (streams_seen s k files old) (streams_seen s k files new)
+    pending (streams_seen s k files (both_old ports)) (streams_seen s k files (both_new ports))

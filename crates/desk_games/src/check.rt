@@ -16,7 +16,7 @@ pub fn check<K: Sink, H: Shelf>(
     sink: &mut K,
     shelf: &mut H,
 ) -> Status
-    ensures ends { CheckEndsOn K.Sink H.Shelf file.now result (sink.old, shelf.old) (sink.new, shelf.new) }
+    ensures ends { CheckEndsOn K.Sink H.Shelf file.now result (sink, shelf) }
 {
     match fetch_claim(alloc, file.name, file.budget, shelf) {
         Ok(solved) => {

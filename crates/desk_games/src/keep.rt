@@ -26,7 +26,7 @@ pub fn keep<K: Sink, H: Shelf>(
 ) -> Status
     requires task { IsTask task.now }
     requires white { task.now.problem.winner ≡ White }
-    ensures ends { KeepEndsOn K.Sink H.Shelf task.now name.now result (sink.old, shelf.old) (sink.new, shelf.new) }
+    ensures ends { KeepEndsOn K.Sink H.Shelf task.now name.now result (sink, shelf) }
 {
     let Task {
         problem,
@@ -56,7 +56,7 @@ fn keep_file<K: Sink, H: Shelf>(
     requires plan { solved.now.origin ≡ Plan }
     requires white { solved.now.winner ≡ White }
     requires few { length solved.now.position.men ≤ 5 }
-    ensures ends { FileEndsOn K.Sink H.Shelf solved.now name.now result (sink.old, shelf.old) (sink.new, shelf.new) }
+    ensures ends { FileEndsOn K.Sink H.Shelf solved.now name.now result (sink, shelf) }
 {
     let _masks = solved.masks();
     let bytes = match write_file(alloc, solved) {

@@ -32,9 +32,7 @@ pub fn play<S: Source, K: Sink>(
     requires goes_on { GoesOn reader.old }
     requires held { length reader.old.pending ≤ 256 }
     requires lines { task.now.problem.lines ≤ 8 }
-    ensures ends { PlayEndsOn S.Source K.Sink task.now result
-        (reader.old, source.old, sink.old)
-        (reader.new, source.new, sink.new) }
+    ensures ends { PlayEndsOn S.Source K.Sink task.now result (reader, source, sink) }
 {
     let Task {
         problem,

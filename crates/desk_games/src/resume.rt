@@ -24,9 +24,7 @@ pub fn resume<S: Source, K: Sink, H: Shelf>(
     sink: &mut K,
     shelf: &mut H,
 ) -> Status
-    ensures ends { ResumeEndsOn S.Source K.Sink H.Shelf file.now result
-        (source.old, sink.old, shelf.old)
-        (source.new, sink.new, shelf.new) }
+    ensures ends { ResumeEndsOn S.Source K.Sink H.Shelf file.now result (source, sink, shelf) }
 {
     match fetch_claim(alloc, file.name, file.budget, shelf) {
         Ok(solved) => play_on(alloc, solved, source, sink),
@@ -43,7 +41,7 @@ fn play_on<S: Source, K: Sink>(
 ) -> Status
     requires origin { solved.origin ≡ origin.Claim }
     requires value { Value solved.winner solved.moves solved.position }
-    ensures ends { GameEndsOn S.Source K.Sink solved result (source.old, sink.old) (source.new, sink.new) }
+    ensures ends { GameEndsOn S.Source K.Sink solved result (source, sink) }
 {
     match Session::begin(alloc, solved, Frame::whole()) {
         Ok(mut session) => {

@@ -1,5 +1,5 @@
 -- Maps of pairs of the values of two maps, each of which is read where it stands.
-use Rattle.std.specs.Prelude.{◌≡◌, ℕ, ◌<◌, ◌≤◌, min, List, Option, length, slice_index_or, Some, None, nat_eq, if◌then◌else◌}
+use Rattle.std.specs.Prelude.{◌≡◌, ℕ, ◌+◌, ◌^◌, ◌<◌, ◌≤◌, min, List, Option, length, slice_index_or, Some, None, nat_eq, if◌then◌else◌}
 use Rattle.std.specs.Int.{bit_at}
 use Rattle.std.specs.HashMap.{HashMap, get}
 use Rattle.limits.specs.declared.numbers.TheConstants.{MOST_TRACKS}
@@ -8,7 +8,7 @@ use Rattle.letter_diagram.specs.declared.diagrams.Shape.TheVariants.{Leaf, Test}
 use Rattle.diagram_product.specs.declared.absorbing.Absorbing.{Absorbing}
 use Rattle.letter_diagram.specs.Diagram.{map_at, top_track, LooksBelow}
 use Rattle.letter_diagram.specs.Relabelled.{relabelled}
-use Rattle.letter_diagram.specs.Splits.{pair_eq}
+use Rattle.letter_diagram.specs.Splits.{pair_eq, room_from}
 use Rattle.diagram_product.specs.Paired.{NumbersPairs}
 use Rattle.diagram_product.specs.Absorbed.{absorbed, ArePairs}
 
@@ -110,6 +110,14 @@ pair_at sides shapes a b letter =
 -- the least track that one of both sides looks at, or 20
 abbrev pub pair_top : Sides → List Shape → ℕ → ℕ → ℕ
 pair_top sides shapes a b = min (read_top sides.left shapes a) (read_top sides.right shapes b)
+
+-- there are numbers for as many pairs more as a and b may have
+abbrev pub HasPairRoom : Sides → List Shape → List (ℕ × ℕ) → ℕ → ℕ → Type 0
+HasPairRoom sides shapes pairs a b = length pairs + room_from (pair_top sides shapes a b) < 2 ^ 32
+
+-- there are no more pairs than as many more as a and b may have
+abbrev pub IsPairRoomKept : Sides → List Shape → (old new : List (ℕ × ℕ)) → ℕ → ℕ → Type 0
+IsPairRoomKept sides shapes old new a b = length new ≤ length old + room_from (pair_top sides shapes a b)
 
 -- each pair from a number on is an absorbed pair of values that are read of a and b
 abbrev pub AreReadPairs : Sides → List Shape → ℕ → List (ℕ × ℕ) → ℕ → ℕ → Type 0

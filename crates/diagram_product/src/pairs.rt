@@ -4,7 +4,7 @@ ghost use Rattle.letter_diagram.specs.Numbering.{Numbers, PairsKept, HasNoNumber
 
 use indexmap::IndexSet;
 use letter_diagram::NumberingError;
-use std::alloc::{AllocError, AllocFailed, Global};
+use std::alloc::{AllocError, Global};
 use std::marker::Model;
 
 #[derive(Drop)]

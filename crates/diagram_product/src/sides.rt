@@ -1,9 +1,8 @@
 //! The map of the pairs of the values of two maps, each of which is read where it stands.
-ghost use Rattle.std.specs.Prelude.{◌≡◌, ◌<◌, ◌≤◌, ◌+◌, ◌^◌, ℕ, length, None, IfOk, IfSome, OnOk};
+ghost use Rattle.std.specs.Prelude.{◌≡◌, ◌<◌, ◌≤◌, ℕ, length, None, IfOk, IfSome, OnOk};
 ghost use Rattle.letter_diagram.specs.Diagram.{Grows};
 ghost use Rattle.letter_diagram.specs.Numbering.{PairsKept};
-ghost use Rattle.letter_diagram.specs.Splits.{room_from};
-ghost use Rattle.diagram_product.specs.Sided.{together, AreReadPairs, pair_at, pair_top, IsReadSplit, CanBePaired, IsPaired, RemembersPaired};
+ghost use Rattle.diagram_product.specs.Sided.{together, AreReadPairs, pair_at, pair_top, IsReadSplit, CanBePaired, HasPairRoom, IsPairRoomKept, IsPaired, RemembersPaired};
 
 use crate::absorbing::{Absorbing, absorbs};
 use crate::pairs::Pairs;
@@ -55,12 +54,11 @@ impl<S: Side> TwoSides<S> {
         memo: &mut HashMap<(Node, Node), Node>,
     ) -> Result<Node, AllocError>
         requires read { CanBePaired self.now to.old a b }
-        requires room { length pairs.old + room_from (pair_top self.now to.old a b) < 2 ^ 32 }
+        requires room { HasPairRoom self.now to.old pairs.old a b }
         requires remembered { RemembersPaired self.now to.old pairs.old memo.old }
         ensures paired { IfOk result (IsPaired self.now to.new pairs.new a b) }
         ensures remembered { OnOk result (RemembersPaired self.now to.new pairs.new memo.new) }
-        ensures room { OnOk result
-            (length pairs.new ≤ length pairs.old + room_from (pair_top self.now to.old a b)) }
+        ensures room { OnOk result (IsPairRoomKept self.now to.old pairs.old pairs.new a b) }
         ensures answers { OnOk result (AreReadPairs self.now to.old (length pairs.old) pairs.new a b) }
         ensures pairs { PairsKept pairs.old pairs.new }
         ensures grows { Grows to.old to.new }
@@ -108,12 +106,11 @@ impl<S: Side> TwoSides<S> {
     ) -> Result<Node, AllocError>
         requires read { CanBePaired self.now to.old a b }
         requires low { pair_top self.now to.old a b < MOST_TRACKS }
-        requires room { length pairs.old + room_from (pair_top self.now to.old a b) < 2 ^ 32 }
+        requires room { HasPairRoom self.now to.old pairs.old a b }
         requires remembered { RemembersPaired self.now to.old pairs.old memo.old }
         ensures paired { IfOk result (IsPaired self.now to.new pairs.new a b) }
         ensures remembered { OnOk result (RemembersPaired self.now to.new pairs.new memo.new) }
-        ensures room { OnOk result
-            (length pairs.new ≤ length pairs.old + room_from (pair_top self.now to.old a b)) }
+        ensures room { OnOk result (IsPairRoomKept self.now to.old pairs.old pairs.new a b) }
         ensures answers { OnOk result (AreReadPairs self.now to.old (length pairs.old) pairs.new a b) }
         ensures pairs { PairsKept pairs.old pairs.new }
         ensures grows { Grows to.old to.new }

@@ -1,15 +1,20 @@
 -- How a game that is played ends, and what it takes of its input and gives to its output.
 use Rattle.std.specs.Prelude.{◌≡◌, ◌⊎◌, ℕ, List, ◌++◌, Bool, true, false, Option, IfSome, IsTrue, Result, Ok, Err}
 use Rattle.std.specs.Io.KnownBytes.{Appends, Consumes}
+use Rattle.desk_base.specs.Lent.{Lent, new_of, old_of}
 use Rattle.desk_base.specs.Lines.{ended, lines_of}
 use Rattle.desk_base.specs.Moves.{AppendsFront}
+use Rattle.desk_base.specs.Reading.{Reading}
+use Rattle.desk_base.specs.declared.sink.Sink.{Ghosts as SinkModel}
+use Rattle.desk_base.specs.declared.source.Source.{Ghosts as SourceModel}
 use Rattle.game_rules.specs.Game.{Legal, other}
 use Rattle.chess_game.specs.declared.moves.Move.{Move}
 use Rattle.chess_text.specs.PositionText.{text_of_lines}
 use Rattle.game_session.specs.Choice.{target}
-use Rattle.game_report.specs.Laws.{last_game}
+use Rattle.game_report.specs.Laws.{last_game, seen}
 use Rattle.game_report.specs.Report.{IsReport, Match, Report, moved}
 use Rattle.desk_text.specs.Taken.{TakesLines}
+use Rattle.white_player.specs.Game.{Game}
 use Rattle.game_report.specs.declared.play.Ending.{Ending}
 use Rattle.game_report.specs.declared.play.Ending.TheVariants.{Mated, Wide, Quit, NoLine, Many, CutAt, LongAt}
 use Rattle.game_report.specs.declared.play.GameError.{GameError}
@@ -82,6 +87,20 @@ pub record IsPlayed (answer : Result Ending GameError) (before : ℕ) (g after :
   pub left : IfSome new.left (λ told. told ≡ rest)
   pub takes : TakesLines (IsDue before g) (old.pending ++ bytes) new.pending
   pub ends : GameEnds answer before bytes rest g after old new
+
+-- what the ports that a game is lent tell as it begins, and what they tell when it has ended
+abbrev pub ports_before : {S K : Type 0} → SourceModel S → SinkModel K → Lent Reading × Lent S × Lent K → Ports
+ports_before s k lent = ports (old_of lent.0).pending (s.left (old_of lent.1)) (k.written (old_of lent.2))
+
+abbrev pub ports_after : {S K : Type 0} → SourceModel S → SinkModel K → Lent Reading × Lent S × Lent K → Ports
+ports_after s k lent = ports (new_of lent.0).pending (s.left (new_of lent.1)) (k.written (new_of lent.2))
+
+-- how the game of a session is played on a reader, a source and a sink that it is lent
+abbrev pub IsPlayedOn : {S K : Type 0} → SourceModel S → SinkModel K → Result Ending GameError → (before : ℕ)
+    → Lent Game → Lent Reading × Lent S × Lent K → Type 0
+IsPlayedOn s k answer before session lent =
+    IsPlayed answer before (seen (old_of session)) (seen (new_of session)) (ports_before s k lent)
+    (ports_after s k lent)
 
 -- no line is due: the report on no input ends otherwise than by its end
 abbrev pub IsSettled : ℕ → Match → Type 0

@@ -2,7 +2,7 @@
 ghost use Rattle.std.specs.Prelude.{◌≡◌, ◌≤◌, ◌<◌, ◌+◌, ◌^◌, IsErrOf, None, length};
 ghost use Rattle.desk_base.specs.Faults.{HasRisen};
 ghost use Rattle.game_report.specs.Laws.{seen};
-ghost use Rattle.game_report.specs.Played.{IsPlayed, IsSettled, ports};
+ghost use Rattle.game_report.specs.Played.{IsPlayedOn, IsSettled};
 ghost use Rattle.game_report.specs.Report.{all_squares, most_lines};
 
 use crate::turn::{open, reply};
@@ -53,9 +53,7 @@ pub fn play_game<S: Source, K: Sink>(
     requires goes_on { reader.old.stopped ≡ None }
     requires held { length reader.old.pending ≤ 256 }
     requires numbers { before + most_lines < 2 ^ 32 }
-    ensures plays { IsPlayed result before (seen session.old) (seen session.new)
-        (ports reader.old.pending (S.left source.old) (K.written sink.old))
-        (ports reader.new.pending (S.left source.new) (K.written sink.new)) }
+    ensures plays { IsPlayedOn S.Source K.Sink result before session (reader, source, sink) }
     ensures settled { IsSettled before (seen session.old) → (source.new ≡ source.old) × (reader.new ≡ reader.old) }
     ensures same { (session.new.solution ≡ session.old.solution) × (session.new.frame ≡ session.old.frame) }
     ensures read_failed { IsErrOf result GameError.Read → HasRisen (S.faults source.old) (S.faults source.new) }

@@ -3,6 +3,7 @@ use Rattle.std.specs.Prelude.{◌≡◌, ℕ, List, [], IfOk, IfSome, IsTrue, Ok
 use Rattle.std.specs.Io.KnownBytes.{Consumes}
 use Rattle.chess_text.specs.PositionText.{text_of_lines}
 use Rattle.desk_base.specs.Files.{Files}
+use Rattle.desk_base.specs.Lent.{Lent, all_new, all_old}
 use Rattle.desk_base.specs.declared.files.Shelf.{Ghosts as ShelfModel}
 use Rattle.desk_base.specs.declared.sink.Sink.{Ghosts as SinkModel}
 use Rattle.desk_base.specs.declared.source.Source.{Ghosts as SourceModel}
@@ -45,16 +46,17 @@ pub record RunEnds (words : List (List ℕ)) (status : Status) (old new : Seen) 
       Ends status (λ report. Reports words (reported_on status given.taken given.rest) given.files report)
       (MayLackMemory words given.taken) (MayMissShelf words given.taken) old new
 
--- How it ends on a source, a sink and a shelf.
+-- How it ends on a source, a sink and a shelf that it is lent.
 abbrev pub RunEndsOn : {S K H : Type 0} → SourceModel S → SinkModel K → ShelfModel H → (words : List (List ℕ)) → Status
-    → (old new : S × K × H) → Type 0
-RunEndsOn s k h words status old new = RunEnds words status (ports_seen s k h old) (ports_seen s k h new)
+    → (ports : Lent S × Lent K × Lent H) → Type 0
+RunEndsOn s k h words status ports =
+    RunEnds words status (ports_seen s k h (all_old ports)) (ports_seen s k h (all_new ports))
 
 -- how a run ends of any words that are this order of a text
 abbrev pub OrderEndsOn : {S K H : Type 0} → SourceModel S → SinkModel K → ShelfModel H → TextOrder → Status
-    → (old new : S × K × H) → Type 0
-OrderEndsOn s k h order status old new =
-    (words : List (List ℕ)) → IsOrderOf order words → RunEndsOn s k h words status old new
+    → (ports : Lent S × Lent K × Lent H) → Type 0
+OrderEndsOn s k h order status ports =
+    (words : List (List ℕ)) → IsOrderOf order words → RunEndsOn s k h words status ports
 
 -- where the words are an order of which this holds, so does that
 abbrev pub WhereOrder : (words : List (List ℕ)) → (this : Order → Type 0) → (that : Type 0) → Type 0

@@ -34,9 +34,7 @@ pub fn run<S: Source, K: Sink, H: Shelf>(
     sink: &mut K,
     shelf: &mut H,
 ) -> Status
-    ensures ends { RunEndsOn S.Source K.Sink H.Shelf (texts words.now.items) result
-        (source.old, sink.old, shelf.old)
-        (source.new, sink.new, shelf.new) }
+    ensures ends { RunEndsOn S.Source K.Sink H.Shelf (texts words.now.items) result (source, sink, shelf) }
     // Where the words are no order, nothing is read.
     ensures nothing_read { result ≡ Status.Usage → source.new ≡ source.old }
     // Nor where they are an order of no text and of no lines.
@@ -100,9 +98,7 @@ fn answer<S: Source, K: Sink, H: Shelf>(
     shelf: &mut H,
 ) -> Status
     requires { IsWithinLimits (as_order order) }
-    ensures ends { OrderEndsOn S.Source K.Sink H.Shelf order.entry result
-        (source.old, sink.old, shelf.old)
-        (source.new, sink.new, shelf.new) }
+    ensures ends { OrderEndsOn S.Source K.Sink H.Shelf order.entry result (source, sink, shelf) }
     ensures no_usage { result ≢ Status.Usage }
     ensures shelf_untouched { UsesNoShelf (as_order order.entry) → shelf.new ≡ shelf.old }
 {

@@ -1,6 +1,7 @@
 -- How the program ends where there are no words.
 use Rattle.std.specs.Prelude.{◌≡◌, ℕ, List, [], MatchResult, Option, Result, Some, String, Vec}
 use Rattle.std.specs.declared.alloc.Global.{Global}
+use Rattle.desk_base.specs.Lent.{Lent, all_new, all_old}
 use Rattle.desk_base.specs.declared.files.Shelf.{Ghosts as ShelfModel}
 use Rattle.desk_base.specs.declared.sink.Sink.{Ghosts as SinkModel}
 use Rattle.desk_base.specs.declared.source.Source.{Ghosts as SourceModel}
@@ -35,10 +36,11 @@ abbrev pub ProgramEnds : Result (Vec (String Global) Global) WordsError → Stat
 ProgramEnds words status old new =
     MatchResult words (λ given. RunEnds (texts given.items) status old new) (λ why. EndsWithoutWords why status old new)
 
--- How it ends on a source, a sink and a shelf.
+-- How it ends on a source, a sink and a shelf that it is lent.
 abbrev pub ProgramEndsOn : {S K H : Type 0} → SourceModel S → SinkModel K → ShelfModel H
-    → Result (Vec (String Global) Global) WordsError → Status → (old new : S × K × H) → Type 0
-ProgramEndsOn s k h words status old new = ProgramEnds words status (ports_seen s k h old) (ports_seen s k h new)
+    → Result (Vec (String Global) Global) WordsError → Status → (ports : Lent S × Lent K × Lent H) → Type 0
+ProgramEndsOn s k h words status ports =
+    ProgramEnds words status (ports_seen s k h (all_old ports)) (ports_seen s k h (all_new ports))
 
 -- what is seen of bytes and a store in memory, of which all is told
 abbrev pub memory_seen : (left written : List ℕ) → Store → (reads writes : ℕ) → Seen

@@ -29,9 +29,7 @@ pub fn perform<S: Source, K: Sink, H: Shelf>(
     shelf: &mut H,
     alloc: Global,
 ) -> Status
-    ensures { ProgramEndsOn S.Source K.Sink H.Shelf words result
-        (source.old, sink.old, shelf.old)
-        (source.new, sink.new, shelf.new) }
+    ensures { ProgramEndsOn S.Source K.Sink H.Shelf words result (source, sink, shelf) }
 {
     match words {
         Ok(words) => run(alloc, &words, source, sink, shelf),

@@ -2,7 +2,8 @@
 //! mask by mask. `specs/Plan` has the steps, `specs/PlanOf` the plan of a position, `specs/Levels` the sets of a ply as the code keeps them,
 //! `specs/Formulas` the formulas whose sets are united. Each function here answers one level of the plan, from the levels that it is made of,
 //! or one of the questions on the sets of a ply that `specs/Questions` has. `specs/Claim` is a claim, and `specs/Won` says when it is won.
-//! Each is given a `Bench`, which stays, and `Work`, which grows; a level is made mask by mask, by `level_by`.
+//! Each is given a `Bench`, which stays, and `Work`, which grows; a level is made mask by mask, by `level_by`. `specs/Bench` has what is said of a
+//! bench, and `specs/Named` the programs of the plan over the sets that its names stand for.
 #![tactic(auto)]
 
 mod answering;

@@ -9,6 +9,7 @@ use Rattle.formula_auto.specs.Decides.{Decides}
 use Rattle.formula_auto.specs.Compiled.{IsAccessible, IsCompilable}
 use Rattle.formula_auto.specs.Step.{Exceeds, StaysWithin}
 use Rattle.near_image.specs.Image.{IsAbout}
+use Rattle.near_image.specs.declared.leaving.Scope.{Scope}
 
 -- the third automaton decides And of any formula that the first one decides and Not of one that the second one does, and
 -- that step does not exceed the budget
@@ -41,10 +42,10 @@ AreLeftOf e budget each [] a b = b ≡ a
 AreLeftOf e budget each (g ∷ gs) a b =
     (m : Automaton) × IsLeftOf e budget each g a m × AreLeftOf e budget each gs m b
 
--- over these sets, one formula after the other is left out
-abbrev pub AreLeftOver : List Automaton → ℕ → ℕ → List Tree → Automaton → Automaton → Type 0
-AreLeftOver sets budget each gs a b = AreLeftOf (tables sets) budget each gs a b
+-- over the sets of a scope, and with its budget for each automaton, one formula after the other is left out
+abbrev pub AreLeftOver : Scope → ℕ → List Tree → Automaton → Automaton → Type 0
+AreLeftOver scope budget gs a b = AreLeftOf (tables scope.sets.now) budget scope.each gs a b
 
 -- one formula is
-abbrev pub IsLeftOver : List Automaton → ℕ → ℕ → Tree → Automaton → Automaton → Type 0
-IsLeftOver sets budget each g a b = IsLeftOf (tables sets) budget each g a b
+abbrev pub IsLeftOver : Scope → ℕ → Tree → Automaton → Automaton → Type 0
+IsLeftOver scope budget g a b = IsLeftOf (tables scope.sets.now) budget scope.each g a b

@@ -31,8 +31,7 @@ pub fn left_of_all(
     scope: &Scope,
 ) -> Result<Auto, Grown>
     requires { All (MayBeAsked scope.now.sets.now set.tracks) (trees formulas.now) }
-    ensures left { IfOk result
-        (AreLeftOver scope.now.sets.now memo.old.budget scope.now.each (trees formulas.now) set) }
+    ensures left { IfOk result (AreLeftOver scope.now memo.old.budget (trees formulas.now) set) }
     ensures accessible { IfOk result
         (λ b. IsAccessible scope.now.each set → IsAccessible scope.now.each b) }
     ensures budget { memo.new.budget ≡ memo.old.budget }
@@ -53,8 +52,7 @@ fn left_of(
     scope: &Scope,
 ) -> Result<Auto, Grown>
     requires { MayBeAsked scope.now.sets.now a.now.tracks (tree_of f.now) }
-    ensures left { IfOk result
-        (IsLeftOver scope.now.sets.now memo.old.budget scope.now.each (tree_of f.now) a.now) }
+    ensures left { IfOk result (IsLeftOver scope.now memo.old.budget (tree_of f.now) a.now) }
     ensures budget { memo.new.budget ≡ memo.old.budget }
 {
     let _ = a.tracks(); // for its invariant

@@ -1,5 +1,6 @@
 //! Programs that compute sets of tuples of integers by named steps, within a budget. `specs/Program` says what a program is and which
-//! entries it takes, `specs/Past` which step is the first past a budget, `specs/Unite` what the union of a list of formulas is.
+//! entries it takes, `specs/Past` which step is the first past a budget, `specs/Unite` what the union of a list of formulas is, `specs/Making`
+//! what is made of formulas and left of a set, `specs/Fold` what is answered where one program after another goes on from the value so far.
 //! A function here answers a program: with its value where no step passes the budget, and else with the first step that does.
 //! `each` goes through a list by one program after another; what it goes through is an impl of `Steps`.
 #![tactic(auto)]
