@@ -83,7 +83,7 @@ module _ (shapes : List Shape) (first row state : ℕ) (pairs : List (ℕ × ℕ
       → PairsKeep → Keeps shapes first row state
   Keeps-pairs after node map kept letter leads =
       let number = map_at after node letter in
-      let both = (map_at shapes first letter, map_at shapes row letter) in
+      let both : ℕ × ℕ = (map_at shapes first letter, map_at shapes row letter) in
       let within = slice_get_within pairs number both (map letter) in
       let P : ℕ × ℕ → Type 0 = λ pair. pair.0 ≡ state → pair.1 ≡ state in
       subst P (get_or_from_slice_get pairs number both both (map letter)) (kept number both within) leads

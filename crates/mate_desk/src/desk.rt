@@ -34,6 +34,7 @@ pub fn run<S: Source, K: Sink, H: Shelf>(
     sink: &mut K,
     shelf: &mut H,
 ) -> Status
+    // The bare name of a port stands for what it is before and after.
     ensures ends { RunEndsOn S.Source K.Sink H.Shelf (texts words.now.items) result (source, sink, shelf) }
     // Where the words are no order, nothing is read.
     ensures nothing_read { result ≡ Status.Usage → source.new ≡ source.old }
