@@ -1,5 +1,5 @@
 //! Numbers of sets of states, and why there are none.
-ghost use Rattle.std.specs.Prelude.{◌≡◌, ◌<◌, ◌↔◌, [], length, slice_get, Some, None, IfOk, OnOk, IsTrue, Contains};
+ghost use Rattle.std.specs.Prelude.{◌≡◌, ◌<◌, ◌↔◌, length, slice_get, Some, IfOk, OnOk, IsTrue, Contains};
 ghost use Rattle.std.specs.List.Sorted.{IsStrictlyIncreasing};
 ghost use Rattle.letter_diagram.specs.Sets.{SetsKept, NumbersSet, set_at};
 ghost use Rattle.auto_project.specs.SetMaps.{AreSingletons, IsJoinedSet};

@@ -1,5 +1,5 @@
 //! States in the order in which they are met.
-ghost use Rattle.std.specs.Prelude.{◌≡◌, ◌≢◌, ◌≤◌, ◌<◌, [], ◌∷◌, ◌↔◌, List, ℕ, length, OnOk, AllPairs, Contains, IsTrue};
+ghost use Rattle.std.specs.Prelude.{◌≡◌, ◌≢◌, [], ◌∷◌, ◌↔◌, List, ℕ, OnOk, AllPairs, Contains, IsTrue};
 ghost use Rattle.auto_reduce.specs.Quotient.{AddsAll};
 
 use indexmap::IndexSet;

@@ -1,5 +1,5 @@
 //! States that move to new classes, as their nodes differ from those of the states that stand for their classes.
-ghost use Rattle.std.specs.Prelude.{◌<◌, ◌^◌, ◌+◌, ℕ, All, Contains, length, IfOk, OnOk};
+ghost use Rattle.std.specs.Prelude.{◌<◌, ◌^◌, ℕ, All, Contains, length, IfOk, OnOk};
 ghost use Rattle.auto_refine.specs.Coarsest.{AreClasses, IsPartition};
 ghost use Rattle.auto_refine.specs.Listing.{AreLists};
 ghost use Rattle.auto_refine.specs.Moves.{AreCandidates, AreFound, KeepsMoves, MovesIfOther, MovesOthers};

@@ -1,5 +1,5 @@
 //! The states that a ray can have led to where some first bits of a distance are known.
-ghost use Rattle.std.specs.Prelude.{◌≡◌, ◌≤◌, ◌<◌, ℕ, IsTrue, None, Some, IfSome, slice_index_or, length, ◌↔◌, []};
+ghost use Rattle.std.specs.Prelude.{◌≡◌, ◌≤◌, ◌<◌, ℕ, IsTrue, None, IfSome, slice_index_or, length, ◌↔◌, []};
 ghost use Rattle.auto_search.specs.Search.{IsFront, IsStep, IsStart, MayCarry, started, Completes};
 ghost use Rattle.auto_search.specs.Entries.{IsNextState};
 ghost use Rattle.auto_search.specs.Met.{IsAlone};

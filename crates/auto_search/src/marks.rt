@@ -1,5 +1,5 @@
 //! Marks at states that lead nowhere.
-ghost use Rattle.std.specs.Prelude.{◌≡◌, ◌≤◌, ◌<◌, ◌*◌, ◌+◌, IsTrue, ◌↔◌, ℕ, length, All, slice_index};
+ghost use Rattle.std.specs.Prelude.{◌≡◌, ◌≤◌, ◌<◌, ◌*◌, IsTrue, ◌↔◌, ℕ, length, All, slice_index};
 ghost use Rattle.std.specs.Int.{bit_at};
 ghost use Rattle.auto_search.specs.Search.{IsFront, IsLive, IsDead, cell_of};
 ghost use Rattle.auto_search.specs.Marks.{Serves, SameRoom, IsClear, IsMarked, HasCellFrom, HasListed, HasListedMarks};

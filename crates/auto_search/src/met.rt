@@ -1,5 +1,5 @@
 //! What a walk over heads has met.
-ghost use Rattle.std.specs.Prelude.{◌≡◌, ◌<◌, ◌*◌, ◌+◌, ◌/◌, length, slice_index, slice_set, ℕ};
+ghost use Rattle.std.specs.Prelude.{◌≡◌, ◌<◌, ◌+◌, length, slice_index, slice_set, ℕ};
 ghost use Rattle.auto_search.specs.Met.{IsAfter, moment};
 ghost use Rattle.auto_search.specs.Entries.{AddsEntry, AreListed, BeginsAlong, HasLists, HasRoomFor, KeepsLists, WalksAlong};
 ghost use Rattle.auto_search.specs.Heads.{IsOpened};

@@ -1,5 +1,5 @@
 //! The search along a ray.
-ghost use Rattle.std.specs.Prelude.{◌≡◌, ◌≤◌, ◌^◌, ◌*◌, length, IfOk};
+ghost use Rattle.std.specs.Prelude.{◌≡◌, ◌≤◌, ◌^◌, length, IfOk};
 ghost use Rattle.auto_core.specs.Integers.{DecidesIntegers};
 ghost use Rattle.auto_search.specs.Search.{IsFirstAhead};
 ghost use Rattle.auto_search.specs.Marks.{Serves, SameRoom, IsClear};

@@ -1,5 +1,5 @@
 //! The row of the states of one more, or one less, after a sign letter.
-ghost use Rattle.std.specs.Prelude.{◌≡◌, ◌<◌, length, IfOk};
+ghost use Rattle.std.specs.Prelude.{◌<◌, length, IfOk};
 ghost use Rattle.letter_diagram.specs.Diagram.{Grows};
 ghost use Rattle.auto_shift.specs.Shifting.{HasNodes, AreTurned, IsFirstMoved, IsByBit};
 

@@ -1,5 +1,5 @@
 //! The worklist: rows until each numbered place has its own.
-ghost use Rattle.std.specs.Prelude.{◌≡◌, ◌<◌, ◌≤◌, ◌^◌, ◌+◌, [], List, ℕ, length, IfOk, OnOk, vec_len, map};
+ghost use Rattle.std.specs.Prelude.{◌≡◌, ◌<◌, ◌≤◌, ◌^◌, [], length, IfOk, OnOk, vec_len, map};
 ghost use Rattle.auto_walk.specs.Walker.{MoreThan, IsWalked};
 ghost use Rattle.auto_walk.specs.Rows.{AreNumbered, IsFirstRowIn, IsNextRowIn, Extends, AreRows};
 ghost use Rattle.letter_diagram.specs.Diagram.{Grows};

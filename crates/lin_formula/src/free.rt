@@ -1,5 +1,5 @@
 //! The free variables of a formula.
-ghost use Rattle.std.specs.Prelude.{◌≡◌, IfOk, OnOk, OnErr, filter, not, ◌==◌};
+ghost use Rattle.std.specs.Prelude.{◌≡◌, IfOk, OnOk};
 ghost use Rattle.track_word.specs.Tracks.{with_var, with_vars, without_var};
 ghost use Rattle.track_word.specs.Atom.{term_vars};
 ghost use Rattle.lin_formula.specs.Tree as tree;

@@ -4,7 +4,7 @@ ghost use Rattle.std.specs.Prelude.{◌≡◌, ◌↔◌, ◌≤◌, ◌++◌, C
 ghost use Rattle.game_rules.specs.Rays.{rays_of, serves_captures as captures, serves_moves as moves};
 ghost use Rattle.rule_formula.specs.declared.opt.Opt.{Opt};
 ghost use Rattle.rule_formula.specs.Meaning.{IsOptionOfSide};
-ghost use Rattle.rule_formula.specs.Options.{captures_of, his_options, is_king as king_of, is_prey as prey_of, is_side as side_of, option, options_of, ray_options, rays_to};
+ghost use Rattle.rule_formula.specs.Options.{captures_of, his_options, is_king as king_of, is_prey as prey_of, is_side as side_of, options_of, ray_options, rays_to};
 
 use crate::opt::Opt;
 use crate::stock::{is_live, man_of};

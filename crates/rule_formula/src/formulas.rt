@@ -1,6 +1,6 @@
 //! The formulas of the rules.
 
-ghost use Rattle.std.specs.Prelude.{◌≡◌, ◌≢◌, ◌≤◌, ◌<◌, All, IfOk, IfSome, Some, length, pos};
+ghost use Rattle.std.specs.Prelude.{◌≡◌, ◌≢◌, ◌≤◌, ◌<◌, IfOk, IfSome, Some, length, pos};
 ghost use Rattle.game_rules.specs.declared.men.Man.{Man};
 ghost use Rattle.game_rules.specs.Rays.{ray_of};
 ghost use Rattle.lin_formula.specs.TreeOf.{tree_of};

@@ -1,6 +1,6 @@
 //! The pairs of live men.
 
-ghost use Rattle.std.specs.Prelude.{◌≡◌, ◌↔◌, ◌≤◌, ◌++◌, Contains, IfOk, OnOk, length};
+ghost use Rattle.std.specs.Prelude.{◌≡◌, ◌↔◌, ◌≤◌, ◌++◌, Contains, IfOk, OnOk};
 ghost use Rattle.rule_formula.specs.declared.opt.Pair.{Pair};
 ghost use Rattle.rule_formula.specs.Pairs.{IsPairOf, is_later as later_in, later_to, man_pairs, pairs_of};
 

@@ -1,6 +1,6 @@
 //! The variables in which the men's squares stand.
 
-ghost use Rattle.std.specs.Prelude.{◌≡◌, ◌≤◌, ◌≢◌, ℕ, ◌-◌};
+ghost use Rattle.std.specs.Prelude.{◌≡◌, ◌≤◌, ◌≢◌, ℕ};
 ghost use Rattle.rule_formula.specs.Trees.{AreApart, Suits};
 ghost use Rattle.rule_formula.specs.Seats.{IsSeat, new_seat as new_place, own as own_seat, seat_of, spare as spare_seat, swept as swept_var};
 
