@@ -3,4 +3,5 @@ pub mod SideLemmas
 pub mod AbsorbedPairs
 pub mod PairLemmas
 pub mod Spreads
+pub mod OperandLemmas
 pub mod Complements

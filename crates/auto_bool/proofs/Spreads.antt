@@ -10,10 +10,9 @@ use Rattle.std.proofs.lemmas.Map.Steps.{length-le_from_distinct_below}
 use Rattle.track_word.specs.Tracks.{with_vars, restrict, part_of}
 use Rattle.auto_core.specs.Automaton.{Automaton, IsAutomaton, state_of, Accepts}
 use Rattle.auto_core.specs.Reduced.{IsReduced}
-use Rattle.auto_core.specs.Spread.{AlikeInBoth, BothSpreadExceeds}
+use Rattle.auto_core.specs.Spread.{AlikeInBoth, HasMoreClasses, BothSpreadExceeds}
 use Rattle.auto_walk.specs.Walker.{place_of, MoreThan}
 use Rattle.auto_bool.specs.declared.connective.Connective.{Connective}
-use Rattle.auto_bool.specs.declared.connective.Connective.TheVariants.{And}
 use Rattle.auto_bool.specs.Both.{both_walker}
 use Rattle.auto_core.proofs.States.{state_within, same_state, same_residual}
 use Rattle.auto_bool.proofs.PairLemmas.{place_of-pair, first_of_two, second_of_two}
@@ -29,6 +28,19 @@ not_nil-map f [] h e = h refl
 not_nil-map f (x ∷ xs) h e = cc
 
 -- words that lead to one pair are alike, whatever the automata
+module _ (a b : Automaton) where
+  alike_at : (v w : List ℕ) → v ≢ [] → w ≢ [] → state_of a (part_of (with_vars a.tracks b.tracks) a.tracks v) ≡ state_of a (part_of (with_vars a.tracks b.tracks) a.tracks w)
+      → state_of b (part_of (with_vars a.tracks b.tracks) b.tracks v) ≡ state_of b (part_of (with_vars a.tracks b.tracks) b.tracks w)
+      → AlikeInBoth (with_vars a.tracks b.tracks) a.tracks b.tracks (Accepts a) (Accepts b) v w
+  alike_at v w v_some w_some left right = record {
+    left =
+        same_residual a _ _ (not_nil-map (restrict (with_vars a.tracks b.tracks) a.tracks) v v_some)
+        (not_nil-map (restrict (with_vars a.tracks b.tracks) a.tracks) w w_some) left;
+    right =
+        same_residual b _ _ (not_nil-map (restrict (with_vars a.tracks b.tracks) b.tracks) v v_some)
+        (not_nil-map (restrict (with_vars a.tracks b.tracks) b.tracks) w w_some) right;
+  }
+
 module _ (a b : Automaton) (connective : Connective) where
   pub MoreThan-from_spread : (budget : ℕ) → BothSpreadExceeds a.tracks b.tracks (Accepts a) (Accepts b) budget → MoreThan (both_walker a b connective) budget
   MoreThan-from_spread budget more = record {
@@ -38,16 +50,8 @@ module _ (a b : Automaton) (connective : Connective) where
     apart = λ i j d less within e.
         let v = (more.are_words i d (omega arith)).nonempty in
         let w = (more.are_words j d within).nonempty in
-        let all = with_vars a.tracks b.tracks in
         let same = sym (place_of-pair (with_vars a.tracks b.tracks) a b connective _ v) ∙ e ∙ place_of-pair (with_vars a.tracks b.tracks) a b connective _ w in
-        more.apart i j d less within (record {
-          left =
-              same_residual a _ _ (not_nil-map (restrict (with_vars a.tracks b.tracks) a.tracks) _ v)
-              (not_nil-map (restrict (with_vars a.tracks b.tracks) a.tracks) _ w) (first_of_two _ _ _ _ same);
-          right =
-              same_residual b _ _ (not_nil-map (restrict (with_vars a.tracks b.tracks) b.tracks) _ v)
-              (not_nil-map (restrict (with_vars a.tracks b.tracks) b.tracks) _ w) (second_of_two _ _ _ _ same);
-        });
+        more.apart i j d less within (alike_at a b _ _ v w (first_of_two _ _ _ _ same) (second_of_two _ _ _ _ same));
   }
 
 -- words that are alike in reduced automata lead to one pair
@@ -80,7 +84,27 @@ module _ (a b : Automaton) (connective : Connective) (a_valid : IsAutomaton a) (
         more.apart i j d less within (same_place _ _ v w alike);
   }
 
--- words that are told apart are at most as many as the pairs of states
+-- words that are told apart are at most as many as the numbers that tell them apart
+few_classes : (tracks bound budget : ℕ) (Alike : List ℕ → List ℕ → Type 0) (number_of : List ℕ → ℕ) → ((word : List ℕ) → number_of word < bound)
+    → ((v w : List ℕ) → v ≢ [] → w ≢ [] → number_of v ≡ number_of w → Alike v w) → bound ≤ budget → HasMoreClasses tracks Alike budget → ⊥
+few_classes tracks bound budget Alike number_of number_below same_number enough more =
+    let size = length-map more.words number_of in
+    let count = more.count in
+    let apart : AllPairs (λ m n. m ≢ n) (map number_of more.words) = λ i j d less within e.
+    let inside : j < length more.words = omega (arith, size, within) in
+    let first : i < length more.words = omega (arith, less, inside) in
+    let v = (more.are_words i [] first).nonempty in
+    let w = (more.are_words j [] inside).nonempty in
+    let numbers = sym (get_or-map number_of more.words i [] d first) ∙ e ∙ get_or-map number_of more.words j [] d inside in
+    more.apart i j [] less inside (same_number (get_or more.words i []) (get_or more.words j []) v w numbers) in
+    let below : All (λ n. n < bound) (map number_of more.words) =
+    All-map (λ n. n < bound) number_of more.words (λ i d h. number_below (get_or more.words i d)) in
+    let most =
+    length-le_from_distinct_below (map number_of more.words) bound (IsDistinct-from_AllPairs Decides-eqb (map number_of more.words) apart)
+    (λ n h. All-contains (λ m. m < bound) (map number_of more.words) n below ((is_member-Decides Decides-eqb (map number_of more.words) n).0 h)) in
+    omega (arith, size, count, most, enough)
+
+-- the pairs of states tell them apart
 module _ (a b : Automaton) (a_valid : IsAutomaton a) (b_valid : IsAutomaton b) where
   abbrev left_of : List ℕ → ℕ
   left_of word = state_of a (part_of (with_vars a.tracks b.tracks) a.tracks word)
@@ -109,22 +133,13 @@ module _ (a b : Automaton) (a_valid : IsAutomaton a) (b_valid : IsAutomaton b) w
       (left, omega (arith, e, same))
 
   pub few_pairs : (budget : ℕ) → length a.accept * length b.accept ≤ budget → BothSpreadExceeds a.tracks b.tracks (Accepts a) (Accepts b) budget → ⊥
-  few_pairs budget enough spread =
-      let more = MoreThan-from_spread a b And budget spread in
-      let size = length-map more.words number_of in
-      let count = more.count in
-      let apart : AllPairs (λ m n. m ≢ n) (map number_of more.words) = λ i j d less within e.
-      let inside : j < length more.words = omega (arith, size, within) in
-      let first : i < length more.words = omega (arith, less, inside) in
-      let v = (more.are_words i [] first).nonempty in
-      let w = (more.are_words j [] inside).nonempty in
-      let numbers = sym (get_or-map number_of more.words i [] d first) ∙ e ∙ get_or-map number_of more.words j [] d inside in
-      let pair = same_pair (get_or more.words i []) (get_or more.words j []) numbers in
-      more.apart i j [] less inside
-      (place_of-pair (with_vars a.tracks b.tracks) a b And _ v ∙ (λ k. pair.0 k ∷ pair.1 k ∷ []) ∙ sym (place_of-pair (with_vars a.tracks b.tracks) a b And _ w)) in
-      let below : All (λ n. n < length a.accept * length b.accept) (map number_of more.words) =
-      All-map (λ n. n < length a.accept * length b.accept) number_of more.words (λ i d h. number_of-below (get_or more.words i d)) in
-      let most =
-      length-le_from_distinct_below (map number_of more.words) (length a.accept * length b.accept) (IsDistinct-from_AllPairs Decides-eqb (map number_of more.words) apart)
-      (λ n h. All-contains (λ m. m < length a.accept * length b.accept) (map number_of more.words) n below ((is_member-Decides Decides-eqb (map number_of more.words) n).0 h)) in
-      omega (arith, size, count, most, enough)
+  few_pairs budget enough =
+      few_classes (length (with_vars a.tracks b.tracks)) (length a.accept * length b.accept) budget (AlikeInBoth (with_vars a.tracks b.tracks) a.tracks b.tracks (Accepts a) (Accepts b)) number_of
+      number_of-below (λ v w v_some w_some same. let pair = same_pair v w same in alike_at a b v w v_some w_some pair.0 pair.1) enough
+
+-- for an automaton with itself the states do
+pub few_twice : (a : Automaton) → IsAutomaton a → (budget : ℕ) → length a.accept ≤ budget → BothSpreadExceeds a.tracks a.tracks (Accepts a) (Accepts a) budget → ⊥
+few_twice a valid budget enough =
+    few_classes (length (with_vars a.tracks a.tracks)) (length a.accept) budget (AlikeInBoth (with_vars a.tracks a.tracks) a.tracks a.tracks (Accepts a) (Accepts a))
+    (λ word. state_of a (part_of (with_vars a.tracks a.tracks) a.tracks word)) (λ word. state_within a valid (part_of (with_vars a.tracks a.tracks) a.tracks word))
+    (λ v w v_some w_some same. alike_at a a v w v_some w_some same same) enough

@@ -1,15 +1,16 @@
 -- Tracks of two lists together, and letters over them.
-use Rattle.std.proofs.Common.{◌≡◌, ◌≢◌, ℕ, zero, suc, ◌<◌, ◌≤◌, ◌+◌, ◌*◌, List, [], ◌∷◌, length, map, get_or, arith, refl, sym, ap, ◌∙◌, subst, inl, inr, ◌⊎◌, eq-eqb}
+use Rattle.std.proofs.Common.{◌≡◌, ◌≢◌, ℕ, zero, suc, ◌<◌, ◌≤◌, ◌+◌, ◌*◌, ◌/◌, ◌%◌, ◌^◌, List, [], ◌∷◌, length, map, get_or, arith, refl, sym, ap, ◌∙◌, subst, inl, inr, ◌⊎◌, eq-eqb}
 use Rattle.std.specs.List.{All}
 use Rattle.std.specs.List.Sorted.{IsStrictlyIncreasing}
-use Rattle.std.proofs.lemmas.List.{length-map, get_or-map}
+use Rattle.std.proofs.lemmas.List.{length-map, get_or-map, get_or_default}
 use Rattle.std.specs.Int.{bit_at}
+use Rattle.std.proofs.lemmas.Nat.Bits.{bit_at-suc, bit_at_lowest}
 use Rattle.std.proofs.lemmas.Grind.{common_steps}
 use Rattle.std.proofs.lemmas.Bool.Decides.{nat_tests}
 use Rattle.std.proofs.lemmas.List.Elements.{All-nil, All-cons, All-head, All-tail, All-map}
 use Rattle.std.proofs.lemmas.Bool.{cases_order, cases_eq}
 use Rattle.track_word.specs.declared.tracks.Var.{Var}
-use Rattle.track_word.specs.Tracks.{IsAscending, with_var, with_vars, place, restrict}
+use Rattle.track_word.specs.Tracks.{IsAscending, with_var, with_vars, place, restrict, part_of}
 use Rattle.auto_bool.specs.Sides.{AreAmong}
 
 -- the three ways of putting a track before, at or after the first of some
@@ -167,3 +168,139 @@ places-ascend all some all_ascend some_ascend among k within =
 
 pub places-low : (all some : List Var) → length all ≤ 20 → AreAmong all some → All (λ track. track < 20) (map (place all) some)
 places-low all some few among = λ k d within. let low = among.within k d within in omega (arith, few, low)
+
+-- tracks that stand among others already add nothing
+with_var-there : (x : Var) (bound : ℕ) (ys : List Var) → Rising bound ys → place ys x < length ys → with_var x ys ≡ ys
+unfolding Rising
+with_var-there x bound [] rising within = absurd (omega (arith, within))
+with_var-there x bound (y ∷ ys) rising within = elim (cases_order x.0 y.0) [
+  | inl at ↦ at-is x y ys at
+  | inr (inl before) ↦ let least = not_below y.0 (y ∷ ys) x (omega arith, rising.1) within in absurd (omega (arith, least, before))
+  | inr (inr after) ↦
+      let other : y.0 ≢ x.0 = omega (arith, after) in
+      let inside : place ys x < length ys = grind (arith, common_steps, nat_tests, other, within) in
+      after-is x y ys after ∙ ap (λ (l : List Var). y ∷ l) (with_var-there x (y.0 + 1) ys rising.1 inside)
+]
+
+with_vars-there : (xs ys : List Var) → Rising 0 ys → All (λ track. track < length ys) (map (place ys) xs) → with_vars xs ys ≡ ys
+with_vars-there [] ys rising among = refl
+with_vars-there (x ∷ xs) ys rising among =
+    ap (with_var x) (with_vars-there xs ys rising (All-tail (λ track. track < length ys) (place ys x) (map (place ys) xs) among))
+    ∙ with_var-there x 0 ys rising (All-head (λ track. track < length ys) (place ys x) (map (place ys) xs) among)
+
+pub with_vars-right : (xs ys : List Var) → IsAscending ys → AreAmong ys xs → with_vars xs ys ≡ ys
+with_vars-right xs ys ascending among = with_vars-there xs ys (rising-ascending 0 ys (λ h. omega arith) ascending) among.within
+
+rising-lower : (bound least : ℕ) (ys : List Var) → least ≤ bound → Rising bound ys → Rising least ys
+unfolding Rising
+rising-lower bound least [] less rising = tt
+rising-lower bound least (y ∷ ys) less rising = let above = rising.0 in (omega (arith, less, above), rising.1)
+
+-- a track below others comes first
+with_var-first : (x : Var) (xs : List Var) → Rising (x.0 + 1) xs → with_var x xs ≡ x ∷ xs
+unfolding Rising
+with_var-first x [] rising = refl
+with_var-first x (y ∷ ys) rising = let above = rising.0 in before-is x y ys (omega (arith, above))
+
+with_vars-first : (xs : List Var) (z : Var) (zs : List Var) → Rising (z.0 + 1) xs → with_vars xs (z ∷ zs) ≡ z ∷ with_vars xs zs
+unfolding Rising
+with_vars-first [] z zs rising = refl
+with_vars-first (x ∷ xs) z zs rising =
+    let above = rising.0 in
+    ap (with_var x) (with_vars-first xs z zs (rising-lower (x.0 + 1) (z.0 + 1) xs (omega (arith, above)) rising.1)) ∙ after-is x z (with_vars xs zs) (omega (arith, above))
+
+-- tracks behind the first one of others stand among the rest
+among-later : (x : Var) (xs ys : List Var) → Rising (x.0 + 1) ys → All (λ track. track < length (x ∷ xs)) (map (place (x ∷ xs)) ys) → All (λ track. track < length xs) (map (place xs) ys)
+unfolding Rising
+among-later x xs [] rising among = All-nil (λ track. track < length xs)
+among-later x xs (y ∷ ys) rising among =
+    let above = rising.0 in
+    let other : x.0 ≢ y.0 = omega (arith, above) in
+    let here : place (x ∷ xs) y < length (x ∷ xs) = All-head (λ track. track < length (x ∷ xs)) (place (x ∷ xs) y) (map (place (x ∷ xs)) ys) among in
+    All-cons (λ track. track < length xs) (place xs y) (map (place xs) ys) (grind (arith, common_steps, nat_tests, other, here))
+    (among-later x xs ys (rising-lower (y.0 + 1) (x.0 + 1) ys (omega (arith, above)) rising.1) (All-tail (λ track. track < length (x ∷ xs)) (place (x ∷ xs) y) (map (place (x ∷ xs)) ys) among))
+
+same-var : (x y : Var) → x.0 ≡ y.0 → x ≡ y
+same-var x y e = grind (arith, e)
+
+with_vars-own : (bound : ℕ) (xs ys : List Var) → Rising bound xs → Rising bound ys → All (λ track. track < length xs) (map (place xs) ys) → with_vars xs ys ≡ xs
+unfolding Rising
+with_vars-own bound [] [] rising up among = refl
+with_vars-own bound [] (y ∷ ys) rising up among = let none : 0 < 0 = All-head (λ track. track < 0) 0 (map (place []) ys) among in absurd (omega (arith, none))
+with_vars-own bound (x ∷ xs) [] rising up among =
+    ap (with_var x) (with_vars-own (x.0 + 1) xs [] rising.1 tt (All-nil (λ track. track < length xs))) ∙ with_var-first x xs rising.1
+with_vars-own bound (x ∷ xs) (y ∷ ys) rising up among = elim (cases_order x.0 y.0) [
+  | inl at ↦
+      let same = same-var x y at in
+      let later = among-later x xs ys (subst (λ n. Rising (n + 1) ys) (sym at) up.1) (All-tail (λ track. track < length (x ∷ xs)) (place (x ∷ xs) y) (map (place (x ∷ xs)) ys) among) in
+      ap (with_var x) (with_vars-first xs y ys (subst (λ n. Rising (n + 1) xs) at rising.1)) ∙ at-is x y (with_vars xs ys) at
+      ∙ ap (λ (l : List Var). y ∷ l) (with_vars-own (x.0 + 1) xs ys rising.1 (subst (λ n. Rising (n + 1) ys) (sym at) up.1) later) ∙ ap (λ (v : Var). v ∷ xs) (sym same)
+  | inr (inl before) ↦
+      let rises : Rising (x.0 + 1) (y ∷ ys) = (omega (arith, before), up.1) in
+      ap (with_var x) (with_vars-own (x.0 + 1) xs (y ∷ ys) rising.1 rises (among-later x xs (y ∷ ys) rises among)) ∙ with_var-first x xs rising.1
+  | inr (inr after) ↦
+      let here = All-head (λ track. track < length (x ∷ xs)) (place (x ∷ xs) y) (map (place (x ∷ xs)) ys) among in
+      let least = not_below x.0 (x ∷ xs) y (omega arith, rising.1) here in
+      absurd (omega (arith, least, after))
+]
+
+pub with_vars-left : (xs ys : List Var) → IsAscending xs → IsAscending ys → AreAmong xs ys → with_vars xs ys ≡ xs
+with_vars-left xs ys ascending up among =
+    with_vars-own 0 xs ys (rising-ascending 0 xs (λ h. omega arith) ascending) (rising-ascending 0 ys (λ h. omega arith) up) among.within
+
+pub AreAmong-itself : (tracks : List Var) → AreAmong tracks tracks
+AreAmong-itself tracks = record { within = All-map (λ track. track < length tracks) (place tracks) tracks (all_within tracks tracks (λ name h. h)) }
+
+-- a word over all tracks, read on all of them
+restrict-later : (y : Var) (all some : List Var) (letter : ℕ) → Rising (y.0 + 1) some → restrict (y ∷ all) some letter ≡ restrict all some (letter / 2)
+unfolding Rising
+restrict-later y all [] letter rising = refl
+restrict-later y all (v ∷ vs) letter rising =
+    let above = rising.0 in
+    let other : y.0 ≢ v.0 = omega (arith, above) in
+    let at : place (y ∷ all) v ≡ suc (place all v) = grind (arith, common_steps, nat_tests, other) in
+    let bit : bit_at letter (place (y ∷ all) v) ≡ bit_at (letter / 2) (place all v) = ap (bit_at letter) at ∙ bit_at-suc letter (place all v) in
+    let rest = restrict-later y all vs letter (rising-lower (v.0 + 1) (y.0 + 1) vs (omega (arith, above)) rising.1) in
+    λ i. bit i + 2 * rest i
+
+restrict-whole : (bound : ℕ) (tracks : List Var) (letter : ℕ) → Rising bound tracks → letter < 2 ^ length tracks → restrict tracks tracks letter ≡ letter
+unfolding Rising
+restrict-whole bound [] letter rising small = omega (arith, small)
+restrict-whole bound (y ∷ ys) letter rising small =
+    let at : place (y ∷ ys) y ≡ 0 = grind (arith, common_steps, nat_tests) in
+    let bit : bit_at letter (place (y ∷ ys) y) ≡ letter % 2 = ap (bit_at letter) at ∙ bit_at_lowest letter in
+    let two : 2 ^ suc (length ys) ≡ 2 * 2 ^ length ys = omega arith in
+    let rest = restrict-later y ys ys letter rising.1 ∙ restrict-whole (y.0 + 1) ys (letter / 2) rising.1 (omega (arith, small, two)) in
+    let whole : letter % 2 + 2 * (letter / 2) ≡ letter = omega arith in
+    (λ i. bit i + 2 * rest i) ∙ whole
+
+part_of-rising : (tracks : List Var) (word : List ℕ) → Rising 0 tracks → All (λ letter. letter < 2 ^ length tracks) word → part_of tracks tracks word ≡ word
+part_of-rising tracks [] rising small = refl
+part_of-rising tracks (letter ∷ letters) rising small =
+    let here = restrict-whole 0 tracks letter rising (All-head (λ l. l < 2 ^ length tracks) letter letters small) in
+    let rest = part_of-rising tracks letters rising (All-tail (λ l. l < 2 ^ length tracks) letter letters small) in
+    λ i. here i ∷ rest i
+
+pub part_of-whole : (tracks : List Var) (word : List ℕ) → IsAscending tracks → All (λ letter. letter < 2 ^ length tracks) word → part_of tracks tracks word ≡ word
+part_of-whole tracks word ascending small = part_of-rising tracks word (rising-ascending 0 tracks (λ h. omega arith) ascending) small
+
+-- being among others, track by track
+pub AreAmong-each : (all some : List Var) → All (λ track. place all track < length all) some → AreAmong all some
+AreAmong-each all some each = record { within = All-map (λ place. place < length all) (place all) some each }
+
+pub each-AreAmong : (all some : List Var) → AreAmong all some → All (λ track. place all track < length all) some
+each-AreAmong all some among = λ k d within.
+    let size = length-map some (place all) in
+    subst (λ n. n < length all) (get_or-map (place all) some k d 0 within) (among.within k 0 (omega (arith, size, within)))
+
+-- one more track is among others, or is not
+pub each-more : (all some : List Var) (i n : ℕ) (e : Var) → i < length some → n ≡ place all (get_or some i e) → n < length all
+    → ((k : ℕ) (d : Var) → k < i → place all (get_or some k d) < length all) → (k : ℕ) (d : Var) → k < i + 1 → place all (get_or some k d) < length all
+each-more all some i n e inside is within before k d less = elim (cases_eq k i) [
+  | inl here ↦ subst (λ m. place all (get_or some m d) < length all) (sym here)
+      (subst (λ (v : Var). place all v < length all) (get_or_default some i e d inside) (subst (λ m. m < length all) is within))
+  | inr other ↦ before k d (omega (arith, less, other))
+]
+
+pub not_among : (all some : List Var) (i n : ℕ) (e : Var) → i < length some → n ≡ place all (get_or some i e) → length all ≤ n → AreAmong all some → ⊥
+not_among all some i n e inside is past among = let below = each-AreAmong all some among i e inside in omega (arith, below, is, past)

@@ -9,3 +9,4 @@ pub mod Both
 pub mod Absorbed
 pub mod Sides
 pub mod Words
+pub mod Operands

@@ -1,14 +1,17 @@
 //! Boolean operations on automata: the product of two automata over the tracks of both, and the complement.
 //! `specs/Both` has the pairs of states that a product goes over, `specs/Absorbed` which of them are one where the budget has room
-//! for all; `auto_walk` numbers them, and `diagram_product` makes their rows.
+//! for all; `auto_walk` numbers them, and `diagram_product` makes their rows. `specs/Operands` has the products that
+//! are one of the two automata.
 #![tactic(auto)]
 
 mod both;
 mod complement;
 mod connective;
+mod operand;
 mod product;
 mod side;
 mod sink;
 
 pub use complement::not;
+pub use operand::{Operand, difference_operand, fits_with_itself, join_operand, meet_operand};
 pub use product::{difference, difference_within, join, join_within, meet, meet_within};

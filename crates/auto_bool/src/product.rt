@@ -1,5 +1,5 @@
 //! The product of two automata.
-ghost use Rattle.std.specs.Prelude.{◌≡◌, ◌≤◌, length, IfOk, OnOk, IsTrue};
+ghost use Rattle.std.specs.Prelude.{◌≡◌, ◌≤◌, ◌*◌, ◌↔◌, length, IfOk, OnOk, IsTrue};
 ghost use Rattle.track_word.specs.Tracks.{with_vars};
 ghost use Rattle.auto_core.specs.Reduced.{IsReduced, AllReached};
 ghost use Rattle.auto_walk.specs.Walker.{MoreThan};
@@ -44,8 +44,9 @@ fn product(
 }
 
 /// Whether the budget has room for all pairs of states.
-fn pairs_fit(a: &Auto, b: &Auto, budget: Budget) -> bool
-    ensures { IsTrue result → ¬ StepExceeds a.now b.now budget }
+pub fn pairs_fit(a: &Auto, b: &Auto, budget: Budget) -> bool
+    ensures room { IsTrue result ↔ (length a.now.accept * length b.now.accept ≤ budget) }
+    ensures within { IsTrue result → ¬ StepExceeds a.now b.now budget }
 {
     u64::from(a.states()) * u64::from(b.states()) <= u64::from(budget.states())
 }

@@ -13,7 +13,7 @@ use Rattle.letter_diagram.specs.Relabelled.{relabelled}
 use Rattle.letter_diagram.proofs.Narrow.{relabelled-below}
 use Rattle.auto_core.specs.Automaton.{Automaton, width, first_state, next_state, run, state_of, is_final, Accepts}
 use Rattle.auto_core.specs.Integers.{DecidesIntegers}
-use Rattle.auto_core.specs.Reduced.{IsReduced}
+use Rattle.auto_core.specs.Reduced.{AllReached, IsReduced}
 use Rattle.auto_core.specs.Rows.{AreRows, IsOverNodes, AreReadAt}
 use Rattle.auto_core.proofs.NodeMaps.{first-map, row-map}
 use Rattle.auto_core.proofs.Restricted.{relabelled-places}
@@ -146,19 +146,24 @@ module _ (a new : Automaton) (places : List ℕ) (over : IsOverNodes a) (made : 
     some_letter : (word letters : List ℕ) → map (relabelled places) word ≡ letters → letters ≢ [] → word ≢ []
     some_letter word letters is some none = some (sym is ∙ ap (map (relabelled places)) none)
 
-    -- each letter is read from some letter, so no more states are alike and no fewer are reached
+    -- each letter is read from some letter, so no fewer states are reached
+    pub AllReached-renamed : AllReached a → AllReached new
+    AllReached-renamed reached = λ state h.
+        let size = ap length same in
+        let r = reached state (omega (arith, h, size)) in
+        let w = read_from r.word r.is_word.letters in
+        record {
+          word = w.0;
+          is_word = record { nonempty = some_letter w.0 r.word w.2 r.is_word.nonempty; letters = w.1 };
+          leads = state-is w.0 w.1 ∙ ap (state_of a) w.2 ∙ r.leads;
+        }
+
+    -- and no more states are alike
     pub IsReduced-renamed : IsReduced a → IsReduced new
     IsReduced-renamed reduced =
         let size = ap length same in
         record {
-          reached = λ state h.
-              let r = reduced.reached state (omega (arith, h, size)) in
-              let w = read_from r.word r.is_word.letters in
-              record {
-                word = w.0;
-                is_word = record { nonempty = some_letter w.0 r.word w.2 r.is_word.nonempty; letters = w.1 };
-                leads = state-is w.0 w.1 ∙ ap (state_of a) w.2 ∙ r.leads;
-              };
+          reached = AllReached-renamed reduced.reached;
           apart = λ j k jw kw ne.
               let jh : j < length a.accept = omega (arith, jw, size) in
               let kh : k < length a.accept = omega (arith, kw, size) in

@@ -3,7 +3,7 @@ ghost use Rattle.std.specs.Prelude.{◌≡◌, ◌≢◌, ◌≤◌, ◌<◌, []
 ghost use Rattle.track_word.specs.Tracks.{with_vars, IsAscending};
 ghost use Rattle.auto_core.specs.Automaton.{IsAutomaton};
 ghost use Rattle.auto_core.specs.Integers.{DecidesIntegers};
-ghost use Rattle.auto_core.specs.Reduced.{IsReduced};
+ghost use Rattle.auto_core.specs.Reduced.{AllReached, IsReduced};
 ghost use Rattle.auto_core.specs.Rows.{IsOverNodes, AreReadAt};
 ghost use Rattle.auto_core.specs.Words.{AcceptsReadAt, AcceptsRenamed};
 
@@ -23,6 +23,7 @@ impl Auto {
         ensures words { IfOk result (AcceptsRenamed self.now vars.now) }
         ensures accept { IfOk result (λ r. r.accept ≡ self.now.accept) }
         ensures integers { DecidesIntegers self.now → IfOk result (λ r. DecidesIntegers r) }
+        ensures reached { AllReached self.now → AllPairs (λ x y. x ≢ y) vars.now → IfOk result (λ r. AllReached r) }
         ensures reduced { IsReduced self.now → AllPairs (λ x y. x ≢ y) vars.now → IfOk result (λ r. IsReduced r) }
         ensures valid { IfOk result (λ r. IsAutomaton r) }
     {
@@ -63,6 +64,7 @@ impl Auto {
         ensures words { IfOk result (AcceptsReadAt self.now tracks.items places.now) }
         ensures accept { IfOk result (λ r. r.accept ≡ self.now.accept) }
         ensures integers { DecidesIntegers self.now → IfOk result (λ r. DecidesIntegers r) }
+        ensures reached { AllReached self.now → AllPairs (λ x y. x ≢ y) places.now → IfOk result (λ r. AllReached r) }
         ensures reduced { IsReduced self.now → AllPairs (λ x y. x ≢ y) places.now → IfOk result (λ r. IsReduced r) }
         ensures valid { IfOk result (λ r. IsAutomaton r) }
     {

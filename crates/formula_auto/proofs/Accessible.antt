@@ -30,15 +30,16 @@ reached-turned a n state tracks first next h = record {
   leads = rw (tracks, first, next) h.leads;
 }
 
-pub accessible-turned : {E : Type 0} (r : Result Automaton E) (a : Automaton) → IfOk r (λ n. n.tracks ≡ a.tracks) → IfOk r (λ n. n.first ≡ a.first) → IfOk r (λ n. n.next ≡ a.next)
-    → IfOk r (λ n. n.accept ≡ map not a.accept) → IfOk r (λ n. (budget : ℕ) → IsAccessible budget a → IsAccessible budget n)
-accessible-turned (Ok n) a tracks first next accept = λ budget h.
+pub AllReached-turned : {E : Type 0} (r : Result Automaton E) (a : Automaton) → IfOk r (λ n. n.tracks ≡ a.tracks) → IfOk r (λ n. n.first ≡ a.first) → IfOk r (λ n. n.next ≡ a.next)
+    → IfOk r (λ n. n.accept ≡ map not a.accept) → AllReached a → IfOk r AllReached
+AllReached-turned (Ok n) a tracks first next accept reached = λ state within.
     let size : length n.accept ≡ length a.accept = ap length accept ∙ length-map a.accept not in
-    record {
-      reached = λ state within. reached-turned a n state tracks first next (h.reached state (omega (arith, size, within)));
-      few = omega (arith, size, h.few);
-    }
-accessible-turned (Err why) a tracks first next accept = tracks
+    reached-turned a n state tracks first next (reached state (omega (arith, size, within)))
+AllReached-turned (Err why) a tracks first next accept reached = tracks
+
+pub no_larger-turned : {E : Type 0} (r : Result Automaton E) (a : Automaton) → IfOk r (λ n. n.accept ≡ map not a.accept) → IfOk r (λ n. length n.accept ≤ length a.accept)
+no_larger-turned (Ok n) a accept = let size : length n.accept ≡ length a.accept = ap length accept ∙ length-map a.accept not in omega (arith, size)
+no_larger-turned (Err why) a accept = accept
 
 -- words whose lifts lead a reduced automaton to different sets of states are not alike
 module _ (x : Var) (a : Automaton) (valid : IsAutomaton a) (reduced : IsReduced a) where

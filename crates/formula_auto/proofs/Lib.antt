@@ -22,3 +22,4 @@ pub mod MemoLemmas
 pub mod WithMemo
 pub mod PartLemmas
 pub mod Pairs
+pub mod Operands

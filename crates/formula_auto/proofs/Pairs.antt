@@ -1,5 +1,5 @@
 -- And of two sets, which a level remembers. No memo has it, for it names sets.
-use Rattle.std.proofs.Common.{◌≡◌, ℕ, ◌+◌, true, false, List, [], length, None, Some, refl, sym, ◌∙◌, subst, arith}
+use Rattle.std.proofs.Common.{◌≡◌, ℕ, ◌+◌, ◌≤◌, true, false, List, [], length, None, Some, refl, sym, ◌∙◌, subst, arith}
 use Rattle.std.specs.List.{slice_get}
 use Rattle.track_word.specs.declared.tracks.Var.{Var}
 use Rattle.auto_core.specs.Automaton.{Automaton}
@@ -7,7 +7,6 @@ use Rattle.lin_formula.specs.Tree.{Tree, Among, And, steps}
 use Rattle.lin_formula.specs.declared.formula.Formula.{Formula}
 use Rattle.lin_formula.specs.SetOf.{SetOf, tables, members}
 use Rattle.formula_auto.specs.Step.{FirstOver}
-use Rattle.formula_auto.specs.Compiled.{IsAccessible}
 use Rattle.formula_auto.specs.LevelState.{LevelState, is_pair, IsPair, IsPairAt, LevelGrows}
 use Rattle.formula_auto.specs.MemoState.{MemoState, IsMemoAfter}
 use Rattle.formula_auto.specs.Recalled.{is_recalled, recalled_parts}
@@ -19,7 +18,7 @@ use Rattle.formula_auto.specs.declared.part.Part.TheVariants.{Paired}
 use Rattle.formula_auto.specs.declared.part.Remembered.{Remembered}
 use Rattle.formula_auto.proofs.FirstOvers.{FirstOver-from}
 use Rattle.formula_auto.proofs.PlainLemmas.{after-none}
-use Rattle.formula_auto.proofs.PartLemmas.{lent, lent-accessible}
+use Rattle.formula_auto.proofs.PartLemmas.{lent, lent-reached, lent-few}
 
 -- a pair, by its sets
 record AreSets (f : Tree) : Type 0 where
@@ -60,7 +59,8 @@ module _ (f : Tree) (pair : is_pair f ≡ true) where
     part-paired {place = place} at = record {
       auto = at.auto;
       has = (at.formula, at.there);
-      accessible = λ some. subst (λ b. IsAccessible b at.auto) same at.pair.accessible;
+      reached = at.pair.accessible.reached;
+      few = λ some. subst (λ b. length at.auto.accept ≤ b) same at.pair.accessible.few;
       remembered = record {
         counts = omega (arith, pair_size);
         made = record {
@@ -83,7 +83,7 @@ module _ (f : Tree) (pair : is_pair f ≡ true) where
           decides = remembered.made.decides;
           within = FirstOver-from (steps f) (members (tables l.sets)) old.budget (course.before + 1) 1 remembered.made.within;
         };
-        accessible = lent-accessible part has (omega (arith, pair_size));
+        accessible = record { reached = lent-reached part has; few = lent-few part a has (omega (arith, pair_size)) };
       } in
       subst (λ s. IsPair s k.budget f a) (sym grows.sets) (subst (λ b. IsPair l.sets b f a) (sym (grows.budget ∙ same)) here)
 
@@ -93,6 +93,7 @@ module _ (f : Tree) (pair : is_pair f ≡ true) where
   part-remembered {a = a} part has there = record {
     auto = a;
     has = there;
-    accessible = lent-accessible part has;
+    reached = lent-reached part has;
+    few = lent-few part a has;
     remembered = lent part has;
   }

@@ -4,13 +4,13 @@ use Rattle.std.specs.List.{slice_get}
 use Rattle.std.proofs.lemmas.Bool.{cases_lt}
 use Rattle.std.proofs.lemmas.Option.{none-some, same_Some}
 use Rattle.auto_core.specs.Automaton.{Automaton}
-use Rattle.auto_core.specs.Reduced.{IsReduced}
+use Rattle.auto_core.specs.Reduced.{AllReached, IsReduced}
 use Rattle.lin_formula.specs.Tree.{Tree, HasStep, steps}
 use Rattle.lin_formula.specs.declared.formula.Formula.{Formula}
 use Rattle.lin_formula.specs.SetOf.{SetOf, members}
 use Rattle.formula_auto.specs.Decides.{Decides}
 use Rattle.formula_auto.specs.PlainParts.{is_plain}
-use Rattle.formula_auto.specs.Compiled.{IsAccessible, IsCompiledOn}
+use Rattle.formula_auto.specs.Compiled.{IsCompiledOn}
 use Rattle.formula_auto.specs.Nodes.{AcceptSame}
 use Rattle.formula_auto.specs.LevelState.{LevelState, LevelGrows}
 use Rattle.formula_auto.specs.MemoState.{MemoState, IsEntryAt, IsMemoAfter, counted}
@@ -53,34 +53,36 @@ part-after {old} {new} {fs} {l} {k} (Paired place) a has after grows = (
 )
 part-after {old} {new} {fs} {l} {k} (Named set) a has after grows = subst (λ sets. slice_get sets set.0 ≡ Some a) (sym grows.sets) has
 
-pub same_accessible : {n m : ℕ} {a : Automaton} → n ≡ m → IsAccessible n a → IsAccessible m a
-same_accessible {a = a} same = subst (λ n. IsAccessible n a) same
+pub same_few : {n m : ℕ} (a : Automaton) → n ≡ m → length a.accept ≤ n → length a.accept ≤ m
+same_few a same = subst (λ n. length a.accept ≤ n) same
 
 module _ {f : Tree} {e : ℕ → SetOf} {course : Course} {l : LevelState} where
   pub part-fresh : {old new : MemoState} {a : Automaton} {last : ℕ} {made : Remembered} → made ≡ record { part = Fresh a; done = last }
-      → (0 < length (steps f) → IsAccessible old.budget a) → IsRemembered f e course old new a last → IsRememberedPart f e course old new l made
-  part-fresh {old = old} {new = new} {a = a} is accessible remembered =
-      subst (IsRememberedPart f e course old new l) (sym is) (record { auto = a; has = refl; accessible = accessible; remembered = remembered })
+      → AllReached a → (0 < length (steps f) → length a.accept ≤ old.budget) → IsRemembered f e course old new a last → IsRememberedPart f e course old new l made
+  part-fresh {old = old} {new = new} {a = a} is reached few remembered =
+      subst (IsRememberedPart f e course old new l) (sym is) (record { auto = a; has = refl; reached = reached; few = few; remembered = remembered })
 
-  pub part-whole : {m : MemoState} {a : Automaton} {part : Part} → IsPart m l part a → steps f ≡ [] → Decides a f (members e)
+  pub part-whole : {m : MemoState} {a : Automaton} {part : Part} → IsPart m l part a → AllReached a → steps f ≡ [] → Decides a f (members e)
       → IsRememberedPart f e course m m l (record { part = part; done = course.before })
-  part-whole {a = a} has none decides = record {
+  part-whole {a = a} has reached none decides = record {
     auto = a;
     has = has;
-    accessible = λ some. absurd (let size : length (steps f) ≡ 0 = ap length none in omega (arith, size, some));
+    reached = reached;
+    few = λ some. absurd (let size : length (steps f) ≡ 0 = ap length none in omega (arith, size, some));
     remembered = remembered_leaf none decides;
   }
 
-  pub part-leaf : {m : MemoState} {a : Automaton} {made : Remembered} → made ≡ record { part = Fresh a; done = course.before } → steps f ≡ [] → Decides a f (members e)
+  pub part-leaf : {m : MemoState} {a : Automaton} {made : Remembered} → made ≡ record { part = Fresh a; done = course.before } → AllReached a → steps f ≡ [] → Decides a f (members e)
       → IsRememberedPart f e course m m l made
-  part-leaf {m = m} is none decides = subst (IsRememberedPart f e course m m l) (sym is) (part-whole refl none decides)
+  part-leaf {m = m} is reached none decides = subst (IsRememberedPart f e course m m l) (sym is) (part-whole refl reached none decides)
 
   pub part-found : {m : MemoState} {place last : ℕ} → is_recalled course.recall f ≡ true → last ≡ course.before + length (steps f) → IsEntryAt m f place
       → IsRememberedPart f e course m (record m { found = counted m.found }) l (record { part = Kept place; done = last })
   part-found {m = m} {place = place} recalled counts at = record {
     auto = at.auto;
     has = (at.formula, at.there);
-    accessible = λ some. record { reached = at.entry.reduced.reached; few = at.entry.few };
+    reached = at.entry.reduced.reached;
+    few = λ some. at.entry.few;
     remembered = remembered_found recalled counts (known-at m f place at) at.entry;
   }
 
@@ -89,14 +91,17 @@ module _ {f : Tree} {e : ℕ → SetOf} {course : Course} {l : LevelState} where
     pub lent : {a : Automaton} → IsPart new l made.part a → IsRemembered f e course old new a made.done
     lent {a = a} has = subst (λ b. IsRemembered f e course old new b made.done) (one_automaton new l made.part part.auto a part.has has) part.remembered
 
-    pub lent-accessible : {a : Automaton} → IsPart new l made.part a → 0 < length (steps f) → IsAccessible old.budget a
-    lent-accessible {a = a} has some = subst (IsAccessible old.budget) (one_automaton new l made.part part.auto a part.has has) (part.accessible some)
+    pub lent-reached : {a : Automaton} → IsPart new l made.part a → AllReached a
+    lent-reached {a = a} has = subst AllReached (one_automaton new l made.part part.auto a part.has has) part.reached
+
+    pub lent-few : (a : Automaton) → IsPart new l made.part a → 0 < length (steps f) → length a.accept ≤ old.budget
+    lent-few a has some = subst (λ b. length b.accept ≤ old.budget) (one_automaton new l made.part part.auto a part.has has) (part.few some)
 
     -- an automaton with as many states at most, that may be kept
     pub few_kept : (c : Automaton) → is_plain f ≡ true → length c.accept ≤ length part.auto.accept → length c.accept ≤ old.budget
     few_kept c plain fewer =
         let some = some_step f plain in
-        let few = (part.accessible some).few in
+        let few = part.few some in
         omega (arith, fewer, few)
 
     -- also when they have grown since
@@ -113,8 +118,8 @@ pub compiled_on : {f : Tree} {e : ℕ → SetOf} {r : Recall} {old new : MemoSta
 compiled_on {f = f} {l = l} {a = a} part same as_it_is reduced = record {
   made = made_same (same part.auto part.has) part.remembered.made;
   reached = elim (cases_lt 0 (length (steps f))) [
-    | inl some ↦ (lent-accessible part (as_it_is some) some).reached
+    | inl some ↦ lent-reached part (as_it_is some)
     | inr none ↦ (reduced none).reached
   ];
-  few = λ some. (lent-accessible part (as_it_is some) some).few;
+  few = λ some. lent-few part a (as_it_is some) some;
 }

@@ -5,6 +5,7 @@ use Rattle.std.proofs.lemmas.List.Elements.{All-cons, All-tail}
 use Rattle.std.proofs.lemmas.Option.{same_Some, slice_get_past}
 use Rattle.limits.specs.declared.numbers.TheConstants.{MOST_TRACKS}
 use Rattle.auto_core.specs.Integers.{DecidesIntegers}
+use Rattle.auto_core.specs.Reduced.{AllReached}
 use Rattle.track_word.specs.declared.tracks.Var.{Var}
 use Rattle.track_word.specs.Tracks.{with_vars}
 use Rattle.auto_core.specs.Automaton.{Automaton}
@@ -122,6 +123,11 @@ module _ (sets : List Automaton) (number : ℕ) (vars : List Var) (named : IsSet
   set_fits a there =
       let is : named.set ≡ a = same_Some named.set a (sym named.is_there ∙ there) in
       (sym named.arity ∙ ap (λ b. length b.tracks) is, subst DecidesIntegers is named.integers)
+
+  pub set_reached : (a : Automaton) → slice_get sets number ≡ Some a → AllReached a
+  set_reached a there =
+      let is : named.set ≡ a = same_Some named.set a (sym named.is_there ∙ there) in
+      subst AllReached is named.reached
 
   pub set_there : length sets ≤ number → ⊥
   set_there past =

@@ -3,6 +3,7 @@ use Rattle.std.specs.Prelude.{◌≡◌, ◌≤◌, ℕ, List, length}
 use Rattle.track_word.specs.declared.tracks.Var.{Var}
 use Rattle.auto_core.specs.Automaton.{Automaton}
 use Rattle.auto_core.specs.Words.{HasSameWords}
+use Rattle.auto_bool.specs.Words.{StepExceeds}
 use Rattle.lin_formula.specs.Tree.{Tree, Among, Not, Ex}
 use Rattle.lin_formula.specs.SetOf.{SetOf, Table, members}
 use Rattle.formula_auto.specs.Decides.{Decides}
@@ -37,3 +38,10 @@ abbrev pub DecidesBoth : Connective → Automaton → Automaton → Automaton �
 DecidesBoth connective a b c =
     (f g : Tree) (e : ℕ → SetOf) → Decides a f (members e) → Decides b g (members e)
     → Decides c (connect connective f g) (members e)
+
+-- the third automaton decides what the connective makes of what the first two decide, and neither it nor the step on
+-- these exceeds the budget
+pub record IsStepWithin (connective : Connective) (a b : Automaton) (budget : ℕ) (c : Automaton) : Type 0 where
+  pub decides : DecidesBoth connective a b c
+  pub few : length c.accept ≤ budget
+  pub within : ¬ StepExceeds a b budget

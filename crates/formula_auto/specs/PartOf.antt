@@ -1,6 +1,7 @@
 -- The automaton of a part of a formula, of its own, in a memo or in a level.
-use Rattle.std.specs.Prelude.{◌≡◌, ℕ, Some, slice_get, List}
+use Rattle.std.specs.Prelude.{◌≡◌, ◌≤◌, ℕ, Some, slice_get, List, length}
 use Rattle.auto_core.specs.Automaton.{Automaton}
+use Rattle.auto_core.specs.Reduced.{AllReached}
 use Rattle.track_word.specs.declared.tracks.Var.{Var}
 use Rattle.lin_formula.specs.Tree.{Tree, Among, HasStep}
 use Rattle.lin_formula.specs.declared.formula.Formula.{Formula}
@@ -8,8 +9,11 @@ use Rattle.lin_formula.specs.SetOf.{SetOf, members, tables}
 use Rattle.formula_auto.specs.Decides.{Decides}
 use Rattle.formula_auto.specs.MemoState.{MemoState}
 use Rattle.formula_auto.specs.LevelState.{LevelState}
-use Rattle.formula_auto.specs.Compiled.{IsAccessible}
+use Rattle.formula_auto.specs.Nodes.{IsStepWithin}
+use Rattle.auto_bool.specs.declared.operand.Operand.{Operand}
+use Rattle.auto_bool.specs.Operands.{operand_of}
 use Rattle.formula_auto.specs.Remembered.{IsRemembered, IsInterrupted}
+use Rattle.formula_auto.specs.declared.connective.Connective.{Connective}
 use Rattle.formula_auto.specs.declared.course.Course.{Course}
 use Rattle.formula_auto.specs.declared.errors.CompileError.{CompileError}
 use Rattle.formula_auto.specs.declared.part.Part.{Part}
@@ -23,17 +27,35 @@ IsPart m l (Kept place) b = (f : Formula) × (slice_get m.entries place ≡ Some
 IsPart m l (Paired place) b = (f : Formula) × (slice_get l.pairs place ≡ Some (f, b))
 IsPart m l (Named set) b = slice_get l.sets set.0 ≡ Some b
 
--- the part has an automaton that decides whether these variables are in the set of a number
-abbrev pub IsMembership : LevelState → ℕ → List Var → Part → Type 0
-IsMembership l number vars part =
-    (a : Automaton) × ((m : MemoState) → IsPart m l part a) × Decides a (Among number vars) (members (tables l.sets))
+-- the same entry of the memo, the same pair of the level or the same set of the table
+abbrev pub IsSamePlace : Part → Part → Type 0
+IsSamePlace (Kept place) (Kept other) = place ≡ other
+IsSamePlace (Paired place) (Paired other) = place ≡ other
+IsSamePlace (Named set) (Named other) = set.0 ≡ other.0
+IsSamePlace _ _ = ⊥
 
--- the part has the automaton that compiling it makes; where it has a step, words lead to each of few states
+-- the operand's automaton is what the connective makes of those of two parts, within the memo's budget
+abbrev pub IsOperandOf : Connective → MemoState → LevelState → Part → Part → Operand → Type 0
+IsOperandOf connective m l left right operand =
+    (a b : Automaton) → IsPart m l left a → IsPart m l right b
+    → IsStepWithin connective a b m.budget (operand_of operand a b)
+
+-- the part has an automaton that decides whether these variables are in the set of a number, to each state of which
+-- words lead
+pub record IsMembership (l : LevelState) (number : ℕ) (vars : List Var) (part : Part) : Type 0 where
+  pub auto : Automaton
+  pub has : (m : MemoState) → IsPart m l part auto
+  pub reached : AllReached auto
+  pub decides : Decides auto (Among number vars) (members (tables l.sets))
+
+-- the part has the automaton that compiling it makes; words lead to each state, and where the part has a step, there
+-- are no more states than the budget
 pub record IsRememberedPart (f : Tree) (e : ℕ → SetOf) (course : Course) (old new : MemoState)
     (level : LevelState) (made : Remembered) : Type 0 where
   pub auto : Automaton
   pub has : IsPart new level made.part auto
-  pub accessible : HasStep f → IsAccessible old.budget auto
+  pub reached : AllReached auto
+  pub few : HasStep f → length auto.accept ≤ old.budget
   pub remembered : IsRemembered f e course old new auto made.done
 
 -- the part has the automaton that compiling it on a level makes

@@ -26,7 +26,7 @@ use crate::course::{Course, Recall};
 use crate::errors::CompileError;
 use crate::level::Level;
 use crate::memo::Memo;
-use crate::part::{Part, Remembered};
+use crate::part::{Part, Remembered, chosen};
 use crate::plain::{has_step, is_pair, is_plain, steps_of};
 use crate::steps::{comparison, complement, joined, projection, value_of};
 use crate::table::SetTable;
@@ -279,7 +279,8 @@ impl Memo {
         })
     }
 
-    /// The automaton of And of two sets: lent by the level, or made and remembered there. No memo has it, since it names sets.
+    /// The automaton of And of two sets: lent by the level, or made and remembered there, unless it is that of one of
+    /// them. No memo has it, since it names sets.
     #[cycle(compiled)]
     fn paired(
         &mut self,
@@ -303,12 +304,17 @@ impl Memo {
             });
         }
         let made = self.from_parts(alloc, f, level, course)?;
-        let auto = self.given(level, made.part)?;
-        let place = level.remember(alloc, f, auto)?;
-        Ok(Remembered {
-            part: Part::Paired(place),
-            done: made.done,
-        })
+        let done = made.done;
+        match made.part {
+            Part::Fresh(auto) => {
+                let place = level.remember(alloc, f, auto)?;
+                Ok(Remembered {
+                    part: Part::Paired(place),
+                    done,
+                })
+            }
+            part => Ok(Remembered { part, done }),
+        }
     }
 
     /// The automaton of a formula from those of its parts.
@@ -374,7 +380,7 @@ impl Memo {
         }
     }
 
-    /// The automaton of two formulas put together.
+    /// The automaton of two formulas put together. Where it is that of one of them, that one's is handed on.
     #[cycle(compiled)]
     fn both(
         &mut self,
@@ -399,6 +405,12 @@ impl Memo {
         };
         let right = self.compiled(alloc, pair.right, level, after_left)?;
         let step = right.done + 1;
+        if let Some(operand) = self.shortcut(level, pair.connective, &left.part, &right.part) {
+            return Ok(Remembered {
+                part: chosen(operand, left.part, right.part),
+                done: step,
+            });
+        }
         let (a, b) = self.automata(level, &left.part, &right.part);
         match joined(alloc, pair.connective, a, b, self.budget()) {
             Ok(auto) => Ok(Remembered::fresh(auto, step)),

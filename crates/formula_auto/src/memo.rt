@@ -1,18 +1,20 @@
 //! Automata of plain formulas, kept from one compilation to the next.
-ghost use Rattle.std.specs.Prelude.{◌≡◌, [], ◌∷◌, length, MatchOption, IfOk, OnOk, OnErr};
+ghost use Rattle.std.specs.Prelude.{◌≡◌, [], ◌∷◌, length, MatchOption, IfOk, IfSome, OnOk, OnErr};
 ghost use Rattle.auto_core.specs.Automaton.{Automaton};
 ghost use Rattle.auto_core.specs.Reduced.{IsReduced};
 ghost use Rattle.lin_formula.specs.TreeOf.{tree_of};
 ghost use Rattle.formula_auto.specs.MemoState.{IsMemo, IsMemoAfter, IsEntry, IsEntryAt, IsKnown, counted};
 ghost use Rattle.formula_auto.specs.LevelState.{LevelState};
-ghost use Rattle.formula_auto.specs.PartOf.{IsPart};
+ghost use Rattle.formula_auto.specs.PartOf.{IsPart, IsOperandOf};
 ghost use Rattle.formula_auto.specs.Nodes.{AcceptSame, IsNoLarger};
 
+use crate::connective::Connective;
 use crate::entry::{Entry, place_of};
 use crate::level::Level;
-use crate::part::Part;
-use crate::steps::reduced;
+use crate::part::{Part, same_place};
+use crate::steps::{keeps_itself, reduced, shortcut};
 use crate::table::SetTable;
+use auto_bool::Operand;
 use auto_core::Auto;
 use limits::Budget;
 use lin_formula::{Formula, copy};
@@ -123,6 +125,27 @@ impl Memo {
         ensures right { IsPart self.now level.now right.now result.1.now }
     {
         (self.automaton(level, left), self.automaton(level, right))
+    }
+
+    /// Which of two parts has what the connective makes of both, if that is seen at once: one of them accepts all words
+    /// or none, or both are at one place.
+    pub(crate) fn shortcut(
+        &self,
+        level: &Level,
+        connective: Connective,
+        left: &Part,
+        right: &Part,
+    ) -> Option<Operand>
+        requires left { (a : Automaton) × IsPart self.now level.now left.now a }
+        requires right { (a : Automaton) × IsPart self.now level.now right.now a }
+        ensures { IfSome result (IsOperandOf connective self.now level.now left.now right.now) }
+    {
+        let (a, b) = self.automata(level, left, right);
+        let most = self.budget();
+        if same_place(left, right) && keeps_itself(connective, a, most) {
+            return Some(Operand::Left);
+        }
+        shortcut(connective, a, b, most)
     }
 
     /// The automaton of a part as it is, to keep.

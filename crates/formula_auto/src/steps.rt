@@ -1,20 +1,26 @@
-//! One node of a formula each: an automaton of it, from automata of its parts, which need not be reduced. What is made is merged in one
-//! pass. Only a step that is not within the budget on the automata as they are is taken on the reduced ones.
-ghost use Rattle.std.specs.Prelude.{◌≡◌, ◌≤◌, ℕ, length, IfOk, OnOk, Err};
+//! One node of a formula each: an automaton of it, from automata of its parts, which need not be reduced. Atoms are
+//! reduced. What a step makes is merged in one pass, unless it is one of the parts. Only a step that is not within the
+//! budget on the automata as they are is taken on the reduced ones.
+ghost use Rattle.std.specs.Prelude.{◌≡◌, ◌≤◌, ℕ, length, IfOk, IfSome, OnOk, IsTrue, Err};
 ghost use Rattle.track_word.specs.Tracks.{with_vars};
 ghost use Rattle.track_word.specs.Atom.{IsAtom};
 ghost use Rattle.auto_core.specs.Integers.{DecidesIntegers};
-ghost use Rattle.auto_core.specs.Reduced.{IsReduced};
+ghost use Rattle.auto_core.specs.Reduced.{AllReached, IsReduced};
 ghost use Rattle.lin_formula.specs.Tree as tree;
 ghost use Rattle.lin_formula.specs.SetOf.{SetOf, members};
 ghost use Rattle.formula_auto.specs.Decides.{Decides};
 ghost use Rattle.formula_auto.specs.Compiled.{IsAccessible};
 ghost use Rattle.auto_bool.specs.Words.{StepExceeds};
+ghost use Rattle.auto_bool.specs.Operands.{operand_of};
 ghost use Rattle.auto_project.specs.Lifted.{ForgettingExceeds};
-ghost use Rattle.formula_auto.specs.Nodes.{AcceptSame, DecidesAmong, DecidesNot, DecidesEx, DecidesBoth};
+ghost use Rattle.formula_auto.specs.Nodes.{AcceptSame, IsNoLarger, IsStepWithin};
+ghost use Rattle.formula_auto.specs.Nodes.{DecidesAmong, DecidesNot, DecidesEx, DecidesBoth};
 
 use crate::connective::Connective;
-use auto_bool::{difference_within, join_within, meet_within, not};
+use auto_bool::{
+    Operand, difference_operand, difference_within, fits_with_itself, join_operand, join_within,
+    meet_operand, meet_within, not,
+};
 use auto_core::Auto;
 use auto_merge::merge;
 use auto_project::forget_within;
@@ -22,7 +28,7 @@ use auto_reduce::reduce;
 use auto_walk::Grown;
 use limits::{Budget, MOST_TRACKS};
 use std::alloc::{AllocError, Global};
-use track_word::{Rel, Var};
+use track_word::{Rel, Var, are_distinct};
 
 pub fn comparison(
     alloc: Global,
@@ -31,28 +37,58 @@ pub fn comparison(
     bound: i32,
 ) -> Result<Auto, AllocError>
     requires { IsAtom terms.now bound }
-    ensures { IfOk result (λ a. (e : ℕ → SetOf) → Decides a (tree.Lin terms.now rel bound) (members e)) }
+    ensures decides { IfOk result (λ a. (e : ℕ → SetOf) → Decides a (tree.Lin terms.now rel bound) (members e)) }
+    ensures reduced { IfOk result IsReduced }
 {
     let a = Auto::lin(alloc, terms, rel, bound)?;
-    merged(alloc, &a)
+    reduced(alloc, &a)
 }
 
 pub fn value_of(alloc: Global, var: Var, value: i64) -> Result<Auto, AllocError>
-    ensures { IfOk result (λ a. (e : ℕ → SetOf) → Decides a (tree.Value var value) (members e)) }
+    ensures decides { IfOk result (λ a. (e : ℕ → SetOf) → Decides a (tree.Value var value) (members e)) }
+    ensures reduced { IfOk result IsReduced }
 {
     let a = Auto::value(alloc, var, value)?;
-    merged(alloc, &a)
+    reduced(alloc, &a)
 }
 
-/// The set is renamed and nothing else.
+/// The set is renamed. Only where two of its tracks are given one variable is it reduced, for words may no longer lead
+/// to each state then.
 pub fn membership(alloc: Global, set: &Auto, vars: &[Var]) -> Result<Auto, AllocError>
     requires size { length vars.now ≡ length set.now.tracks }
     requires integers { DecidesIntegers set.now }
-    ensures { IfOk result (DecidesAmong set.now vars.now) }
+    requires reached { AllReached set.now }
+    ensures decides { IfOk result (DecidesAmong set.now vars.now) }
+    ensures reached { IfOk result AllReached }
 {
     let _ = set.tracks(); // for its invariant
     let a = set.rename(alloc, vars)?;
-    Ok(a)
+    if are_distinct(vars) {
+        return Ok(a);
+    }
+    reduced(alloc, &a)
+}
+
+/// Which of two automata is what the connective makes of them, if that is seen at once and the budget has room: one of
+/// them accepts all words or none.
+pub fn shortcut(connective: Connective, a: &Auto, b: &Auto, budget: Budget) -> Option<Operand>
+    ensures { IfSome result (λ operand. IsStepWithin connective a.now b.now budget (operand_of operand a.now b.now)) }
+{
+    match connective {
+        Connective::And => meet_operand(a, b, budget),
+        Connective::Or => join_operand(a, b, budget),
+        Connective::AndNot => difference_operand(a, b, budget),
+    }
+}
+
+/// Whether the automaton is what the connective makes of it and itself, and the budget has room.
+pub fn keeps_itself(connective: Connective, a: &Auto, budget: Budget) -> bool
+    ensures { IsTrue result → IsStepWithin connective a.now a.now budget a.now }
+{
+    match connective {
+        Connective::And | Connective::Or => fits_with_itself(a, budget),
+        Connective::AndNot => false,
+    }
 }
 
 /// Two formulas put together.
@@ -184,7 +220,8 @@ fn reduced_forgotten(alloc: Global, var: Var, a: &Auto, budget: Budget) -> Resul
 /// Not.
 pub fn complement(alloc: Global, a: &Auto) -> Result<Auto, AllocError>
     ensures decides { IfOk result (DecidesNot a.now) }
-    ensures accessible { IfOk result (λ n. (budget : ℕ) → IsAccessible budget a.now → IsAccessible budget n) }
+    ensures reached { AllReached a.now → IfOk result AllReached }
+    ensures fewer { IfOk result (λ n. IsNoLarger n a.now) }
 {
     not(alloc, a)
 }

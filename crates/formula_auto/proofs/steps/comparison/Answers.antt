@@ -6,9 +6,9 @@ use Rattle.formula_auto.proofs.SameAutomata.{still_decides}
 use Rattle.formula_auto.proofs.Atoms.{Decides-Lin}
 use Rattle.formula_auto.proofs.steps.comparison.Goals as goal
 
-pub returns : goal.returns
-returns c =
+pub returns-clause-decides : goal.returns-clause-decides
+returns-clause-decides c =
     let said = simp (to_z-of_z w32 c.args.bound c.ranges.bound) at c.in_ok-a.ensures.words in
-    IfOk-weaker c.merged.result _ _
+    IfOk-weaker c.reduced.result _ _
     (λ made same e. still_decides same (Decides-Lin (members e) c.in_ok-a.a c.args.terms.now c.args.rel c.args.bound c.in_ok-a.ensures.tracks said))
-    c.merged.ensures.same
+    c.reduced.ensures.same

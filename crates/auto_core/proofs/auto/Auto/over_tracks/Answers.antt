@@ -1,6 +1,8 @@
-use Rattle.std.proofs.Common.{rules, ◌≡◌, ◌<◌, ◌^◌, All, length, sym, subst}
+use Rattle.std.proofs.Common.{rules, ◌≡◌, ◌≢◌, ℕ, ◌<◌, ◌^◌, All, AllPairs, length, sym, subst}
 use Rattle.track_word.specs.Word.{IsWord}
-use Rattle.auto_core.proofs.Renamed.{AreRenamed, AreRenamed-brought, AreRows-renamed, words-renamed, DecidesIntegers-renamed, IsReduced-renamed}
+use Rattle.letter_diagram.specs.Relabelled.{relabelled}
+use Rattle.auto_core.specs.Automaton.{width}
+use Rattle.auto_core.proofs.Renamed.{AreRenamed, AreRenamed-brought, AreRows-renamed, words-renamed, DecidesIntegers-renamed, AllReached-renamed, IsReduced-renamed}
 use Rattle.auto_core.proofs.Inverses.{covered}
 use Rattle.auto_core.proofs.auto.Auto.over_tracks.Goals as goal
 use Rattle.auto_core.proofs.auto.Auto.over_tracks.Goals.{In_ok-accept, After-diagrams-2}
@@ -30,9 +32,17 @@ returns-clause-words c = λ word is.
 pub returns-clause-integers : goal.returns-clause-integers
 returns-clause-integers c = DecidesIntegers-renamed _ _ _ c.nodes_over.ensures.over c.diagrams-2.ensures.nodes c.requires.count (accept-end c) (made-end c)
 
+-- each letter that the automaton reads is read from some letter over the tracks
+covers : (c : After-diagrams-2) → AllPairs (λ p q. p ≢ q) c.args.places.now → (letter : ℕ) → letter < width c.args.self.now
+    → (from : ℕ) × (from < width c.from_diagrams-renamed.result) × (relabelled c.args.places.now from ≡ letter)
+covers c different letter small =
+    covered c.args.places.now (length c.from_diagrams-renamed.result.tracks) letter different
+    (subst (λ t. All (λ p. p < length t) c.args.places.now) (sym c.from_diagrams-renamed.ensures.tracks) c.requires.places) (subst (λ n. letter < 2 ^ n) (sym c.requires.count) small)
+
+pub returns-clause-reached : goal.returns-clause-reached
+returns-clause-reached c = λ reached different.
+    AllReached-renamed _ _ _ c.nodes_over.ensures.over c.diagrams-2.ensures.nodes c.requires.count (accept-end c) (made-end c) (covers c different) reached
+
 pub returns-clause-reduced : goal.returns-clause-reduced
 returns-clause-reduced c = λ reduced different.
-    IsReduced-renamed _ _ _ c.nodes_over.ensures.over c.diagrams-2.ensures.nodes c.requires.count (accept-end c) (made-end c)
-    (λ letter small. covered c.args.places.now (length c.from_diagrams-renamed.result.tracks) letter different
-    (subst (λ t. All (λ p. p < length t) c.args.places.now) (sym c.from_diagrams-renamed.ensures.tracks) c.requires.places) (subst (λ n. letter < 2 ^ n) (sym c.requires.count) small))
-    reduced
+    IsReduced-renamed _ _ _ c.nodes_over.ensures.over c.diagrams-2.ensures.nodes c.requires.count (accept-end c) (made-end c) (covers c different) reduced

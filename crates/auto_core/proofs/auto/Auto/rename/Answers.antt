@@ -1,4 +1,4 @@
-use Rattle.std.proofs.Common.{◌≡◌, ◌≤◌, List, arith, [], ◌<◌, ◌∙◌, ◌↔◌, ◌≢◌, All, AllPairs, map, length, sym, ap, subst}
+use Rattle.std.proofs.Common.{◌≡◌, ◌≤◌, ℕ, List, arith, [], ◌<◌, ◌∙◌, ◌↔◌, ◌≢◌, All, AllPairs, map, length, sym, ap, subst}
 use Rattle.track_word.specs.declared.tracks.Var.{Var}
 use Rattle.track_word.specs.Word.{IsWord}
 use Rattle.track_word.specs.Tracks.{with_vars, place, IsAscending}
@@ -46,9 +46,17 @@ returns-clause-words c = λ word is.
     let part = ap (λ places. map (relabelled places) word) are ∙ part_of-relabelled c.in_ok-renamed.renamed.tracks c.args.vars.now word in
     subst (λ w. Accepts c.in_ok-renamed.renamed word ↔ Accepts c.args.self.now w) part told
 
+-- different variables are read at different places
+apart : (vars tracks : List Var) (places : List ℕ) → tracks ≡ with_vars vars [] → places ≡ map (place tracks) vars → AllPairs (λ x y. x ≢ y) vars → AllPairs (λ p q. p ≢ q) places
+apart vars tracks places is are different =
+    subst (λ l. AllPairs (λ p q. p ≢ q) l) (sym (are ∙ ap (λ t. map (place t) vars) is)) (places-different (with_vars vars []) vars (places-below vars) different)
+
+pub returns-clause-reached : goal.returns-clause-reached
+returns-clause-reached c = λ reached different.
+    let is = c.as_slice.ensures.value ∙ sorted _ _ c.args.vars.now c.in_ok-insert_tracks.ensures c.new-tracks.ensures.items in
+    c.in_ok-renamed.ensures.reached reached (apart c.args.vars.now c.as_slice.result.now _ is (c.as_slice-2.ensures.value ∙ c.in_ok-places.ensures) different)
+
 pub returns-clause-reduced : goal.returns-clause-reduced
 returns-clause-reduced c = λ reduced different.
-    let is = sorted _ _ c.args.vars.now c.in_ok-insert_tracks.ensures c.new-tracks.ensures.items in
-    let are = c.as_slice-2.ensures.value ∙ c.in_ok-places.ensures ∙ ap (λ t. map (place t) c.args.vars.now) (c.as_slice.ensures.value ∙ is) in
-    c.in_ok-renamed.ensures.reduced reduced
-    (subst (λ places. AllPairs (λ p q. p ≢ q) places) (sym are) (places-different (with_vars c.args.vars.now []) c.args.vars.now (places-below c.args.vars.now) different))
+    let is = c.as_slice.ensures.value ∙ sorted _ _ c.args.vars.now c.in_ok-insert_tracks.ensures c.new-tracks.ensures.items in
+    c.in_ok-renamed.ensures.reduced reduced (apart c.args.vars.now c.as_slice.result.now _ is (c.as_slice-2.ensures.value ∙ c.in_ok-places.ensures) different)

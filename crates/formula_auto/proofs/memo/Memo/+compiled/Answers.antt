@@ -6,10 +6,12 @@ use Rattle.lin_formula.specs.Tree.{steps}
 use Rattle.lin_formula.specs.TreeOf.{tree_of}
 use Rattle.lin_formula.specs.SetOf.{tables, members}
 use Rattle.formula_auto.specs.Decides.{Decides}
+use Rattle.formula_auto.specs.PartOf.{IsPart}
 use Rattle.formula_auto.proofs.WithMemo.{remembered_not, interrupted_not, interrupted_at_not, remembered_ex, interrupted_ex, interrupted_at_ex, remembered_both, interrupted_left, interrupted_right, interrupted_at_both, interrupted_memory, interrupted_last, remembered_entered, interrupted_inside, may_enter, unknown_still}
 use Rattle.formula_auto.proofs.Connections.{size-connect, ready-connect}
-use Rattle.formula_auto.proofs.PartLemmas.{same_accessible, part-fresh, part-leaf, part-whole, part-found, part-after, lent, lent-accessible, few_kept, lent-later}
+use Rattle.formula_auto.proofs.PartLemmas.{same_few, part-fresh, part-leaf, part-whole, part-found, part-after, lent, lent-reached, lent-few, few_kept, lent-later}
 use Rattle.formula_auto.proofs.MemoLemmas.{recalled-plain}
+use Rattle.formula_auto.proofs.Operands.{part-chosen}
 use Rattle.formula_auto.proofs.Pairs.{pair_outside, pair_size, part-paired, may_remember, part-remembered}
 use Rattle.formula_auto.proofs.memo.Memo.+compiled.Goals as goal
 
@@ -57,10 +59,8 @@ entered-returns-clause-ok t c =
     record {
       auto = c.in_ok-auto.auto;
       has = c.in_ok-part.ensures.part c.from_parts.new.level;
-      accessible = λ some. record {
-        reached = c.in_ok-auto.ensures.reduced.reached;
-        few = few_kept made c.in_ok-auto.auto plain (c.in_ok-auto.ensures.fewer made.auto made.has);
-      };
+      reached = c.in_ok-auto.ensures.reduced.reached;
+      few = λ some. few_kept made c.in_ok-auto.auto plain (c.in_ok-auto.ensures.fewer made.auto made.has);
       remembered = remembered_entered c.args.course c.requires.recalled made.remembered (c.in_ok-auto.ensures.same made.auto made.has) c.in_ok-part.ensures.ok;
     }
 
@@ -71,17 +71,17 @@ from_parts-returns-in_err-auto-in-Lin-clause-err t c =
 
 pub from_parts-returns-in-Lin-clause-ok : goal.from_parts-returns-in-Lin-clause-ok
 from_parts-returns-in-Lin-clause-ok t c =
-    let said = rw c.as_slice.ensures.items at (c.in_ok-auto-in-Lin.ensures (tables c.args.level.now.sets)) in
+    let said = rw c.as_slice.ensures.items at (c.in_ok-auto-in-Lin.ensures.decides (tables c.args.level.now.sets)) in
     let decides : Decides c.in_ok-auto-in-Lin.auto (tree.Lin c.in-Lin.terms c.in-Lin.rel c.in-Lin.bound) (members (tables c.args.level.now.sets)) =
     first_of (grind (arith, to_z-of_z, said), search (rules, ints, to_z-of_z, said)) in
-    rw c.in-Lin.is (part-leaf c.fresh.ensures refl decides)
+    rw c.in-Lin.is (part-leaf c.fresh.ensures c.in_ok-auto-in-Lin.ensures.reduced.reached refl decides)
 
 pub from_parts-returns-in-Value-clause-ok : goal.from_parts-returns-in-Value-clause-ok
 from_parts-returns-in-Value-clause-ok t c =
-    let said = c.in_ok-auto-in-Value.ensures (tables c.args.level.now.sets) in
+    let said = c.in_ok-auto-in-Value.ensures.decides (tables c.args.level.now.sets) in
     let decides : Decides c.in_ok-auto-in-Value.auto (tree.Value c.in-Value.var c.in-Value.value) (members (tables c.args.level.now.sets)) =
     first_of (grind (arith, to_z-of_z, said), search (rules, ints, to_z-of_z, said)) in
-    rw c.in-Value.is (part-leaf c.fresh-in-Value.ensures refl decides)
+    rw c.in-Value.is (part-leaf c.fresh-in-Value.ensures c.in_ok-auto-in-Value.ensures.reduced.reached refl decides)
 
 pub from_parts-membership-requires : goal.from_parts-membership-requires
 from_parts-membership-requires t c =
@@ -91,7 +91,7 @@ from_parts-membership-requires t c =
 pub from_parts-returns-in-Among-clause-ok : goal.from_parts-returns-in-Among-clause-ok
 from_parts-returns-in-Among-clause-ok t c =
     let made = rw c.as_slice-in-Among.ensures at c.in_ok-part-in-Among.ensures in
-    rw c.in-Among.is (part-whole (made.1 c.args.self.now) refl made.2)
+    rw c.in-Among.is (part-whole (made.has c.args.self.now) made.reached refl made.decides)
 
 pub from_parts-returns-in_err-inner-in-Not-clause-err : goal.from_parts-returns-in_err-inner-in-Not-clause-err
 from_parts-returns-in_err-inner-in-Not-clause-err t c =
@@ -111,7 +111,8 @@ pub from_parts-returns-in-Not-clause-ok : goal.from_parts-returns-in-Not-clause-
 from_parts-returns-in-Not-clause-ok t c =
     let outside = rw c.in-Not.is at c.requires.not_recalled in
     let part = rw c.deref.ensures at c.in_ok-inner-in-Not.ensures.ok in
-    rw c.in-Not.is (part-fresh c.fresh-in-Not.ensures (λ some. c.in_ok-auto-in-Not.ensures.accessible c.args.self.now.budget (lent-accessible part c.automaton.ensures some))
+    rw c.in-Not.is (part-fresh c.fresh-in-Not.ensures (c.in_ok-auto-in-Not.ensures.reached (lent-reached part c.automaton.ensures))
+    (λ some. let few = lent-few part c.automaton.result.now c.automaton.ensures some in omega (arith, c.in_ok-auto-in-Not.ensures.fewer, few))
     (remembered_not outside (lent part c.automaton.ensures) c.in_ok-auto-in-Not.ensures.decides))
 
 pub from_parts-returns-in_err-inner-in-Ex-clause-err : goal.from_parts-returns-in_err-inner-in-Ex-clause-err
@@ -132,7 +133,8 @@ from_parts-returns-in-Ok-clause-ok t c =
     let outside = rw c.in-Ex.is at c.requires.not_recalled in
     let part = rw c.deref-in-Ex.ensures at c.in_ok-inner-in-Ex.ensures.ok in
     let within = rw c.budget.ensures.is at c.in-Ok.ensures.within in
-    rw c.in-Ex.is (part-fresh c.fresh-in-Ok.ensures (λ some. same_accessible (c.budget.ensures.is ∙ part.remembered.after.budget) c.in-Ok.ensures.accessible)
+    rw c.in-Ex.is (part-fresh c.fresh-in-Ok.ensures c.in-Ok.ensures.accessible.reached
+    (λ some. same_few c.in-Ok.auto (c.budget.ensures.is ∙ part.remembered.after.budget) c.in-Ok.ensures.accessible.few)
     (remembered_ex outside (lent part c.automaton-auto.ensures) c.in-Ok.ensures.decides within))
 
 pub from_parts-returns-clause-err : goal.from_parts-returns-clause-err
@@ -167,6 +169,19 @@ both-overflow_add-step t c =
     let size = size-connect c.args.pair.connective (tree_of c.args.pair.left.now) (tree_of c.args.pair.right.now) in
     record { fits = omega (arith, c.requires.room, left, right, size) }
 
+pub both-shortcut-requires-clause-left : goal.both-shortcut-requires-clause-left
+both-shortcut-requires-clause-left t c =
+    let left = c.in_ok-left.ensures.ok in
+    (left.auto, part-after c.in_ok-left.left.part left.auto left.has c.in_ok-right.ensures.ok.remembered.after c.compiled-2.ensures.grows)
+
+pub both-shortcut-requires-clause-right : goal.both-shortcut-requires-clause-right
+both-shortcut-requires-clause-right t c = (c.in_ok-right.ensures.ok.auto, c.in_ok-right.ensures.ok.has)
+
+pub both-returns-in-Some-clause-ok : goal.both-returns-in-Some-clause-ok
+both-returns-in-Some-clause-ok t c =
+    rw c.chosen.ensures (part-chosen c.args.pair c.requires.not_recalled c.requires.one_step c.in_ok-left.ensures.ok (rw c.compiled.ensures.grows.sets at c.in_ok-right.ensures.ok)
+    c.in-Some.operand c.compiled-2.ensures.grows c.in-Some.ensures)
+
 pub both-automata-requires-clause-left : goal.both-automata-requires-clause-left
 both-automata-requires-clause-left t c =
     let left = c.in_ok-left.ensures.ok in
@@ -187,7 +202,8 @@ both-returns-in-Ok-clause-ok t c =
     let left = lent-later c.in_ok-left.ensures.ok c.in_ok-right.ensures.ok.remembered.after c.compiled-2.ensures.grows c.automata.ensures.left in
     let right = lent (rw c.compiled.ensures.grows.sets at c.in_ok-right.ensures.ok) c.automata.ensures.right in
     let within = rw c.budget.ensures.is at c.in-Ok.ensures.within in
-    part-fresh c.fresh.ensures (λ some. same_accessible (c.budget.ensures.is ∙ (right.after.budget ∙ left.after.budget)) c.in-Ok.ensures.accessible)
+    part-fresh c.fresh.ensures c.in-Ok.ensures.accessible.reached
+    (λ some. same_few c.in-Ok.auto (c.budget.ensures.is ∙ (right.after.budget ∙ left.after.budget)) c.in-Ok.ensures.accessible.few)
     (remembered_both c.args.pair c.requires.not_recalled c.requires.one_step left right c.in-Ok.ensures.decides within)
 
 pub both-returns-clause-err : goal.both-returns-clause-err
@@ -205,26 +221,22 @@ paired-returns-in-Some-clause-ok t c = part-paired (tree_of c.args.f.now) c.requ
 pub paired-from_parts-requires : goal.paired-from_parts-requires
 paired-from_parts-requires t c = (search rules, (pair_outside (tree_of c.args.f.now) c.requires.pair c.args.course.recall, (c.requires.same_budget, (c.requires.ready, c.requires.room))))
 
-pub paired-given-requires : goal.paired-given-requires
-paired-given-requires t c = (c.in_ok-made.ensures.ok.auto, c.in_ok-made.ensures.ok.has)
-
 pub paired-remember-requires : goal.paired-remember-requires
-paired-remember-requires t c = may_remember (tree_of c.args.f.now) c.requires.pair c.in_ok-made.ensures.ok c.requires.same_budget c.from_parts.ensures.grows c.in_ok-auto.ensures
+paired-remember-requires t c =
+    let has : IsPart c.from_parts.new.self c.from_parts.new.level c.in_ok-made.made.part c.in-Fresh.auto = rw c.in-Fresh.is refl in
+    may_remember (tree_of c.args.f.now) c.requires.pair c.in_ok-made.ensures.ok c.requires.same_budget c.from_parts.ensures.grows has
 
 pub paired-returns-in_err-made-clause-err : goal.paired-returns-in_err-made-clause-err
 paired-returns-in_err-made-clause-err t c =
     let p = err_from_is_err_and c.from_residual.result c.from_residual.ensures.1 in
     rw (p.1, p.2) c.in_err-made.ensures.err
 
-pub paired-returns-in_err-auto-clause-err : goal.paired-returns-in_err-auto-clause-err
-paired-returns-in_err-auto-clause-err t c =
-    let p = err_from_is_err_and c.from_residual-in_err-auto.result c.from_residual-in_err-auto.ensures.1 in
-    rw p.1 (interrupted_last c.in_ok-made.ensures.ok.remembered p.2)
-
 pub paired-returns-in_err-place-clause-err : goal.paired-returns-in_err-place-clause-err
 paired-returns-in_err-place-clause-err t c =
     let p = err_from_is_err_and c.from_residual-in_err-place.result c.from_residual-in_err-place.ensures.1 in
     rw p.1 (interrupted_last c.in_ok-made.ensures.ok.remembered p.2)
 
-pub paired-returns-clause-ok : goal.paired-returns-clause-ok
-paired-returns-clause-ok t c = part-remembered (tree_of c.args.f.now) c.requires.pair c.in_ok-made.ensures.ok c.in_ok-auto.ensures c.in_ok-place.ensures.there
+pub paired-returns-in-Fresh-clause-ok : goal.paired-returns-in-Fresh-clause-ok
+paired-returns-in-Fresh-clause-ok t c =
+    let has : IsPart c.from_parts.new.self c.from_parts.new.level c.in_ok-made.made.part c.in-Fresh.auto = rw c.in-Fresh.is refl in
+    part-remembered (tree_of c.args.f.now) c.requires.pair c.in_ok-made.ensures.ok has c.in_ok-place.ensures.there

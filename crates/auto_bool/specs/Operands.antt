@@ -1,0 +1,46 @@
+-- Products that are one of the two automata.
+use Rattle.std.specs.Prelude.{◌≡◌, ◌⊎◌, ◌≤◌, ◌*◌, ℕ, Bool, true, false, length}
+use Rattle.track_word.specs.Tracks.{with_vars}
+use Rattle.auto_core.specs.Automaton.{Automaton, is_final}
+use Rattle.auto_bool.specs.declared.connective.Connective.{Connective}
+use Rattle.auto_bool.specs.declared.connective.Connective.TheVariants.{And, Or, AndNot}
+use Rattle.auto_bool.specs.declared.operand.Operand.{Operand}
+use Rattle.auto_bool.specs.declared.operand.Operand.TheVariants.{Left, Right}
+use Rattle.auto_bool.specs.Sides.{AreAmong}
+use Rattle.auto_bool.specs.Words.{AcceptsBy, StepExceeds}
+
+-- the one of two that is meant
+abbrev pub operand_of : {X : Type 0} → Operand → X → X → X
+operand_of Left a b = a
+operand_of Right a b = b
+
+-- a single state, to which each word leads, of this flag: all words are accepted, or none
+pub record IsConstant (a : Automaton) (flag : Bool) : Type 0 where
+  pub single : length a.accept ≡ 1
+  pub flagged : is_final a 0 ≡ flag
+
+-- one of the two accepts all words or none, and by that the connective takes the words of the operand
+abbrev pub Yields : Connective → Operand → Automaton → Automaton → Type 0
+Yields And Left a b = IsConstant a false ⊎ IsConstant b true
+Yields And Right a b = IsConstant b false ⊎ IsConstant a true
+Yields Or Left a b = IsConstant a true ⊎ IsConstant b false
+Yields Or Right a b = IsConstant b true ⊎ IsConstant a false
+Yields AndNot Left a b = IsConstant a false ⊎ IsConstant b false
+Yields AndNot Right a b = ⊥
+
+-- and the operand has the tracks of both, and the budget room for all pairs of states
+pub record IsAtHand (a b : Automaton) (connective : Connective) (budget : ℕ) (operand : Operand) : Type 0 where
+  pub yields : Yields connective operand a b
+  pub among : AreAmong (operand_of operand a b).tracks (operand_of operand b a).tracks
+  pub room : length a.accept * length b.accept ≤ budget
+
+-- the automaton is the product of the two, and neither it nor the step on the two exceeds the budget
+pub record IsProductWithin (a b : Automaton) (connective : Connective) (budget : ℕ) (m : Automaton) : Type 0 where
+  pub tracks : m.tracks ≡ with_vars a.tracks b.tracks
+  pub words : AcceptsBy connective a b m
+  pub few : length m.accept ≤ budget
+  pub within : ¬ StepExceeds a b budget
+
+-- the operand is such an automaton
+abbrev pub IsOperand : Automaton → Automaton → Connective → ℕ → Operand → Type 0
+IsOperand a b connective budget operand = IsProductWithin a b connective budget (operand_of operand a b)
