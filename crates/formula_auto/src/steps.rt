@@ -15,6 +15,7 @@ ghost use Rattle.formula_auto.specs.Nodes.{AcceptSame, DecidesAmong, DecidesNot,
 
 use crate::connective::Connective;
 use auto_bool::{difference_within, join_within, meet_within, not};
+use auto_compact::compact;
 use auto_core::Auto;
 use auto_merge::merge;
 use auto_project::forget_within;
@@ -44,14 +45,15 @@ pub fn value_of(alloc: Global, var: Var, value: i64) -> Result<Auto, AllocError>
     merged(alloc, &a)
 }
 
-/// The set is renamed and nothing else.
+/// The set is renamed and nothing else. Where tracks got past others on the way, nodes of no row are let go if they are many.
 pub fn membership(alloc: Global, set: &Auto, vars: &[Var]) -> Result<Auto, AllocError>
     requires size { length vars.now ≡ length set.now.tracks }
     requires integers { DecidesIntegers set.now }
     ensures { IfOk result (DecidesAmong set.now vars.now) }
 {
     let _ = set.tracks(); // for its invariant
-    let a = set.rename(alloc, vars)?;
+    let renamed = set.rename(alloc, vars)?;
+    let a = compact(alloc, renamed)?;
     Ok(a)
 }
 
