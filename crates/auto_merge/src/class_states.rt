@@ -8,6 +8,7 @@ ghost use Rattle.auto_merge.specs.Merged.{IsMerging, HaveClasses, IsMergedBy, Is
 use crate::leading::lead_rows;
 use crate::merging::{Merging, has_own_classes};
 use crate::walk::all_classes;
+use auto_compact::compact;
 use auto_core::Auto;
 use auto_reduce::reduce;
 use auto_refine::{ByTable, flags, picked};
@@ -43,6 +44,8 @@ struct Once {
     auto: Auto,
     /// Whether a way through other states led back to a state, so that some states may be alike that have classes of their own.
     is_looped: bool,
+    /// Whether at most half of the states stayed, so that the table may have many nodes that are of no row any more.
+    is_halved: bool,
 }
 
 /// The automaton over the classes of all states.
@@ -52,10 +55,15 @@ fn merged(alloc: Global, a: &Auto) -> Result<Once, AllocError>
     let merging = all_classes(alloc, a)?;
     let is_looped = has_own_classes(&merging);
     let auto = over_classes(alloc, a, merging)?;
-    Ok(Once { auto, is_looped })
+    let is_halved = auto.states() <= a.states() / 2;
+    Ok(Once {
+        auto,
+        is_looped,
+        is_halved,
+    })
 }
 
-/// What is left to merge is found by refinement.
+/// What is left to merge is found by refinement. Nodes of no row are let go where they are many.
 fn settled(alloc: Global, once: Once) -> Result<Auto, AllocError>
     ensures tracks { IfOk result (λ m. m.tracks ≡ once.auto.tracks) }
     ensures words { IfOk result (HasSameWords once.auto) }
@@ -64,6 +72,10 @@ fn settled(alloc: Global, once: Once) -> Result<Auto, AllocError>
 {
     if once.is_looped {
         let m = reduce(alloc, &once.auto)?;
+        return Ok(m);
+    }
+    if once.is_halved {
+        let m = compact(alloc, once.auto)?;
         return Ok(m);
     }
     Ok(once.auto)

@@ -21,6 +21,7 @@ use auto_bool::{
     Operand, difference_operand, difference_within, fits_with_itself, join_operand, join_within,
     meet_operand, meet_within, not,
 };
+use auto_compact::renamed;
 use auto_core::Auto;
 use auto_merge::merge;
 use auto_project::forget_within;
@@ -62,7 +63,7 @@ pub fn membership(alloc: Global, set: &Auto, vars: &[Var]) -> Result<Auto, Alloc
     ensures reached { IfOk result AllReached }
 {
     let _ = set.tracks(); // for its invariant
-    let a = set.rename(alloc, vars)?;
+    let a = renamed(alloc, set, vars)?;
     if are_distinct(vars) {
         return Ok(a);
     }

@@ -21,6 +21,7 @@ use crate::movable::{is_movable, moved_vars};
 use crate::reading::read_image;
 use crate::share::share;
 use crate::shifting::moved;
+use auto_compact::renamed;
 use auto_core::Auto;
 use auto_walk::Grown;
 use formula_auto::{CompileError, Level, Memo, SetTable};
@@ -138,6 +139,6 @@ fn moved_set(alloc: Global, set: &Auto, image: &Image, each: Budget) -> Result<A
     let _ = set.tracks(); // for its invariant
     let shifts = image.shifts.as_slice();
     let vars = moved_vars(alloc, shifts, image.vars)?;
-    let renamed = set.rename(alloc, vars.as_slice())?;
+    let renamed = renamed(alloc, set, vars.as_slice())?;
     moved(alloc, renamed, shifts, each)
 }

@@ -9,8 +9,8 @@ use Rattle.near_image.specs.Read.{image_of}
 use Rattle.near_image.proofs.Results.{new-places}
 use Rattle.near_image.proofs.compiling.moved_set.Goals as goal
 
-pub rename-requires : goal.rename-requires
-rename-requires c = rw (c.as_slice.ensures.value, c.in_ok-vars.ensures, length-map) c.requires.arity
+pub renamed-requires : goal.renamed-requires
+renamed-requires c = rw (c.as_slice.ensures.value, c.in_ok-vars.ensures, length-map) c.requires.arity
 
 pub moved-requires-clause-integers : goal.moved-requires-clause-integers
 moved-requires-clause-integers c = c.in_ok-renamed.ensures.integers c.requires.integers
